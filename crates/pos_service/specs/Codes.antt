@@ -1,0 +1,29 @@
+-- The numbers of the standard's names (common chapter).
+use Rattle.std.specs.Prelude.{ℕ}
+use Rattle.pos_service.specs.declared.code.Code.{Code}
+use Rattle.pos_service.specs.declared.code.Code.TheVariants as code
+use Rattle.pos_service.specs.declared.event.Locus.{Locus}
+use Rattle.pos_service.specs.declared.event.Locus.TheVariants as locus
+
+-- the number of a result code
+abbrev pub number_of : Code → ℕ
+number_of code.Success = 0
+number_of code.Closed = 101
+number_of code.Claimed = 102
+number_of code.NotClaimed = 103
+number_of code.NoService = 104
+number_of code.Disabled = 105
+number_of code.Illegal = 106
+number_of code.NoHardware = 107
+number_of code.NoExist = 109
+number_of code.Exists = 110
+number_of code.Failure = 111
+number_of code.Timeout = 112
+number_of code.Busy = 113
+number_of code.Extended = 114
+
+-- the number of an error's locus
+abbrev pub locus_number_of : Locus → ℕ
+locus_number_of locus.Output = 1
+locus_number_of locus.Input = 2
+locus_number_of locus.InputData = 3

@@ -1,0 +1,9 @@
+pub mod Codes
+pub mod Peripherals
+pub mod Statuses
+pub mod Controls
+pub mod Machine
+pub mod Refusals
+pub mod Calls
+pub mod DrawerCalls
+pub mod Steps

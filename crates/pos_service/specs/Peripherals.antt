@@ -1,0 +1,101 @@
+-- What contracts see of a peripheral, and what its calls do.
+use Rattle.std.specs.Prelude.{◌≡◌, ℕ, ◌-◌, ◌^◌, ◌<◌, ◌≤◌, ◌⊎◌, Bool, true, false, ⊤, Result, MatchResult}
+use Rattle.pos_service.specs.declared.kind.Kind.{Kind}
+use Rattle.pos_service.specs.declared.kind.Kind.TheVariants as kind
+use Rattle.pos_service.specs.declared.plant.Plant.{Plant}
+use Rattle.pos_service.specs.declared.plant.Plant.TheVariants as plant
+use Rattle.pos_service.specs.declared.order.Order.{Order}
+use Rattle.pos_service.specs.declared.order.Order.TheVariants as order
+use Rattle.pos_service.specs.declared.order.Reply.{Reply}
+use Rattle.pos_service.specs.declared.order.Reply.TheVariants as reply
+use Rattle.pos_service.specs.declared.input.Input.{Input}
+use Rattle.pos_service.specs.declared.input.Input.TheVariants as input
+use Rattle.pos_service.specs.declared.input.Taken.{Taken}
+use Rattle.pos_service.specs.declared.input.Taken.TheVariants as taken
+use Rattle.pos_service.specs.declared.signs.PaperLevel.TheVariants as paper
+use Rattle.pos_service.specs.declared.signs.Signs.{Signs}
+use Rattle.pos_service.specs.declared.memory.NoMemory.{NoMemory}
+
+-- a peripheral: what it is, what it is physically, whether it is out of service, and how often its line has failed
+pub record PeripheralState : Type 0 where
+  pub kind : Kind
+  pub plant : Plant
+  pub is_parked : Bool
+  pub failures : ℕ
+
+-- the numbers of a kind are ones that a profile may give
+abbrev pub IsInRange : Kind → Type 0
+IsInRange kind.Drawer = ⊤
+IsInRange kind.Scanner = ⊤
+IsInRange (kind.Display rows columns) = (1 ≤ rows) × (rows ≤ 8) × (1 ≤ columns) × (columns ≤ 80)
+IsInRange (kind.Printer chars near) = (1 ≤ chars) × (chars ≤ 255) × (near ≤ 100000)
+
+-- a kind's plant
+abbrev pub IsPlantOf : Kind → Plant → Type 0
+IsPlantOf kind.Drawer (plant.Drawer is_open) = ⊤
+IsPlantOf kind.Scanner (plant.Drawer is_open) = ⊥
+IsPlantOf (kind.Display rows columns) (plant.Drawer is_open) = ⊥
+IsPlantOf (kind.Printer chars near) (plant.Drawer is_open) = ⊥
+
+-- what a peripheral of this kind shows of its plant
+abbrev pub signs_of : Kind → Plant → Signs
+signs_of is (plant.Drawer is_open) = record { drawer_open = is_open; cover_open = false; paper = paper.Good }
+
+-- a peripheral of this kind takes the order
+abbrev pub order_fits : Kind → Order → Bool
+order_fits kind.Drawer order.OpenDrawer = true
+order_fits kind.Scanner order.OpenDrawer = false
+order_fits (kind.Display rows columns) order.OpenDrawer = false
+order_fits (kind.Printer chars near) order.OpenDrawer = false
+
+-- the input can happen at a peripheral of this kind
+abbrev pub input_fits : Kind → Input → Bool
+input_fits kind.Drawer (input.DrawerMoved is_open) = true
+input_fits kind.Scanner (input.DrawerMoved is_open) = false
+input_fits (kind.Display rows columns) (input.DrawerMoved is_open) = false
+input_fits (kind.Printer chars near) (input.DrawerMoved is_open) = false
+
+-- the count rose, or it stays at its last value
+abbrev pub Rose : ℕ → ℕ → Type 0
+Rose old new = (old < new) ⊎ ((old ≡ 2 ^ 64 - 1) × (new ≡ 2 ^ 64 - 1))
+
+-- From the old plant, an order that reaches the peripheral may get this reply and leave the new plant: a drawer opens.
+abbrev pub Performs : Order → Plant → Reply → Plant → Type 0
+Performs order.OpenDrawer (plant.Drawer was_open) reply.Done new = new ≡ plant.Drawer true
+Performs order.OpenDrawer (plant.Drawer was_open) reply.CoverOpen new = ⊥
+Performs order.OpenDrawer (plant.Drawer was_open) reply.PaperEnd new = ⊥
+Performs order.OpenDrawer (plant.Drawer was_open) reply.LineFault new = ⊥
+
+-- From the old plant, an input may be taken so and leave the new plant: a drawer is open or closed as it was moved.
+abbrev pub Takes : Input → Plant → Taken → Plant → Type 0
+Takes (input.DrawerMoved is_open) (plant.Drawer was_open) taken.Quiet new = new ≡ plant.Drawer is_open
+Takes (input.DrawerMoved is_open) (plant.Drawer was_open) taken.Scan new = ⊥
+Takes (input.DrawerMoved is_open) (plant.Drawer was_open) taken.Fault new = ⊥
+
+-- A line fault changes nothing but the count of failures; with every other reply the line has not failed.
+abbrev pub Replies : PeripheralState → Order → Reply → PeripheralState → Type 0
+Replies old order reply.LineFault new = (new.plant ≡ old.plant) × Rose old.failures new.failures
+Replies old order reply.Done new = Performs order old.plant reply.Done new.plant × (new.failures ≡ old.failures)
+Replies old order reply.CoverOpen new = Performs order old.plant reply.CoverOpen new.plant × (new.failures ≡ old.failures)
+Replies old order reply.PaperEnd new = Performs order old.plant reply.PaperEnd new.plant × (new.failures ≡ old.failures)
+
+-- plant and count are as they were
+abbrev pub IsUntouched : PeripheralState → PeripheralState → Type 0
+IsUntouched old new = (new.plant ≡ old.plant) × (new.failures ≡ old.failures)
+
+-- An order was given: it got a reply, or found no memory and did nothing.
+pub record Asked (old : PeripheralState) (order : Order) (outcome : Result Reply NoMemory) (new : PeripheralState) : Type 0 where
+  pub kind : new.kind ≡ old.kind
+  pub unparked : new.is_parked ≡ false
+  pub answer : MatchResult outcome (λ reply. Replies old order reply new) (λ want. IsUntouched old new)
+
+-- An input was handed in: it was taken, or found no memory and did nothing. The line has no part in it.
+pub record Fed (old : PeripheralState) (input : Input) (outcome : Result Taken NoMemory) (new : PeripheralState) : Type 0 where
+  pub kind : new.kind ≡ old.kind
+  pub unparked : new.is_parked ≡ false
+  pub failures : new.failures ≡ old.failures
+  pub answer : MatchResult outcome (λ taken. Takes input old.plant taken new.plant) (λ want. new.plant ≡ old.plant)
+
+-- A peripheral is out of service, and else as it was.
+abbrev pub Parks : PeripheralState → PeripheralState → Type 0
+Parks old new = new ≡ record old { is_parked = true }

@@ -1,0 +1,34 @@
+-- The status events of a change (chapters Cash Drawer and POS Printer).
+use Rattle.std.specs.Prelude.{ℕ, Bool, true, false, nat_eq, List, [], ◌∷◌, ◌++◌, if◌then◌else◌}
+use Rattle.pos_service.specs.declared.event.Event.{Event}
+use Rattle.pos_service.specs.declared.event.Event.TheVariants as event
+use Rattle.pos_service.specs.declared.signs.PaperLevel.{PaperLevel}
+use Rattle.pos_service.specs.declared.signs.PaperLevel.TheVariants as paper
+use Rattle.pos_service.specs.declared.signs.Signs.{Signs}
+
+-- CASH_SUE_DRAWERCLOSED and CASH_SUE_DRAWEROPEN
+abbrev pub drawer_status : Bool → ℕ
+drawer_status false = 0
+drawer_status true = 1
+
+-- PTR_SUE_COVER_OPEN and PTR_SUE_COVER_OK
+abbrev pub cover_status : Bool → ℕ
+cover_status true = 11
+cover_status false = 12
+
+-- PTR_SUE_REC_EMPTY, PTR_SUE_REC_NEAREMPTY and PTR_SUE_REC_PAPEROK
+abbrev pub paper_status : PaperLevel → ℕ
+paper_status paper.Empty = 24
+paper_status paper.NearEnd = 25
+paper_status paper.Good = 26
+
+-- the event of a status that has changed
+abbrev pub changed_status : ℕ → ℕ → List Event
+changed_status old new = if nat_eq old new then [] else event.StatusUpdate new ∷ []
+
+-- the events of the signs that differ, in the order drawer, cover, paper
+abbrev pub status_events : Signs → Signs → List Event
+status_events old new =
+    changed_status (drawer_status old.drawer_open) (drawer_status new.drawer_open)
+    ++ changed_status (cover_status old.cover_open) (cover_status new.cover_open)
+    ++ changed_status (paper_status old.paper) (paper_status new.paper)

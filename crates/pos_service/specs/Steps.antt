@@ -1,0 +1,151 @@
+-- The steps of the device machine, and its runs.
+use Rattle.std.specs.Prelude.{◌≡◌, ℕ, ◌++◌, ◌∷◌, Bool, true, false, List, [], Option, Some, None, MatchOption, IfSome, All, IsTrue, length, ◌<◌, ◌≤◌, slice_get, is_some}
+use Rattle.pos_service.specs.declared.category.Category.{Category}
+use Rattle.pos_service.specs.declared.call.Call.{Call}
+use Rattle.pos_service.specs.declared.call.Call.TheVariants as call
+use Rattle.pos_service.specs.declared.input.Input.{Input}
+use Rattle.pos_service.specs.declared.input.Taken.TheVariants as taken
+use Rattle.pos_service.specs.declared.plant.Plant.{Plant}
+use Rattle.pos_service.specs.declared.event.Event.{Event}
+use Rattle.pos_service.specs.declared.event.ErrorReply.{ErrorReply}
+use Rattle.pos_service.specs.declared.answer.Answer.{Answer}
+use Rattle.pos_service.specs.declared.answer.Answer.TheVariants as answer
+use Rattle.pos_service.specs.declared.answer.Value.TheVariants as value
+use Rattle.pos_service.specs.declared.code.Code.TheVariants as code
+use Rattle.pos_service.specs.Peripherals.{Takes, signs_of, input_fits}
+use Rattle.pos_service.specs.Statuses.{status_events}
+use Rattle.pos_service.specs.Controls.{Control, new_control, opened, closed, deliverable, delivered, all_heard}
+use Rattle.pos_service.specs.Machine.{Station, Device, Machine, place_of, device_at, station_in, station_named, is_served, signs_in, with_control, with_station}
+use Rattle.pos_service.specs.Refusals.{Row, Decided, first_refusal}
+use Rattle.pos_service.specs.Calls.{serves, open_rows, close_rows, set_rows, after_set, get_rows, property_of}
+use Rattle.pos_service.specs.DrawerCalls.{open_drawer_rows, DrawerOpens}
+
+-- what may be asked of the machine: controls by their numbers, devices by their names
+pub data Request : Type 0 where
+  NewControl : Category → Request
+  CallOf : ℕ → Call → Request
+  InputTo : List ℕ → Input → Request
+  Deliver : ℕ → ErrorReply → Request
+  Snapshot : List ℕ → Request
+
+-- what it may answer
+pub data Response : Type 0 where
+  Made : ℕ → Response
+  Full : Response
+  Answered : Answer → Response
+  TakenIn : Response
+  NoDevice : Response
+  WrongInput : Response
+  Delivered : Option Event → Response
+  Shown : Plant → Response
+  OutOfMemory : Response
+
+-- how many controls there may be
+abbrev pub most_controls : ℕ
+most_controls = 4096
+
+-- What happens at the station of a device, by what it does to the controls and the station.
+pub record OnStation (old : Machine) (at : Option ℕ) (Does : ℕ → List Control → Station → List Control → Station → Type 0) (new : Machine) : Type 0 where
+  pub place : ℕ
+  pub device : Device
+  pub before : Station
+  pub controls : List Control
+  pub after : Station
+  pub is_at : at ≡ Some place
+  pub is_device : slice_get old.devices place ≡ Some device
+  pub is_attached : device.station ≡ Some before
+  pub does : Does place old.controls before controls after
+  pub machine : new ≡ with_station old controls place device after
+
+-- the calls that may want memory
+abbrev pub takes_memory : Call → Bool
+takes_memory (call.Open name) = true
+takes_memory call.Close = false
+takes_memory (call.Set property v) = false
+takes_memory (call.Get property) = false
+takes_memory call.OpenDrawer = true
+
+-- The refusals of each call, in their order.
+abbrev pub refusals : Machine → Control → Call → List Row
+refusals machine control (call.Open name) =
+    let device = device_at machine.devices (place_of machine.devices name) in
+    open_rows control (is_served control.category device) (is_some (station_in device))
+refusals machine control call.Close = close_rows control
+refusals machine control (call.Set property v) = set_rows control property v
+refusals machine control (call.Get property) = get_rows control property
+refusals machine control call.OpenDrawer = open_drawer_rows control
+
+-- What each call does where nothing refuses it.
+abbrev pub Does : Machine → ℕ → Control → Call → Answer → Machine → Type 0
+Does old number control (call.Open name) result new =
+    (result ≡ answer.Done value.Empty) × (new ≡ with_control old number (opened control (place_of old.devices name)))
+Does old number control call.Close result new = (result ≡ answer.Done value.Empty) × (new ≡ with_control old number (closed control))
+Does old number control (call.Set property v) result new =
+    (result ≡ answer.Done value.Empty) × (new ≡ with_control old number (after_set control property v))
+Does old number control (call.Get property) result new =
+    (result ≡ answer.Done (property_of control (signs_in (station_in (device_at old.devices control.device))) property)) × (new ≡ old)
+Does old number control call.OpenDrawer result new =
+    OnStation old control.device (λ place controls before. DrawerOpens place controls before result) new
+
+-- A call on a control: by its table of refusals, and then by what it does.
+abbrev pub Called : Machine → ℕ → Control → Call → Answer → Machine → Type 0
+Called old number control call result new = Decided (refusals old control call) result (new ≡ old) (Does old number control call result new)
+
+-- A call may find no memory only where it takes some and nothing refuses it before.
+abbrev pub Wants : Machine → Control → Call → Machine → Type 0
+Wants old control call new = IsTrue (takes_memory call) × (first_refusal (refusals old control call) ≡ None) × (new ≡ old)
+
+-- An input changes the plant, and each control that listens hears of it.
+pub record TakesIn (input : Input) (place : ℕ) (old : List Control) (before : Station) (new : List Control) (after : Station) : Type 0 where
+  pub fits : input_fits before.kind input ≡ true
+  pub plant : Takes input before.plant taken.Quiet after.plant
+  pub station : after ≡ record before { plant = after.plant }
+  pub events : new ≡ all_heard place (status_events (signs_of before.kind before.plant) (signs_of after.kind after.plant)) old
+
+-- A device has a peripheral, and the input fits its kind, or doesn't.
+pub record FindsFit (station : Option Station) (input : Input) (fits : Bool) : Type 0 where
+  pub before : Station
+  pub is_attached : station ≡ Some before
+  pub fit : input_fits before.kind input ≡ fits
+
+-- From old, the machine may give this response to the request, and is new then.
+abbrev pub Step : Machine → Request → Response → Machine → Type 0
+Step old (NewControl category) (Made number) new =
+    (length old.controls < most_controls) × (number ≡ length old.controls) × (new ≡ record old { controls = old.controls ++ new_control category ∷ [] })
+Step old (NewControl category) Full new = (most_controls ≤ length old.controls) × (new ≡ old)
+Step old (NewControl category) OutOfMemory new = (length old.controls < most_controls) × (new ≡ old)
+-- a call on a control that isn't there is illegal
+Step old (CallOf number call) (Answered result) new =
+    MatchOption (slice_get old.controls number) ((result ≡ answer.Refused code.Illegal 0) × (new ≡ old)) (λ control. Called old number control call result new)
+Step old (CallOf number call) OutOfMemory new = MatchOption (slice_get old.controls number) ⊥ (λ control. Wants old control call new)
+Step old (InputTo name input) TakenIn new = OnStation old (place_of old.devices name) (TakesIn input) new
+Step old (InputTo name input) NoDevice new = (station_named old name ≡ None) × (new ≡ old)
+Step old (InputTo name input) WrongInput new = FindsFit (station_named old name) input false × (new ≡ old)
+Step old (InputTo name input) OutOfMemory new = FindsFit (station_named old name) input true × (new ≡ old)
+-- no event but an error looks at the reply
+Step old (Deliver number reply) (Delivered event) new =
+    MatchOption (slice_get old.controls number) ((event ≡ None) × (new ≡ old)) (λ control. (event ≡ deliverable control) × (new ≡ with_control old number (delivered control)))
+Step old (Snapshot name) (Shown plant) new = IfSome (station_named old name) (λ station. station.plant ≡ plant) × (is_some (station_named old name) ≡ true) × (new ≡ old)
+Step old (Snapshot name) NoDevice new = (station_named old name ≡ None) × (new ≡ old)
+Step old (Snapshot name) OutOfMemory new = (is_some (station_named old name) ≡ true) × (new ≡ old)
+-- no other response is given
+Step old request response new = ⊥
+
+-- The machine may give these responses to these requests, one step after another.
+abbrev pub Run : Machine → List (Request × Response) → Machine → Type 0
+Run old [] new = new ≡ old
+Run old (step ∷ steps) new = (mid : Machine) × Step old step.0 step.1 mid × Run mid steps new
+
+-- A device's peripheral, where it has one, is of the device's kind.
+abbrev pub HasItsKind : Device → Type 0
+HasItsKind device = IfSome device.station (λ station. station.kind ≡ device.kind)
+
+-- The device of an open control has a peripheral, and the category serves it.
+abbrev pub HasItsDevice : List Device → Control → Type 0
+HasItsDevice devices control =
+    IfSome control.device (λ place. MatchOption (slice_get devices place) ⊥ (λ device. IsTrue (is_some device.station) × (serves control.category device.kind ≡ true)))
+
+-- What is true of every machine that a counter stands for.
+pub record IsSound (machine : Machine) : Type 0 where
+  pub kinds : All HasItsKind machine.devices
+  pub places : All (HasItsDevice machine.devices) machine.controls

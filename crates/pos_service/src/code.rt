@@ -1,0 +1,59 @@
+ghost use Rattle.std.specs.Prelude.{◌≡◌};
+ghost use Rattle.pos_service.specs.Codes.{number_of};
+
+/// A result code of the standard (common chapter, ErrorCode).
+#[derive(Clone, Copy, Debug, PartialEq, Eq)]
+pub enum Code {
+    /// E_SUCCESS: the call did what it does.
+    Success,
+    /// E_CLOSED: the control is closed.
+    Closed,
+    /// E_CLAIMED: another control has claimed what is asked for.
+    Claimed,
+    /// E_NOTCLAIMED: what is asked for has to be claimed first.
+    NotClaimed,
+    /// E_NOSERVICE: no peripheral stands behind the device.
+    NoService,
+    /// E_DISABLED: the control is disabled.
+    Disabled,
+    /// E_ILLEGAL: an argument or the state doesn't allow the call.
+    Illegal,
+    /// E_NOHARDWARE: the device can't be used as it is.
+    NoHardware,
+    /// E_NOEXIST: what is named isn't there.
+    NoExist,
+    /// E_EXISTS: what is to be made is there already.
+    Exists,
+    /// E_FAILURE: the device failed, or a number has run out.
+    Failure,
+    /// E_TIMEOUT: the time was over before the call could be done.
+    Timeout,
+    /// E_BUSY: the device is at work.
+    Busy,
+    /// E_EXTENDED: the extended code says what is amiss.
+    Extended,
+}
+
+impl Code {
+    /// Its number in the standard.
+    pub fn number(self) -> u32
+        ensures { result ≡ number_of self }
+    {
+        match self {
+            Code::Success => 0,
+            Code::Closed => 101,
+            Code::Claimed => 102,
+            Code::NotClaimed => 103,
+            Code::NoService => 104,
+            Code::Disabled => 105,
+            Code::Illegal => 106,
+            Code::NoHardware => 107,
+            Code::NoExist => 109,
+            Code::Exists => 110,
+            Code::Failure => 111,
+            Code::Timeout => 112,
+            Code::Busy => 113,
+            Code::Extended => 114,
+        }
+    }
+}

@@ -1,0 +1,55 @@
+ghost use Rattle.std.specs.Prelude.{◌≡◌};
+ghost use Rattle.pos_service.specs.Codes.{locus_number_of};
+
+use crate::code::Code;
+
+/// An event as it is delivered to an application (common chapter).
+#[derive(Clone, Copy, Debug, PartialEq, Eq)]
+pub enum Event {
+    /// StatusUpdateEvent: the device has this status now.
+    StatusUpdate(u32),
+    /// DataEvent: input has come.
+    Data,
+    /// ErrorEvent: the code, the extended code, and where the error stands.
+    Error(Code, u32, Locus),
+    /// OutputCompleteEvent: the output with this OutputID is done.
+    OutputComplete(u64),
+}
+
+/// Where an error stands (common chapter, ErrorLocus).
+#[derive(Clone, Copy, Debug, PartialEq, Eq)]
+pub enum Locus {
+    /// EL_OUTPUT.
+    Output,
+    /// EL_INPUT: no input is held any more.
+    Input,
+    /// EL_INPUT_DATA: input from before the error is held.
+    InputData,
+}
+
+impl Locus {
+    /// Its number in the standard.
+    pub fn number(self) -> u32
+        ensures { result ≡ locus_number_of self }
+    {
+        match self {
+            Locus::Output => 1,
+            Locus::Input => 2,
+            Locus::InputData => 3,
+        }
+    }
+}
+
+/// What an application answers to an ErrorEvent (common chapter, ErrorResponse). It is handed in with the delivery,
+/// and no other event looks at it.
+#[derive(Clone, Copy, Debug, PartialEq, Eq)]
+pub enum ErrorReply {
+    /// What the locus has by default.
+    Default,
+    /// ER_RETRY: the output is to be tried again.
+    Retry,
+    /// ER_CLEAR: what is held is to be deleted.
+    Clear,
+    /// ER_CONTINUEINPUT: the input that is held is to be delivered.
+    ContinueInput,
+}

@@ -1,0 +1,38 @@
+//! The words of a shop counter's device layer by UnifiedPOS 1.16, the trait that a peripheral meets, and the
+//! definitions of the device machine.
+#![tactic(auto)]
+
+mod answer;
+mod bytes;
+mod call;
+mod category;
+mod code;
+mod event;
+mod input;
+mod kind;
+mod memory;
+mod order;
+mod peripheral;
+mod peripheral_box;
+mod plant;
+mod property;
+mod signs;
+
+#[cfg(test)]
+mod tests;
+
+pub use answer::{Answer, Value};
+pub use bytes::Bytes;
+pub use call::Call;
+pub use category::Category;
+pub use code::Code;
+pub use event::{ErrorReply, Event, Locus};
+pub use input::{Input, Taken};
+pub use kind::Kind;
+pub use memory::NoMemory;
+pub use order::{Order, Reply};
+pub use peripheral::Peripheral;
+pub use peripheral_box::{PeripheralBox, Stated};
+pub use plant::{Plant, Snapshot};
+pub use property::Property;
+pub use signs::{PaperLevel, Signs};

@@ -1,0 +1,52 @@
+ghost use Rattle.std.specs.Prelude.{◌≡◌, Bool, true, false, IfOk};
+ghost use Rattle.pos_service.specs.Peripherals.{PeripheralState, IsInRange, IsPlantOf, Asked, Fed, Parks, order_fits, input_fits, signs_of};
+
+use crate::input::{Input, Taken};
+use crate::kind::Kind;
+use crate::memory::NoMemory;
+use crate::order::{Order, Reply};
+use crate::plant::Snapshot;
+use crate::signs::Signs;
+
+/// What stands behind a device: a simulation, or the driver of real hardware.
+///
+/// It may end only parked, once it is boxed: see `PeripheralBox`.
+pub trait Peripheral: Drop {
+    /// Its kind, its plant, whether it is parked, and how often its line has failed.
+    ghost state: { Self → PeripheralState };
+
+    /// What it is, which never changes.
+    fn kind(&self) -> Kind
+        ensures kind { result ≡ (state self.now).kind }
+        ensures in_range { IsInRange result }
+        ensures plant { IsPlantOf result (state self.now).plant };
+
+    /// What it shows of itself.
+    fn signs(&self) -> Signs
+        ensures { result ≡ signs_of (state self.now).kind (state self.now).plant };
+
+    /// Carries out an order whole, or says why it did nothing. It counts each failure of its line, and stays at the
+    /// count's last value, 18,446,744,073,709,551,615. Want of memory changes nothing.
+    fn ask(&mut self, order: &Order) -> Result<Reply, NoMemory>
+        requires unparked { (state self.old).is_parked ≡ false }
+        requires fits { order_fits (state self.old).kind order.now ≡ true }
+        ensures { Asked (state self.old) order.now result (state self.new) };
+
+    /// Takes what happens from outside. Want of memory changes nothing.
+    fn feed(&mut self, input: &Input) -> Result<Taken, NoMemory>
+        requires unparked { (state self.old).is_parked ≡ false }
+        requires fits { input_fits (state self.old).kind input.now ≡ true }
+        ensures { Fed (state self.old) input.now result (state self.new) };
+
+    /// A copy of its plant.
+    fn snapshot(&self) -> Result<Snapshot, NoMemory>
+        ensures { IfOk result (λ shown. shown.0 ≡ (state self.now).plant) };
+
+    /// Takes it out of service, which takes no memory.
+    fn park(&mut self)
+        ensures { Parks (state self.old) (state self.new) };
+
+    /// Whether it is out of service.
+    fn is_parked(&self) -> bool
+        ensures { result ≡ (state self.now).is_parked };
+}
