@@ -1,5 +1,5 @@
 -- The calls and properties that every category has: the refusals of each in their order, and what it does.
-use Rattle.std.specs.Prelude.{ℕ, Bool, true, false, not, pos, List, [], ◌∷◌, is_some, is_none}
+use Rattle.std.specs.Prelude.{Bool, true, false, not, pos, List, [], ◌∷◌, is_some, is_none}
 use Rattle.pos_service.specs.declared.category.Category.{Category}
 use Rattle.pos_service.specs.declared.category.Category.TheVariants as category
 use Rattle.pos_service.specs.declared.kind.Kind.{Kind}

@@ -1,9 +1,11 @@
 -- The calls of a cash drawer (chapter Cash Drawer).
-use Rattle.std.specs.Prelude.{◌≡◌, ℕ, not, List, [], ◌∷◌, ◌⊎◌, is_none}
+use Rattle.std.specs.Prelude.{◌≡◌, ℕ, Bool, true, false, not, List, [], ◌∷◌, ◌⊎◌, is_none}
 use Rattle.pos_service.specs.declared.answer.Answer.{Answer}
 use Rattle.pos_service.specs.declared.answer.Answer.TheVariants as answer
 use Rattle.pos_service.specs.declared.answer.Value.TheVariants as value
 use Rattle.pos_service.specs.declared.code.Code.TheVariants as code
+use Rattle.pos_service.specs.declared.call.Call.{Call}
+use Rattle.pos_service.specs.declared.call.Call.TheVariants as call
 use Rattle.pos_service.specs.declared.order.Order.TheVariants as order
 use Rattle.pos_service.specs.declared.order.Reply.TheVariants as reply
 use Rattle.pos_service.specs.Peripherals.{Performs, Rose, signs_of}
@@ -12,8 +14,14 @@ use Rattle.pos_service.specs.Controls.{Control, all_heard}
 use Rattle.pos_service.specs.Machine.{Station}
 use Rattle.pos_service.specs.Refusals.{Row, when}
 
-abbrev pub open_drawer_rows : Control → List Row
-open_drawer_rows control = when (is_none control.device) code.Closed ∷ when (not control.enabled) code.Disabled ∷ []
+-- the calls of this category alone
+abbrev pub is_drawer_call : Call → Bool
+is_drawer_call call.OpenDrawer = true
+is_drawer_call c = false
+
+-- a call of another category is illegal before all that it asks
+abbrev pub drawer_rows : Control → Call → List Row
+drawer_rows control call = when (is_none control.device) code.Closed ∷ when (not (is_drawer_call call)) code.Illegal ∷ when (not control.enabled) code.Disabled ∷ []
 
 -- The drawer opens, and each control that listens hears of it where it was closed.
 pub record DrawerOpened (place : ℕ) (old : List Control) (before : Station) (new : List Control) (after : Station) : Type 0 where

@@ -18,7 +18,7 @@ use Rattle.pos_service.specs.Controls.{Control, new_control, opened, closed, del
 use Rattle.pos_service.specs.Machine.{Station, Device, Machine, place_of, device_at, station_in, station_named, is_served, signs_in, with_control, with_station}
 use Rattle.pos_service.specs.Refusals.{Row, Decided, first_refusal}
 use Rattle.pos_service.specs.Calls.{serves, open_rows, close_rows, set_rows, after_set, get_rows, property_of}
-use Rattle.pos_service.specs.DrawerCalls.{open_drawer_rows, DrawerOpens}
+use Rattle.pos_service.specs.DrawerCalls.{drawer_rows, DrawerOpens}
 
 -- what may be asked of the machine: controls by their numbers, devices by their names
 pub data Request : Type 0 where
@@ -73,7 +73,7 @@ refusals machine control (call.Open name) =
 refusals machine control call.Close = close_rows control
 refusals machine control (call.Set property v) = set_rows control property v
 refusals machine control (call.Get property) = get_rows control property
-refusals machine control call.OpenDrawer = open_drawer_rows control
+refusals machine control call.OpenDrawer = drawer_rows control call.OpenDrawer
 
 -- What each call does where nothing refuses it.
 abbrev pub Does : Machine → ℕ → Control → Call → Answer → Machine → Type 0

@@ -18,7 +18,13 @@ impl Category {
         match (self, kind) {
             (Category::CashDrawer, Kind::Drawer) => true,
             (Category::CashDrawer, Kind::Scanner) => false,
-            (Category::CashDrawer, Kind::Display { rows: _, columns: _ }) => false,
+            (
+                Category::CashDrawer,
+                Kind::Display {
+                    rows: _,
+                    columns: _,
+                },
+            ) => false,
             (Category::CashDrawer, Kind::Printer { chars: _, near: _ }) => false,
         }
     }

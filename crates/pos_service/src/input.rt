@@ -18,7 +18,13 @@ impl Input {
         match (self, kind) {
             (Input::DrawerMoved(_), Kind::Drawer) => true,
             (Input::DrawerMoved(_), Kind::Scanner) => false,
-            (Input::DrawerMoved(_), Kind::Display { rows: _, columns: _ }) => false,
+            (
+                Input::DrawerMoved(_),
+                Kind::Display {
+                    rows: _,
+                    columns: _,
+                },
+            ) => false,
             (Input::DrawerMoved(_), Kind::Printer { chars: _, near: _ }) => false,
         }
     }

@@ -17,7 +17,6 @@ mod peripheral_box;
 mod plant;
 mod property;
 mod signs;
-
 #[cfg(test)]
 mod tests;
 

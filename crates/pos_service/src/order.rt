@@ -18,7 +18,13 @@ impl Order {
         match (self, kind) {
             (Order::OpenDrawer, Kind::Drawer) => true,
             (Order::OpenDrawer, Kind::Scanner) => false,
-            (Order::OpenDrawer, Kind::Display { rows: _, columns: _ }) => false,
+            (
+                Order::OpenDrawer,
+                Kind::Display {
+                    rows: _,
+                    columns: _,
+                },
+            ) => false,
             (Order::OpenDrawer, Kind::Printer { chars: _, near: _ }) => false,
         }
     }
