@@ -71,6 +71,14 @@ impl PeripheralBox {
         self.device.park();
     }
 
+    /// Takes the peripheral out of service, and ends it.
+    pub fn end(self)
+        requires { Unit {0} }
+    {
+        let mut ending = self;
+        ending.park();
+    }
+
     /// Whether the peripheral is out of service.
     pub fn is_parked(&self) -> bool
         ensures { result ≡ (⟦<PeripheralBox as Stated>⟧.state self.now).is_parked }

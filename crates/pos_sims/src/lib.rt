@@ -1,0 +1,9 @@
+//! Simulated peripherals.
+#![tactic(auto)]
+
+mod plain_drawer;
+
+#[cfg(test)]
+mod tests;
+
+pub use plain_drawer::PlainDrawer;

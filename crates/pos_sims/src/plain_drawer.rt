@@ -1,0 +1,71 @@
+ghost use Rattle.std.specs.Prelude.{◌≡◌, false};
+ghost use Rattle.pos_sims.specs.Drawers.{drawer_state};
+
+use pos_service::{
+    Input, Kind, NoMemory, Order, PaperLevel, Peripheral, Plant, Reply, Signs, Snapshot, Taken,
+};
+
+/// A cash drawer whose line never fails and which takes no memory (chapter Cash Drawer).
+#[derive(Debug, Drop)]
+pub struct PlainDrawer {
+    is_open: bool,
+    is_parked: bool,
+}
+
+impl PlainDrawer {
+    /// A closed drawer that is in service.
+    pub fn new() -> Self
+        ensures { ⟦<PlainDrawer as Peripheral>⟧.state result ≡ drawer_state false false }
+    {
+        PlainDrawer {
+            is_open: false,
+            is_parked: false,
+        }
+    }
+}
+
+impl Peripheral for PlainDrawer {
+    ghost state = { λ drawer. drawer_state drawer.is_open drawer.is_parked };
+
+    fn kind(&self) -> Kind {
+        Kind::Drawer
+    }
+
+    fn signs(&self) -> Signs {
+        Signs {
+            drawer_open: self.is_open,
+            cover_open: false,
+            paper: PaperLevel::Good,
+        }
+    }
+
+    fn ask(&mut self, order: &Order) -> Result<Reply, NoMemory> {
+        match order {
+            Order::OpenDrawer => {
+                self.is_open = true;
+                Ok(Reply::Done)
+            }
+        }
+    }
+
+    fn feed(&mut self, input: &Input) -> Result<Taken, NoMemory> {
+        match input {
+            Input::DrawerMoved(is_open) => {
+                self.is_open = *is_open;
+                Ok(Taken::Quiet)
+            }
+        }
+    }
+
+    fn snapshot(&self) -> Result<Snapshot, NoMemory> {
+        Ok(Snapshot(Plant::Drawer(self.is_open)))
+    }
+
+    fn park(&mut self) {
+        self.is_parked = true;
+    }
+
+    fn is_parked(&self) -> bool {
+        self.is_parked
+    }
+}

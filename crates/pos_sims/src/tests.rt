@@ -1,0 +1,40 @@
+use crate::PlainDrawer;
+use pos_service::{Input, Kind, NoMemory, Order, PaperLevel, Peripheral, Plant, Reply, Signs, Snapshot, Taken};
+
+fn signs(drawer_open: bool) -> Signs {
+    Signs {
+        drawer_open,
+        cover_open: false,
+        paper: PaperLevel::Good,
+    }
+}
+
+fn is_open(drawer: &PlainDrawer) -> Result<bool, NoMemory> {
+    let Snapshot(Plant::Drawer(is_open)) = drawer.snapshot()?;
+    Ok(is_open)
+}
+
+#[test]
+fn a_drawer_opens_and_is_moved(rt: HostRuntime) -> Result<(), NoMemory> {
+    let mut drawer = PlainDrawer::new();
+    assert_eq!(rt; drawer.kind(), Kind::Drawer);
+    assert!(rt; !drawer.is_parked());
+    assert_eq!(rt; drawer.signs(), signs(false));
+    assert_eq!(rt; drawer.ask(&Order::OpenDrawer)?, Reply::Done);
+    assert_eq!(rt; drawer.signs(), signs(true));
+    assert!(rt; is_open(&drawer)?);
+    assert_eq!(rt; drawer.feed(&Input::DrawerMoved(false))?, Taken::Quiet);
+    assert_eq!(rt; drawer.signs(), signs(false));
+    assert!(rt; !is_open(&drawer)?);
+    Ok(())
+}
+
+#[test]
+fn a_drawer_that_is_parked_stays_as_it_is(rt: HostRuntime) -> Result<(), NoMemory> {
+    let mut drawer = PlainDrawer::new();
+    let _ = drawer.ask(&Order::OpenDrawer)?;
+    drawer.park();
+    assert!(rt; drawer.is_parked());
+    assert!(rt; is_open(&drawer)?);
+    Ok(())
+}
