@@ -3,7 +3,12 @@ use Rattle.std.specs.Prelude.{Bool}
 use Rattle.pos_service.specs.declared.kind.Kind.TheVariants as kind
 use Rattle.pos_service.specs.declared.plant.Plant.TheVariants as plant
 use Rattle.pos_service.specs.Peripherals.{PeripheralState}
+use Rattle.pos_sims.specs.declared.plain_drawer.PlainDrawer.{PlainDrawer}
 
 -- a drawer that is open or not, out of service or not, and whose line never fails
 abbrev pub drawer_state : Bool → Bool → PeripheralState
 drawer_state is_open is_parked = record { kind = kind.Drawer; plant = plant.Drawer is_open; is_parked = is_parked; failures = 0 }
+
+-- what contracts see of a plain drawer
+abbrev pub state_of : PlainDrawer → PeripheralState
+state_of drawer = drawer_state drawer.is_open drawer.is_parked

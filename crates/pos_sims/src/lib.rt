@@ -2,7 +2,6 @@
 #![tactic(auto)]
 
 mod plain_drawer;
-
 #[cfg(test)]
 mod tests;
 

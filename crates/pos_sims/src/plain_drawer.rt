@@ -1,5 +1,6 @@
-ghost use Rattle.std.specs.Prelude.{◌≡◌, false};
-ghost use Rattle.pos_sims.specs.Drawers.{drawer_state};
+ghost use Rattle.std.specs.Prelude.{◌≡◌, false, IsOk, IfOk};
+ghost use Rattle.pos_service.specs.Peripherals.{Asked, Fed};
+ghost use Rattle.pos_sims.specs.Drawers.{drawer_state, state_of};
 
 use pos_service::{
     Input, Kind, NoMemory, Order, PaperLevel, Peripheral, Plant, Reply, Signs, Snapshot, Taken,
@@ -15,7 +16,7 @@ pub struct PlainDrawer {
 impl PlainDrawer {
     /// A closed drawer that is in service.
     pub fn new() -> Self
-        ensures { ⟦<PlainDrawer as Peripheral>⟧.state result ≡ drawer_state false false }
+        ensures { state_of result ≡ drawer_state false false }
     {
         PlainDrawer {
             is_open: false,
@@ -25,7 +26,7 @@ impl PlainDrawer {
 }
 
 impl Peripheral for PlainDrawer {
-    ghost state = { λ drawer. drawer_state drawer.is_open drawer.is_parked };
+    ghost state = { λ drawer. state_of drawer };
 
     fn kind(&self) -> Kind {
         Kind::Drawer
@@ -39,7 +40,11 @@ impl Peripheral for PlainDrawer {
         }
     }
 
-    fn ask(&mut self, order: &Order) -> Result<Reply, NoMemory> {
+    fn ask(&mut self, order: &Order) -> Result<Reply, NoMemory>
+        requires { (state_of self.old).is_parked ≡ false }
+        ensures asked { Asked (state_of self.old) order.now result (state_of self.new) }
+        ensures takes_no_memory { IsOk result }
+    {
         match order {
             Order::OpenDrawer => {
                 self.is_open = true;
@@ -48,7 +53,11 @@ impl Peripheral for PlainDrawer {
         }
     }
 
-    fn feed(&mut self, input: &Input) -> Result<Taken, NoMemory> {
+    fn feed(&mut self, input: &Input) -> Result<Taken, NoMemory>
+        requires { (state_of self.old).is_parked ≡ false }
+        ensures fed { Fed (state_of self.old) input.now result (state_of self.new) }
+        ensures takes_no_memory { IsOk result }
+    {
         match input {
             Input::DrawerMoved(is_open) => {
                 self.is_open = *is_open;
@@ -57,7 +66,10 @@ impl Peripheral for PlainDrawer {
         }
     }
 
-    fn snapshot(&self) -> Result<Snapshot, NoMemory> {
+    fn snapshot(&self) -> Result<Snapshot, NoMemory>
+        ensures shown { IfOk result (λ shown. shown.0 ≡ (state_of self.now).plant) }
+        ensures takes_no_memory { IsOk result }
+    {
         Ok(Snapshot(Plant::Drawer(self.is_open)))
     }
 

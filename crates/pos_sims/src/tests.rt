@@ -1,5 +1,7 @@
 use crate::PlainDrawer;
-use pos_service::{Input, Kind, NoMemory, Order, PaperLevel, Peripheral, Plant, Reply, Signs, Snapshot, Taken};
+use pos_service::{
+    Input, Kind, NoMemory, Order, PaperLevel, Peripheral, Plant, Reply, Signs, Snapshot, Taken,
+};
 
 fn signs(drawer_open: bool) -> Signs {
     Signs {
