@@ -1,0 +1,62 @@
+ghost use Rattle.std.specs.Prelude.{◌≡◌};
+ghost use Rattle.pos_service.specs.Controls.{new_control};
+
+mod calls;
+mod events;
+
+pub(crate) use events::MOST_STATUSES;
+use pos_service::{Category, Event};
+use std::alloc::Global;
+use std::collections::VecDeque;
+use std::marker::Model;
+
+/// A control: an application's hold of a device (common chapter). Contracts see the machine's control, and how many
+/// events it has room for.
+#[derive(Drop)]
+pub struct Control {
+    category: Category,
+    device: Option<usize>,
+    is_enabled: bool,
+    events: VecDeque<Event>,
+}
+
+impl Model for Control {
+    ghost use Rattle.std.specs.Prelude.{◌-◌};
+    ghost use Rattle.std.specs.VecDeque.{deque_len, deque_capacity};
+    ghost use Rattle.pos_common.specs.Held.{Held};
+
+    ghost Value = { Held };
+
+    ghost view = { λ a. record {
+      control = record { category = a.category; device = a.device; enabled = a.is_enabled; events = a.events.items };
+      spare = deque_capacity a.events - deque_len a.events;
+    } };
+}
+
+impl Control {
+    /// A closed control of a category.
+    pub fn new(alloc: Global, category: Category) -> Self
+        ensures { result.control ≡ new_control category }
+    {
+        Control {
+            category,
+            device: None,
+            is_enabled: false,
+            events: VecDeque::new(alloc),
+        }
+    }
+
+    /// Its category, which never changes.
+    pub fn category(&self) -> Category
+        ensures { result ≡ self.now.control.category }
+    {
+        self.category
+    }
+
+    /// The place in the profile of the device that it has open.
+    pub fn device(&self) -> Option<usize>
+        ensures { result ≡ self.now.control.device }
+    {
+        self.device
+    }
+}

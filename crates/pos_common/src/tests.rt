@@ -1,0 +1,167 @@
+use crate::{Control, Need, hear_all, room_all};
+use pos_service::{Answer, Category, Code, ErrorReply, Event, PaperLevel, Property, Signs, Value};
+use std::test::Fail;
+
+/// The signs of a drawer.
+fn drawer_signs(is_open: bool) -> Signs {
+    Signs {
+        drawer_open: is_open,
+        cover_open: false,
+        paper: PaperLevel::Good,
+    }
+}
+
+#[test]
+fn a_control_is_opened_and_enabled_and_closed(rt: HostRuntime) {
+    let signs = drawer_signs(true);
+    let mut a = Control::new(rt.alloc(), Category::CashDrawer);
+    assert_eq!(rt; a.category(), Category::CashDrawer);
+    assert!(rt;
+        matches!(
+            a.get(Property::State, signs),
+            Answer::Done(Value::Number(1))
+        )
+    );
+    assert!(rt;
+        matches!(
+            a.get(Property::DeviceEnabled, signs),
+            Answer::Refused(Code::Closed, 0)
+        )
+    );
+    assert_eq!(rt; a.check(Need { is_enabled: false }), Err(Code::Closed));
+    assert!(rt;
+        matches!(
+            a.open(None, false, false),
+            Answer::Refused(Code::NoExist, 0)
+        )
+    );
+    assert!(rt;
+        matches!(
+            a.open(Some(3), true, false),
+            Answer::Refused(Code::NoService, 0)
+        )
+    );
+    assert!(rt; matches!(a.open(Some(3), true, true), Answer::Done(Value::Empty)));
+    assert!(rt;
+        matches!(
+            a.open(Some(3), true, true),
+            Answer::Refused(Code::Illegal, 0)
+        )
+    );
+    assert_eq!(rt; a.device(), Some(3));
+    assert!(rt; !a.listens(3));
+    assert!(rt;
+        matches!(
+            a.get(Property::State, signs),
+            Answer::Done(Value::Number(2))
+        )
+    );
+    assert!(rt;
+        matches!(
+            a.get(Property::CapStatus, signs),
+            Answer::Done(Value::Truth(true))
+        )
+    );
+    assert!(rt;
+        matches!(
+            a.get(Property::DrawerOpened, signs),
+            Answer::Refused(Code::Disabled, 0)
+        )
+    );
+    assert_eq!(rt; a.check(Need { is_enabled: true }), Err(Code::Disabled));
+    assert_eq!(rt; a.check(Need { is_enabled: false }), Ok(()));
+    let enabled = a.set(Property::DeviceEnabled, &Value::Truth(true));
+    assert!(rt; matches!(enabled, Answer::Done(Value::Empty)));
+    assert!(rt; a.listens(3));
+    assert!(rt; !a.listens(2));
+    assert_eq!(rt; a.check(Need { is_enabled: true }), Ok(()));
+    assert!(rt;
+        matches!(
+            a.get(Property::DeviceEnabled, signs),
+            Answer::Done(Value::Truth(true))
+        )
+    );
+    assert!(rt;
+        matches!(
+            a.get(Property::DrawerOpened, signs),
+            Answer::Done(Value::Truth(true))
+        )
+    );
+    assert!(rt; matches!(a.close(), Answer::Done(Value::Empty)));
+    assert!(rt; matches!(a.close(), Answer::Refused(Code::Closed, 0)));
+    assert_eq!(rt; a.device(), None);
+}
+
+#[test]
+fn a_property_is_set_to_values_of_its_type_alone(rt: HostRuntime) {
+    let mut a = Control::new(rt.alloc(), Category::CashDrawer);
+    let closed = a.set(Property::State, &Value::Number(2));
+    assert!(rt; matches!(closed, Answer::Refused(Code::Closed, 0)));
+    assert!(rt; matches!(a.open(Some(0), true, true), Answer::Done(Value::Empty)));
+    let settings = [
+        (Property::State, Value::Number(2)),
+        (Property::CapStatus, Value::Truth(true)),
+        (Property::DrawerOpened, Value::Truth(true)),
+        (Property::DeviceEnabled, Value::Number(1)),
+        (Property::DeviceEnabled, Value::Empty),
+    ];
+    for (property, value) in &settings {
+        assert!(rt; matches!(a.set(*property, value), Answer::Refused(Code::Illegal, 0)));
+    }
+}
+
+#[test]
+fn each_control_that_listens_hears_what_has_changed(rt: HostRuntime) -> Result<(), Fail> {
+    let mut controls = [
+        Control::new(rt.alloc(), Category::CashDrawer),
+        Control::new(rt.alloc(), Category::CashDrawer),
+        Control::new(rt.alloc(), Category::CashDrawer),
+    ];
+    for (place, control) in controls.iter_mut().enumerate() {
+        control.open(Some(place / 2), true, true);
+        control.set(Property::DeviceEnabled, &Value::Truth(true));
+    }
+    let closed = drawer_signs(false);
+    let other = Signs {
+        drawer_open: true,
+        cover_open: true,
+        paper: PaperLevel::Empty,
+    };
+    room_all(&mut controls, 0)?;
+    hear_all(&mut controls, 0, closed, other);
+    room_all(&mut controls, 1)?;
+    hear_all(&mut controls, 1, other, closed);
+    for status in [1, 11, 24] {
+        let told = Some(Event::StatusUpdate(status));
+        assert_eq!(rt; controls[0].deliver(ErrorReply::Default), told);
+        assert_eq!(rt; controls[1].deliver(ErrorReply::Default), told);
+    }
+    for status in [0, 12, 26] {
+        assert_eq!(rt;
+            controls[2].deliver(ErrorReply::Default),
+            Some(Event::StatusUpdate(status))
+        );
+    }
+    assert_eq!(rt; controls[0].deliver(ErrorReply::Default), None);
+    assert_eq!(rt; controls[1].deliver(ErrorReply::Default), None);
+    assert_eq!(rt; controls[2].deliver(ErrorReply::Default), None);
+    Ok(())
+}
+
+#[test]
+fn ten_thousand_events_are_delivered_one_by_one(rt: HostRuntime) -> Result<(), Fail> {
+    let mut a = Control::new(rt.alloc(), Category::CashDrawer);
+    a.open(Some(0), true, true);
+    a.set(Property::DeviceEnabled, &Value::Truth(true));
+    for n in 0..10_000 {
+        let was_open = n % 2 == 1;
+        a.room_for(0, 3)?;
+        a.hear(0, drawer_signs(was_open), drawer_signs(!was_open));
+    }
+    for n in 0..10_000 {
+        let told = Some(Event::StatusUpdate(1 - n % 2));
+        assert_eq!(rt; a.deliver(ErrorReply::Default), told);
+    }
+    assert_eq!(rt; a.deliver(ErrorReply::Default), None);
+    Ok(())
+}
