@@ -1,0 +1,46 @@
+-- From what a call does to one control to what it does to the machine.
+use Rattle.std.proofs.Common.{◌≡◌, ℕ, ◌<◌, ◌⊎◌, inl, inr, List, Option, Some, None, get_or, set, length, ap, sym, ◌∙◌, subst, refl}
+use Rattle.std.specs.Prelude.{MatchOption, slice_get, option_map}
+use Rattle.std.proofs.lemmas.List.{map-set, set-get_or}
+use Rattle.std.proofs.lemmas.Option.{slice_get-map, slice_get-get_or}
+use Rattle.pos_service.specs.declared.answer.Answer.{Answer}
+use Rattle.pos_service.specs.declared.event.Event.{Event}
+use Rattle.pos_service.specs.declared.event.ErrorReply.{ErrorReply}
+use Rattle.pos_service.specs.Controls.{Control, deliverable, delivered}
+use Rattle.pos_service.specs.Machine.{Device, Machine, with_control}
+use Rattle.pos_service.specs.Refusals.{Row, Decided, first_refusal}
+use Rattle.pos_service.specs.Steps.{Step, Deliver, Delivered}
+use Rattle.pos_common.specs.Held.{Held, controls_of}
+use Rattle.pos_counter.specs.Machines.{over}
+
+pub match_cases : {A : Type 0} (o : Option A) (P : Type 0) (R : A → Type 0) → MatchOption o P R → ((o ≡ None) × P) ⊎ ((a : A) × (o ≡ Some a) × R a)
+match_cases None P R h = inl (refl, h)
+match_cases (Some a) P R h = inr (a, refl, h)
+
+pub match_weaker : {A : Type 0} (o : Option A) (P Q : Type 0) (R S : A → Type 0) → (P → Q) → ((a : A) → R a → S a) → MatchOption o P R → MatchOption o Q S
+match_weaker None P Q R S f g h = f h
+match_weaker (Some a) P Q R S f g h = g a h
+
+pub match_at_some : {A : Type 0} (o : Option A) (a : A) (P : Type 0) (R : A → Type 0) → o ≡ Some a → R a → MatchOption o P R
+match_at_some o a P R e r = subst (λ x. MatchOption x P R) (sym e) r
+
+pub match_at_none : {A : Type 0} (o : Option A) (P : Type 0) (R : A → Type 0) → o ≡ None → P → MatchOption o P R
+match_at_none o P R e p = subst (λ x. MatchOption x P R) (sym e) p
+
+pub control_at : (hs : List Held) (n : ℕ) (d : Held) → n < length hs → slice_get (controls_of hs) n ≡ Some (get_or hs n d).control
+control_at hs n d lt = slice_get-map (λ (h : Held). h.control) hs n ∙ ap (option_map (λ (h : Held). h.control)) (slice_get-get_or hs n d lt)
+
+-- a call that is decided on one control is decided on the machine
+pub decided_at : (hs : List Held) (ds : List Device) (n : ℕ) (g h : Held) (rows : List Row) (r : Answer) (Done : Type 0) (c : Control) → h ≡ get_or hs n h → Decided rows r (g ≡ h) (Done × (g.control ≡ c)) → Decided rows r (over (set hs n g) ds ≡ over hs ds) (Done × (over (set hs n g) ds ≡ with_control (over hs ds) n c))
+decided_at hs ds n g h rows r Done c e x = record {
+  outcome = match_weaker (first_refusal rows) _ _ _ _
+      (λ y. (y.0, ap (λ (cs : List Control). let m : Machine = record { controls = cs; devices = ds } in m) (map-set (λ (k : Held). k.control) hs n g ∙ ap (set (controls_of hs) n) y.1)))
+      (λ refusal y. (y.0, ap (λ (ks : List Held). over ks ds) (ap (set hs n) (y.1 ∙ e) ∙ set-get_or hs n h)))
+      x.outcome;
+}
+
+-- a delivery to a control is a step
+pub deliver_step : (hs : List Held) (ds : List Device) (n : ℕ) (reply : ErrorReply) (event : Option Event) (g h : Held) → n < length hs → h ≡ get_or hs n h → event ≡ deliverable h.control → g.control ≡ delivered h.control → Step (over hs ds) (Deliver n reply) (Delivered event) (over (set hs n g) ds)
+deliver_step hs ds n reply event g h lt is first rest =
+    match_at_some _ h.control _ _ (control_at hs n h lt ∙ ap (λ (k : Held). Some k.control) (sym is))
+    (first, ap (λ (cs : List Control). let m : Machine = record { controls = cs; devices = ds } in m) (map-set (λ (k : Held). k.control) hs n g ∙ ap (set (controls_of hs) n) rest))

@@ -1,0 +1,192 @@
+-- Every step keeps the machine sound.
+use Rattle.std.proofs.Common.{◌≡◌, ℕ, ◌∷◌, inl, inr, zero, suc, List, [], Option, Some, None, Bool, true, false, cond, set, ap, sym, ◌∙◌, subst, refl}
+use Rattle.std.specs.Prelude.{MatchOption, IfSome, IsTrue, All, ◌++◌, slice_get, is_some}
+use Rattle.std.proofs.lemmas.List.Elements.{All-push, All-set, All-weaker, All-map, All-get_or}
+use Rattle.std.proofs.lemmas.Option.{slice_get_within, get_or_from_slice_get}
+use Rattle.pos_service.specs.declared.category.Category.{Category}
+use Rattle.pos_service.specs.declared.answer.Answer.{Answer}
+use Rattle.pos_service.specs.declared.event.Event.{Event}
+use Rattle.pos_service.specs.declared.input.Input.{Input}
+use Rattle.pos_service.specs.declared.call.Call.{Call}
+use Rattle.pos_service.specs.declared.call.Call.TheVariants as call
+use Rattle.pos_service.specs.declared.property.Property.{Property}
+use Rattle.pos_service.specs.declared.property.Property.TheVariants as property
+use Rattle.pos_service.specs.declared.answer.Value.{Value}
+use Rattle.pos_service.specs.declared.answer.Value.TheVariants as value
+use Rattle.pos_service.specs.Controls.{Control, new_control, opened, closed, delivered, heard, listens, all_heard}
+use Rattle.pos_service.specs.Machine.{Station, Device, Machine, station_in, device_at, is_served, with_control}
+use Rattle.pos_service.specs.Refusals.{Row, Decided, first_refusal}
+use Rattle.pos_service.specs.Calls.{serves, open_rows, after_set, get_rows}
+use Rattle.pos_service.specs.DrawerCalls.{DrawerOpens, drawer_rows}
+use Rattle.pos_service.specs.Steps.{Request, NewControl, CallOf, InputTo, Deliver, Snapshot, Response, Made, Full, Answered, TakenIn, NoDevice, WrongInput, Delivered, Shown, OutOfMemory, OnStation, Step, Called, TakesIn, IsSound, HasItsKind, HasItsDevice}
+use Rattle.pos_counter.proofs.Lifts.{match_cases}
+
+-- the device at a place has a peripheral, and the category serves it
+abbrev pub Served : Category → Option Device → Type 0
+Served category o = MatchOption o ⊥ (λ device. IsTrue (is_some device.station) × (serves category device.kind ≡ true))
+
+-- a category's control may have the device at this place open
+abbrev Seat : List Device → Category → Option ℕ → Type 0
+Seat devices category place = IfSome place (λ at. Served category (slice_get devices at))
+
+same_machine : (m m' : Machine) → m' ≡ m → IsSound m → IsSound m'
+same_machine m m' e s = subst IsSound (sym e) s
+
+same_seat : (ds : List Device) (c d : Control) → d.category ≡ c.category → d.device ≡ c.device → HasItsDevice ds c → HasItsDevice ds d
+same_seat ds c d k e h = subst (λ category. Seat ds category d.device) (sym k) (subst (Seat ds c.category) (sym e) h)
+
+-- the control that a number has is one with its device
+pub seated : (m : Machine) (n : ℕ) (c : Control) → IsSound m → slice_get m.controls n ≡ Some c → HasItsDevice m.devices c
+seated m n c s e =
+    subst (HasItsDevice m.devices) (get_or_from_slice_get m.controls n c c e) (All-get_or (HasItsDevice m.devices) m.controls n c (slice_get_within m.controls n c e) s.places)
+
+with_control_sound : (m : Machine) (n : ℕ) (c : Control) → HasItsDevice m.devices c → IsSound m → IsSound (with_control m n c)
+with_control_sound m n c h s = record {
+  kinds = s.kinds;
+  places = All-set (HasItsDevice m.devices) m.controls n c h s.places;
+}
+
+-- a decided call that changes its control keeps the machine sound where the new control has its device
+decided_sound : (rows : List Row) (r : Answer) (m m' : Machine) (n : ℕ) (c : Control) (Done : Type 0) → ((first_refusal rows ≡ None) → HasItsDevice m.devices c) → Decided rows r (m' ≡ m) (Done × (m' ≡ with_control m n c)) → IsSound m → IsSound m'
+decided_sound rows r m m' n c Done h d s =
+    elim (match_cases (first_refusal rows) _ _ d.outcome) [
+      | inl x ↦ same_machine (with_control m n c) m' x.1.1 (with_control_sound m n c (h x.0) s)
+      | inr x ↦ same_machine m m' x.2.1 s
+    ]
+
+refused_by : (b : Bool) (x y : Answer) → cond b (Some x) (Some y) ≡ None → ⊥
+refused_by true x y e = cc
+refused_by false x y e = cc
+
+-- where nothing refuses an open, the device exists and has a peripheral
+opens_there : (c : Control) (exists attached : Bool) → first_refusal (open_rows c exists attached) ≡ None → (exists ≡ true) × (attached ≡ true)
+opens_there c true true e = (refl, refl)
+opens_there c true false e = absurd (refused_by (is_some c.device) _ _ e)
+opens_there c false true e = absurd (refused_by (is_some c.device) _ _ e)
+opens_there c false false e = absurd (refused_by (is_some c.device) _ _ e)
+
+served_there : (category : Category) (o : Option Device) → is_served category o ≡ true → is_some (station_in o) ≡ true → Served category o
+served_there category None served attached = cc
+served_there category (Some device) served attached = (attached, served)
+
+opened_seat : (ds : List Device) (c : Control) (place : Option ℕ) → (is_served c.category (device_at ds place) ≡ true) × (is_some (station_in (device_at ds place)) ≡ true) → HasItsDevice ds (opened c place)
+opened_seat ds c None h = tt
+opened_seat ds c (Some at) h = served_there c.category (slice_get ds at) h.0 h.1
+
+set_keeps_device : (c : Control) (p : Property) (v : Value) → (after_set c p v).device ≡ c.device
+set_keeps_device c property.DeviceEnabled value.Empty = refl
+set_keeps_device c property.DeviceEnabled (value.Truth b) = refl
+set_keeps_device c property.DeviceEnabled (value.Number n) = refl
+set_keeps_device c property.DeviceEnabled (value.Pair n m) = refl
+set_keeps_device c property.DeviceEnabled (value.Bytes bytes) = refl
+set_keeps_device c property.State v = refl
+set_keeps_device c property.CapStatus v = refl
+set_keeps_device c property.DrawerOpened v = refl
+
+set_keeps_category : (c : Control) (p : Property) (v : Value) → (after_set c p v).category ≡ c.category
+set_keeps_category c property.DeviceEnabled value.Empty = refl
+set_keeps_category c property.DeviceEnabled (value.Truth b) = refl
+set_keeps_category c property.DeviceEnabled (value.Number n) = refl
+set_keeps_category c property.DeviceEnabled (value.Pair n m) = refl
+set_keeps_category c property.DeviceEnabled (value.Bytes bytes) = refl
+set_keeps_category c property.State v = refl
+set_keeps_category c property.CapStatus v = refl
+set_keeps_category c property.DrawerOpened v = refl
+
+-- a control with other events, or as it was, has its device
+events_keep : (ds : List Device) (b : Bool) (c : Control) (events : List Event) → HasItsDevice ds c → HasItsDevice ds (cond b c (record c { events = events }))
+events_keep ds true c events h = h
+events_keep ds false c events h = h
+
+heard_keep : (ds : List Device) (b : Bool) (c : Control) (events : List Event) → HasItsDevice ds c → HasItsDevice ds (cond b (record c { events = events }) c)
+heard_keep ds true c events h = h
+heard_keep ds false c events h = h
+
+all_heard_keep : (ds : List Device) (place : ℕ) (events : List Event) (cs : List Control) → All (HasItsDevice ds) cs → All (HasItsDevice ds) (all_heard place events cs)
+all_heard_keep ds place events cs all =
+    All-map (HasItsDevice ds) (heard place events) cs
+    (All-weaker (HasItsDevice ds) (λ c. HasItsDevice ds (heard place events c)) (λ c h. heard_keep ds (listens place c) c _ h) cs all)
+
+-- another station at a device, of its kind
+abbrev with_after : Device → Station → Device
+with_after device after = record device { station = Some after }
+
+served_stays : (ds : List Device) (i k : ℕ) (d : Device) (after : Station) (category : Category) → slice_get ds i ≡ Some d → Served category (slice_get ds k) → Served category (slice_get (set ds i (with_after d after)) k)
+served_stays [] i k d after category is h = absurd h
+served_stays (x ∷ ds) zero zero d after category is h =
+    let same : x ≡ d = cc in
+    (refl, subst (λ (y : Device). serves category y.kind ≡ true) same h.1)
+served_stays (x ∷ ds) zero (suc k) d after category is h = h
+served_stays (x ∷ ds) (suc i) zero d after category is h = h
+served_stays (x ∷ ds) (suc i) (suc k) d after category is h = served_stays ds i k d after category is h
+
+seat_stays : (ds : List Device) (i : ℕ) (d : Device) (after : Station) → slice_get ds i ≡ Some d → (c : Control) → HasItsDevice ds c → HasItsDevice (set ds i (with_after d after)) c
+seat_stays ds i d after is c h = by_place c.device h
+  where
+    by_place : (o : Option ℕ) → Seat ds c.category o → Seat (set ds i (with_after d after)) c.category o
+    by_place None g = tt
+    by_place (Some k) g = served_stays ds i k d after c.category is g
+
+-- what is done at a device's station keeps its kind, and each control's device
+pub record Keeps (before : Station) (old : List Control) (after : Station) (new : List Control) : Type 0 where
+  pub kind : after.kind ≡ before.kind
+  pub seats : (ds : List Device) → All (HasItsDevice ds) old → All (HasItsDevice ds) new
+
+on_station_sound : (m m' : Machine) (at : Option ℕ) (Does : ℕ → List Control → Station → List Control → Station → Type 0) → ((place : ℕ) (old : List Control) (before : Station) (new : List Control) (after : Station) → Does place old before new after → Keeps before old after new) → OnStation m at Does m' → IsSound m → IsSound m'
+on_station_sound m m' at Does keeps o s =
+    let kept = keeps _ _ _ _ _ o.does in
+    let here : HasItsKind o.device = subst HasItsKind (get_or_from_slice_get m.devices o.place o.device o.device o.is_device) (All-get_or HasItsKind m.devices o.place o.device (slice_get_within m.devices o.place o.device o.is_device) s.kinds) in
+    let kind : o.before.kind ≡ o.device.kind = subst (λ (st : Option Station). IfSome st (λ station. station.kind ≡ o.device.kind)) o.is_attached here in
+    same_machine _ m' o.machine (record {
+      kinds = All-set HasItsKind m.devices o.place (with_after o.device o.after) (kept.kind ∙ kind) s.kinds;
+      places = All-weaker (HasItsDevice m.devices) (HasItsDevice (set m.devices o.place (with_after o.device o.after))) (seat_stays m.devices o.place o.device o.after o.is_device) o.controls (kept.seats m.devices s.places);
+    })
+
+opens_keeps : (r : Answer) (place : ℕ) (old : List Control) (before : Station) (new : List Control) (after : Station) → DrawerOpens place old before r new after → Keeps before old after new
+opens_keeps r place old before new after (inl h) = record {
+  kind = ap (λ (s : Station). s.kind) h.1.station;
+  seats = λ ds all. subst (All (HasItsDevice ds)) (sym h.1.events) (all_heard_keep ds place _ old all);
+}
+opens_keeps r place old before new after (inr h) = record {
+  kind = ap (λ (s : Station). s.kind) h.1.station;
+  seats = λ ds all. subst (All (HasItsDevice ds)) (sym h.1.controls) all;
+}
+
+takes_keeps : (input : Input) (place : ℕ) (old : List Control) (before : Station) (new : List Control) (after : Station) → TakesIn input place old before new after → Keeps before old after new
+takes_keeps input place old before new after h = record {
+  kind = ap (λ (s : Station). s.kind) h.station;
+  seats = λ ds all. subst (All (HasItsDevice ds)) (sym h.events) (all_heard_keep ds place _ old all);
+}
+
+called_sound : (m m' : Machine) (n : ℕ) (c : Control) (q : Call) (r : Answer) → slice_get m.controls n ≡ Some c → Called m n c q r m' → IsSound m → IsSound m'
+called_sound m m' n c (call.Open name) r e h s = decided_sound _ r m m' n _ _ (λ none. opened_seat m.devices c _ (opens_there c _ _ none)) h s
+called_sound m m' n c call.Close r e h s = decided_sound _ r m m' n (closed c) _ (λ none. tt) h s
+called_sound m m' n c (call.Set p v) r e h s = decided_sound _ r m m' n (after_set c p v) _ (λ none. same_seat m.devices c (after_set c p v) (set_keeps_category c p v) (set_keeps_device c p v) (seated m n c s e)) h s
+called_sound m m' n c (call.Get p) r e h s = elim (match_cases (first_refusal (get_rows c p)) _ _ h.outcome) [ inl x ↦ same_machine m m' x.1.1 s | inr x ↦ same_machine m m' x.2.1 s ]
+called_sound m m' n c call.OpenDrawer r e h s = elim (match_cases (first_refusal (drawer_rows c call.OpenDrawer)) _ _ h.outcome) [ inl x ↦ on_station_sound m m' c.device _ (opens_keeps r) x.1 s | inr x ↦ same_machine m m' x.2.1 s ]
+
+-- every step from a sound machine leads to a sound one
+pub step_sound : (m m' : Machine) (q : Request) (r : Response) → Step m q r m' → IsSound m → IsSound m'
+step_sound m m' (NewControl category) (Made number) h s =
+    same_machine (record m { controls = m.controls ++ new_control category ∷ [] }) m' h.2 (record {
+      kinds = s.kinds;
+      places = All-push (HasItsDevice m.devices) m.controls (new_control category) s.places tt;
+    })
+step_sound m m' (NewControl category) Full h s = same_machine m m' h.1 s
+step_sound m m' (NewControl category) OutOfMemory h s = same_machine m m' h.1 s
+step_sound m m' (CallOf n q) (Answered r) h s =
+    elim (match_cases (slice_get m.controls n) _ _ h) [ inl x ↦ same_machine m m' x.1.1 s | inr x ↦ called_sound m m' n x.0 q r x.1 x.2 s ]
+step_sound m m' (CallOf n q) OutOfMemory h s = elim (match_cases (slice_get m.controls n) _ _ h) [ inl x ↦ absurd x.1 | inr x ↦ same_machine m m' x.2.2 s ]
+step_sound m m' (InputTo name input) TakenIn h s = on_station_sound m m' _ _ (takes_keeps input) h s
+step_sound m m' (InputTo name input) NoDevice h s = same_machine m m' h.1 s
+step_sound m m' (InputTo name input) WrongInput h s = same_machine m m' h.1 s
+step_sound m m' (InputTo name input) OutOfMemory h s = same_machine m m' h.1 s
+step_sound m m' (Deliver n reply) (Delivered event) h s =
+    elim (match_cases (slice_get m.controls n) _ _ h) [
+      | inl x ↦ same_machine m m' x.1.1 s
+      | inr x ↦ same_machine (with_control m n (delivered x.0)) m' x.2.1 (with_control_sound m n (delivered x.0) (events_keep m.devices _ x.0 _ (seated m n x.0 s x.1)) s)
+    ]
+step_sound m m' (Snapshot name) (Shown plant) h s = same_machine m m' h.2 s
+step_sound m m' (Snapshot name) NoDevice h s = same_machine m m' h.1 s
+step_sound m m' (Snapshot name) OutOfMemory h s = same_machine m m' h.1 s
+step_sound m m' q r h s = absurd h

@@ -1,0 +1,4 @@
+pub mod Profile
+pub mod Machines
+pub mod Responses
+pub mod Counters

@@ -1,0 +1,71 @@
+ghost use Rattle.std.specs.Prelude.{◌≡◌, [], List};
+ghost use Rattle.pos_service.specs.Machine.{Device};
+ghost use Rattle.pos_service.specs.Steps.{Step, NewControl, Deliver, Delivered};
+ghost use Rattle.pos_counter.specs.Machines.{over};
+ghost use Rattle.pos_counter.specs.Responses.{made};
+
+use crate::faults::ControlFault;
+use pos_common::Control;
+use pos_service::{Category, ErrorReply, Event};
+use std::alloc::Global;
+use std::marker::Model;
+
+/// How many controls there may be.
+const MOST_CONTROLS: usize = 4096;
+
+/// The controls of all applications, by their numbers, and what makes new ones. Contracts see the list of controls.
+#[derive(Drop)]
+pub(crate) struct Desk {
+    alloc: Global,
+    pub(crate) controls: Vec<Control>,
+}
+
+impl Model for Desk {
+    ghost use Rattle.std.specs.Prelude.{List};
+    ghost use Rattle.pos_common.specs.Held.{Held};
+
+    ghost Value = { List Held };
+
+    ghost view = { λ desk. desk.controls.items };
+}
+
+impl Desk {
+    /// No control.
+    pub(crate) fn new(alloc: Global) -> Self
+        ensures { result ≡ [] }
+    {
+        Desk {
+            alloc,
+            controls: Vec::new(alloc),
+        }
+    }
+
+    /// What allocates.
+    pub(crate) fn allocator(&self) -> Global {
+        self.alloc
+    }
+
+    /// A new control of a category: its number.
+    pub(crate) fn control(&mut self, category: Category) -> Result<usize, ControlFault>
+        ensures { (devices : List Device) → Step (over self.old devices) (NewControl category) (made result) (over self.new devices) }
+    {
+        let number = self.controls.len();
+        if number >= MOST_CONTROLS {
+            return Err(ControlFault::Full);
+        }
+        match self.controls.push(Control::new(self.alloc, category)) {
+            Ok(()) => Ok(number),
+            Err(_) => Err(ControlFault::NoMemory),
+        }
+    }
+
+    /// Takes the event that may be delivered to a control. A control that isn't there has none.
+    pub(crate) fn deliver(&mut self, number: usize, reply: ErrorReply) -> Option<Event>
+        ensures { (devices : List Device) → Step (over self.old devices) (Deliver number reply) (Delivered result) (over self.new devices) }
+    {
+        if number >= self.controls.len() {
+            return None;
+        }
+        self.controls[number].deliver(reply)
+    }
+}

@@ -1,0 +1,27 @@
+ghost use Rattle.std.specs.Prelude.{◌≡◌, IfOk};
+ghost use Rattle.pos_counter.specs.Profile.{profile};
+
+use pos_service::{Bytes, Kind, NoMemory};
+use std::alloc::Global;
+
+/// A device of the profile.
+#[derive(Drop)]
+pub(crate) struct Entry {
+    /// Its name, by which controls open it.
+    pub(crate) name: Bytes,
+    /// What its peripheral is.
+    pub(crate) kind: Kind,
+}
+
+/// The built devices in order: the cash drawer `d1`.
+pub(crate) fn built_entries(alloc: Global) -> Result<Vec<Entry>, NoMemory>
+    ensures { IfOk result (λ entries. entries.items ≡ profile) }
+{
+    let name = Bytes::from_slice(alloc, b"d1")?;
+    let mut entries = Vec::with_capacity(alloc, 1)?;
+    entries.push_reserved(Entry {
+        name,
+        kind: Kind::Drawer,
+    });
+    Ok(entries)
+}
