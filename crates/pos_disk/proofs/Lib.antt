@@ -1,0 +1,8 @@
+pub mod Bytes
+mod Calls
+mod Fuses
+pub mod Moments
+pub mod Spoils
+mod Stamps
+pub mod Within
+mod Written

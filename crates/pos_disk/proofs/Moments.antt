@@ -1,0 +1,73 @@
+-- How a run of disk calls goes on.
+use Rattle.std.proofs.Common.{◌≡◌, inl, inr, ⊎_elim, ℕ, List, length, get_or, refl, ◌∙◌, ap, arith, Result}
+use Rattle.std.proofs.lemmas.List.{ext_get_or}
+use Rattle.pos_disk.specs.State.{DiskState, IsAtRest, MayLeave, Elapses, Reads, Syncs, LeavesOnly, Watches}
+use Rattle.pos_disk.specs.declared.device.DiskFault.{DiskFault}
+
+-- no call
+pub elapses_none : (disk : DiskState) → Elapses disk disk
+elapses_none disk = record { later = omega arith; keeps = λ t c le left. left; nothing_else = λ t c le left. inl left }
+
+-- before the first call
+pub started : (disk : DiskState) (P : List ℕ → Type 0) → ((c : List ℕ) → disk.left_since disk.moment c → P c) → LeavesOnly disk disk P
+started disk P here = record { later = omega arith; each = here; before = λ t c le left. inl left }
+
+-- one call more, after which a crash leaves what has P
+pub goes_on : (old mid new : DiskState) (P : List ℕ → Type 0) → LeavesOnly old mid P → Elapses mid new → ((c : List ℕ) → MayLeave new c → P c) → LeavesOnly old new P
+goes_on old mid new P so_far time here = record {
+  later = omega (arith, so_far.later, time.later);
+  each = λ c left. ⊎_elim (so_far.each c) (here c) (time.nothing_else old.moment c so_far.later left);
+  before = λ t c le left. ⊎_elim (so_far.before t c le) (λ now. inr (here c now)) (time.nothing_else t c (omega (arith, le, so_far.later)) left);
+}
+
+-- one run after another
+pub followed_by : (old mid new : DiskState) (P : List ℕ → Type 0) → LeavesOnly old mid P → LeavesOnly mid new P → LeavesOnly old new P
+followed_by old mid new P first second = record {
+  later = omega (arith, first.later, second.later);
+  each = λ c left. ⊎_elim (first.each c) (λ p. p) (second.before old.moment c first.later left);
+  before = λ t c le left. ⊎_elim (first.before t c le) (λ p. inr p) (second.before t c (omega (arith, le, first.later)) left);
+}
+
+-- a weaker promise
+pub weaker : (old new : DiskState) (P Q : List ℕ → Type 0) → ((c : List ℕ) → P c → Q c) → LeavesOnly old new P → LeavesOnly old new Q
+weaker old new P Q to run = record {
+  later = run.later;
+  each = λ c left. to c (run.each c left);
+  before = λ t c le left. ⊎_elim (λ was. inl was) (λ p. inr (to c p)) (run.before t c le left);
+}
+
+-- a crash of a disk at rest leaves what a read gives
+pub rest_leaves : (disk : DiskState) (bytes : List ℕ) → IsAtRest disk → MayLeave disk bytes → bytes ≡ disk.reading
+rest_leaves disk bytes rest may = ext_get_or 0 bytes disk.reading may.same_length (λ i inside. may.settled i (rest i))
+
+-- what a disk that was only looked at may leave, it might have left before
+pub seen_before : (old new : DiskState) (bytes : List ℕ) → new.reading ≡ old.reading → ((i : ℕ) → new.loose i → old.loose i) → MayLeave new bytes → MayLeave old bytes
+seen_before old new bytes same loose may = record {
+  same_length = may.same_length ∙ ap length same;
+  settled = λ i tight. may.settled i (λ l. tight (loose i l)) ∙ ap (λ (b : List ℕ). get_or b i 0) same;
+}
+
+module _ {T : Type 0} (old new : DiskState) (only : (c : List ℕ) → old.left_since old.moment c → MayLeave old c) (result : Result T DiskFault) where
+  pub watches_read : (at : ℕ) (out : List ℕ) → Reads old new at out result → Watches old new
+  watches_read at out reads = record {
+    reading = reads.reading;
+    loose = reads.loose;
+    any_moment = goes_on old old new (MayLeave old) (started old (MayLeave old) only) reads.time (λ c may. seen_before old new c reads.reading reads.loose may);
+  }
+
+  pub watches_sync : Syncs old new result → Watches old new
+  watches_sync syncs = record {
+    reading = syncs.reading;
+    loose = syncs.loose;
+    any_moment = goes_on old old new (MayLeave old) (started old (MayLeave old) only) syncs.time (λ c may. seen_before old new c syncs.reading syncs.loose may);
+  }
+
+pub watches_none : (disk : DiskState) → ((c : List ℕ) → disk.left_since disk.moment c → MayLeave disk c) → Watches disk disk
+watches_none disk only = record { reading = refl; loose = λ i l. l; any_moment = started disk (MayLeave disk) only }
+
+pub watches_on : (old mid new : DiskState) → Watches old mid → Watches mid new → Watches old new
+watches_on old mid new first second = record {
+  reading = second.reading ∙ first.reading;
+  loose = λ i l. first.loose i (second.loose i l);
+  any_moment = followed_by old mid new (MayLeave old) first.any_moment (weaker mid new (MayLeave mid) (MayLeave old) (λ c may. seen_before old mid c first.reading first.loose may) second.any_moment);
+}

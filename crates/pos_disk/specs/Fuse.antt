@@ -1,0 +1,78 @@
+-- A disk that fails on demand, as contracts see it.
+use Rattle.std.specs.Prelude.{◌≡◌, ◌⊎◌, ◌≤◌, ◌+◌, ◌-◌, ◌/◌, ◌^◌, ◌&&◌, ℕ, List, Bool, true, false, min, leb, ltb, length, take, get_or, Result, Ok, Err}
+use Rattle.pos_disk.specs.State.{DiskState, Elapses, InRange, Rises, Reads, Writes, Syncs, splice}
+use Rattle.pos_disk.specs.declared.device.DiskFault.{DiskFault}
+use Rattle.pos_disk.specs.declared.device.Disk.{Ghosts}
+
+-- The disk within, the schedule, the calls so far, and the failures so far; both counts stay at 2 ^ 64 - 1.
+pub record Fuse (D : Type 0) : Type 0 where
+  pub inner : D
+  pub pass : ℕ
+  pub fail : ℕ
+  pub calls : ℕ
+  pub failures : ℕ
+
+-- one more; the last value stays
+abbrev pub counted : ℕ → ℕ
+counted n = min (n + 1) (2 ^ 64 - 1)
+
+-- Is the next call one that fails? The calls are numbered from 0.
+abbrev pub is_blown : {D : Type 0} → Fuse D → Bool
+is_blown fuse = leb fuse.pass fuse.calls && ltb (fuse.calls - fuse.pass) fuse.fail
+
+-- the failures after one more call
+abbrev pub failures_after : {T : Type 0} → ℕ → Result T DiskFault → ℕ
+failures_after failures (Ok x) = failures
+failures_after failures (Err fault) = counted failures
+
+-- the fuse after one more call, which left the disk within like this
+abbrev pub after_call : {D : Type 0} {T : Type 0} → Fuse D → D → Result T DiskFault → Fuse D
+after_call fuse inner result = record fuse { inner = inner; calls = counted fuse.calls; failures = failures_after fuse.failures result }
+
+-- the fuse as a disk: the disk within, with its own count of failures
+abbrev pub with_failures : DiskState → ℕ → DiskState
+with_failures disk failures = record {
+  reading = disk.reading;
+  loose = disk.loose;
+  moment = disk.moment;
+  left_since = disk.left_since;
+  failures = failures;
+}
+
+-- Any bytes were written within n places from `at` on, which are loose now; the rest stayed as it was.
+pub record Spoils (old new : DiskState) (at n : ℕ) : Type 0 where
+  pub same_length : length new.reading ≡ length old.reading
+  pub elsewhere : (i : ℕ) → ¬ (InRange at n i) → get_or new.reading i 0 ≡ get_or old.reading i 0
+  pub loose : (i : ℕ) → new.loose i → old.loose i ⊎ InRange at n i
+  pub reached : (i : ℕ) → old.loose i ⊎ InRange at n i → new.loose i
+  pub time : Elapses old new
+
+-- Places were made loose, and their bytes stayed unless the disk failed.
+pub record Loosens (old new : DiskState) (at n : ℕ) : Type 0 where
+  pub spoils : Spoils old new at n
+  pub later : old.failures ≤ new.failures
+  pub kept : ¬ (Rises old.failures new.failures) → new.reading ≡ old.reading
+
+-- The first half of the bytes was put down, the odd one aside, unless the disk within failed; the whole range is loose.
+pub record PutsHalf (old new : DiskState) (at : ℕ) (bytes : List ℕ) : Type 0 where
+  pub spoils : Spoils old new at (length bytes)
+  pub later : old.failures ≤ new.failures
+  pub half : ¬ (Rises old.failures new.failures) → new.reading ≡ splice old.reading at (take (length bytes / 2) bytes)
+
+-- A read through a fuse: one that fails asks nothing of the disk within, and any other is its read.
+pub record FuseReads {D : Type 0} (bound : Ghosts D) (old new : Fuse D) (at : ℕ) (before after : List ℕ) {T : Type 0} (result : Result T DiskFault) : Type 0 where
+  pub counts : new ≡ after_call old new.inner result
+  pub blown : is_blown old ≡ true → (result ≡ Err record {}) × (new.inner ≡ old.inner) × (after ≡ before)
+  pub passed : is_blown old ≡ false → bound.honest old.inner → Reads (bound.state old.inner) (bound.state new.inner) at after result
+
+-- A write through a fuse: one that fails puts down half, and any other is the write of the disk within.
+pub record FuseWrites {D : Type 0} (bound : Ghosts D) (old new : Fuse D) (at : ℕ) (bytes : List ℕ) {T : Type 0} (result : Result T DiskFault) : Type 0 where
+  pub counts : new ≡ after_call old new.inner result
+  pub blown : is_blown old ≡ true → (result ≡ Err record {}) × (bound.honest old.inner → PutsHalf (bound.state old.inner) (bound.state new.inner) at bytes)
+  pub passed : is_blown old ≡ false → bound.honest old.inner → Writes (bound.state old.inner) (bound.state new.inner) at bytes result
+
+-- A sync through a fuse: one that fails asks nothing of the disk within, and any other is its sync.
+pub record FuseSyncs {D : Type 0} (bound : Ghosts D) (old new : Fuse D) {T : Type 0} (result : Result T DiskFault) : Type 0 where
+  pub counts : new ≡ after_call old new.inner result
+  pub blown : is_blown old ≡ true → (result ≡ Err record {}) × (new.inner ≡ old.inner)
+  pub passed : is_blown old ≡ false → bound.honest old.inner → Syncs (bound.state old.inner) (bound.state new.inner) result

@@ -1,0 +1,6 @@
+pub mod Fuse
+pub mod Kept
+pub mod Memory
+pub mod Stamps
+pub mod State
+pub mod Within

@@ -1,0 +1,58 @@
+// A disk as the layers above see it, honest or not.
+ghost use Rattle.std.specs.Prelude.{◌↔◌, ◌≡◌, ◌≤◌, ◌+◌, List, ℕ, length};
+ghost use Rattle.pos_disk.specs.State.{DiskState, MayLeave, Reads, Writes, Syncs};
+
+use thiserror::Error;
+
+/// A read, a write or a sync that failed.
+#[derive(Clone, Copy, Debug, PartialEq, Eq, Error)]
+#[error("the disk failed")]
+pub struct DiskFault;
+
+/// Bytes under places numbered from 0. What is said of reads, writes, syncs and crashes is said of an honest disk
+/// alone; its size any disk keeps. The caller keeps each range within the size. docs/DISK.md, "The model of a disk".
+pub trait Disk {
+    /// How many bytes it has, whether it is honest or not.
+    ghost size: { Self → ℕ };
+
+    /// It keeps the model. A call makes no disk honest that wasn't, and none dishonest that was.
+    ghost honest: { Self → Type 0 };
+
+    /// What an honest disk is at this moment.
+    ghost state: { Self → DiskState };
+
+    /// How many bytes it has.
+    fn len(&self) -> u64
+        ensures { result ≡ size self.now };
+
+    /// Reads the bytes from place `at` on, as many as `out` holds. After a fault `out` holds any bytes.
+    fn read(&mut self, at: u64, out: &mut [u8]) -> Result<(), DiskFault>
+        requires { at + length out.old ≤ size self.old }
+        ensures size { size self.new ≡ size self.old }
+        ensures honest { honest self.old ↔ honest self.new }
+        ensures reads { honest self.old → Reads (state self.old) (state self.new) at out.new result };
+
+    /// Writes the bytes from place `at` on. After a fault any bytes stand there. From the beginning of a write on its
+    /// range is loose, whatever its answer.
+    fn write(&mut self, at: u64, bytes: &[u8]) -> Result<(), DiskFault>
+        requires { at + length bytes.now ≤ size self.old }
+        ensures size { size self.new ≡ size self.old }
+        ensures honest { honest self.old ↔ honest self.new }
+        ensures writes { honest self.old → Writes (state self.old) (state self.new) at bytes.now result };
+
+    /// Makes what was written stay: after a success a crash leaves what a read gives. After a fault nothing is promised
+    /// to have settled.
+    fn sync(&mut self) -> Result<(), DiskFault>
+        ensures size { size self.new ≡ size self.old }
+        ensures honest { honest self.old ↔ honest self.new }
+        ensures syncs { honest self.old → Syncs (state self.old) (state self.new) result };
+
+    /// An honest disk has as many bytes as its size.
+    ghost whole: { (disk : Self) → honest disk → length (state disk).reading ≡ size disk };
+
+    /// What a crash may leave now is among what a crash since an earlier moment may have left.
+    ghost counts_now: { (disk : Self) (t : ℕ) (bytes : List ℕ) → honest disk → t ≤ (state disk).moment → MayLeave (state disk) bytes → (state disk).left_since t bytes };
+
+    /// A crash since this very moment leaves what a crash may leave now.
+    ghost only_now: { (disk : Self) (bytes : List ℕ) → honest disk → (state disk).left_since (state disk).moment bytes → MayLeave (state disk) bytes };
+}

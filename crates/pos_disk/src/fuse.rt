@@ -1,0 +1,186 @@
+// A disk that fails on demand.
+ghost use Rattle.std.specs.Prelude.{◌≡◌, ◌≤◌, ◌+◌, ◌-◌, ◌↔◌, ℕ, length, Result, Ok, Err};
+ghost use Rattle.pos_disk.specs.Fuse.{counted, is_blown, Loosens, PutsHalf};
+
+use crate::{Disk, DiskFault};
+use std::marker::Model;
+
+/// A disk that passes the first `pass` reads, writes and syncs to the disk within, fails the next `fail`, and then
+/// goes on. A call that fails asks nothing of the disk within, but for a write: it puts down the first half of its
+/// bytes and makes its whole range loose. It is honest where the disk within is. Its failures are its own: one for each
+/// call that it answers with a fault, its own or the disk's.
+#[derive(Drop)]
+pub struct FuseDisk<D: Disk> {
+    inner: D,
+    pass: u64,
+    fail: u64,
+    calls: u64,
+    failures: u64,
+}
+
+impl<D: Disk> Model for FuseDisk<D> {
+    ghost use Rattle.std.specs.Prelude.{◌<◌, ◌^◌};
+    ghost use Rattle.pos_disk.specs.Fuse.{Fuse};
+
+    ghost Value = { Fuse D };
+
+    ghost view = { λ f. record { inner = f.inner; pass = f.pass; fail = f.fail; calls = f.calls; failures = f.failures } };
+
+    ghost invariant = { λ f. f.failures < 2 ^ 64 };
+}
+
+impl<D: Disk> FuseDisk<D> {
+    /// A disk over this one, with no call so far.
+    pub fn new(inner: D, pass: u64, fail: u64) -> FuseDisk<D>
+        ensures { result ≡ record { inner = inner; pass = pass; fail = fail; calls = 0; failures = 0 } }
+    {
+        FuseDisk {
+            inner,
+            pass,
+            fail,
+            calls: 0,
+            failures: 0,
+        }
+    }
+
+    /// How many reads, writes and syncs it was asked for; at 18,446,744,073,709,551,615 it stays.
+    pub fn calls(&self) -> u64
+        ensures { result ≡ self.now.calls }
+    {
+        self.calls
+    }
+
+    /// The disk within, as it is.
+    pub fn into_inner(self) -> D
+        ensures { result ≡ self.inner }
+    {
+        self.inner
+    }
+}
+
+// One more; the last value stays.
+fn count(calls: &mut u64)
+    ensures { calls.new ≡ counted calls.old }
+{
+    *calls = calls.saturating_add(1);
+}
+
+// Writes to each place from `from` to before `end` the byte that stands there, so that it is loose. Where a read fails,
+// any byte.
+fn loosen<D: Disk>(disk: &mut D, from: u64, end: u64)
+    requires range { from ≤ end }
+    requires size { end ≤ D.size disk.old }
+    ensures size { D.size disk.new ≡ D.size disk.old }
+    ensures honest { D.honest disk.old ↔ D.honest disk.new }
+    ensures loosens { D.honest disk.old → Loosens (D.state disk.old) (D.state disk.new) from (end - from) }
+{
+    for place in from..end {
+        let mut byte = [0];
+        let _ = disk.read(place, &mut byte);
+        let _ = disk.write(place, &byte);
+    }
+}
+
+// Puts down the first half of the bytes, and makes the places of the other half loose too.
+fn put_half<D: Disk>(disk: &mut D, at: u64, bytes: &[u8])
+    requires { at + length bytes.now ≤ D.size disk.old }
+    ensures size { D.size disk.new ≡ D.size disk.old }
+    ensures honest { D.honest disk.old ↔ D.honest disk.new }
+    ensures half { D.honest disk.old → PutsHalf (D.state disk.old) (D.state disk.new) at bytes.now }
+{
+    let half = bytes.len() / 2;
+    let middle = at.saturating_add(half as u64).min(disk.len());
+    let end = at.saturating_add(bytes.len() as u64).min(disk.len());
+    let _ = disk.write(at, &bytes[..half]);
+    loosen(disk, middle, end);
+}
+
+impl<D: Disk> FuseDisk<D> {
+    // Is the next call one that fails?
+    fn is_blown(&self) -> bool
+        ensures { result ≡ is_blown self.now }
+    {
+        self.calls >= self.pass && self.calls - self.pass < self.fail
+    }
+}
+
+impl<D: Disk> Disk for FuseDisk<D> {
+    ghost use Rattle.pos_disk.specs.State.{Reads, Writes, Syncs};
+    ghost use Rattle.pos_disk.specs.Fuse.{with_failures, FuseReads, FuseWrites, FuseSyncs};
+
+    ghost size = { λ f. D.size f.inner };
+
+    ghost honest = { λ f. D.honest f.inner };
+
+    ghost state = { λ f. with_failures (D.state f.inner) f.failures };
+
+    ghost whole = { λ f honest. D.whole f.inner honest };
+
+    ghost counts_now = { λ f t c honest le may. D.counts_now f.inner t c honest le (record { same_length = may.same_length; settled = may.settled }) };
+
+    ghost only_now = { λ f c honest left. let may = D.only_now f.inner c honest left in record { same_length = may.same_length; settled = may.settled } };
+
+    fn len(&self) -> u64 {
+        self.inner.len()
+    }
+
+    fn read(&mut self, at: u64, out: &mut [u8]) -> Result<(), DiskFault>
+        requires { at + length out.old ≤ D.size self.old.inner }
+        ensures size { D.size self.new.inner ≡ D.size self.old.inner }
+        ensures honest { D.honest self.old.inner ↔ D.honest self.new.inner }
+        ensures reads { D.honest self.old.inner → Reads (with_failures (D.state self.old.inner) self.old.failures) (with_failures (D.state self.new.inner) self.new.failures) at out.new result }
+        ensures fuse { FuseReads D.Disk self.old self.new at out.old out.new result }
+    {
+        let blown = self.is_blown();
+        count(&mut self.calls);
+        if blown {
+            count(&mut self.failures);
+            return Err(DiskFault);
+        }
+        let answer = self.inner.read(at, out);
+        if answer.is_err() {
+            count(&mut self.failures);
+        }
+        answer
+    }
+
+    fn write(&mut self, at: u64, bytes: &[u8]) -> Result<(), DiskFault>
+        requires { at + length bytes.now ≤ D.size self.old.inner }
+        ensures size { D.size self.new.inner ≡ D.size self.old.inner }
+        ensures honest { D.honest self.old.inner ↔ D.honest self.new.inner }
+        ensures writes { D.honest self.old.inner → Writes (with_failures (D.state self.old.inner) self.old.failures) (with_failures (D.state self.new.inner) self.new.failures) at bytes.now result }
+        ensures fuse { FuseWrites D.Disk self.old self.new at bytes.now result }
+    {
+        let blown = self.is_blown();
+        count(&mut self.calls);
+        if blown {
+            count(&mut self.failures);
+            put_half(&mut self.inner, at, bytes);
+            return Err(DiskFault);
+        }
+        let answer = self.inner.write(at, bytes);
+        if answer.is_err() {
+            count(&mut self.failures);
+        }
+        answer
+    }
+
+    fn sync(&mut self) -> Result<(), DiskFault>
+        ensures size { D.size self.new.inner ≡ D.size self.old.inner }
+        ensures honest { D.honest self.old.inner ↔ D.honest self.new.inner }
+        ensures syncs { D.honest self.old.inner → Syncs (with_failures (D.state self.old.inner) self.old.failures) (with_failures (D.state self.new.inner) self.new.failures) result }
+        ensures fuse { FuseSyncs D.Disk self.old self.new result }
+    {
+        let blown = self.is_blown();
+        count(&mut self.calls);
+        if blown {
+            count(&mut self.failures);
+            return Err(DiskFault);
+        }
+        let answer = self.inner.sync();
+        if answer.is_err() {
+            count(&mut self.failures);
+        }
+        answer
+    }
+}
