@@ -1,7 +1,9 @@
 use crate::PlainDrawer;
 use pos_service::{
-    Input, Kind, NoMemory, Order, PaperLevel, Peripheral, Plant, Reply, Signs, Snapshot, Taken,
+    Input, Kind, NoMemory, Order, PaperLevel, Peripheral, PeripheralBox, Plant, Reply, Signs,
+    Snapshot, Stated, Taken,
 };
+use std::test::Fail;
 
 fn signs(drawer_open: bool) -> Signs {
     Signs {
@@ -28,6 +30,27 @@ fn a_drawer_opens_and_is_moved(rt: HostRuntime) -> Result<(), NoMemory> {
     assert_eq!(rt; drawer.feed(&Input::DrawerMoved(false))?, Taken::Quiet);
     assert_eq!(rt; drawer.signs(), signs(false));
     assert!(rt; !is_open(&drawer)?);
+    Ok(())
+}
+
+#[test]
+fn a_boxed_drawer_is_the_drawer_within(rt: HostRuntime) -> Result<(), Fail> {
+    let mut drawer = PlainDrawer::new();
+    let _ = drawer.ask(&Order::OpenDrawer)?;
+    let device: Box<dyn Peripheral> = Box::new(rt.alloc(), drawer)?;
+    let mut boxed = PeripheralBox::new(device);
+    let kind = boxed.kind();
+    let shown = boxed.signs();
+    let copied = boxed.snapshot();
+    let was_parked = boxed.is_parked();
+    boxed.park();
+    let is_parked = boxed.is_parked();
+    boxed.end();
+    assert_eq!(rt; kind, Kind::Drawer);
+    assert_eq!(rt; shown, signs(true));
+    assert!(rt; !was_parked && is_parked);
+    let Snapshot(Plant::Drawer(is_open)) = copied?;
+    assert!(rt; is_open);
     Ok(())
 }
 

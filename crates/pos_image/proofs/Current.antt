@@ -1,0 +1,174 @@
+-- The current image, and what changes of the other slot leave of it.
+use Rattle.std.proofs.Common.{◌≡◌, ◌⊎◌, inl, inr, ⊎_elim, ℕ, ◌+◌, ◌≤◌, ◌<◌, List, length, refl, sym, ap, subst, ◌∙◌, arith, true, false, nat_lt, nat_le, nat_eq}
+use Rattle.std.specs.Int.{w32, w64, from_be_bytes}
+use Rattle.std.proofs.lemmas.Bool.{cases_Bool}
+use Rattle.std.proofs.lemmas.Bool.Decides.{nat_tests}
+use Rattle.pos_disk.specs.State.{InRange, part}
+use Rattle.pos_disk.proofs.Bytes.{same_part}
+use Rattle.pos_disk.specs.Within.{SameBut}
+use Rattle.pos_image.specs.Layout.{start, other, is_open, sequence_at, length_at, body_at, Stages}
+use Rattle.pos_image.specs.Slots.{IsCurrent, IsPrepared, IsFound}
+use Rattle.pos_image.specs.Standing.{Stands, stands, image_at}
+use Rattle.pos_image.specs.declared.slot.Slot.{Slot}
+use Rattle.pos_image.specs.declared.slot.Slot.TheVariants.{First, Second}
+
+pub other_other : (slot : Slot) → other (other slot) ≡ slot
+other_other First = refl
+other_other Second = refl
+
+pub start_low : (slot : Slot) → start slot ≤ 32768
+start_low First = omega arith
+start_low Second = omega arith
+
+pub apart : (slot : Slot) → (start slot + 32768 ≤ start (other slot)) ⊎ (start (other slot) + 32768 ≤ start slot)
+apart First = inl (omega arith)
+apart Second = inr (omega arith)
+
+module _ (old new : List ℕ) (at n : ℕ) (same : SameBut at n old new) where
+  pub kept_gate : (i : ℕ) → ¬ (InRange at n i) → is_open new i ≡ is_open old i
+  kept_gate i outside = ap (λ (b : ℕ). nat_eq b 165) (same.elsewhere i outside)
+
+  pub kept_part : (place m : ℕ) → place + m ≤ length old → ((i : ℕ) → InRange place m i → ¬ (InRange at n i)) → part place m new ≡ part place m old
+  kept_part place m fits outside =
+      same_part new old place m (omega (arith, same.same_length)) same.same_length (λ i inside. same.elsewhere i (outside i inside))
+
+  pub kept_sequence : (place : ℕ) → place + 13 ≤ length old → ((i : ℕ) → InRange (place + 1) 12 i → ¬ (InRange at n i)) → sequence_at new place ≡ sequence_at old place
+  unfolding sequence_at
+  kept_sequence place fits outside =
+      ap (from_be_bytes w64) (kept_part (place + 1) 8 (omega arith) (λ i inside. outside i (inside.0, omega (arith, inside.1))))
+
+  pub kept_length : (place : ℕ) → place + 13 ≤ length old → ((i : ℕ) → InRange (place + 1) 12 i → ¬ (InRange at n i)) → length_at new place ≡ length_at old place
+  unfolding length_at
+  kept_length place fits outside =
+      ap (from_be_bytes w32) (kept_part (place + 9) 4 (omega arith) (λ i inside. outside i (omega (arith, inside.0), omega (arith, inside.1))))
+
+  pub kept_body : (place : ℕ) → place + 16384 ≤ length old → length_at old place ≤ 16371 → ((i : ℕ) → InRange (place + 1) 16383 i → ¬ (InRange at n i)) → body_at new place ≡ body_at old place
+  unfolding body_at
+  kept_body place fits short outside =
+      let long = kept_length place (omega arith) (λ i inside. outside i (inside.0, omega (arith, inside.1))) in
+      ap (λ (m : ℕ). part (place + 13) m new) long
+      ∙ kept_part (place + 13) (length_at old place) (omega arith) (λ i inside. outside i (omega (arith, inside.0), omega (arith, inside.1)))
+
+-- what stays within the other slot leaves the current image, where the other slot isn't the newer one then
+pub kept_current : (slot : Slot) (old new body : List ℕ) (sequence at n : ℕ) → start (other slot) ≤ at → at + n ≤ start (other slot) + 32768 → IsCurrent old slot body sequence → SameBut at n old new
+    → (is_open new (start (other slot)) ≡ true → sequence_at new (start (other slot)) < sequence) → IsCurrent new slot body sequence
+kept_current slot old new body sequence at n low high current same greater =
+    let here = start_low slot in
+    let there = start_low (other slot) in
+    let out : (i : ℕ) → InRange (start slot) 32768 i → ¬ (InRange at n i) = λ i inside hit. ⊎_elim (λ before. absurd (omega (arith, before, inside.1, hit.0))) (λ behind. absurd (omega (arith, behind, inside.0, hit.1))) (apart slot) in
+    let far : (i : ℕ) → 65536 ≤ i → ¬ (InRange at n i) = λ i above hit. absurd (omega (arith, hit.1)) in
+    let whole = current.whole in
+    record {
+      whole = omega (arith, same.same_length);
+      first_layout = (
+        kept_gate old new at n same 65536 (far 65536 (omega arith)) ∙ current.first_layout.0,
+        kept_gate old new at n same 196608 (far 196608 (omega arith)) ∙ current.first_layout.1,
+      );
+      gate = kept_gate old new at n same (start slot) (out (start slot) (omega arith, omega arith)) ∙ current.gate;
+      sequence_is = kept_sequence old new at n same (start slot) (omega arith) (λ i inside. out i (omega (arith, inside.0), omega (arith, inside.1))) ∙ current.sequence_is;
+      fits = let long = kept_length old new at n same (start slot) (omega arith) (λ i inside. out i (omega (arith, inside.0), omega (arith, inside.1))) in omega (arith, long, current.fits);
+      body_is = kept_body old new at n same (start slot) (omega arith) current.fits (λ i inside. out i (omega (arith, inside.0), omega (arith, inside.1))) ∙ current.body_is;
+      greater = greater;
+    }
+
+-- while an image is put into the other slot
+pub stage_current : (slot : Slot) (old new body : List ℕ) (sequence : ℕ) → IsCurrent old slot body sequence → Stages (start (other slot)) old new → IsCurrent new slot body sequence
+stage_current slot old new body sequence current stages =
+    kept_current slot old new body sequence (start (other slot)) 32768 (omega arith) (omega arith) current stages.same (λ opened.
+    let was = stages.behind opened in
+    let low = start_low (other slot) in
+    let whole = current.whole in
+    let kept = kept_sequence old new (start (other slot)) 1 was.1 (start (other slot)) (omega arith) (λ i inside hit. absurd (omega (arith, inside.0, hit.1))) in
+    let less = current.greater was.0 in
+    omega (arith, kept, less))
+
+-- while its gate is written: closed, it is as before
+pub unpublished : (slot : Slot) (old new body : List ℕ) (sequence : ℕ) → IsCurrent old slot body sequence → SameBut (start (other slot)) 1 old new → is_open new (start (other slot)) ≡ false → IsCurrent new slot body sequence
+unpublished slot old new body sequence current same shut =
+    kept_current slot old new body sequence (start (other slot)) 1 (omega arith) (omega arith) current same (λ opened. absurd (cc (opened, shut)))
+
+-- and open, the new image is the current one
+pub published : (slot : Slot) (old new body next : List ℕ) (sequence : ℕ) → IsCurrent old slot body sequence → IsPrepared old (other slot) next (sequence + 1) → SameBut (start (other slot)) 1 old new → is_open new (start (other slot)) ≡ true
+    → IsCurrent new (other slot) next (sequence + 1)
+published slot old new body next sequence current prepared same opened =
+    let here = start_low slot in
+    let there = start_low (other slot) in
+    let far : (i : ℕ) → 65536 ≤ i → ¬ (InRange (start (other slot)) 1 i) = λ i above hit. absurd (omega (arith, hit.1)) in
+    let out : (i : ℕ) → InRange (start slot) 32768 i → ¬ (InRange (start (other slot)) 1 i) = λ i inside hit. ⊎_elim (λ before. absurd (omega (arith, before, inside.1, hit.0))) (λ behind. absurd (omega (arith, behind, inside.0, hit.1))) (apart slot) in
+    let whole = current.whole in
+    let kept = kept_sequence old new (start (other slot)) 1 same (start slot) (omega arith) (λ i inside. out i (omega (arith, inside.0), omega (arith, inside.1))) in
+    let was = current.sequence_is in
+    record {
+      whole = omega (arith, same.same_length);
+      first_layout = (
+        kept_gate old new (start (other slot)) 1 same 65536 (far 65536 (omega arith)) ∙ current.first_layout.0,
+        kept_gate old new (start (other slot)) 1 same 196608 (far 196608 (omega arith)) ∙ current.first_layout.1,
+      );
+      gate = opened;
+      sequence_is = kept_sequence old new (start (other slot)) 1 same (start (other slot)) (omega arith) (λ i inside hit. absurd (omega (arith, inside.0, hit.1))) ∙ prepared.sequence_is;
+      fits = let long = kept_length old new (start (other slot)) 1 same (start (other slot)) (omega arith) (λ i inside hit. absurd (omega (arith, inside.0, hit.1))) in omega (arith, long, prepared.fits);
+      body_is = kept_body old new (start (other slot)) 1 same (start (other slot)) (omega arith) prepared.fits (λ i inside hit. absurd (omega (arith, inside.0, hit.1))) ∙ prepared.body_is;
+      greater = λ _. subst (λ (s : Slot). sequence_at new (start s) < sequence + 1) (sym (other_other slot)) (omega (arith, kept, was));
+    }
+
+-- the first gate of its log stays closed
+pub published_log : (slot : Slot) (old new body next : List ℕ) (sequence : ℕ) → IsCurrent old slot body sequence → IsPrepared old (other slot) next (sequence + 1) → SameBut (start (other slot)) 1 old new
+    → is_open new (start (other slot) + 16384) ≡ false
+published_log slot old new body next sequence current prepared same =
+    kept_gate old new (start (other slot)) 1 same (start (other slot) + 16384) (λ hit. absurd (omega (arith, hit.1))) ∙ prepared.log
+
+pub differ : (a b : ℕ) → a < b → (nat_eq a b ≡ false) × (nat_eq b a ≡ false)
+differ a b less = (grind (arith, nat_tests), grind (arith, nat_tests))
+
+pub long_enough : (a b : ℕ) → b ≤ a → nat_lt a b ≡ false
+long_enough a b le = grind (arith, nat_tests)
+
+pub less_than : (a b : ℕ) → a < b → nat_lt a b ≡ true
+less_than a b less = grind (arith, nat_tests)
+
+at_most : (a b : ℕ) → a ≤ b → nat_le a b ≡ true
+at_most a b le = grind (arith, nat_tests)
+
+-- the image in a slot, where it fits
+stands_at : (bytes body : List ℕ) (sequence place : ℕ) → length_at bytes place ≤ 16371 → body_at bytes place ≡ body → sequence_at bytes place ≡ sequence → image_at bytes place ≡ Stands body sequence
+stands_at bytes body sequence place fits body_is sequence_is =
+    let yes = at_most (length_at bytes place) 16371 fits in
+    rw yes (λ i. Stands (body_is i) (sequence_is i))
+
+-- the bytes stand for the current image
+pub current_stands : (slot : Slot) (bytes body : List ℕ) (sequence : ℕ) → IsCurrent bytes slot body sequence → stands bytes ≡ Stands body sequence
+unfolding stands
+current_stands First bytes body sequence current =
+    let long = long_enough (length bytes) 327680 current.whole in
+    let here : is_open bytes 0 ≡ true = current.gate in
+    elim (cases_Bool (is_open bytes 32768)) [
+      | inl opened ↦
+          let less : sequence_at bytes 32768 < sequence_at bytes 0 = subst (λ (n : ℕ). sequence_at bytes 32768 < n) (sym current.sequence_is) (current.greater opened) in
+          rw (long, here, opened, current.first_layout.0, current.first_layout.1, (differ (sequence_at bytes 32768) (sequence_at bytes 0) less).1, less_than (sequence_at bytes 32768) (sequence_at bytes 0) less)
+          (stands_at bytes body sequence 0 current.fits current.body_is current.sequence_is)
+      | inr shut ↦ rw (long, here, shut, current.first_layout.0, current.first_layout.1) (stands_at bytes body sequence 0 current.fits current.body_is current.sequence_is)
+    ]
+current_stands Second bytes body sequence current =
+    let long = long_enough (length bytes) 327680 current.whole in
+    let here : is_open bytes 32768 ≡ true = current.gate in
+    elim (cases_Bool (is_open bytes 0)) [
+      | inl opened ↦
+          let less : sequence_at bytes 0 < sequence_at bytes 32768 = subst (λ (n : ℕ). sequence_at bytes 0 < n) (sym current.sequence_is) (current.greater opened) in
+          let not_less : nat_lt (sequence_at bytes 32768) (sequence_at bytes 0) ≡ false = long_enough (sequence_at bytes 32768) (sequence_at bytes 0) (omega (arith, less)) in
+          rw (long, here, opened, current.first_layout.0, current.first_layout.1, (differ (sequence_at bytes 0) (sequence_at bytes 32768) less).0, not_less)
+          (stands_at bytes body sequence 32768 current.fits current.body_is current.sequence_is)
+      | inr shut ↦ rw (long, here, shut, current.first_layout.0, current.first_layout.1) (stands_at bytes body sequence 32768 current.fits current.body_is current.sequence_is)
+    ]
+
+-- what was found, with its body
+pub found_current : (slot : Slot) (bytes body : List ℕ) (sequence size : ℕ) → 327680 ≤ length bytes → IsFound bytes slot sequence size → body ≡ part (start slot + 13) size bytes → IsCurrent bytes slot body sequence
+unfolding body_at
+found_current slot bytes body sequence size whole found is = record {
+  whole = whole;
+  first_layout = found.first_layout;
+  gate = found.gate;
+  sequence_is = found.sequence_is;
+  fits = omega (arith, found.length_is, found.fits);
+  body_is = ap (λ (n : ℕ). part (start slot + 13) n bytes) found.length_is ∙ sym is;
+  greater = found.greater;
+}

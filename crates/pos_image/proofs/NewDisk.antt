@@ -1,0 +1,65 @@
+-- What formatting leaves.
+use Rattle.std.proofs.Common.{◌≡◌, inl, inr, ℕ, ◌+◌, ◌≤◌, ◌<◌, List, [], ◌∷◌, ◌++◌, length, get_or, refl, sym, ap, subst, ◌∙◌, arith, true, false, nat_eq}
+use Rattle.std.proofs.lemmas.Bool.{cases_lt}
+use Rattle.byteorder.specs.Endian.{big_bytes}
+use Rattle.pos_disk.specs.State.{InRange, part, splice}
+use Rattle.pos_disk.proofs.Bytes.{part-splice}
+use Rattle.pos_image.specs.NewDisk.{no_files}
+use Rattle.pos_disk.specs.Within.{SameBut}
+use Rattle.pos_image.specs.Layout.{is_open, sequence_at, length_at, body_at}
+use Rattle.pos_image.specs.Slots.{IsCurrent}
+use Rattle.pos_image.specs.Standing.{HasNewImage}
+use Rattle.pos_image.specs.declared.slot.Slot.TheVariants.{First}
+use Rattle.pos_image.proofs.Changes.{written_gate, opened_gate}
+use Rattle.pos_image.proofs.Current.{kept_gate, kept_sequence, kept_length, kept_body}
+use Rattle.pos_image.proofs.Encoded.{sequence_is, length_is, body_is}
+use Rattle.pos_image.proofs.Logs.{new_image}
+
+-- a gate stays closed while another one, or it itself, is closed
+pub stays_closed : (old new : List ℕ) (at place : ℕ) → SameBut at 1 old new → is_open new at ≡ false → is_open old place ≡ false → is_open new place ≡ false
+stays_closed old new at place same shut was = elim (cases_lt place at) [
+  | inl before ↦ kept_gate old new at 1 same place (λ hit. absurd (omega (arith, before, hit.0))) ∙ was
+  | inr from ↦ elim (cases_lt at place) [
+    | inl behind ↦ kept_gate old new at 1 same place (λ hit. absurd (omega (arith, behind, hit.1))) ∙ was
+    | inr not_behind ↦
+        let here : place ≡ at = omega (arith, from, not_behind) in
+        subst (λ (p : ℕ). is_open new p ≡ false) (sym here) shut
+  ]
+]
+
+-- a gate that was written closed
+pub closed_gate : (old new : List ℕ) (at : ℕ) → at + 1 ≤ length old → new ≡ splice old at (0 ∷ []) → is_open new at ≡ false
+closed_gate old new at fits written = ap (λ (byte : ℕ). nat_eq byte 165) (written_gate old new at 0 fits written).1
+
+module _ (closed mid new : List ℕ) (large : 327680 ≤ length closed) (second : is_open closed 32768 ≡ false) (log : is_open closed 16384 ≡ false) (third : is_open closed 65536 ≡ false) (fourth : is_open closed 196608 ≡ false)
+    (image : mid ≡ splice closed 1 (0 ∷ 0 ∷ 0 ∷ 0 ∷ 0 ∷ 0 ∷ 0 ∷ 1 ∷ 0 ∷ 0 ∷ 0 ∷ 2 ∷ 0 ∷ 0 ∷ [])) (same : SameBut 1 14 closed mid) (gate : new ≡ splice mid 0 (165 ∷ [])) where
+  long : 327680 ≤ length mid
+  long = omega (arith, same.same_length, large)
+
+  opened : (SameBut 0 1 mid new) × (is_open new 0 ≡ true)
+  opened = opened_gate mid new 0 (omega (arith, long)) gate
+
+  holds : part 1 (12 + 2) mid ≡ big_bytes 8 1 ++ big_bytes 4 2 ++ no_files
+  holds = ap (part 1 14) image ∙ part-splice closed (0 ∷ 0 ∷ 0 ∷ 0 ∷ 0 ∷ 0 ∷ 0 ∷ 1 ∷ 0 ∷ 0 ∷ 0 ∷ 2 ∷ 0 ∷ 0 ∷ []) 1 (omega (arith, large))
+
+  stays : (i : ℕ) → 15 ≤ i → is_open closed i ≡ false → is_open new i ≡ false
+  stays i far was =
+      kept_gate mid new 0 1 opened.0 i (λ hit. absurd (omega (arith, far, hit.1)))
+      ∙ kept_gate closed mid 1 14 same i (λ hit. absurd (omega (arith, far, hit.1))) ∙ was
+
+  -- the first slot has the body of no files and sequence 1
+  first_current : IsCurrent new First no_files 1
+  first_current =
+      let small = length_is mid no_files 0 1 (omega (arith, long)) (omega arith) (omega arith) holds in
+      record {
+        whole = omega (arith, opened.0.same_length, long);
+        first_layout = (stays 65536 (omega arith) third, stays 196608 (omega arith) fourth);
+        gate = opened.1;
+        sequence_is = kept_sequence mid new 0 1 opened.0 0 (omega (arith, long)) (λ i inside hit. absurd (omega (arith, inside.0, hit.1))) ∙ sequence_is mid no_files 0 1 (omega (arith, long)) (omega arith) (omega arith) holds;
+        fits = let kept = kept_length mid new 0 1 opened.0 0 (omega (arith, long)) (λ i inside hit. absurd (omega (arith, inside.0, hit.1))) in omega (arith, kept, small);
+        body_is = kept_body mid new 0 1 opened.0 0 (omega (arith, long)) (omega (arith, small)) (λ i inside hit. absurd (omega (arith, inside.0, hit.1))) ∙ body_is mid no_files 0 1 (omega (arith, long)) (omega arith) (omega arith) holds;
+        greater = λ is. absurd (cc (is, stays 32768 (omega arith) second));
+      }
+
+  pub first_image : HasNewImage no_files 1 new
+  first_image = new_image First new no_files 1 first_current (stays 16384 (omega arith) log)

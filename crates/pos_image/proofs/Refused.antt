@@ -1,0 +1,67 @@
+-- The bytes on which no image is found.
+use Rattle.std.proofs.Common.{◌≡◌, inl, inr, ℕ, ◌<◌, List, length, refl, sym, ◌∙◌, arith, Bool, true, false, ◌||◌, nat_le, nat_eq}
+use Rattle.std.proofs.lemmas.Bool.{cases_Bool}
+use Rattle.std.proofs.lemmas.Bool.Decides.{nat_tests}
+use Rattle.pos_image.specs.Layout.{is_open, sequence_at, length_at}
+use Rattle.pos_image.specs.Slots.{HasHeads}
+use Rattle.pos_image.specs.Standing.{Unformatted, Damaged, stands}
+use Rattle.pos_image.specs.declared.reading.Head.{Head}
+use Rattle.pos_image.proofs.Current.{long_enough, less_than, differ}
+
+same_number : (a b : ℕ) → a ≡ b → nat_eq a b ≡ true
+same_number a b is = grind (arith, nat_tests)
+
+too_long : (a b : ℕ) → b < a → nat_le a b ≡ false
+too_long a b less = grind (arith, nat_tests)
+
+pub short_stands : (bytes : List ℕ) → length bytes < 327680 → stands bytes ≡ Unformatted
+unfolding stands
+short_stands bytes short = rw (less_than (length bytes) 327680 short) refl
+
+module _ (bytes : List ℕ) (first second : Head) (later : Bool) (heads : HasHeads bytes first second later) where
+  pub none_found : first.gate ≡ false → second.gate ≡ false → stands bytes ≡ Unformatted
+  unfolding stands
+  none_found shut shut_too =
+      let long = long_enough (length bytes) 327680 heads.whole in
+      rw (long, heads.at_first.gate ∙ shut, heads.at_second.gate ∙ shut_too) refl
+
+  pub later_found : (first.gate || second.gate) ≡ true → later ≡ true → stands bytes ≡ Damaged
+  unfolding stands
+  later_found one is_later =
+      let long = long_enough (length bytes) 327680 heads.whole in
+      let gates : (is_open bytes 0 || is_open bytes 32768) ≡ true = (λ i. heads.at_first.gate i || heads.at_second.gate i) ∙ one in
+      rw (long, gates, heads.at_later ∙ is_later) refl
+
+  pub tie_found : first.gate ≡ true → second.gate ≡ true → first.sequence ≡ second.sequence → stands bytes ≡ Damaged
+  unfolding stands
+  tie_found one two tie =
+      let long = long_enough (length bytes) 327680 heads.whole in
+      let same = same_number (sequence_at bytes 0) (sequence_at bytes 32768) (heads.at_first.sequence ∙ tie ∙ sym heads.at_second.sequence) in
+      elim (cases_Bool later) [
+        | inl is_later ↦ rw (long, heads.at_first.gate ∙ one, heads.at_later ∙ is_later) refl
+        | inr not_later ↦ rw (long, heads.at_first.gate ∙ one, heads.at_second.gate ∙ two, heads.at_later ∙ not_later, same) refl
+      ]
+
+  pub long_first : first.gate ≡ true → later ≡ false → (second.gate ≡ true → second.sequence < first.sequence) → 16371 < first.length → stands bytes ≡ Damaged
+  unfolding stands
+  long_first one not_later less over =
+      let long = long_enough (length bytes) 327680 heads.whole in
+      let too = too_long (length_at bytes 0) 16371 (omega (arith, heads.at_first.length)) in
+      elim (cases_Bool second.gate) [
+        | inl two ↦
+            let smaller : sequence_at bytes 32768 < sequence_at bytes 0 = omega (arith, less two, heads.at_first.sequence, heads.at_second.sequence) in
+            rw (long, heads.at_first.gate ∙ one, heads.at_second.gate ∙ two, heads.at_later ∙ not_later, (differ (sequence_at bytes 32768) (sequence_at bytes 0) smaller).1, less_than (sequence_at bytes 32768) (sequence_at bytes 0) smaller, too) refl
+        | inr shut ↦ rw (long, heads.at_first.gate ∙ one, heads.at_second.gate ∙ shut, heads.at_later ∙ not_later, too) refl
+      ]
+
+  pub long_second : second.gate ≡ true → later ≡ false → (first.gate ≡ true → first.sequence < second.sequence) → 16371 < second.length → stands bytes ≡ Damaged
+  unfolding stands
+  long_second two not_later less over =
+      let long = long_enough (length bytes) 327680 heads.whole in
+      let too = too_long (length_at bytes 32768) 16371 (omega (arith, heads.at_second.length)) in
+      elim (cases_Bool first.gate) [
+        | inl one ↦
+            let smaller : sequence_at bytes 0 < sequence_at bytes 32768 = omega (arith, less one, heads.at_first.sequence, heads.at_second.sequence) in
+            rw (long, heads.at_first.gate ∙ one, heads.at_second.gate ∙ two, heads.at_later ∙ not_later, (differ (sequence_at bytes 0) (sequence_at bytes 32768) smaller).0, long_enough (sequence_at bytes 32768) (sequence_at bytes 0) (omega (arith, smaller)), too) refl
+        | inr shut ↦ rw (long, heads.at_first.gate ∙ shut, heads.at_second.gate ∙ two, heads.at_later ∙ not_later, too) refl
+      ]

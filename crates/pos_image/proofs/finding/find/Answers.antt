@@ -1,0 +1,32 @@
+use Rattle.std.proofs.Common.{◌+◌, ℕ, List, ap, ◌∙◌, subst}
+use Rattle.pos_disk.specs.State.{part}
+use Rattle.pos_disk.proofs.Moments.{watches_sync, watches_on}
+use Rattle.pos_image.specs.Layout.{start}
+use Rattle.pos_image.specs.Slots.{HasHeads}
+use Rattle.pos_image.proofs.Current.{found_current}
+use Rattle.pos_image.proofs.finding.find.Goals as goal
+
+pub returns-in_err-body-clause-watches : goal.returns-in_err-body-clause-watches
+returns-in_err-body-clause-watches g c honest =
+    let honest1 = c.sync.ensures.honest.0 honest in
+    let honest2 = c.read_heads.ensures.honest.0 honest1 in
+    let w1 = watches_sync _ _ (λ f left. g.met.D.Disk.only_now c.args.disk.now f honest left) _ (c.sync.ensures.syncs honest) in
+    watches_on _ _ _ (watches_on _ _ _ w1 (c.read_heads.ensures.watches honest1)) (c.read_body.ensures.watches honest2)
+
+pub returns-clause-watches : goal.returns-clause-watches
+returns-clause-watches g c honest =
+    let honest1 = c.sync.ensures.honest.0 honest in
+    let honest2 = c.read_heads.ensures.honest.0 honest1 in
+    let w1 = watches_sync _ _ (λ f left. g.met.D.Disk.only_now c.args.disk.now f honest left) _ (c.sync.ensures.syncs honest) in
+    watches_on _ _ _ (watches_on _ _ _ w1 (c.read_heads.ensures.watches honest1)) (c.read_body.ensures.watches honest2)
+
+pub returns-clause-found : goal.returns-clause-found
+returns-clause-found g c honest =
+    let honest1 = c.sync.ensures.honest.0 honest in
+    let honest2 = c.read_heads.ensures.honest.0 honest1 in
+    let same1 = (c.sync.ensures.syncs honest).reading in
+    let same2 = (c.read_heads.ensures.watches honest1).reading ∙ same1 in
+    let heads = subst (λ (b : List ℕ). HasHeads b c.in_ok-heads.heads.first c.in_ok-heads.heads.second c.in_ok-heads.heads.later) same1 (c.in_ok-heads.ensures.heads honest1) in
+    let found = c.in_ok-slot.ensures.found (g.D.Disk.state c.args.disk.now).reading heads in
+    found_current c.in_ok-slot.slot (g.D.Disk.state c.args.disk.now).reading c.in_ok-body.body.items c.in_ok-slot.head.sequence c.in_ok-slot.head.length heads.whole found
+    (c.in_ok-body.ensures.body honest2 ∙ ap (λ (b : List ℕ). part (start c.in_ok-slot.slot + 13) c.in_ok-slot.head.length b) same2)

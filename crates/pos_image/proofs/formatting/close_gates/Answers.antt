@@ -1,0 +1,44 @@
+use Rattle.std.proofs.Common.{◌≡◌, ◌≤◌, ◌<◌, ◌+◌, ℕ, List, inl, inr, sym, subst, length, get_or, false, arith, rules}
+use Rattle.std.proofs.lemmas.Bool.{cases_lt}
+use Rattle.std.proofs.lemmas.List.Elements.{All-get_or}
+use Rattle.pos_disk.specs.Within.{SameBut}
+use Rattle.pos_image.specs.Layout.{is_open}
+use Rattle.pos_image.specs.declared.formatting.TheConstants.{GATES}
+use Rattle.pos_image.proofs.NewDisk.{stays_closed, closed_gate}
+use Rattle.pos_image.proofs.Staged.{where_ok}
+use Rattle.pos_image.proofs.formatting.close_gates.Goals as goal
+
+gates_low : (k : ℕ) → k < 6 → get_or GATES k 0 ≤ 196608
+gates_low k inside = All-get_or (λ at. at ≤ 196608) GATES k 0 inside (search rules)
+
+pub loop-at-preserved : goal.loop-at-preserved
+loop-at-preserved g c = record {
+  size = search rules;
+  honest = search rules;
+  closed = λ honest k less.
+      let s1 = g.D.Disk.state c.loop-at.disk in
+      let s2 = g.D.Disk.state c.write.new.self in
+      let at : ℕ = get_or GATES c.loop-at.at-index 0 in
+      let now = c.loop-at.invariant.honest.0 honest in
+      let wrote = c.in_ok-write.ensures.writes now in
+      let whole = g.met.D.Disk.whole c.loop-at.disk now in
+      let low = gates_low c.loop-at.at-index c.loop-at-test.true in
+      let fits : at + 1 ≤ length s1.reading = omega (arith, low, whole, c.requires.large, c.loop-at.invariant.size) in
+      let same : SameBut at 1 s1.reading s2.reading = record { same_length = wrote.same_length; elsewhere = wrote.elsewhere } in
+      let shut : is_open s2.reading at ≡ false = closed_gate s1.reading s2.reading at fits wrote.written in
+      elim (cases_lt k c.loop-at.at-index) [
+        | inl earlier ↦ stays_closed s1.reading s2.reading at (get_or GATES k 0) same shut (c.loop-at.invariant.closed honest k earlier)
+        | inr not_earlier ↦
+            let here : k ≡ c.loop-at.at-index = omega (arith, less, not_earlier) in
+            subst (λ (j : ℕ). is_open s2.reading (get_or GATES j 0) ≡ false) (sym here) shut
+      ];
+  rest = search rules;
+  later = search rules;
+}
+
+pub returns-clause-closed : goal.returns-clause-closed
+returns-clause-closed g c honest =
+    let now = c.loop-at.invariant.honest.0 honest in
+    where_ok c.sync.result _ (λ k less.
+    subst (λ (b : List ℕ). is_open b (get_or GATES k 0) ≡ false) (sym (c.sync.ensures.syncs now).reading)
+    (c.loop-at.invariant.closed honest k (omega (arith, less, c.loop-at-test.false))))

@@ -1,0 +1,27 @@
+use Rattle.std.proofs.Common.{List, ℕ, sym, subst, refl, arith}
+use Rattle.pos_image.specs.Slots.{IsCurrent}
+use Rattle.pos_image.proofs.Changes.{ready}
+use Rattle.pos_image.proofs.Current.{current_stands}
+use Rattle.pos_image.proofs.Refused.{short_stands}
+use Rattle.pos_image.proofs.images.Images.open.Goals as goal
+
+pub returns-in-Ok-clause-found : goal.returns-in-Ok-clause-found
+returns-in-Ok-clause-found g c honest =
+    current_stands c.in-Ok.found.slot (g.D.Disk.state c.args.disk).reading c.in-Ok.found.image.body.items c.in-Ok.found.image.sequence (c.in-Ok.ensures.found honest)
+
+pub returns-in-Ok-clause-ready : goal.returns-in-Ok-clause-ready
+returns-in-Ok-clause-ready g c = (
+  ready g.D.Disk _ (omega (arith, c.find.ensures.size)) (omega arith) (λ honest.
+      let was = c.find.ensures.honest.1 honest in
+      record {
+        at_rest = c.in-Ok.ensures.at_rest was;
+        current = subst (λ (b : List ℕ). IsCurrent b c.in-Ok.found.slot c.in-Ok.found.image.body.items c.in-Ok.found.image.sequence) (sym (c.find.ensures.watches was).reading) (c.in-Ok.ensures.found was);
+        prepared = tt;
+      }),
+  refl,
+)
+
+pub returns-then-len-lt-SIZE-clause-unformatted : goal.returns-then-len-lt-SIZE-clause-unformatted
+returns-then-len-lt-SIZE-clause-unformatted g c honest _ =
+    let whole = g.met.D.Disk.whole c.args.disk honest in
+    short_stands (g.D.Disk.state c.args.disk).reading (omega (arith, whole, c.len.ensures, c.if-len-lt-SIZE.true))

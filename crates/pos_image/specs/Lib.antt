@@ -1,0 +1,5 @@
+pub mod Images
+pub mod Layout
+pub mod NewDisk
+pub mod Slots
+pub mod Standing

@@ -1,0 +1,219 @@
+// The current image of a disk, and the next one.
+ghost use Rattle.std.specs.Prelude.{◌≡◌, ◌↔◌, ◌<◌, ◌≤◌, ◌+◌, ◌^◌, ◌⊎◌, length, IfOk, IfErr, OnOk, IsErr, IsErrOf, IsSome, Some, None, true, false};
+ghost use Rattle.pos_disk.specs.State.{IsAtRest, LeavesOnly, Rises, Watches};
+ghost use Rattle.pos_image.specs.NewDisk.{KeepsRest, no_files};
+ghost use Rattle.pos_image.specs.Standing.{Unformatted, Damaged, stands, is_marked, log_of, StandsFor, HasImage, HasNewImage, HasEither};
+ghost use Rattle.pos_image.specs.declared.fault.ImageFault.TheVariants.{NoMemory, Device, TooLarge, Exhausted};
+
+use crate::encoding::{Image, LONGEST, encode};
+use crate::fault::ImageFault;
+use crate::finding::find;
+use crate::formatting::{is_marked, lay_out};
+use crate::slot::Slot;
+use crate::steps::{OPEN, place_image, write_through};
+use pos_disk::Disk;
+use std::alloc::Global;
+use std::marker::Model;
+
+// How many bytes a disk has at least.
+const SIZE: u64 = 327_680;
+
+/// The images of a disk: the current one, and the one that is prepared, if there is one. A body has 0 to 16,371 bytes,
+/// a sequence is a u64. After a fault of the disk every call but `into_disk` has the condition
+/// that the disk was opened again. docs/DISK.md, "Layout 1".
+#[derive(Drop)]
+pub struct Images<D: Disk> {
+    alloc: Global,
+    disk: D,
+    slot: Slot,
+    current: Image,
+    prepared: Option<Image>,
+}
+
+impl<D: Disk> Model for Images<D> {
+    ghost use Rattle.std.specs.Prelude.{◌≡◌, ◌+◌, ⊤, MatchOption};
+    ghost use Rattle.std.specs.Option.{option_map};
+    ghost use Rattle.pos_image.specs.Images.{View};
+
+    ghost Value = { View D };
+
+    ghost view = { λ s. record { disk = s.disk; slot = s.slot; body = s.current.body.items; sequence = s.current.sequence; prepared = option_map (λ image. image.body.items) s.prepared } };
+
+    ghost invariant = { λ s. MatchOption s.prepared ⊤ (λ next. next.sequence ≡ s.current.sequence + 1) };
+}
+
+impl<D: Disk> Images<D> {
+    ghost use Rattle.pos_image.specs.Images.{IsReady, disk_after, handed_back, next_of, published};
+
+    /// Makes the disk one that stands for the body of no files, `0000`, and sequence 1, and gives it back at rest. It takes
+    /// no memory. Nothing is promised of a disk whose formatting was interrupted. docs/DISK.md, "Formatting".
+    ///
+    /// # Errors
+    ///
+    /// `TooSmall` where the disk has fewer than 327,680 bytes, else `AlreadyFormatted` where one of the bytes at 0, 32,768,
+    /// 65,536 and 196,608 is 0xA5: nothing was written. `Device` where the disk failed. A refusal hands the disk back.
+    pub fn format(mut disk: D) -> Result<D, (ImageFault, D)>
+        ensures at_rest { D.honest disk → IfOk result (λ formatted. IsAtRest (D.state formatted)) }
+        ensures image { D.honest disk → IfOk result (λ formatted. HasNewImage no_files 1 (D.state formatted).reading) }
+        ensures large { IfOk result (λ formatted. 327680 ≤ D.size formatted) }
+        ensures too_small { IfErr result (λ e. e.0 ≡ ImageFault.TooSmall ↔ (D.size disk < 327680)) }
+        ensures unmarked { D.honest disk → IfOk result (λ formatted. is_marked (D.state disk).reading ≡ false) }
+        ensures marked { D.honest disk → IfErr result (λ e. e.0 ≡ ImageFault.AlreadyFormatted → is_marked (D.state disk).reading ≡ true) }
+        ensures device { D.honest disk → IfErr result (λ e. e.0 ≡ Device → Rises (D.state disk).failures (D.state e.1).failures) }
+        ensures faults { IfErr result (λ e. (e.0 ≡ ImageFault.TooSmall) ⊎ (e.0 ≡ ImageFault.AlreadyFormatted) ⊎ (e.0 ≡ Device)) }
+        ensures untouched { IfErr result (λ e. e.0 ≡ ImageFault.TooSmall → e.1 ≡ disk) }
+        ensures unwritten { D.honest disk → IfErr result (λ e. e.0 ≡ ImageFault.AlreadyFormatted → Watches (D.state disk) (D.state e.1)) }
+
+        // Whatever it answers, nothing but the gates and the fields of the first image was written.
+        ensures rest { D.honest disk → KeepsRest (D.state disk).reading (D.state (handed_back result)).reading }
+        ensures later { D.honest disk → (D.state disk).failures ≤ (D.state (handed_back result)).failures }
+        ensures size { D.size (handed_back result) ≡ D.size disk }
+        ensures honest { D.honest disk ↔ D.honest (handed_back result) }
+    {
+        if disk.len() < SIZE {
+            return Err((ImageFault::TooSmall, disk));
+        }
+        match is_marked(&mut disk) {
+            Ok(false) => {}
+            Ok(true) => return Err((ImageFault::AlreadyFormatted, disk)),
+            Err(_) => return Err((ImageFault::Device, disk)),
+        }
+        match lay_out(&mut disk) {
+            Ok(()) => Ok(disk),
+            Err(_) => Err((ImageFault::Device, disk)),
+        }
+    }
+
+    /// Opens a disk that a crash may have left: finds the current image. It writes nothing. docs/DISK.md, "Opening and
+    /// recovery".
+    ///
+    /// # Errors
+    ///
+    /// `TooSmall` where the disk has fewer than 327,680 bytes; `Unformatted` where the gates of both slots are closed;
+    /// `Damaged` where both are open with the same sequence, the current length is above 16,371, or a gate of the later
+    /// layout is open; `Device` where the disk failed; `NoMemory`. A refusal hands the disk back.
+    pub fn open(alloc: Global, mut disk: D) -> Result<Images<D>, (ImageFault, D)>
+        ensures ready { IfOk result (λ images. IsReady D.Disk images × (images.prepared ≡ None)) }
+        ensures found { D.honest disk → IfOk result (λ images. StandsFor images.body images.sequence (D.state disk).reading) }
+        ensures too_small { IfErr result (λ e. e.0 ≡ ImageFault.TooSmall ↔ (D.size disk < 327680)) }
+        ensures unformatted { D.honest disk → IfErr result (λ e. (e.0 ≡ ImageFault.Unformatted) ⊎ (e.0 ≡ ImageFault.TooSmall) → stands (D.state disk).reading ≡ Unformatted) }
+        ensures damaged { D.honest disk → IfErr result (λ e. e.0 ≡ ImageFault.Damaged → stands (D.state disk).reading ≡ Damaged) }
+        ensures device { D.honest disk → IfErr result (λ e. e.0 ≡ Device → Rises (D.state disk).failures (D.state e.1).failures) }
+        ensures faults { IfErr result (λ e. (e.0 ≡ ImageFault.TooSmall) ⊎ (e.0 ≡ ImageFault.Unformatted) ⊎ (e.0 ≡ ImageFault.Damaged) ⊎ (e.0 ≡ Device) ⊎ (e.0 ≡ NoMemory)) }
+        ensures untouched { IfErr result (λ e. e.0 ≡ ImageFault.TooSmall → e.1 ≡ disk) }
+
+        // A crash at any moment of the call leaves what a crash before it might have left.
+        ensures any_moment { D.honest disk → Watches (D.state disk) (D.state (disk_after result)) }
+        ensures later { D.honest disk → (D.state disk).failures ≤ (D.state (disk_after result)).failures }
+        ensures size { D.size (disk_after result) ≡ D.size disk }
+        ensures honest { D.honest disk ↔ D.honest (disk_after result) }
+    {
+        if disk.len() < SIZE {
+            return Err((ImageFault::TooSmall, disk));
+        }
+        match find(alloc, &mut disk) {
+            Ok(found) => Ok(Images {
+                alloc,
+                disk,
+                slot: found.slot,
+                current: found.image,
+                prepared: None,
+            }),
+            Err(fault) => Err((fault, disk)),
+        }
+    }
+
+    /// The body of the current image.
+    pub fn body(&self) -> &[u8]
+        requires { IsReady D.Disk self.now }
+        ensures { result.now ≡ self.now.body }
+    {
+        &self.current.body
+    }
+
+    /// The number of the current image: 1 after formatting, and one more with each image that is published.
+    pub fn sequence(&self) -> u64
+        requires { IsReady D.Disk self.now }
+        ensures { result ≡ self.now.sequence }
+    {
+        self.current.sequence
+    }
+
+    /// Gives the disk as it is. It takes no memory.
+    pub fn into_disk(self) -> D
+        ensures { result ≡ self.disk }
+    {
+        self.disk
+    }
+
+    /// Puts a new image beside the current one, which stays the current one. docs/DISK.md, "A new image".
+    ///
+    /// # Errors
+    ///
+    /// `TooLarge` where the body has more than 16,371 bytes, else `Exhausted` where the current sequence is the last one,
+    /// else `NoMemory`: nothing has changed. `Device` where the disk failed: the images have to be opened again.
+    pub fn prepare(&mut self, body: &[u8]) -> Result<(), ImageFault>
+        requires { IsReady D.Disk self.old }
+        ensures ready { OnOk result (IsReady D.Disk self.new) }
+        ensures prepared { OnOk result (self.new ≡ record self.old { disk = self.new.disk; prepared = Some body.now }) }
+        ensures log { D.honest self.old.disk → OnOk result (log_of (D.state self.new.disk).reading ≡ log_of (D.state self.old.disk).reading) }
+
+        // A crash at any moment of the call leaves the current image and its log.
+        ensures any_moment { D.honest self.old.disk → LeavesOnly (D.state self.old.disk) (D.state self.new.disk) (HasImage self.old.body self.old.sequence (log_of (D.state self.old.disk).reading)) }
+
+        ensures too_large { IsErrOf result TooLarge ↔ (16371 < length body.now) }
+        ensures exhausted { IsErrOf result Exhausted ↔ (length body.now ≤ 16371) × (self.old.sequence + 1 ≡ 2 ^ 64) }
+        ensures faults { IsErr result → IsErrOf result TooLarge ⊎ IsErrOf result Exhausted ⊎ IsErrOf result NoMemory ⊎ IsErrOf result Device }
+        ensures unchanged { IsErr result → IsErrOf result Device ⊎ (self.new ≡ self.old) }
+        ensures failed { IsErrOf result Device → self.new ≡ record self.old { disk = self.new.disk } }
+        ensures device { D.honest self.old.disk → IsErrOf result Device → Rises (D.state self.old.disk).failures (D.state self.new.disk).failures }
+        ensures later { D.honest self.old.disk → (D.state self.old.disk).failures ≤ (D.state self.new.disk).failures }
+        ensures size { D.size self.new.disk ≡ D.size self.old.disk }
+        ensures honest { D.honest self.old.disk ↔ D.honest self.new.disk }
+    {
+        if body.len() > LONGEST as usize {
+            return Err(ImageFault::TooLarge);
+        }
+        if self.current.sequence == u64::MAX {
+            return Err(ImageFault::Exhausted);
+        }
+        let sequence = self.current.sequence + 1;
+        let encoded = encode(self.alloc, sequence, body)?;
+        let body = Vec::from_slice(self.alloc, body)?;
+        place_image(&mut self.disk, self.slot.other().start(), &encoded)?;
+        self.prepared = Some(Image { body, sequence });
+        Ok(())
+    }
+
+    /// Makes the prepared image the current one, with the next sequence. It takes no memory. docs/DISK.md, "A new image".
+    ///
+    /// # Errors
+    ///
+    /// `Device` where the disk failed: the images have to be opened again.
+    pub fn publish(&mut self) -> Result<(), ImageFault>
+        requires ready { IsReady D.Disk self.old }
+        requires prepared { IsSome self.old.prepared }
+        ensures ready { OnOk result (IsReady D.Disk self.new) }
+        ensures published { OnOk result (self.new ≡ published self.old self.new.disk) }
+        ensures log { D.honest self.old.disk → OnOk result (HasNewImage self.new.body self.new.sequence (D.state self.new.disk).reading) }
+
+        // A crash at any moment of the call leaves the current image and its log, or the new one with a closed log.
+        ensures any_moment { D.honest self.old.disk → LeavesOnly (D.state self.old.disk) (D.state self.new.disk) (HasEither self.old.body (next_of self.old) self.old.sequence (log_of (D.state self.old.disk).reading)) }
+
+        ensures faults { IsErr result → IsErrOf result Device }
+        ensures failed { IsErr result → self.new ≡ record self.old { disk = self.new.disk; prepared = None } }
+        ensures device { D.honest self.old.disk → IsErr result → Rises (D.state self.old.disk).failures (D.state self.new.disk).failures }
+        ensures later { D.honest self.old.disk → (D.state self.old.disk).failures ≤ (D.state self.new.disk).failures }
+        ensures size { D.size self.new.disk ≡ D.size self.old.disk }
+        ensures honest { D.honest self.old.disk ↔ D.honest self.new.disk }
+    {
+        let Some(next) = self.prepared.take() else {
+            unreachable!();
+        };
+        let slot = self.slot.other();
+        write_through(&mut self.disk, slot.start(), &[OPEN])?;
+        self.slot = slot;
+        self.current = next;
+        Ok(())
+    }
+}
