@@ -22,8 +22,9 @@ pub fn call(
     requires caller { caller < length controls.old }
     requires unparked { (state peripheral.old).is_parked ≡ false }
     requires drawer { (state peripheral.old).kind ≡ kind.Drawer }
-    ensures called { DrawerCalled caller call.now (controls_of controls.old) (station_of (state peripheral.old)) result
-        (controls_of controls.new) (station_of (state peripheral.new)) }
+    ensures called { let before = station_of (state peripheral.old) in
+        let after = station_of (state peripheral.new) in
+        DrawerCalled caller call.now (controls_of controls.old) before result (controls_of controls.new) after }
     ensures unparked { (state peripheral.new).is_parked ≡ false }
     ensures drawer { (state peripheral.new).kind ≡ kind.Drawer }
 {
@@ -54,9 +55,11 @@ fn open_drawer(
 ) -> Result<Answer, NoMemory>
     requires unparked { (state peripheral.old).is_parked ≡ false }
     requires drawer { (state peripheral.old).kind ≡ kind.Drawer }
-    ensures opens { MatchResult result
-        (λ answer. DrawerOpens place (controls_of controls.old) (station_of (state peripheral.old)) answer (controls_of controls.new) (station_of (state peripheral.new)))
-        (λ want. SameDrawer (controls_of controls.old) (station_of (state peripheral.old)) (controls_of controls.new) (station_of (state peripheral.new))) }
+    ensures opens { let old = controls_of controls.old in
+        let before = station_of (state peripheral.old) in
+        let new = controls_of controls.new in
+        let after = station_of (state peripheral.new) in
+        MatchResult result (λ answer. DrawerOpens place old before answer new after) (λ want. SameDrawer old before new after) }
     ensures unparked { (state peripheral.new).is_parked ≡ false }
     ensures drawer { (state peripheral.new).kind ≡ kind.Drawer }
 {

@@ -20,9 +20,11 @@ pub fn take_input(
     requires unparked { (state peripheral.old).is_parked ≡ false }
     requires drawer { (state peripheral.old).kind ≡ kind.Drawer }
     requires fits { input_fits (state peripheral.old).kind input.now ≡ true }
-    ensures taken { MatchResult result
-        (λ _. TakesIn input.now place (controls_of controls.old) (station_of (state peripheral.old)) (controls_of controls.new) (station_of (state peripheral.new)))
-        (λ _. SameDrawer (controls_of controls.old) (station_of (state peripheral.old)) (controls_of controls.new) (station_of (state peripheral.new))) }
+    ensures taken { let old = controls_of controls.old in
+        let before = station_of (state peripheral.old) in
+        let new = controls_of controls.new in
+        let after = station_of (state peripheral.new) in
+        MatchResult result (λ _. TakesIn input.now place old before new after) (λ want. SameDrawer old before new after) }
     ensures unparked { (state peripheral.new).is_parked ≡ false }
     ensures drawer { (state peripheral.new).kind ≡ kind.Drawer }
 {

@@ -50,7 +50,8 @@ impl Control {
     /// Enqueues a status, if it has changed.
     fn tell(&mut self, old: u32, new: u32)
         requires { 1 ≤ self.old.spare }
-        ensures told { self.new.control ≡ record self.old.control { events = self.old.control.events ++ changed_status old new } }
+        ensures told { let events = self.old.control.events ++ changed_status old new in
+            self.new.control ≡ record self.old.control { events = events } }
         ensures room { self.old.spare ≤ self.new.spare + 1 }
     {
         if old != new {
