@@ -1,7 +1,7 @@
 -- The log span of the current slot.
-use Rattle.std.proofs.Common.{◌≡◌, inl, inr, ⊎_elim, ℕ, ◌+◌, ◌≤◌, ◌<◌, List, length, get_or, refl, sym, ap, subst, ◌∙◌, arith, true, false, nat_eq, Bool}
+use Rattle.std.proofs.Common.{◌≡◌, inl, inr, ⊎_elim, ℕ, ◌+◌, ◌≤◌, ◌<◌, List, get_or, refl, sym, ap, subst, ◌∙◌, arith, true, false, nat_eq}
 use Rattle.std.proofs.lemmas.Bool.{cases_Bool}
-use Rattle.pos_disk.specs.State.{InRange, part}
+use Rattle.pos_disk.specs.State.{part}
 use Rattle.pos_disk.proofs.Bytes.{get_or-part}
 use Rattle.pos_disk.specs.Within.{SameBut}
 use Rattle.pos_image.specs.Layout.{start, other, is_open, sequence_at}

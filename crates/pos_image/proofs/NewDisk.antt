@@ -1,12 +1,12 @@
 -- What formatting leaves.
-use Rattle.std.proofs.Common.{◌≡◌, inl, inr, ℕ, ◌+◌, ◌≤◌, ◌<◌, List, [], ◌∷◌, ◌++◌, length, get_or, refl, sym, ap, subst, ◌∙◌, arith, true, false, nat_eq}
+use Rattle.std.proofs.Common.{◌≡◌, inl, inr, ℕ, ◌+◌, ◌≤◌, List, [], ◌∷◌, ◌++◌, length, sym, ap, subst, ◌∙◌, arith, true, false, nat_eq}
 use Rattle.std.proofs.lemmas.Bool.{cases_lt}
 use Rattle.byteorder.specs.Endian.{big_bytes}
-use Rattle.pos_disk.specs.State.{InRange, part, splice}
+use Rattle.pos_disk.specs.State.{part, splice}
 use Rattle.pos_disk.proofs.Bytes.{part-splice}
 use Rattle.pos_image.specs.NewDisk.{no_files}
 use Rattle.pos_disk.specs.Within.{SameBut}
-use Rattle.pos_image.specs.Layout.{is_open, sequence_at, length_at, body_at}
+use Rattle.pos_image.specs.Layout.{is_open}
 use Rattle.pos_image.specs.Slots.{IsCurrent}
 use Rattle.pos_image.specs.Standing.{HasNewImage}
 use Rattle.pos_image.specs.declared.slot.Slot.TheVariants.{First}

@@ -1,5 +1,5 @@
 -- What contracts see of images on a disk.
-use Rattle.std.specs.Prelude.{◌≡◌, ◌≤◌, ◌<◌, ◌+◌, ◌^◌, ℕ, List, [], Option, Some, None, Result, Ok, Err, ⊤, MatchOption}
+use Rattle.std.specs.Prelude.{◌≤◌, ◌<◌, ◌+◌, ◌^◌, ℕ, List, [], Option, Some, None, Result, Ok, Err, ⊤, MatchOption}
 use Rattle.pos_disk.specs.State.{DiskState, IsAtRest, MayLeave}
 use Rattle.pos_disk.specs.declared.device.Disk.{Ghosts}
 use Rattle.pos_image.specs.Layout.{other}

@@ -1,5 +1,5 @@
 -- Where the fields of a slot lie. Numbers are big-endian.
-use Rattle.std.specs.Prelude.{◌≡◌, ◌+◌, ℕ, List, length, get_or, nat_eq, Bool, true}
+use Rattle.std.specs.Prelude.{◌≡◌, ◌+◌, ℕ, List, get_or, nat_eq, Bool, true}
 use Rattle.std.specs.Int.{w32, w64, from_be_bytes}
 use Rattle.pos_disk.specs.State.{part}
 use Rattle.pos_disk.specs.Within.{SameBut}

@@ -73,10 +73,11 @@ impl<D: Disk> Images<D> {
         if disk.len() < SIZE {
             return Err((ImageFault::TooSmall, disk));
         }
-        match is_marked(&mut disk) {
-            Ok(false) => {}
-            Ok(true) => return Err((ImageFault::AlreadyFormatted, disk)),
-            Err(_) => return Err((ImageFault::Device, disk)),
+        let Ok(marked) = is_marked(&mut disk) else {
+            return Err((ImageFault::Device, disk));
+        };
+        if marked {
+            return Err((ImageFault::AlreadyFormatted, disk));
         }
         match lay_out(&mut disk) {
             Ok(()) => Ok(disk),

@@ -9,5 +9,8 @@ mod images;
 mod reading;
 mod slot;
 mod steps;
+#[cfg(test)]
+mod tests;
+
 pub use fault::ImageFault;
 pub use images::Images;

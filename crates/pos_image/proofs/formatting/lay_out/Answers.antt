@@ -1,4 +1,4 @@
-use Rattle.std.proofs.Common.{◌∙◌, ap, arith}
+use Rattle.std.proofs.Common.{arith}
 use Rattle.pos_image.proofs.NewDisk.{first_image}
 use Rattle.pos_image.proofs.Staged.{so_ok}
 use Rattle.pos_image.proofs.formatting.lay_out.Goals as goal

@@ -15,8 +15,8 @@ returns-in_err-write-2-clause-any_moment g c honest =
     let first = c.write.ensures.writes honest in
     let second = c.write-2.ensures.writes (c.write.ensures.honest.0 honest) in
     let w0 = within_start s0 (c.args.at + 1) 32767 (c.requires.at_rest honest) in
-    let w1 = within_write s0.reading (c.args.at + 1) 32767 s0 s1 c.write.result (c.args.at + 1) c.args.image.now (omega arith) (omega (arith, c.requires.short)) w0 first in
-    let w2 = within_write s0.reading (c.args.at + 1) 32767 s1 s2 c.write-2.result (c.args.at + 16384) (0 ∷ []) (omega arith) (omega arith) w1 second in
+    let w1 = within_write s0.reading (c.args.at + 1) 32767 s0 s1 c.write.result _ _ (omega arith) (omega (arith, c.requires.short)) w0 first in
+    let w2 = within_write s0.reading (c.args.at + 1) 32767 s1 s2 c.write-2.result _ _ (omega arith) (omega arith) w1 second in
     let at_start = started s0 P (λ f left. leaves_within s0.reading (c.args.at + 1) 32767 s0 w0 f (g.met.D.Disk.only_now c.args.disk.now f honest left)) in
     let r1 = goes_on s0 s0 s1 P at_start first.time (leaves_within s0.reading (c.args.at + 1) 32767 s1 w1) in
     goes_on s0 s1 s2 P r1 second.time (leaves_within s0.reading (c.args.at + 1) 32767 s2 w2)

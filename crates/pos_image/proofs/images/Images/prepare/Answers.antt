@@ -1,10 +1,10 @@
-use Rattle.std.proofs.Common.{◌≡◌, ◌+◌, ◌<◌, ◌^◌, ℕ, List, sym, ◌∙◌, ap, subst, refl, arith, length, false}
+use Rattle.std.proofs.Common.{◌≡◌, ◌+◌, ◌<◌, ◌^◌, ℕ, List, sym, ◌∙◌, ap, subst, arith, length, false}
 use Rattle.pos_disk.specs.State.{LeavesOnly, part}
 use Rattle.pos_image.specs.Layout.{start, other, is_open, Stages}
 use Rattle.pos_image.specs.Images.{IsReady}
 use Rattle.pos_image.specs.Slots.{IsPrepared}
 use Rattle.pos_image.proofs.Current.{stage_current, start_low}
-use Rattle.pos_image.proofs.Changes.{ready, at_start, staged, staging, placed}
+use Rattle.pos_image.proofs.Changes.{ready, staged, staging, placed}
 use Rattle.pos_image.proofs.images.Images.prepare.Goals as goal
 
 pub returns-in_err-place_image-clause-any_moment : goal.returns-in_err-place_image-clause-any_moment
