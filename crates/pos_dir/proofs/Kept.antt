@@ -1,0 +1,239 @@
+-- A change that is applicable leaves the files of a directory.
+use Rattle.std.proofs.Common.{◌≡◌, ℕ, zero, suc, ◌+◌, ◌-◌, ◌<◌, ◌≤◌, Bool, true, false, not, ◌&&◌, ◌||◌, cond, List, [], ◌∷◌, ◌++◌, length, take, drop, get_or, set, Option, Some, None, Result, Ok, Err, refl, sym, ap, subst, ◌∙◌, arith, inl, inr, length-append}
+use Rattle.std.specs.Prelude.{slice_get, slice_set, remove, replicate, sum_by, nat_lt, nat_le}
+use Rattle.std.specs.List.{list_any, list_all, AllByRecursion}
+use Rattle.std.proofs.lemmas.List.Elements.{All-from_recursion}
+use Rattle.std.specs.Str.{bytes_eq}
+use Rattle.std.proofs.lemmas.Bool.{and_parts, and_from, or_parts, or_from, not-true, not_from_false, false_from_ne_true, both_ways, ltb-true, leb-true}
+use Rattle.std.proofs.lemmas.List.{at_drop_more, length-set, length-replicate, length-take, length-drop}
+use Rattle.std.proofs.Math.Seq.{take-nil, drop-nil}
+use Rattle.std.proofs.lemmas.List.Edits.{length-remove}
+use Rattle.std.proofs.lemmas.List.Folds.{list_any-append, list_all-append}
+use Rattle.std.proofs.lemmas.List.Sums.{sum_by-cons, sum_by_push, sum_by-set, sum_by-remove}
+use Rattle.std.proofs.lemmas.Option.{slice_get_within, get_or_from_slice_get}
+use Rattle.std.proofs.lemmas.Slice.Eq.{bytes_eq-Decides}
+use Rattle.pos_dir.specs.declared.file.File.{File}
+use Rattle.pos_dir.specs.declared.limits.Limits.{Limits}
+use Rattle.pos_dir.specs.declared.change.Change.{Change}
+use Rattle.pos_dir.specs.declared.change.Change.TheVariants.{Create, Delete, Rename, Write, SetAll}
+use Rattle.pos_dir.specs.declared.fault.DirectoryFault.{DirectoryFault}
+use Rattle.pos_dir.specs.declared.fault.DirectoryFault.TheVariants.{NoFile, Exists, Range, NoRoom, BadName}
+use Rattle.pos_dir.specs.Files.{is_name, has_name, are_distinct, total_size, IsDirectory}
+use Rattle.pos_dir.specs.Changes.{splice, with_file, outcome, and_then, outcome_of_all, IsChange}
+
+-- ---- what a test or a lookup that led to Ok says
+
+chosen : {A : Type 0} (b : Bool) (fault : DirectoryFault) (x : A) (y : A) → ◌≡◌ {A = Result A DirectoryFault} (cond b (Ok x) (Err fault)) (Ok y) → (b ≡ true) × (x ≡ y)
+chosen true fault x y h = (refl, cc)
+chosen false fault x y h = absurd cc
+
+refused : {A : Type 0} (b : Bool) (fault : DirectoryFault) (r : Result A DirectoryFault) (y : A) → cond b (Err fault) r ≡ Ok y → (b ≡ false) × (r ≡ Ok y)
+refused true fault r y h = absurd cc
+refused false fault r y h = (refl, h)
+
+found : (o : Option File) (f : File → Result (List File) DirectoryFault) (y : List File) → with_file o f ≡ Ok y → (x : File) × (o ≡ Some x) × (f x ≡ Ok y)
+found None f y h = absurd cc
+found (Some x) f y h = (x, refl, h)
+
+good_name : (b : Bool) → ◌≡◌ {A = Option DirectoryFault} (cond b None (Some BadName)) None → b ≡ true
+good_name true h = refl
+good_name false h = absurd cc
+
+same_file : (x y : File) → Some x ≡ Some y → x ≡ y
+same_file x y h = cc
+
+-- ---- names
+
+differs : (a b : List ℕ) → bytes_eq a b ≡ false → bytes_eq b a ≡ false
+differs a b h = false_from_ne_true (bytes_eq b a) (λ same. both_ways (bytes_eq a b) h ((bytes_eq-Decides a b).1 (sym ((bytes_eq-Decides b a).0 same))))
+
+has_name-append : (files : List File) (file : File) (name : List ℕ) → has_name files name ≡ false → bytes_eq file.name name ≡ false → has_name (files ++ file ∷ []) name ≡ false
+has_name-append [] file name old new = or_from (bytes_eq file.name name) false new refl
+has_name-append (f ∷ files) file name old new =
+    let parts = or_parts (bytes_eq f.name name) (has_name files name) old in
+    or_from (bytes_eq f.name name) (has_name (files ++ file ∷ []) name) parts.0 (has_name-append files file name parts.1 new)
+
+are_distinct-append : (files : List File) (file : File) → are_distinct files ≡ true → has_name files file.name ≡ false → are_distinct (files ++ file ∷ []) ≡ true
+are_distinct-append [] file distinct new = refl
+are_distinct-append (f ∷ files) file distinct new =
+    let parts = and_parts (not (has_name files f.name)) (are_distinct files) distinct in
+    let apart = or_parts (bytes_eq f.name file.name) (has_name files file.name) new in
+    and_from (not (has_name (files ++ file ∷ []) f.name)) (are_distinct (files ++ file ∷ []))
+    (not_from_false (has_name (files ++ file ∷ []) f.name) (has_name-append files file f.name (not-true (has_name files f.name) parts.0) (differs f.name file.name apart.0)))
+    (are_distinct-append files file parts.1 apart.1)
+
+has_name-remove : (files : List File) (i : ℕ) (name : List ℕ) → has_name files name ≡ false → has_name (remove files i) name ≡ false
+has_name-remove [] i name old = simp (take-nil, drop-nil)
+has_name-remove (f ∷ files) zero name old = (or_parts (bytes_eq f.name name) (has_name files name) old).1
+has_name-remove (f ∷ files) (suc i) name old =
+    let parts = or_parts (bytes_eq f.name name) (has_name files name) old in
+    or_from (bytes_eq f.name name) (has_name (remove files i) name) parts.0 (has_name-remove files i name parts.1)
+
+are_distinct-remove : (files : List File) (i : ℕ) → are_distinct files ≡ true → are_distinct (remove files i) ≡ true
+are_distinct-remove [] i distinct = simp (take-nil, drop-nil)
+are_distinct-remove (f ∷ files) zero distinct = (and_parts (not (has_name files f.name)) (are_distinct files) distinct).1
+are_distinct-remove (f ∷ files) (suc i) distinct =
+    let parts = and_parts (not (has_name files f.name)) (are_distinct files) distinct in
+    and_from (not (has_name (remove files i) f.name)) (are_distinct (remove files i))
+    (not_from_false (has_name (remove files i) f.name) (has_name-remove files i f.name (not-true (has_name files f.name) parts.0)))
+    (are_distinct-remove files i parts.1)
+
+has_name-set : (files : List File) (i : ℕ) (file : File) (name : List ℕ) → has_name files name ≡ false → bytes_eq file.name name ≡ false → has_name (set files i file) name ≡ false
+has_name-set [] i file name old new = refl
+has_name-set (f ∷ files) zero file name old new = or_from (bytes_eq file.name name) (has_name files name) new (or_parts (bytes_eq f.name name) (has_name files name) old).1
+has_name-set (f ∷ files) (suc i) file name old new =
+    let parts = or_parts (bytes_eq f.name name) (has_name files name) old in
+    or_from (bytes_eq f.name name) (has_name (set files i file) name) parts.0 (has_name-set files i file name parts.1 new)
+
+-- a file with a new name
+are_distinct-set : (files : List File) (i : ℕ) (file : File) → are_distinct files ≡ true → has_name files file.name ≡ false → are_distinct (set files i file) ≡ true
+are_distinct-set [] i file distinct new = refl
+are_distinct-set (f ∷ files) zero file distinct new =
+    let parts = and_parts (not (has_name files f.name)) (are_distinct files) distinct in
+    let apart = or_parts (bytes_eq f.name file.name) (has_name files file.name) new in
+    and_from (not (has_name files file.name)) (are_distinct files) (not_from_false (has_name files file.name) apart.1) parts.1
+are_distinct-set (f ∷ files) (suc i) file distinct new =
+    let parts = and_parts (not (has_name files f.name)) (are_distinct files) distinct in
+    let apart = or_parts (bytes_eq f.name file.name) (has_name files file.name) new in
+    and_from (not (has_name (set files i file) f.name)) (are_distinct (set files i file))
+    (not_from_false (has_name (set files i file) f.name) (has_name-set files i file f.name (not-true (has_name files f.name) parts.0) (differs f.name file.name apart.0)))
+    (are_distinct-set files i file parts.1 apart.1)
+
+-- a file with the name that it had
+has_name-same : (files : List File) (i : ℕ) (old new : File) (name : List ℕ) → slice_get files i ≡ Some old → new.name ≡ old.name → has_name (set files i new) name ≡ has_name files name
+has_name-same [] i old new name at same = refl
+has_name-same (f ∷ files) zero old new name at same =
+    let e : new.name ≡ f.name = same ∙ ap (λ (x : File). x.name) (sym (same_file f old at)) in
+    ap (λ n. bytes_eq n name || has_name files name) e
+has_name-same (f ∷ files) (suc i) old new name at same = ap (λ b. bytes_eq f.name name || b) (has_name-same files i old new name at same)
+
+are_distinct-same : (files : List File) (i : ℕ) (old new : File) → slice_get files i ≡ Some old → new.name ≡ old.name → are_distinct (set files i new) ≡ are_distinct files
+are_distinct-same [] i old new at same = refl
+are_distinct-same (f ∷ files) zero old new at same =
+    let e : new.name ≡ f.name = same ∙ ap (λ (x : File). x.name) (sym (same_file f old at)) in
+    ap (λ n. not (has_name files n) && are_distinct files) e
+are_distinct-same (f ∷ files) (suc i) old new at same =
+    ap (λ b. not b && are_distinct (set files i new)) (has_name-same files i old new f.name at same)
+    ∙ ap (λ b. not (has_name files f.name) && b) (are_distinct-same files i old new at same)
+
+-- ---- names that are good
+
+list_all-remove : (p : File → Bool) (files : List File) (i : ℕ) → list_all p files ≡ true → list_all p (remove files i) ≡ true
+list_all-remove p [] i good = simp (take-nil, drop-nil)
+list_all-remove p (f ∷ files) zero good = (and_parts (p f) (list_all p files) good).1
+list_all-remove p (f ∷ files) (suc i) good =
+    let parts = and_parts (p f) (list_all p files) good in
+    and_from (p f) (list_all p (remove files i)) parts.0 (list_all-remove p files i parts.1)
+
+list_all-set : (p : File → Bool) (files : List File) (i : ℕ) (file : File) → list_all p files ≡ true → p file ≡ true → list_all p (set files i file) ≡ true
+list_all-set p [] i file good new = refl
+list_all-set p (f ∷ files) zero file good new = and_from (p file) (list_all p files) new (and_parts (p f) (list_all p files) good).1
+list_all-set p (f ∷ files) (suc i) file good new =
+    let parts = and_parts (p f) (list_all p files) good in
+    and_from (p f) (list_all p (set files i file)) parts.0 (list_all-set p files i file parts.1 new)
+
+list_all-at : (p : File → Bool) (files : List File) (i : ℕ) (file : File) → slice_get files i ≡ Some file → list_all p files ≡ true → p file ≡ true
+list_all-at p [] i file at good = absurd cc
+list_all-at p (f ∷ files) zero file at good = subst (λ x. p x ≡ true) (same_file f file at) (and_parts (p f) (list_all p files) good).0
+list_all-at p (f ∷ files) (suc i) file at good = list_all-at p files i file at (and_parts (p f) (list_all p files) good).1
+
+-- ---- a file that keeps its size
+
+total_size-set : (files : List File) (i : ℕ) (old new : File) → slice_get files i ≡ Some old → length new.bytes ≡ length old.bytes → total_size (set files i new) ≡ total_size files
+total_size-set files i old new at same =
+    let within = slice_get_within files i old at in
+    let e = sum_by-set (λ (x : File). length x.bytes) files i new old within in
+    let here = ap (λ (x : File). length x.bytes) (get_or_from_slice_get files i old old at) in
+    omega (arith, e, here, same)
+
+total_size-remove : (files : List File) (i : ℕ) (old : File) → slice_get files i ≡ Some old → total_size (remove files i) ≤ total_size files
+total_size-remove files i old at = omega (arith, sum_by-remove (λ (x : File). length x.bytes) files i old (slice_get_within files i old at))
+
+-- a file in the place of another: with its name and size
+replaced : (limits : Limits) (files : List File) (i : ℕ) (old new : File) → IsDirectory limits files → slice_get files i ≡ Some old → new.name ≡ old.name → length new.bytes ≡ length old.bytes → IsDirectory limits (set files i new)
+replaced limits files i old new was at name size = record {
+  count = omega (arith, length-set files i new, was.count);
+  size = omega (arith, total_size-set files i old new at size, was.size);
+  named = list_all-set (λ file. is_name file.name) files i new was.named (ap is_name name ∙ list_all-at (λ file. is_name file.name) files i old at was.named);
+  distinct = are_distinct-same files i old new at name ∙ was.distinct;
+}
+
+length-splice : (old : List ℕ) (at : ℕ) (bytes : List ℕ) → at + length bytes ≤ length old → length (splice old at bytes) ≡ length old
+length-splice old at bytes fits = omega (arith, length-append (take at old ++ bytes) (drop (at + length bytes) old), length-append (take at old) bytes, length-take at old, length-drop (at + length bytes) old)
+
+-- ---- each change
+
+created : (limits : Limits) (files next : List File) (name : List ℕ) (size : ℕ) → IsDirectory limits files → is_name name ≡ true → outcome limits files (Create name size) ≡ Ok next → IsDirectory limits next
+created limits files next name size was good h =
+    let file : File = record { name = name; bytes = replicate size 0 } in
+    let new = refused (has_name files name) Exists (cond (nat_lt (length files) limits.files && nat_le (total_size files + size) limits.bytes) (Ok (files ++ file ∷ [])) (Err NoRoom)) next h in
+    let made = chosen (nat_lt (length files) limits.files && nat_le (total_size files + size) limits.bytes) NoRoom (files ++ file ∷ []) next new.1 in
+    let room = and_parts (nat_lt (length files) limits.files) (nat_le (total_size files + size) limits.bytes) made.0 in
+    let few = ltb-true (length files) limits.files room.0 in
+    let small = leb-true (total_size files + size) limits.bytes room.1 in
+    subst (λ (x : List File). IsDirectory limits x) made.1 (record {
+      count = omega (arith, length-append files (file ∷ []), few);
+      size = omega (arith, sum_by_push (λ (x : File). length x.bytes) files file, length-replicate {A = ℕ} size 0, small);
+      named = list_all-append (λ x. is_name x.name) files (file ∷ []) ∙ and_from (list_all (λ x. is_name x.name) files) (is_name name && true) was.named (and_from (is_name name) true good refl);
+      distinct = are_distinct-append files file was.distinct new.0;
+    })
+
+deleted : (limits : Limits) (files next : List File) (index : ℕ) → IsDirectory limits files → outcome limits files (Delete index) ≡ Ok next → IsDirectory limits next
+deleted limits files next index was h =
+    let at = found (slice_get files index) (λ file. Ok (remove files index)) next h in
+    let e : remove files index ≡ next = cc (at.2) in
+    subst (λ (x : List File). IsDirectory limits x) e (record {
+      count = omega (arith, length-remove files index (slice_get_within files index at.0 at.1), was.count);
+      size = omega (arith, total_size-remove files index at.0 at.1, was.size);
+      named = list_all-remove (λ x. is_name x.name) files index was.named;
+      distinct = are_distinct-remove files index was.distinct;
+    })
+
+renamed : (limits : Limits) (files next : List File) (index : ℕ) (name : List ℕ) → IsDirectory limits files → is_name name ≡ true → outcome limits files (Rename index name) ≡ Ok next → IsDirectory limits next
+renamed limits files next index name was good h =
+    let at = found (slice_get files index) (λ file. cond (has_name files name) (Err Exists) (Ok (slice_set files index (record file { name = name })))) next h in
+    let file : File = record at.0 { name = name } in
+    let new = refused (has_name files name) Exists (Ok (slice_set files index file)) next at.2 in
+    let e : set files index file ≡ next = cc (new.1) in
+    subst (λ (x : List File). IsDirectory limits x) e (record {
+      count = omega (arith, length-set files index file, was.count);
+      size = omega (arith, total_size-set files index at.0 file at.1 refl, was.size);
+      named = list_all-set (λ x. is_name x.name) files index file was.named good;
+      distinct = are_distinct-set files index file was.distinct new.0;
+    })
+
+written : (limits : Limits) (files next : List File) (index offset : ℕ) (bytes : List ℕ) → IsDirectory limits files → outcome limits files (Write index offset bytes) ≡ Ok next → IsDirectory limits next
+written limits files next index offset bytes was h =
+    let at = found (slice_get files index) (λ file. cond (nat_le (offset + length bytes) (length file.bytes)) (Ok (slice_set files index (record file { bytes = splice file.bytes offset bytes }))) (Err Range)) next h in
+    let file : File = record at.0 { bytes = splice at.0.bytes offset bytes } in
+    let made = chosen (nat_le (offset + length bytes) (length at.0.bytes)) Range (set files index file) next at.2 in
+    let fits = leb-true (offset + length bytes) (length at.0.bytes) made.0 in
+    subst (λ (x : List File). IsDirectory limits x) made.1 (replaced limits files index at.0 file was at.1 refl (length-splice at.0.bytes offset bytes fits))
+
+all_set : (limits : Limits) (files next : List File) (index value : ℕ) → IsDirectory limits files → outcome limits files (SetAll index value) ≡ Ok next → IsDirectory limits next
+all_set limits files next index value was h =
+    let at = found (slice_get files index) (λ file. Ok (slice_set files index (record file { bytes = replicate (length file.bytes) value }))) next h in
+    let file : File = record at.0 { bytes = replicate (length at.0.bytes) value } in
+    let e : set files index file ≡ next = cc (at.2) in
+    subst (λ (x : List File). IsDirectory limits x) e (replaced limits files index at.0 file was at.1 refl (length-replicate {A = ℕ} (length at.0.bytes) value))
+
+-- A change that a group takes and that is applicable leaves the files of a directory.
+pub changed : (limits : Limits) (files next : List File) (change : Change) → IsDirectory limits files → IsChange change → outcome limits files change ≡ Ok next → IsDirectory limits next
+changed limits files next (Create name size) was takes h = created limits files next name size was (good_name (is_name name) takes.flawless) h
+changed limits files next (Delete index) was takes h = deleted limits files next index was h
+changed limits files next (Rename index name) was takes h = renamed limits files next index name was (good_name (is_name name) takes.flawless) h
+changed limits files next (Write index offset bytes) was takes h = written limits files next index offset bytes was h
+changed limits files next (SetAll index value) was takes h = all_set limits files next index value was h
+
+-- ---- a loop over the changes
+
+pub takes_change : (changes : List Change) (i : ℕ) (change : Change) → AllByRecursion IsChange changes → i < length changes → change ≡ get_or changes i change → IsChange change
+takes_change changes i change each lt at = rw at (All-from_recursion IsChange changes each i change lt)
+
+pub goes_on : (limits : Limits) (files next : List File) (changes : List Change) (i : ℕ) (change : Change) (total : Result (List File) DirectoryFault) → i < length changes → change ≡ get_or changes i change → outcome limits files change ≡ Ok next
+    → outcome_of_all limits files (drop i changes) ≡ total → outcome_of_all limits next (drop (i + 1) changes) ≡ total
+goes_on limits files next changes i change total lt at made so_far =
+    let one : outcome_of_all limits files (drop i changes) ≡ and_then (outcome limits files (get_or changes i change)) (λ x. outcome_of_all limits x (drop (i + 1) changes)) = at_drop_more (outcome_of_all limits files) changes i change lt in
+    let step : and_then (outcome limits files (get_or changes i change)) (λ x. outcome_of_all limits x (drop (i + 1) changes)) ≡ outcome_of_all limits next (drop (i + 1) changes) =
+    ap (λ x. and_then (outcome limits files x) (λ y. outcome_of_all limits y (drop (i + 1) changes))) (sym at) ∙ ap (λ x. and_then x (λ y. outcome_of_all limits y (drop (i + 1) changes))) made in
+    sym (one ∙ step) ∙ so_far

@@ -1,0 +1,6 @@
+pub mod Kept
+pub mod Readers
+pub mod Items
+pub mod Directories
+pub mod Groups
+pub mod Loops

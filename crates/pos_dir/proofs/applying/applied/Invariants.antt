@@ -1,0 +1,11 @@
+use Rattle.std.proofs.Common.{◌≡◌, ◌≤◌, drop}
+use Rattle.pos_dir.specs.declared.limits.TheConstants.{LAYOUT_1}
+use Rattle.pos_dir.specs.Files.{IsDirectory}
+use Rattle.pos_dir.specs.Changes.{outcome_of_all}
+use Rattle.pos_dir.proofs.applying.applied.Given as goal
+
+abbrev pub invariant-loop-change : goal.invariant-loop-change
+invariant-loop-change l = record {
+  directory : IsDirectory LAYOUT_1 l.files.items;
+  outcome : outcome_of_all LAYOUT_1 l.files.items (drop l.change-index l.change-items) ≡ outcome_of_all LAYOUT_1 l.fn.directory l.fn.group;
+}

@@ -1,0 +1,5 @@
+use Rattle.pos_dir.proofs.Groups.{one_group_spelling}
+use Rattle.pos_dir.proofs.laws.one_group_spelling.Goals as goal
+
+pub returns : goal.returns
+returns c = one_group_spelling

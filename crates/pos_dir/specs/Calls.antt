@@ -1,0 +1,44 @@
+-- What the calls on directories and groups answer.
+use Rattle.std.specs.Prelude.{◌≡◌, ◌⊎◌, ℕ, List, ◌∷◌, [], ◌++◌, Result, Ok, Err, Option, Some, None, refl}
+use Rattle.pos_dir.specs.declared.file.File.{File}
+use Rattle.pos_dir.specs.declared.limits.Limits.{Limits}
+use Rattle.pos_dir.specs.declared.change.Change.{Change}
+use Rattle.pos_dir.specs.declared.fault.DirectoryFault.{DirectoryFault}
+use Rattle.pos_dir.specs.declared.fault.DirectoryFault.TheVariants.{NoFile, Exists, Range, NoRoom, BadName, NoMemory, Malformed}
+use Rattle.pos_dir.specs.Files.{IsDirectory}
+use Rattle.pos_dir.specs.Changes.{outcome_of_all, refusal_of, IsGroup}
+use Rattle.pos_dir.specs.Spelling.{spelling, group_spelling}
+
+-- A group that takes a change has it at its end; else it is as it was, and the change is given back.
+abbrev pub Pushes : List Change → Change → Result (Unit {0}) (DirectoryFault × Change) → List Change → Type 0
+Pushes old change (Ok _) new = (refusal_of old change ≡ None) × (new ≡ old ++ change ∷ [])
+Pushes old change (Err (NoMemory, back)) new = (refusal_of old change ≡ None) × (new ≡ old) × (back ≡ change)
+Pushes old change (Err (fault, back)) new = (refusal_of old change ≡ Some fault) × (new ≡ old) × (back ≡ change)
+
+-- What was made of the files is their outcome, or the fault is its fault, unless memory ran out.
+abbrev pub Makes : {X : Type 0} → (X → List File) → Result X DirectoryFault → Result (List File) DirectoryFault → Type 0
+Makes view (Ok made) expected = expected ≡ Ok (view made)
+Makes view (Err NoMemory) expected = Unit {0}
+Makes view (Err fault) expected = expected ≡ Err fault
+
+-- the bytes spell some directory
+abbrev pub IsBody : Limits → List ℕ → Type 0
+IsBody limits bytes = (files : List File) × IsDirectory limits files × (bytes ≡ spelling files)
+
+-- the bytes spell some group
+abbrev pub IsGroupText : List ℕ → Type 0
+IsGroupText bytes = (changes : List Change) × IsGroup changes × (bytes ≡ group_spelling changes)
+
+-- Bytes are read as the directory that they spell; they are malformed exactly where they spell none.
+abbrev pub Decodes : Limits → List ℕ → Result (List File) DirectoryFault → Type 0
+Decodes limits bytes (Ok files) = IsDirectory limits files × (bytes ≡ spelling files)
+Decodes limits bytes (Err NoMemory) = IsBody limits bytes
+Decodes limits bytes (Err Malformed) = ¬ (IsBody limits bytes)
+Decodes limits bytes (Err fault) = ⊥
+
+-- Bytes are read as the group that they spell; they are malformed exactly where they spell none.
+abbrev pub DecodesGroup : List ℕ → Result (List Change) DirectoryFault → Type 0
+DecodesGroup bytes (Ok changes) = IsGroup changes × (bytes ≡ group_spelling changes)
+DecodesGroup bytes (Err NoMemory) = IsGroupText bytes
+DecodesGroup bytes (Err Malformed) = ¬ (IsGroupText bytes)
+DecodesGroup bytes (Err fault) = ⊥

@@ -1,0 +1,6 @@
+pub mod Files
+pub mod Changes
+pub mod Spelling
+pub mod Calls
+pub mod Reading
+pub mod Texts

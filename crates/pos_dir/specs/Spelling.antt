@@ -1,0 +1,40 @@
+-- The one spelling of a directory and of a group as bytes. Numbers are big-endian.
+use Rattle.std.specs.Prelude.{ℕ, ◌+◌, ◌*◌, List, [], ◌∷◌, ◌++◌, length}
+use Rattle.std.specs.List.{flat_map}
+use Rattle.std.specs.Int.{w16, w32, to_be_bytes}
+use Rattle.pos_dir.specs.declared.file.File.{File}
+use Rattle.pos_dir.specs.declared.limits.Limits.{Limits}
+use Rattle.pos_dir.specs.declared.change.Change.{Change}
+use Rattle.pos_dir.specs.declared.change.Change.TheVariants.{Create, Delete, Rename, Write, SetAll}
+
+-- a name: one byte of length, and its bytes
+abbrev pub name_spelling : List ℕ → List ℕ
+name_spelling name = length name ∷ name
+
+-- a text: four bytes of length, and its bytes
+abbrev pub text_spelling : List ℕ → List ℕ
+text_spelling bytes = to_be_bytes w32 (length bytes) ++ bytes
+
+-- a file: its name, its size and its bytes
+abbrev pub file_spelling : File → List ℕ
+file_spelling file = name_spelling file.name ++ text_spelling file.bytes
+
+-- a directory: two bytes of count, and the files in index order
+abbrev pub spelling : List File → List ℕ
+spelling files = to_be_bytes w16 (length files) ++ flat_map file_spelling files
+
+-- the most bytes of a directory's spelling: the count, and for each file a name of 10 bytes with its length and a size
+abbrev pub body_limit : Limits → ℕ
+body_limit limits = 2 + 15 * limits.files + limits.bytes
+
+-- a change: its tag, and its fields
+abbrev pub change_spelling : Change → List ℕ
+change_spelling (Create name size) = 1 ∷ (name_spelling name ++ to_be_bytes w32 size)
+change_spelling (Delete index) = 2 ∷ to_be_bytes w16 index
+change_spelling (Rename index name) = 3 ∷ (to_be_bytes w16 index ++ name_spelling name)
+change_spelling (Write index offset bytes) = 4 ∷ (to_be_bytes w16 index ++ (to_be_bytes w32 offset ++ text_spelling bytes))
+change_spelling (SetAll index value) = 5 ∷ (to_be_bytes w16 index ++ value ∷ [])
+
+-- a group: two bytes of count, and the changes in order
+abbrev pub group_spelling : List Change → List ℕ
+group_spelling changes = to_be_bytes w16 (length changes) ++ flat_map change_spelling changes

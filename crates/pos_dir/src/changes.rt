@@ -1,0 +1,198 @@
+//! Changes read from the bytes that spell them.
+ghost use Rattle.std.specs.Prelude.{◌≡◌, [], List, Some, None, IsSome, IfSome, MatchOption, MatchResult};
+ghost use Rattle.std.specs.Option.{option_map};
+ghost use Rattle.pos_dir.specs.Texts.{change_of};
+ghost use Rattle.pos_dir.specs.Reading.{create_at, delete_at, rename_at, write_at, set_all_at, fields_at, change_at, items_at, group_at};
+
+use crate::bytes::{Bytes, Name};
+use crate::change::Change;
+use crate::fault::DirectoryFault;
+use crate::fields::{byte_at, name_at, text_at, u16_at, u32_at};
+use crate::group::WRITE_LIMIT;
+use std::alloc::Global;
+
+/// A change in the bytes that spell it.
+#[derive(Drop)]
+enum ChangeText<'a> {
+    Create {
+        name: &'a [u8],
+        size: u32,
+    },
+    Delete {
+        index: u16,
+    },
+    Rename {
+        index: u16,
+        name: &'a [u8],
+    },
+    Write {
+        index: u16,
+        offset: u32,
+        bytes: &'a [u8],
+    },
+    SetAll {
+        index: u16,
+        value: u8,
+    },
+}
+
+/// A change.
+#[tactic(auto, unfolding(crate::specs::Reading::change_at))]
+fn change_at(bytes: &[u8]) -> Option<(ChangeText<'_>, &[u8])>
+    ensures { option_map (λ x. (change_of x.0, x.1.now)) result ≡ change_at bytes.now }
+{
+    let (tag, rest) = byte_at(bytes)?;
+    fields_at(tag, rest)
+}
+
+/// The fields behind a tag.
+#[tactic(auto, unfolding(crate::specs::Reading::fields_at))]
+fn fields_at(tag: u8, bytes: &[u8]) -> Option<(ChangeText<'_>, &[u8])>
+    ensures { option_map (λ x. (change_of x.0, x.1.now)) result ≡ fields_at tag bytes.now }
+{
+    match tag {
+        1 => create_at(bytes),
+        2 => delete_at(bytes),
+        3 => rename_at(bytes),
+        4 => write_at(bytes),
+        5 => set_all_at(bytes),
+        _ => None,
+    }
+}
+
+/// The fields of a Create.
+#[tactic(auto, unfolding(crate::specs::Reading::create_at))]
+fn create_at(bytes: &[u8]) -> Option<(ChangeText<'_>, &[u8])>
+    ensures { option_map (λ x. (change_of x.0, x.1.now)) result ≡ create_at bytes.now }
+{
+    let (name, rest) = name_at(bytes)?;
+    let (size, rest) = u32_at(rest)?;
+    Some((ChangeText::Create { name, size }, rest))
+}
+
+/// The fields of a Delete.
+#[tactic(auto, unfolding(crate::specs::Reading::delete_at))]
+fn delete_at(bytes: &[u8]) -> Option<(ChangeText<'_>, &[u8])>
+    ensures { option_map (λ x. (change_of x.0, x.1.now)) result ≡ delete_at bytes.now }
+{
+    let (index, rest) = u16_at(bytes)?;
+    Some((ChangeText::Delete { index }, rest))
+}
+
+/// The fields of a Rename.
+#[tactic(auto, unfolding(crate::specs::Reading::rename_at))]
+fn rename_at(bytes: &[u8]) -> Option<(ChangeText<'_>, &[u8])>
+    ensures { option_map (λ x. (change_of x.0, x.1.now)) result ≡ rename_at bytes.now }
+{
+    let (index, rest) = u16_at(bytes)?;
+    let (name, rest) = name_at(rest)?;
+    Some((ChangeText::Rename { index, name }, rest))
+}
+
+/// The fields of a Write.
+#[tactic(auto, unfolding(crate::specs::Reading::write_at))]
+fn write_at(bytes: &[u8]) -> Option<(ChangeText<'_>, &[u8])>
+    ensures { option_map (λ x. (change_of x.0, x.1.now)) result ≡ write_at bytes.now }
+{
+    let (index, rest) = u16_at(bytes)?;
+    let (offset, rest) = u32_at(rest)?;
+    let (bytes, rest) = text_at(rest)?;
+    if bytes.len() > WRITE_LIMIT {
+        return None;
+    }
+    Some((
+        ChangeText::Write {
+            index,
+            offset,
+            bytes,
+        },
+        rest,
+    ))
+}
+
+/// The fields of a SetAll.
+#[tactic(auto, unfolding(crate::specs::Reading::set_all_at))]
+fn set_all_at(bytes: &[u8]) -> Option<(ChangeText<'_>, &[u8])>
+    ensures { option_map (λ x. (change_of x.0, x.1.now)) result ≡ set_all_at bytes.now }
+{
+    let (index, rest) = u16_at(bytes)?;
+    let (value, rest) = byte_at(rest)?;
+    Some((ChangeText::SetAll { index, value }, rest))
+}
+
+/// The change in memory of its own.
+fn own_change(alloc: Global, text: &ChangeText<'_>) -> Result<Change, DirectoryFault>
+    ensures { MatchResult result (λ change. change ≡ change_of text.now) (λ fault. fault ≡ DirectoryFault.NoMemory) }
+{
+    match text {
+        ChangeText::Create { name, size } => Ok(Change::Create {
+            name: Name::from_vec(Vec::from_slice(alloc, name)?),
+            size: *size,
+        }),
+        ChangeText::Delete { index } => Ok(Change::Delete { index: *index }),
+        ChangeText::Rename { index, name } => Ok(Change::Rename {
+            index: *index,
+            name: Name::from_vec(Vec::from_slice(alloc, name)?),
+        }),
+        ChangeText::Write {
+            index,
+            offset,
+            bytes,
+        } => Ok(Change::Write {
+            index: *index,
+            offset: *offset,
+            bytes: Bytes::from_vec(Vec::from_slice(alloc, bytes)?),
+        }),
+        ChangeText::SetAll { index, value } => Ok(Change::SetAll {
+            index: *index,
+            value: *value,
+        }),
+    }
+}
+
+/// The bytes behind so many changes.
+fn changes_end(count: u16, bytes: &[u8]) -> Option<&[u8]>
+    ensures { option_map (λ x. x.now) result ≡ option_map (λ x. x.1) (items_at change_at count bytes.now) }
+{
+    let mut rest = bytes;
+    for _ in 0..count {
+        let (_change, after) = change_at(rest)?;
+        rest = after;
+    }
+    Some(rest)
+}
+
+/// The number of changes and the bytes that spell them, where the bytes spell a group.
+#[tactic(auto, unfolding(crate::specs::Reading::group_at))]
+pub(crate) fn group_at(bytes: &[u8]) -> Option<(u16, &[u8])>
+    ensures { MatchOption result (group_at bytes.now ≡ None)
+        (λ x. (changes : List Change) × (group_at bytes.now ≡ Some changes) × (items_at change_at x.0 x.1.now ≡ Some (changes, []))) }
+{
+    let (count, rest) = u16_at(bytes)?;
+    let end = changes_end(count, rest)?;
+    if !end.is_empty() {
+        return None;
+    }
+    Some((count, rest))
+}
+
+/// So many changes in memory of their own.
+pub(crate) fn own_changes(
+    alloc: Global,
+    count: u16,
+    bytes: &[u8],
+) -> Result<Vec<Change>, DirectoryFault>
+    requires { IsSome (items_at change_at count bytes.now) }
+    ensures { MatchResult result (λ changes. IfSome (items_at change_at count bytes.now) (λ x. changes.items ≡ x.0)) (λ fault. fault ≡ DirectoryFault.NoMemory) }
+{
+    let mut changes = Vec::with_capacity(alloc, count as usize)?;
+    let mut rest = bytes;
+    for _ in 0..count {
+        let Some((change, after)) = change_at(rest) else {
+            unreachable!()
+        };
+        changes.push(own_change(alloc, &change)?)?;
+        rest = after;
+    }
+    Ok(changes)
+}

@@ -1,0 +1,73 @@
+//! Fields read from the front of bytes: each with the bytes behind it.
+ghost use Rattle.std.specs.Prelude.{◌≡◌};
+ghost use Rattle.std.specs.Option.{option_map};
+ghost use Rattle.std.specs.Int.{w16, w32};
+ghost use Rattle.pos_dir.specs.Reading.{byte_at, part_at, number_at, name_at, text_at};
+
+use crate::names::is_name;
+
+/// One byte.
+pub(crate) fn byte_at(bytes: &[u8]) -> Option<(u8, &[u8])>
+    ensures { option_map (λ x. (x.0, x.1.now)) result ≡ byte_at bytes.now }
+{
+    match bytes {
+        [] => None,
+        [byte, rest @ ..] => Some((*byte, rest)),
+    }
+}
+
+/// So many bytes.
+fn part_at(bytes: &[u8], size: usize) -> Option<(&[u8], &[u8])>
+    ensures { option_map (λ x. (x.0.now, x.1.now)) result ≡ part_at size bytes.now }
+{
+    if bytes.len() < size {
+        return None;
+    }
+    Some(bytes.split_at(size))
+}
+
+/// A big-endian number of two bytes.
+pub(crate) fn u16_at(bytes: &[u8]) -> Option<(u16, &[u8])>
+    ensures { option_map (λ x. (x.0, x.1.now)) result ≡ number_at w16 bytes.now }
+{
+    if bytes.len() < 2 {
+        return None;
+    }
+    let (front, rest) = bytes.split_at(2);
+    let number = u16::from_be_bytes([front[0], front[1]]);
+    Some((number, rest))
+}
+
+/// A big-endian number of four bytes.
+pub(crate) fn u32_at(bytes: &[u8]) -> Option<(u32, &[u8])>
+    ensures { option_map (λ x. (x.0, x.1.now)) result ≡ number_at w32 bytes.now }
+{
+    if bytes.len() < 4 {
+        return None;
+    }
+    let (front, rest) = bytes.split_at(4);
+    let number = u32::from_be_bytes([front[0], front[1], front[2], front[3]]);
+    Some((number, rest))
+}
+
+/// A good name behind its length.
+#[tactic(auto, unfolding(crate::specs::Reading::name_at))]
+pub(crate) fn name_at(bytes: &[u8]) -> Option<(&[u8], &[u8])>
+    ensures { option_map (λ x. (x.0.now, x.1.now)) result ≡ name_at bytes.now }
+{
+    let (size, rest) = byte_at(bytes)?;
+    let (name, rest) = part_at(rest, size as usize)?;
+    if !is_name(name) {
+        return None;
+    }
+    Some((name, rest))
+}
+
+/// Bytes behind their number.
+#[tactic(auto, unfolding(crate::specs::Reading::text_at))]
+pub(crate) fn text_at(bytes: &[u8]) -> Option<(&[u8], &[u8])>
+    ensures { option_map (λ x. (x.0.now, x.1.now)) result ≡ text_at bytes.now }
+{
+    let (size, rest) = u32_at(bytes)?;
+    part_at(rest, size as usize)
+}

@@ -1,0 +1,23 @@
+ghost use Rattle.std.specs.Prelude.{◌≡◌, ◌≤◌};
+ghost use Rattle.pos_dir.specs.Files.{total_size};
+
+use crate::bytes::{Bytes, Name};
+use crate::limits::Limits;
+
+/// A file of Hard Totals: its name and its bytes, whose number, 0 allowed, stays as the file was
+/// created (UnifiedPOS 1.16, Hard Totals).
+#[derive(Debug, Drop)]
+pub struct File {
+    /// Its name: 1 to 10 bytes of 0x20 to 0x7F.
+    pub name: Name,
+    /// Its bytes.
+    pub bytes: Bytes,
+}
+
+/// The bytes of all files in sum.
+pub(crate) fn total_of(limits: Limits, files: &[File]) -> usize
+    requires { total_size files.now ≤ limits.bytes }
+    ensures { result ≡ total_size files.now }
+{
+    files.iter().map(|file| file.bytes.as_slice().len()).sum()
+}

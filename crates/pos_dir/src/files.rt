@@ -1,0 +1,128 @@
+//! Files read from the bytes that spell them.
+ghost use Rattle.std.specs.Prelude.{◌≡◌, [], List, Some, None, IsSome, IfSome, MatchOption, MatchResult};
+ghost use Rattle.std.specs.Option.{option_map};
+ghost use Rattle.pos_dir.specs.Texts.{file_of};
+ghost use Rattle.pos_dir.specs.Files.{has_name, are_distinct};
+ghost use Rattle.pos_dir.specs.Reading.{file_at, items_at, end_within, directory_at};
+
+use crate::bytes::{Bytes, Name};
+use crate::fault::DirectoryFault;
+use crate::fields::{name_at, text_at, u16_at};
+use crate::file::File;
+use crate::limits::Limits;
+use std::alloc::Global;
+
+/// A file in the bytes that spell it.
+#[derive(Drop)]
+struct FileText<'a> {
+    name: &'a [u8],
+    bytes: &'a [u8],
+}
+
+/// A file.
+#[tactic(auto, unfolding(crate::specs::Reading::file_at))]
+fn file_at(bytes: &[u8]) -> Option<(FileText<'_>, &[u8])>
+    ensures { option_map (λ x. (file_of x.0, x.1.now)) result ≡ file_at bytes.now }
+{
+    let (name, rest) = name_at(bytes)?;
+    let (bytes, rest) = text_at(rest)?;
+    Some((FileText { name, bytes }, rest))
+}
+
+/// The file in memory of its own.
+fn own_file(alloc: Global, text: &FileText<'_>) -> Result<File, DirectoryFault>
+    ensures { MatchResult result (λ file. file ≡ file_of text.now) (λ fault. fault ≡ DirectoryFault.NoMemory) }
+{
+    Ok(File {
+        name: Name::from_vec(Vec::from_slice(alloc, text.name)?),
+        bytes: Bytes::from_vec(Vec::from_slice(alloc, text.bytes)?),
+    })
+}
+
+/// The bytes behind so many files, whose sizes are at most the room in sum.
+fn files_end(count: u16, bytes: &[u8], room: usize) -> Option<&[u8]>
+    ensures { option_map (λ x. x.now) result ≡ end_within room (items_at file_at count bytes.now) }
+{
+    let mut rest = bytes;
+    let mut room = room;
+    for _ in 0..count {
+        let (file, after) = file_at(rest)?;
+        room = room.checked_sub(file.bytes.len())?;
+        rest = after;
+    }
+    Some(rest)
+}
+
+/// Whether one of so many files has the name, where the bytes begin with so many.
+fn is_used(count: u16, bytes: &[u8], name: &[u8]) -> bool
+    ensures { IfSome (items_at file_at count bytes.now) (λ files. result ≡ has_name files.0 name.now) }
+{
+    let mut rest = bytes;
+    for _ in 0..count {
+        let Some((file, after)) = file_at(rest) else {
+            return false;
+        };
+        if file.name == name {
+            return true;
+        }
+        rest = after;
+    }
+    false
+}
+
+/// Whether no two of so many files have one name, where the bytes begin with so many.
+fn are_distinct(count: u16, bytes: &[u8]) -> bool
+    ensures { IfSome (items_at file_at count bytes.now) (λ files. result ≡ are_distinct files.0) }
+{
+    let mut rest = bytes;
+    for i in 0..count {
+        let Some((file, after)) = file_at(rest) else {
+            return false;
+        };
+        if is_used(count - (i + 1), after, file.name) {
+            return false;
+        }
+        rest = after;
+    }
+    true
+}
+
+/// The number of files and the bytes that spell them, where the bytes spell a directory.
+pub(crate) fn body_at(limits: Limits, bytes: &[u8]) -> Option<(u16, &[u8])>
+    ensures { MatchOption result (directory_at limits bytes.now ≡ None)
+        (λ x. (files : List File) × (directory_at limits bytes.now ≡ Some files) × (items_at file_at x.0 x.1.now ≡ Some (files, []))) }
+{
+    let (count, rest) = u16_at(bytes)?;
+    if count > limits.files {
+        return None;
+    }
+    let end = files_end(count, rest, limits.bytes as usize)?;
+    if !end.is_empty() {
+        return None;
+    }
+    if !are_distinct(count, rest) {
+        return None;
+    }
+    Some((count, rest))
+}
+
+/// So many files in memory of their own.
+pub(crate) fn own_files(
+    alloc: Global,
+    count: u16,
+    bytes: &[u8],
+) -> Result<Vec<File>, DirectoryFault>
+    requires { IsSome (items_at file_at count bytes.now) }
+    ensures { MatchResult result (λ files. IfSome (items_at file_at count bytes.now) (λ x. files.items ≡ x.0)) (λ fault. fault ≡ DirectoryFault.NoMemory) }
+{
+    let mut files = Vec::with_capacity(alloc, count as usize)?;
+    let mut rest = bytes;
+    for _ in 0..count {
+        let Some((file, after)) = file_at(rest) else {
+            unreachable!()
+        };
+        files.push(own_file(alloc, &file)?)?;
+        rest = after;
+    }
+    Ok(files)
+}

@@ -1,0 +1,33 @@
+//! Directories of named files of a fixed size, groups of changes on them, and the one spelling of
+//! each as bytes (Hard Totals).
+#![tactic(auto)]
+
+mod applying;
+mod bytes;
+mod change;
+mod changes;
+mod directory;
+mod fault;
+mod fields;
+mod file;
+mod files;
+mod group;
+pub mod laws;
+mod limits;
+mod names;
+mod reading;
+mod writing;
+
+pub use applying::{applied, apply_group};
+pub use bytes::{Bytes, Name};
+pub use change::Change;
+pub use directory::Directory;
+pub use fault::DirectoryFault;
+pub use file::File;
+pub use group::Group;
+pub use limits::{LAYOUT_1, Limits};
+pub use reading::{decode, decode_group};
+pub use writing::{encode, encode_group};
+
+#[cfg(test)]
+mod tests;

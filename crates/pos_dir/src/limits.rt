@@ -1,0 +1,14 @@
+/// How much a directory may hold.
+#[derive(Clone, Copy, Debug, PartialEq, Eq)]
+pub struct Limits {
+    /// The most bytes of all files in sum.
+    pub bytes: u32,
+    /// The most files.
+    pub files: u16,
+}
+
+/// The limits of a totals disk of the first layout: 8,192 bytes, 64 files.
+pub const LAYOUT_1: Limits = Limits {
+    bytes: 8_192,
+    files: 64,
+};
