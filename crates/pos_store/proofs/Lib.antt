@@ -1,0 +1,3 @@
+mod Committed
+pub mod Found
+mod Recovered

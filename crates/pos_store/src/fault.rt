@@ -1,0 +1,60 @@
+ghost use Rattle.std.specs.Prelude.{◌≡◌, ◌≢◌};
+ghost use Rattle.pos_store.specs.Faults.{refusal, Tells};
+
+use pos_dir::DirectoryFault;
+use pos_image::ImageFault;
+use thiserror::Error;
+
+/// Why a store refuses a call. Nothing has changed then, but that after `Device` in a commit the
+/// store is off.
+#[derive(Clone, Copy, Debug, PartialEq, Eq, Error)]
+pub enum StoreFault {
+    /// The store is off: its files are not known.
+    #[error("the store is off")]
+    Off,
+    /// A change of the group isn't applicable.
+    #[error("the group is refused: {0}")]
+    Refused(DirectoryFault),
+    /// The sequence is 18,446,744,073,709,551,615, the last one.
+    #[error("the sequences have run out")]
+    Exhausted,
+    /// The disk has no image, or it has fewer than 327,680 bytes.
+    #[error("the disk isn't formatted")]
+    Unformatted,
+    /// The gates, sequences and lengths on the disk don't fit together, or the current body spells
+    /// no directory.
+    #[error("the disk is damaged")]
+    Damaged,
+    /// Memory ran out.
+    #[error("out of memory")]
+    NoMemory,
+    /// The disk failed.
+    #[error("the disk failed")]
+    Device,
+}
+
+/// Why a directory refuses a call, in a store's words.
+pub fn of_directory(fault: DirectoryFault) -> StoreFault
+    ensures { result ≡ refusal fault }
+{
+    match fault {
+        DirectoryFault::NoMemory => StoreFault::NoMemory,
+        other => StoreFault::Refused(other),
+    }
+}
+
+/// Why images refuse a call, in a store's words.
+pub fn of_images(fault: ImageFault) -> StoreFault
+    requires new { fault ≢ ImageFault.AlreadyFormatted }
+    requires short { fault ≢ ImageFault.TooLarge }
+    ensures { Tells fault result }
+{
+    match fault {
+        ImageFault::Unformatted | ImageFault::TooSmall => StoreFault::Unformatted,
+        ImageFault::Damaged => StoreFault::Damaged,
+        ImageFault::Exhausted => StoreFault::Exhausted,
+        ImageFault::Device => StoreFault::Device,
+        ImageFault::NoMemory => StoreFault::NoMemory,
+        ImageFault::AlreadyFormatted | ImageFault::TooLarge => unreachable!(),
+    }
+}

@@ -1,0 +1,18 @@
+//! The files of a totals disk, changed by whole groups: after a crash at any moment the disk has the
+//! files before a group or those after all of it (Hard Totals).
+#![tactic(auto)]
+
+mod committing;
+mod fault;
+pub mod laws;
+mod medium;
+mod mode;
+mod recovering;
+mod store;
+
+pub use fault::StoreFault;
+pub use mode::Mode;
+pub use store::Store;
+
+#[cfg(test)]
+mod tests;
