@@ -1,4 +1,4 @@
--- The devices that a counter has until it is made from a profile's text (docs on the profile).
+-- The devices that a counter has: built ones, and what peripherals serve them.
 use Rattle.std.specs.Prelude.{◌≡◌, List, [], ◌∷◌, map}
 use Rattle.pos_service.specs.declared.kind.Kind.TheVariants as kind
 use Rattle.pos_service.specs.Peripherals.{PeripheralState}

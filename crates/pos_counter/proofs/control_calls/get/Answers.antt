@@ -2,8 +2,11 @@ use Rattle.std.proofs.Common.{◌≡◌, ◌∙◌, Some, map, length, ap, sym, 
 use Rattle.std.specs.Prelude.{slice_get}
 use Rattle.std.proofs.lemmas.List.{length-map}
 use Rattle.pos_service.specs.declared.answer.Answer.TheVariants as answer
+use Rattle.pos_service.specs.declared.call.Call.TheVariants as call
+use Rattle.pos_service.specs.declared.code.Code.TheVariants as code
 use Rattle.pos_service.specs.Calls.{property_of, get_rows}
 use Rattle.pos_service.specs.Refusals.{first_refusal}
+use Rattle.pos_service.specs.Steps.{Called}
 use Rattle.pos_service.specs.Machine.{signs_in, station_in, device_at}
 use Rattle.pos_common.specs.Held.{Held, controls_of}
 use Rattle.pos_counter.specs.Machines.{devices_of, machine_of, standing_at}
@@ -22,8 +25,8 @@ returns g c =
     let signs = c.signs_at.ensures ∙ ap (λ o. signs_in (standing_at ss o)) c.device.ensures ∙ ap signs_in (sym (station_there es ss held.control.device whole)) in
     let m = machine_of hs es ss in
     let Done = c.get.result ≡ answer.Done (property_of held.control (signs_in (station_in (device_at (devices_of es ss) held.control.device))) c.args.property) in
-    match_at_some (slice_get (controls_of hs) c.args.number) held.control _ _ at (record {
-      outcome = match_weaker (first_refusal (get_rows held.control c.args.property)) _ (Done × (m ≡ m)) _ (λ refusal. (c.get.result ≡ refusal) × (m ≡ m))
+    match_at_some (slice_get (controls_of hs) c.args.number) held.control ((c.get.result ≡ answer.Refused code.Illegal 0) × (m ≡ m)) (λ control. Called m c.args.number control (call.Get c.args.property) c.get.result m) at (record {
+      outcome = match_weaker (first_refusal (get_rows held.control c.args.property)) (c.get.result ≡ answer.Done (property_of held.control c.signs_at.result c.args.property)) (Done × (m ≡ m)) _ (λ refusal. (c.get.result ≡ refusal) × (m ≡ m))
           (λ y. (y ∙ ap (λ s. answer.Done (property_of held.control s c.args.property)) signs, refl))
           (λ refusal y. (y.0, refl))
           c.get.ensures.outcome;
