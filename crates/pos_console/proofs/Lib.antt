@@ -1,0 +1,4 @@
+pub mod Pieces
+pub mod NameLemmas
+pub mod WriteLemmas
+pub mod Sessions

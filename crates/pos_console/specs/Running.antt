@@ -1,0 +1,56 @@
+-- What a run of a script leaves (docs/CONSOLE.md, "The program").
+use Rattle.std.specs.Prelude.{◌≡◌, ◌++◌, ◌<◌, ◌∷◌, [], ℕ, false, length, List, Option, Result, Ok, Err, IfSome}
+use Rattle.std.specs.Io.KnownBytes.{Appends, Keeps}
+use Rattle.pos_service.specs.Machine.{Machine}
+use Rattle.pos_sims.specs.Drawers.{drawer_state}
+use Rattle.pos_counter.specs.Machines.{beginning}
+use Rattle.pos_console.specs.declared.run.RunFault.{RunFault}
+use Rattle.pos_console.specs.declared.run.RunFault.TheVariants as fault
+use Rattle.pos_console.specs.Lines.{lines_of}
+use Rattle.pos_console.specs.Transcript.{Transcript}
+
+-- All lines were carried out, and their text is written.
+pub record Finishes (old : Machine) (lines : List (List ℕ)) (before after : Option (List ℕ)) (new : Machine) : Type 0 where
+  pub text : List ℕ
+  pub transcript : Transcript old lines text new
+  pub written : Appends before after text
+
+-- The lines so far were carried out, and a front of their text is written, but not all of it.
+pub record Stops (old : Machine) (lines : List (List ℕ)) (before after : Option (List ℕ)) (new : Machine) : Type 0 where
+  pub done : List (List ℕ)
+  pub left : List (List ℕ)
+  pub front : List ℕ
+  pub back : List ℕ
+  pub split : lines ≡ done ++ left
+  pub transcript : Transcript old done (front ++ back) new
+  pub unwritten : 0 < length back
+  pub written : Appends before after front
+
+-- what a run over these bytes leaves, by its result
+abbrev pub Runs : Machine → List ℕ → Option (List ℕ) → Option (List ℕ) → Result (Unit {0}) RunFault → Machine → Type 0
+Runs old bytes before after (Ok u) new = Finishes old (lines_of bytes) before after new
+Runs old bytes before after (Err fault.Read) new = (new ≡ old) × Keeps before after
+Runs old bytes before after (Err fault.Write) new = Stops old (lines_of bytes) before after new
+Runs old bytes before after (Err fault.NoMemory) new = (new ≡ old) × Keeps before after
+
+-- A run that wasn't stopped while it read has read all bytes that the reader is known to have had left.
+abbrev pub ReadsWhole : Option (List ℕ) → List ℕ → Result (Unit {0}) RunFault → Type 0
+ReadsWhole left bytes (Ok u) = IfSome left (λ known. known ≡ bytes)
+ReadsWhole left bytes (Err fault.Read) = Unit {0}
+ReadsWhole left bytes (Err fault.Write) = IfSome left (λ known. known ≡ bytes)
+ReadsWhole left bytes (Err fault.NoMemory) = Unit {0}
+
+-- What a run leaves of a machine and a writer, by the bytes that the reader had left.
+pub record RunsScript (old : Machine) (left before after : Option (List ℕ)) (result : Result (Unit {0}) RunFault) (new : Machine) : Type 0 where
+  pub input : List ℕ
+  pub whole : ReadsWhole left input result
+  pub run : Runs old input before after result new
+
+-- the machine as the program begins: no control, and the closed drawer `d1` in service
+abbrev pub start : Machine
+start = beginning (drawer_state false false ∷ [])
+
+-- What the program does with a script: a run from where it begins.
+pub record Serves (left before after : Option (List ℕ)) (result : Result (Unit {0}) RunFault) : Type 0 where
+  pub end : Machine
+  pub run : RunsScript start left before after result end

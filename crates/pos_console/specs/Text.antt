@@ -1,0 +1,88 @@
+-- What a line prints (docs/CONSOLE.md, "Answers").
+use Rattle.std.specs.Prelude.{ℕ, ◌++◌, Bool, true, false, List, [], ◌∷◌, Option, Some, None, codes, decimal}
+use Rattle.std.specs.Fmt.{signed_decimal}
+use Rattle.hex.specs.Hex.{encode_lower}
+use Rattle.pos_service.specs.declared.answer.Value.{Value}
+use Rattle.pos_service.specs.declared.answer.Value.TheVariants as value
+use Rattle.pos_service.specs.declared.answer.Answer.{Answer}
+use Rattle.pos_service.specs.declared.answer.Answer.TheVariants as answer
+use Rattle.pos_service.specs.declared.code.Code.{Code}
+use Rattle.pos_service.specs.declared.code.Code.TheVariants as code
+use Rattle.pos_service.specs.declared.event.Event.{Event}
+use Rattle.pos_service.specs.declared.event.Event.TheVariants as event
+use Rattle.pos_service.specs.declared.plant.Plant.{Plant}
+use Rattle.pos_service.specs.declared.plant.Plant.TheVariants as plant
+use Rattle.pos_service.specs.Codes.{number_of, locus_number_of}
+use Rattle.pos_service.specs.Steps.{Response, Made, Full, Answered, TakenIn, NoDevice, WrongInput, Delivered, Shown, OutOfMemory}
+use Rattle.pos_console.specs.declared.said.Said.{Said}
+use Rattle.pos_console.specs.declared.said.Said.TheVariants as said
+
+-- a truth value
+abbrev pub truth_text : Bool → List ℕ
+truth_text true = codes "true"
+truth_text false = codes "false"
+
+-- bytes in lower-case hex, and a hyphen for none
+abbrev pub hex_text : List ℕ → List ℕ
+hex_text [] = codes "-"
+hex_text (b ∷ bs) = encode_lower (b ∷ bs)
+
+-- a value behind `ok`
+abbrev pub value_text : Value → List ℕ
+value_text value.Empty = []
+value_text (value.Truth b) = codes " " ++ truth_text b
+value_text (value.Number n) = codes " " ++ signed_decimal n
+value_text (value.Pair m n) = codes " " ++ signed_decimal m ++ codes " " ++ signed_decimal n
+value_text (value.Bytes bytes) = codes " " ++ hex_text bytes
+
+-- the extended code, which is printed behind E_EXTENDED alone
+abbrev pub extended_text : Code → ℕ → List ℕ
+extended_text code.Extended extended = codes " " ++ decimal extended
+extended_text code extended = []
+
+-- what a call is answered
+abbrev pub answer_text : Answer → List ℕ
+answer_text (answer.Done value) = codes "ok" ++ value_text value
+answer_text (answer.Refused code extended) = codes "err " ++ decimal (number_of code) ++ extended_text code extended
+
+-- a delivered event
+abbrev pub event_text : Event → List ℕ
+event_text (event.StatusUpdate n) = codes "event StatusUpdateEvent " ++ decimal n
+event_text event.Data = codes "event DataEvent 0"
+event_text (event.Error code extended locus) = codes "event ErrorEvent " ++ decimal (number_of code) ++ codes " " ++ decimal extended ++ codes " " ++ decimal (locus_number_of locus)
+event_text (event.OutputComplete id) = codes "event OutputCompleteEvent " ++ decimal id
+
+-- the event that was delivered, if there was one
+abbrev pub delivered_text : Option Event → List ℕ
+delivered_text None = codes "none"
+delivered_text (Some event) = event_text event
+
+-- what a device is physically
+abbrev pub plant_text : Plant → List ℕ
+plant_text (plant.Drawer true) = codes "ok open"
+plant_text (plant.Drawer false) = codes "ok closed"
+
+-- what a response of the machine prints
+abbrev pub response_text : Response → List ℕ
+response_text (Made number) = codes "ok"
+response_text Full = codes "refused Full"
+response_text (Answered answer) = answer_text answer
+response_text TakenIn = codes "ok"
+response_text NoDevice = codes "bad device"
+response_text WrongInput = codes "bad input"
+response_text (Delivered event) = delivered_text event
+response_text (Shown plant) = plant_text plant
+response_text OutOfMemory = codes "memory"
+
+-- what the program says of a line
+abbrev pub said_text : Said → List ℕ
+said_text said.BadLine = codes "bad line"
+said_text said.BadControl = codes "bad control"
+said_text said.BadDevice = codes "bad device"
+said_text said.BadInput = codes "bad input"
+said_text said.Memory = codes "memory"
+said_text said.Full = codes "refused Full"
+said_text said.Ok = codes "ok"
+said_text (said.Answered answer) = answer_text answer
+said_text (said.Delivered event) = delivered_text event
+said_text (said.Shown snapshot) = plant_text snapshot.0

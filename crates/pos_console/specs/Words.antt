@@ -1,0 +1,51 @@
+-- What the words of a line stand for (docs/CONSOLE.md, "Words").
+use Rattle.std.specs.Prelude.{ℕ, ℤ, pos, neg_ℤ, Bool, true, false, not, ◌&&◌, ◌||◌, ◌+◌, ◌-◌, ◌*◌, List, [], ◌∷◌, Option, Some, None, length, nat_le, ◌==◌, bytes_eq, codes, if◌then◌else◌, option_map}
+use Rattle.std.specs.List.{list_all, fold}
+use Rattle.pos_service.specs.declared.property.Property.{Property}
+use Rattle.pos_service.specs.declared.property.Property.TheVariants as property
+use Rattle.pos_service.specs.declared.answer.Value.{Value}
+use Rattle.pos_service.specs.declared.answer.Value.TheVariants as value
+use Rattle.pos_console.specs.Lines.{is_nothing}
+
+-- whether a byte is a decimal digit
+abbrev pub is_digit : ℕ → Bool
+is_digit b = nat_le 48 b && nat_le b 57
+
+-- whether a byte may stand in a name: a letter, a digit or a hyphen
+abbrev pub is_name_byte : ℕ → Bool
+is_name_byte b = is_digit b || (nat_le 65 b && nat_le b 90) || (nat_le 97 b && nat_le b 122) || (b == 45)
+
+-- whether a word is a name: 1 to 16 letters, digits or hyphens
+abbrev pub is_name : List ℕ → Bool
+is_name word = nat_le (length word) 16 && not (is_nothing word) && list_all is_name_byte word
+
+-- whether a word is of 1 to 18 digits
+abbrev pub is_digits : List ℕ → Bool
+is_digits word = nat_le (length word) 18 && not (is_nothing word) && list_all is_digit word
+
+-- the number that decimal digits write
+abbrev pub number_of_digits : List ℕ → ℕ
+number_of_digits digits = fold (λ n b. n * 10 + (b - 48)) 0 digits
+
+-- the number of 1 to 18 digits
+abbrev pub digits_named : List ℕ → Option ℕ
+digits_named word = if is_digits word then Some (number_of_digits word) else None
+
+-- the number of 1 to 18 digits, with or without a minus before them
+abbrev pub number_named : List ℕ → Option ℤ
+number_named [] = None
+number_named (b ∷ bs) = if b == 45 then option_map (λ n. neg_ℤ (pos n)) (digits_named bs) else option_map pos (digits_named (b ∷ bs))
+
+-- the value that a word stands for
+abbrev pub value_named : List ℕ → Option Value
+value_named word =
+    if bytes_eq word (codes "true") then Some (value.Truth true)
+    else (if bytes_eq word (codes "false") then Some (value.Truth false) else option_map value.Number (number_named word))
+
+-- the property of this name
+abbrev pub property_named : List ℕ → Option Property
+property_named word =
+    if bytes_eq word (codes "State") then Some property.State
+    else (if bytes_eq word (codes "DeviceEnabled") then Some property.DeviceEnabled
+    else (if bytes_eq word (codes "CapStatus") then Some property.CapStatus
+    else (if bytes_eq word (codes "DrawerOpened") then Some property.DrawerOpened else None)))

@@ -1,0 +1,247 @@
+//! Whole scripts over one drawer, with readers and writers that cut and fail.
+ghost use Rattle.std.specs.Prelude.{None};
+
+use crate::run::RunFault;
+use crate::serve;
+use std::alloc::{AllocError, Global};
+use std::io;
+use std::io::{Read, Write};
+use std::test::Fail;
+
+/// A reader that gives at most `size` bytes a read, and fails after so many reads.
+#[derive(Drop)]
+struct Pieces<'a> {
+    bytes: &'a [u8],
+    size: usize,
+    reads_left: u32,
+}
+
+impl Read for Pieces<'_> {
+    ghost remaining = { λ _. None };
+
+    fn read(&mut self, buf: &mut [u8]) -> io::Result<usize> {
+        if self.reads_left == 0 {
+            return Err(io::Error::from(io::ErrorKind::Interrupted));
+        }
+        self.reads_left -= 1;
+        let count = self.size.min(buf.len()).min(self.bytes.len());
+        let (piece, rest) = self.bytes.split_at(count);
+        for (i, b) in piece.iter().enumerate() {
+            if i < buf.len() {
+                buf[i] = *b;
+            }
+        }
+        self.bytes = rest;
+        Ok(count)
+    }
+}
+
+/// What a writer does once it has taken its writes.
+#[derive(Clone, Copy)]
+enum End {
+    Fails,
+    TakesNothing,
+}
+
+/// A writer that takes at most `size` bytes a write, so many times, and then none any more.
+#[derive(Drop)]
+struct Narrow {
+    taken: Vec<u8>,
+    size: usize,
+    writes_left: u32,
+    end: End,
+}
+
+impl Write for Narrow {
+    ghost contents = { λ _. None };
+
+    fn write(&mut self, buf: &[u8]) -> io::Result<usize> {
+        if self.writes_left == 0 {
+            return match self.end {
+                End::Fails => Err(io::Error::from(io::ErrorKind::Interrupted)),
+                End::TakesNothing => Ok(0),
+            };
+        }
+        self.writes_left -= 1;
+        let count = self.size.min(buf.len());
+        self.taken.extend_from_slice(&buf[..count])?;
+        Ok(count)
+    }
+
+    fn flush(&mut self) -> io::Result<()> {
+        Ok(())
+    }
+}
+
+fn text_of(alloc: Global, script: &[u8]) -> Result<Vec<u8>, RunFault> {
+    let mut text = Vec::new(alloc);
+    let mut reader = script;
+    serve(alloc, &mut reader, &mut text)?;
+    Ok(text)
+}
+
+/// A line that is blown up by spaces to a length.
+fn padded(alloc: Global, start: &[u8], length: usize, end: &[u8]) -> Result<Vec<u8>, AllocError> {
+    let mut line = Vec::from_slice(alloc, start)?;
+    for _ in start.len()..length {
+        line.push(b' ')?;
+    }
+    line.extend_from_slice(end)?;
+    Ok(line)
+}
+
+/// From the first command to the drawer's event.
+const FIRST: &[u8] =
+    b"new a CashDrawer\nopen a d1\nset a DeviceEnabled true\ncall a openDrawer\ndeliver a\ndeliver a\n";
+
+const FIRST_TEXT: &[u8] = b"ok\nok\nok\nok\nevent StatusUpdateEvent 1\nnone\n";
+
+/// The states of a control, with each refusal of a drawer.
+const STATES: &[u8] =
+    b"new a CashDrawer\nget a State\nget a DeviceEnabled\nopen a zz\nopen a d1\nopen a d1\n\
+    call a openDrawer\nset a DeviceEnabled true\ninput d1 open\nget a DrawerOpened\ncall a openDrawer\n\
+    deliver a\ndeliver a\ninput d1 closed\nclose a\ndeliver a\nshow d1\n";
+
+const STATES_TEXT: &[u8] =
+    b"ok\nok 1\nerr 101\nerr 109\nok\nerr 106\nerr 105\nok\nok\nok true\nok\n\
+    event StatusUpdateEvent 1\nnone\nok\nok\nnone\nok closed\n";
+
+/// Two controls on one drawer: each that has it enabled hears of it.
+const SHARED: &[u8] =
+    b"new a CashDrawer\nnew b CashDrawer\nnew a CashDrawer\nopen a d1\nopen b d1\n\
+    set a DeviceEnabled true\nset b DeviceEnabled true\ncall a openDrawer\nset b DeviceEnabled false\n\
+    input d1 closed\ndeliver b retry\ndeliver b clear\ndeliver a continue\ndeliver a\ndeliver a\nget b State\n\
+    get b CapStatus\nset a CapStatus true\nset a DeviceEnabled 5\nset a State -999999999999999999\nshow d1\n";
+
+const SHARED_TEXT: &[u8] =
+    b"ok\nok\nbad control\nok\nok\nok\nok\nok\nok\nok\nevent StatusUpdateEvent 1\nnone\n\
+    event StatusUpdateEvent 1\nevent StatusUpdateEvent 0\nnone\nok 2\nok true\nerr 106\nerr 106\nerr 106\nok closed\n";
+
+/// Blanks, comments, and wrong shapes.
+const SHAPES: &[u8] =
+    b"# \xff a comment\r\n\n   \n  new   - CashDrawer  \r\n show d1\r\r\n #x\nfrob\nnew a Drawer\n\
+    new a\nnew abcdefghijklmnopq CashDrawer\nnew abcdefghijklmnop CashDrawer\nget - Claimed\nget - State x\nget\n\
+    set - DeviceEnabled tru\nset - DeviceEnabled 1234567890123456789\nset - DeviceEnabled -\nset - DeviceEnabled +1\n\
+    set - Foo true\ncall - open d1\ncall z openDrawer\ndeliver z\nclose z\ninput d9 open\ninput d9 shut\nshow d9\n\
+    show d!\ndeliver - now\nget\t- State\nopen - d1\r\nGET - State\nclaim - 0\nshow d1\r";
+
+const SHAPES_TEXT: &[u8] =
+    b"ok\nbad line\nbad line\nbad line\nbad line\nbad line\nbad line\nok\nbad line\nbad line\n\
+    bad line\nbad line\nbad line\nbad line\nbad line\nbad line\nbad line\nbad control\nbad control\nbad control\n\
+    bad device\nbad line\nbad device\nbad line\nbad line\nbad line\nok\nbad line\nbad line\nbad line\n";
+
+#[test]
+fn scripts_print_their_answers(rt: HostRuntime) -> Result<(), Fail> {
+    let rows = [
+        (FIRST, FIRST_TEXT),
+        (STATES, STATES_TEXT),
+        (SHARED, SHARED_TEXT),
+        (SHAPES, SHAPES_TEXT),
+        (b"".as_slice(), b"".as_slice()),
+    ];
+    for (script, want) in rows {
+        let text = text_of(rt.alloc(), script)?;
+        assert_eq!(rt; text.as_slice(), want);
+    }
+    Ok(())
+}
+
+#[test]
+fn lines_have_a_greatest_length(rt: HostRuntime) -> Result<(), Fail> {
+    let alloc = rt.alloc();
+    let rows = [
+        (
+            b"show d1".as_slice(),
+            140_000,
+            b"\n".as_slice(),
+            b"ok closed\n".as_slice(),
+        ),
+        (
+            b"show d1".as_slice(),
+            140_000,
+            b"\r\n".as_slice(),
+            b"ok closed\n".as_slice(),
+        ),
+        (
+            b"show d1".as_slice(),
+            140_001,
+            b"\n".as_slice(),
+            b"bad line\n".as_slice(),
+        ),
+        (
+            b"show d1".as_slice(),
+            140_001,
+            b"\r\n".as_slice(),
+            b"bad line\n".as_slice(),
+        ),
+        (b"#".as_slice(), 140_001, b"\n".as_slice(), b"".as_slice()),
+        (b"".as_slice(), 140_001, b"\n".as_slice(), b"".as_slice()),
+    ];
+    for (start, length, end, want) in rows {
+        let line = padded(alloc, start, length, end)?;
+        let text = text_of(alloc, line.as_slice())?;
+        assert_eq!(rt; text.as_slice(), want);
+    }
+    Ok(())
+}
+
+#[test]
+fn the_cut_of_the_input_does_not_matter(rt: HostRuntime) -> Result<(), Fail> {
+    for size in [1, 2, 7] {
+        let mut reader = Pieces {
+            bytes: STATES,
+            size,
+            reads_left: 1000,
+        };
+        let mut text = Vec::new(rt.alloc());
+        serve(rt.alloc(), &mut reader, &mut text)?;
+        assert_eq!(rt; text.as_slice(), STATES_TEXT);
+    }
+    Ok(())
+}
+
+#[test]
+fn a_failed_read_writes_nothing(rt: HostRuntime) -> Result<(), Fail> {
+    let reads = (FIRST.len() + 6) / 7 + 1;
+    for reads_left in 0..20 {
+        let mut reader = Pieces {
+            bytes: FIRST,
+            size: 7,
+            reads_left,
+        };
+        let mut text = Vec::new(rt.alloc());
+        let result = serve(rt.alloc(), &mut reader, &mut text);
+        if (reads_left as usize) < reads {
+            assert_eq!(rt; result, Err(RunFault::Read));
+            assert_eq!(rt; text.len(), 0);
+        } else {
+            assert_eq!(rt; result, Ok(()));
+            assert_eq!(rt; text.as_slice(), FIRST_TEXT);
+        }
+    }
+    Ok(())
+}
+
+#[test]
+fn a_failed_write_leaves_a_front(rt: HostRuntime) -> Result<(), Fail> {
+    for end in [End::Fails, End::TakesNothing] {
+        for writes_left in 0..60 {
+            let mut writer = Narrow {
+                taken: Vec::new(rt.alloc()),
+                size: 1,
+                writes_left,
+                end,
+            };
+            let mut reader = FIRST;
+            let result = serve(rt.alloc(), &mut reader, &mut writer);
+            let taken = (writes_left as usize).min(FIRST_TEXT.len());
+            assert_eq!(rt; writer.taken.as_slice(), &FIRST_TEXT[..taken]);
+            if taken < FIRST_TEXT.len() {
+                assert_eq!(rt; result, Err(RunFault::Write));
+            } else {
+                assert_eq!(rt; result, Ok(()));
+            }
+        }
+    }
+    Ok(())
+}

@@ -1,0 +1,119 @@
+ghost use Rattle.std.specs.Prelude.{◌≡◌, ◌<◌, ◌^◌, true, bytes_eq, IfSome};
+ghost use Rattle.std.specs.List.{list_all};
+ghost use Rattle.pos_console.specs.Words.{number_of_digits, is_digit, is_digits, is_name_byte, is_name, digits_named, number_named, value_named, property_named};
+
+use pos_service::{Property, Value};
+
+/// Whether a word is this text.
+pub fn is(word: &[u8], text: &str) -> bool
+    ensures { result ≡ bytes_eq word.now text.now }
+{
+    word == text.as_bytes()
+}
+
+fn is_digit_byte(b: u8) -> bool
+    ensures { result ≡ is_digit b }
+{
+    48 <= b && b <= 57
+}
+
+/// Whether a byte may stand in a name.
+fn is_of_name(b: u8) -> bool
+    ensures { result ≡ is_name_byte b }
+{
+    (48 <= b && b <= 57) || (65 <= b && b <= 90) || (97 <= b && b <= 122) || b == 45
+}
+
+fn all_of_name(word: &[u8]) -> bool
+    ensures { result ≡ list_all is_name_byte word.now }
+{
+    word.iter().all(|b| is_of_name(*b))
+}
+
+/// Whether a word is a name: 1 to 16 letters, digits or hyphens of ASCII.
+pub fn is_name_word(word: &[u8]) -> bool
+    ensures { result ≡ is_name word.now }
+{
+    word.len() <= 16 && !word.is_empty() && all_of_name(word)
+}
+
+fn all_digits(word: &[u8]) -> bool
+    ensures { result ≡ list_all is_digit word.now }
+{
+    word.iter().all(|b| is_digit_byte(*b))
+}
+
+/// The number that some digits write.
+fn sum_digits(digits: &[u8]) -> u64
+    requires { is_digits digits.now ≡ true }
+    ensures value { result ≡ number_of_digits digits.now }
+    ensures bound { result < 10 ^ 18 }
+{
+    let mut number = 0;
+    for digit in digits {
+        number = number * 10 + (*digit - 48) as u64;
+    }
+    number
+}
+
+/// The number of 1 to 18 digits.
+fn digits(word: &[u8]) -> Option<u64>
+    ensures value { result ≡ digits_named word.now }
+    ensures bound { IfSome result (λ number. number < 10 ^ 18) }
+{
+    if word.len() <= 18 && !word.is_empty() && all_digits(word) {
+        return Some(sum_digits(word));
+    }
+    None
+}
+
+/// The number of a word: 1 to 18 digits, with or without a minus before them.
+pub fn number(word: &[u8]) -> Option<i128>
+    ensures { result ≡ number_named word.now }
+{
+    match word {
+        [b'-', rest @ ..] => match digits(rest) {
+            Some(number) => Some(-(number as i128)),
+            None => None,
+        },
+        _ => match digits(word) {
+            Some(number) => Some(number as i128),
+            None => None,
+        },
+    }
+}
+
+/// The value of a word: `true`, `false` or a number.
+pub fn value(word: &[u8]) -> Option<Value>
+    ensures { result ≡ value_named word.now }
+{
+    if is(word, "true") {
+        return Some(Value::Truth(true));
+    }
+    if is(word, "false") {
+        return Some(Value::Truth(false));
+    }
+    match number(word) {
+        Some(number) => Some(Value::Number(number)),
+        None => None,
+    }
+}
+
+/// The property of this name.
+pub fn property(word: &[u8]) -> Option<Property>
+    ensures { result ≡ property_named word.now }
+{
+    if is(word, "State") {
+        return Some(Property::State);
+    }
+    if is(word, "DeviceEnabled") {
+        return Some(Property::DeviceEnabled);
+    }
+    if is(word, "CapStatus") {
+        return Some(Property::CapStatus);
+    }
+    if is(word, "DrawerOpened") {
+        return Some(Property::DrawerOpened);
+    }
+    None
+}
