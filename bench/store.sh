@@ -12,7 +12,8 @@ for crate in pos_disk pos_image pos_dir pos_store; do
   cp -r "$top/crates/$crate" "$work/crates/$crate"
   rm -rf "$work/crates/$crate/must-fail"
 done
-cp -r "$top/bench/store" "$work/crates/store_bench"
+mkdir -p "$work/crates/store_bench/src"
+cp "$top/bench/store.rt.in" "$work/crates/store_bench/src/main.rt"
 cp "$top/HANDLES" "$work/HANDLES"
 grep -E '^pos_(disk|image|dir|store):' "$top/crates.txt" > "$work/crates.txt"
 echo 'store_bench: pos_disk pos_image pos_dir pos_store anyhow' >> "$work/crates.txt"
