@@ -1,5 +1,5 @@
 -- A directory that is read is the one that was spelled.
-use Rattle.std.proofs.Common.{◌≡◌, ℕ, zero, suc, ◌+◌, ◌*◌, ◌^◌, ◌<◌, ◌≤◌, Bool, true, false, ◌&&◌, cond, List, [], ◌∷◌, ◌++◌, length, Option, Some, None, refl, sym, ap, subst, ◌∙◌, arith, lit<}
+use Rattle.std.proofs.Common.{◌≡◌, ℕ, ◌+◌, ◌*◌, ◌^◌, ◌<◌, ◌≤◌, Bool, true, false, ◌&&◌, cond, List, [], ◌∷◌, ◌++◌, length, Option, Some, None, refl, sym, ap, subst, ◌∙◌, arith, lit<}
 use Rattle.std.specs.Prelude.{nat_le, IfSome}
 use Rattle.std.specs.List.{flat_map, list_all, AllByRecursion}
 use Rattle.std.specs.Int.{w16, w32, to_be_bytes}
@@ -12,7 +12,7 @@ use Rattle.pos_dir.specs.declared.limits.TheConstants.{LAYOUT_1}
 use Rattle.pos_dir.specs.Files.{is_name, are_distinct, total_size, IsDirectory}
 use Rattle.pos_dir.specs.Spelling.{name_spelling, text_spelling, file_spelling, spelling, body_limit}
 use Rattle.pos_dir.specs.Reading.{◌>>=◌, number_at, name_at, text_at, file_at, items_at, end_within, is_sound, is_end, directory_at}
-use Rattle.pos_dir.proofs.Readers.{IsBytes, IsReader, Takes, Takes-then, bind_some, passed, u16_reads, name_reads, text_reads, both, both_take, both_again}
+use Rattle.pos_dir.proofs.Readers.{IsBytes, IsReader, Takes, Takes-then, bind_some, passed, u16_reads, name_reads, text_reads, both_take, both_again}
 use Rattle.pos_dir.proofs.Items.{items_take, items_again}
 
 -- a file that has a spelling

@@ -1,15 +1,15 @@
 -- A change that is applicable leaves the files of a directory.
-use Rattle.std.proofs.Common.{◌≡◌, ℕ, zero, suc, ◌+◌, ◌-◌, ◌<◌, ◌≤◌, Bool, true, false, not, ◌&&◌, ◌||◌, cond, List, [], ◌∷◌, ◌++◌, length, take, drop, get_or, set, Option, Some, None, Result, Ok, Err, refl, sym, ap, subst, ◌∙◌, arith, inl, inr, length-append}
-use Rattle.std.specs.Prelude.{slice_get, slice_set, remove, replicate, sum_by, nat_lt, nat_le}
-use Rattle.std.specs.List.{list_any, list_all, AllByRecursion}
+use Rattle.std.proofs.Common.{◌≡◌, ℕ, zero, suc, ◌+◌, ◌<◌, ◌≤◌, Bool, true, false, not, ◌&&◌, ◌||◌, cond, List, [], ◌∷◌, ◌++◌, length, take, drop, get_or, set, Option, Some, None, Result, Ok, Err, refl, sym, ap, subst, ◌∙◌, arith, length-append}
+use Rattle.std.specs.Prelude.{slice_get, slice_set, remove, replicate, nat_lt, nat_le, IsOk}
+use Rattle.std.specs.List.{list_all, AllByRecursion}
 use Rattle.std.proofs.lemmas.List.Elements.{All-from_recursion}
 use Rattle.std.specs.Str.{bytes_eq}
 use Rattle.std.proofs.lemmas.Bool.{and_parts, and_from, or_parts, or_from, not-true, not_from_false, false_from_ne_true, both_ways, ltb-true, leb-true}
 use Rattle.std.proofs.lemmas.List.{at_drop_more, length-set, length-replicate, length-take, length-drop}
 use Rattle.std.proofs.Math.Seq.{take-nil, drop-nil}
 use Rattle.std.proofs.lemmas.List.Edits.{length-remove}
-use Rattle.std.proofs.lemmas.List.Folds.{list_any-append, list_all-append}
-use Rattle.std.proofs.lemmas.List.Sums.{sum_by-cons, sum_by_push, sum_by-set, sum_by-remove}
+use Rattle.std.proofs.lemmas.List.Folds.{list_all-append}
+use Rattle.std.proofs.lemmas.List.Sums.{sum_by_push, sum_by-set, sum_by-remove}
 use Rattle.std.proofs.lemmas.Option.{slice_get_within, get_or_from_slice_get}
 use Rattle.std.proofs.lemmas.Slice.Eq.{bytes_eq-Decides}
 use Rattle.pos_dir.specs.declared.file.File.{File}
@@ -17,7 +17,9 @@ use Rattle.pos_dir.specs.declared.limits.Limits.{Limits}
 use Rattle.pos_dir.specs.declared.change.Change.{Change}
 use Rattle.pos_dir.specs.declared.change.Change.TheVariants.{Create, Delete, Rename, Write, SetAll}
 use Rattle.pos_dir.specs.declared.fault.DirectoryFault.{DirectoryFault}
-use Rattle.pos_dir.specs.declared.fault.DirectoryFault.TheVariants.{NoFile, Exists, Range, NoRoom, BadName}
+use Rattle.pos_dir.specs.declared.fault.DirectoryFault.TheVariants.{NoFile, Exists, Range, NoRoom, BadName, NoMemory, Malformed}
+use Rattle.pos_dir.specs.Calls.{Makes, MakesStep}
+use Rattle.pos_dir.specs.Outlines.{Shape}
 use Rattle.pos_dir.specs.Files.{is_name, has_name, are_distinct, total_size, IsDirectory}
 use Rattle.pos_dir.specs.Changes.{splice, with_file, outcome, and_then, outcome_of_all, IsChange}
 
@@ -39,7 +41,7 @@ good_name : (b : Bool) → ◌≡◌ {A = Option DirectoryFault} (cond b None (S
 good_name true h = refl
 good_name false h = absurd cc
 
-same_file : (x y : File) → Some x ≡ Some y → x ≡ y
+pub same_file : (x y : File) → Some x ≡ Some y → x ≡ y
 same_file x y h = cc
 
 -- ---- names
@@ -158,7 +160,7 @@ replaced limits files i old new was at name size = record {
   distinct = are_distinct-same files i old new at name ∙ was.distinct;
 }
 
-length-splice : (old : List ℕ) (at : ℕ) (bytes : List ℕ) → at + length bytes ≤ length old → length (splice old at bytes) ≡ length old
+pub length-splice : (old : List ℕ) (at : ℕ) (bytes : List ℕ) → at + length bytes ≤ length old → length (splice old at bytes) ≡ length old
 length-splice old at bytes fits = omega (arith, length-append (take at old ++ bytes) (drop (at + length bytes) old), length-append (take at old) bytes, length-take at old, length-drop (at + length bytes) old)
 
 -- ---- each change
@@ -237,3 +239,35 @@ goes_on limits files next changes i change total lt at made so_far =
     let step : and_then (outcome limits files (get_or changes i change)) (λ x. outcome_of_all limits x (drop (i + 1) changes)) ≡ outcome_of_all limits next (drop (i + 1) changes) =
     ap (λ x. and_then (outcome limits files x) (λ y. outcome_of_all limits y (drop (i + 1) changes))) (sym at) ∙ ap (λ x. and_then x (λ y. outcome_of_all limits y (drop (i + 1) changes))) made in
     sym (one ∙ step) ∙ so_far
+
+pub same_fault : (x y : DirectoryFault) → ◌≡◌ {A = Result (List Shape) DirectoryFault} (Err x) (Err y) → x ≡ y
+same_fault x y h = cc
+
+-- where a change isn't applicable, the whole isn't
+pub stops : (limits : Limits) (files : List File) (changes : List Change) (i : ℕ) (change : Change) (fault : DirectoryFault) (total : Result (List File) DirectoryFault) → i < length changes → change ≡ get_or changes i change → outcome limits files change ≡ Err fault
+    → outcome_of_all limits files (drop i changes) ≡ total → total ≡ Err fault
+stops limits files changes i change fault total lt at stopped so_far =
+    let one : outcome_of_all limits files (drop i changes) ≡ and_then (outcome limits files (get_or changes i change)) (λ x. outcome_of_all limits x (drop (i + 1) changes)) = at_drop_more (outcome_of_all limits files) changes i change lt in
+    let step : and_then (outcome limits files (get_or changes i change)) (λ x. outcome_of_all limits x (drop (i + 1) changes)) ≡ Err fault =
+    ap (λ x. and_then (outcome limits files x) (λ y. outcome_of_all limits y (drop (i + 1) changes))) (sym at) ∙ ap (λ x. and_then x (λ y. outcome_of_all limits y (drop (i + 1) changes))) stopped in
+    sym so_far ∙ one ∙ step
+
+-- a step that stops, in a group that is applicable or not
+pub step_stops : (fault : DirectoryFault) (made : List File) (one total : Result (List File) DirectoryFault) → MakesStep (Err fault) made one → (one ≡ Err fault → total ≡ Err fault) → IsOk total → Makes {X = List File} (λ x. x) (Err fault) total
+step_stops NoFile made one total step carried ok = carried step
+step_stops Exists made one total step carried ok = carried step
+step_stops Range made one total step carried ok = carried step
+step_stops NoRoom made one total step carried ok = carried step
+step_stops BadName made one total step carried ok = carried step
+step_stops NoMemory made one total step carried ok = ok
+step_stops Malformed made one total step carried ok = carried step
+
+-- a group that was found not to be applicable
+pub not_applicable : (fault : DirectoryFault) (total : Result (List File) DirectoryFault) → (total ≡ Err NoMemory → ⊥) → total ≡ Err fault → Makes {X = List File} (λ x. x) (Err fault) total
+not_applicable NoFile total never e = e
+not_applicable Exists total never e = e
+not_applicable Range total never e = e
+not_applicable NoRoom total never e = e
+not_applicable BadName total never e = e
+not_applicable NoMemory total never e = absurd (never e)
+not_applicable Malformed total never e = e

@@ -4,3 +4,4 @@ pub mod Items
 pub mod Directories
 pub mod Groups
 pub mod Loops
+pub mod Shapes

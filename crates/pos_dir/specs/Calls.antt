@@ -1,12 +1,12 @@
 -- What the calls on directories and groups answer.
-use Rattle.std.specs.Prelude.{◌≡◌, ◌⊎◌, ℕ, List, ◌∷◌, [], ◌++◌, Result, Ok, Err, Option, Some, None, refl}
+use Rattle.std.specs.Prelude.{◌≡◌, ℕ, List, ◌∷◌, [], ◌++◌, Result, Ok, Err, IsOk, Some, None}
 use Rattle.pos_dir.specs.declared.file.File.{File}
 use Rattle.pos_dir.specs.declared.limits.Limits.{Limits}
 use Rattle.pos_dir.specs.declared.change.Change.{Change}
 use Rattle.pos_dir.specs.declared.fault.DirectoryFault.{DirectoryFault}
-use Rattle.pos_dir.specs.declared.fault.DirectoryFault.TheVariants.{NoFile, Exists, Range, NoRoom, BadName, NoMemory, Malformed}
+use Rattle.pos_dir.specs.declared.fault.DirectoryFault.TheVariants.{NoMemory, Malformed}
 use Rattle.pos_dir.specs.Files.{IsDirectory}
-use Rattle.pos_dir.specs.Changes.{outcome_of_all, refusal_of, IsGroup}
+use Rattle.pos_dir.specs.Changes.{refusal_of, IsGroup}
 use Rattle.pos_dir.specs.Spelling.{spelling, group_spelling}
 
 -- A group that takes a change has it at its end; else it is as it was, and the change is given back.
@@ -15,11 +15,17 @@ Pushes old change (Ok _) new = (refusal_of old change ≡ None) × (new ≡ old 
 Pushes old change (Err (NoMemory, back)) new = (refusal_of old change ≡ None) × (new ≡ old) × (back ≡ change)
 Pushes old change (Err (fault, back)) new = (refusal_of old change ≡ Some fault) × (new ≡ old) × (back ≡ change)
 
--- What was made of the files is their outcome, or the fault is its fault, unless memory ran out.
+-- What was made of the files is their outcome, or the fault is its fault. Memory is wanted only where there is an outcome.
 abbrev pub Makes : {X : Type 0} → (X → List File) → Result X DirectoryFault → Result (List File) DirectoryFault → Type 0
 Makes view (Ok made) expected = expected ≡ Ok (view made)
-Makes view (Err NoMemory) expected = Unit {0}
+Makes view (Err NoMemory) expected = IsOk expected
 Makes view (Err fault) expected = expected ≡ Err fault
+
+-- The same for a step, whose want of memory says nothing of its outcome.
+abbrev pub MakesStep : Result (Unit {0}) DirectoryFault → List File → Result (List File) DirectoryFault → Type 0
+MakesStep (Ok _) made expected = expected ≡ Ok made
+MakesStep (Err NoMemory) made expected = Unit {0}
+MakesStep (Err fault) made expected = expected ≡ Err fault
 
 -- the bytes spell some directory
 abbrev pub IsBody : Limits → List ℕ → Type 0

@@ -4,3 +4,4 @@ pub mod Spelling
 pub mod Calls
 pub mod Reading
 pub mod Texts
+pub mod Outlines

@@ -2,7 +2,7 @@ ghost use Rattle.std.specs.Prelude.{◌≡◌, ◌≤◌, ⊤, MatchResult, OnEr
 ghost use Rattle.pos_dir.specs.Files.{total_size};
 ghost use Rattle.pos_dir.specs.Changes.{outcome, outcome_of_all};
 ghost use Rattle.pos_dir.specs.declared.change.Change.TheVariants.{Create, Delete, Rename, Write, SetAll};
-ghost use Rattle.pos_dir.specs.Calls.{Makes};
+ghost use Rattle.pos_dir.specs.Calls.{Makes, MakesStep};
 
 use crate::bytes::{Bytes, Name};
 use crate::change::Change;
@@ -12,11 +12,12 @@ use crate::file::{File, total_of};
 use crate::group::Group;
 use crate::limits::{LAYOUT_1, Limits};
 use crate::names::has_name;
+use crate::outlines::check_group;
 use std::alloc::Global;
 
 /// Applies all changes of a group in order. A change that isn't applicable refuses the group with
-/// the fault of the first such change: NoFile, Exists, Range or NoRoom; so does want of memory
-/// (NoMemory). The directory is unchanged then.
+/// the fault of the first such change: NoFile, Exists, Range or NoRoom. Want of memory is answered
+/// for a group that is applicable alone (NoMemory). The directory is unchanged then.
 pub fn apply_group(directory: &mut Directory, group: &Group) -> Result<(), DirectoryFault>
     ensures applied { Makes (λ _. directory.new) result (outcome_of_all LAYOUT_1 directory.old group.now) }
     ensures unchanged { OnErr result (directory.new ≡ directory.old) }
@@ -35,6 +36,7 @@ pub fn applied(
 ) -> Result<Directory, DirectoryFault>
     ensures { Makes (λ made. made) result (outcome_of_all LAYOUT_1 directory.now group.now) }
 {
+    check_group(directory, group)?;
     let mut files = copy_of(alloc, &directory.files)?;
     for change in &group.changes {
         apply(alloc, &mut files, LAYOUT_1, change)?;
@@ -78,7 +80,7 @@ fn apply(
     change: &Change,
 ) -> Result<(), DirectoryFault>
     requires { total_size files.old.items ≤ limits.bytes }
-    ensures { Makes (λ _. files.new.items) result (outcome limits files.old.items change.now) }
+    ensures { MakesStep result files.new.items (outcome limits files.old.items change.now) }
 {
     match change {
         Change::Create { name, size } => create(alloc, files, limits, name, *size),
@@ -102,7 +104,7 @@ fn create(
     size: u32,
 ) -> Result<(), DirectoryFault>
     requires { total_size files.old.items ≤ limits.bytes }
-    ensures { Makes (λ _. files.new.items) result (outcome limits files.old.items (Create name.now size)) }
+    ensures { MakesStep result files.new.items (outcome limits files.old.items (Create name.now size)) }
 {
     if has_name(files, name.as_slice()) {
         return Err(DirectoryFault::Exists);
@@ -121,7 +123,7 @@ fn create(
 
 /// Removes a file.
 fn delete(files: &mut Vec<File>, index: u16) -> Result<(), DirectoryFault>
-    ensures { (limits : Limits) → Makes (λ _. files.new.items) result (outcome limits files.old.items (Delete index)) }
+    ensures { (limits : Limits) → MakesStep result files.new.items (outcome limits files.old.items (Delete index)) }
 {
     if index as usize >= files.len() {
         return Err(DirectoryFault::NoFile);
@@ -137,7 +139,7 @@ fn rename(
     index: u16,
     name: &Name,
 ) -> Result<(), DirectoryFault>
-    ensures { (limits : Limits) → Makes (λ _. files.new.items) result (outcome limits files.old.items (Rename index name.now)) }
+    ensures { (limits : Limits) → MakesStep result files.new.items (outcome limits files.old.items (Rename index name.now)) }
 {
     if index as usize >= files.len() {
         return Err(DirectoryFault::NoFile);
@@ -157,7 +159,7 @@ fn write(
     offset: u32,
     bytes: &Bytes,
 ) -> Result<(), DirectoryFault>
-    ensures { (limits : Limits) → Makes (λ _. files.new.items) result (outcome limits files.old.items (Write index offset bytes.now)) }
+    ensures { (limits : Limits) → MakesStep result files.new.items (outcome limits files.old.items (Write index offset bytes.now)) }
 {
     if index as usize >= files.len() {
         return Err(DirectoryFault::NoFile);
@@ -175,7 +177,7 @@ fn write(
 
 /// Makes each byte of a file the same.
 fn set_all(files: &mut Vec<File>, index: u16, value: u8) -> Result<(), DirectoryFault>
-    ensures { (limits : Limits) → Makes (λ _. files.new.items) result (outcome limits files.old.items (SetAll index value)) }
+    ensures { (limits : Limits) → MakesStep result files.new.items (outcome limits files.old.items (SetAll index value)) }
 {
     if index as usize >= files.len() {
         return Err(DirectoryFault::NoFile);

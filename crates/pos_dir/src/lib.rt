@@ -15,6 +15,7 @@ mod group;
 pub mod laws;
 mod limits;
 mod names;
+mod outlines;
 mod reading;
 mod writing;
 

@@ -1,7 +1,6 @@
 use Rattle.std.proofs.Common.{◌∙◌, sym, ap}
-use Rattle.std.specs.Option.{option_map}
 use Rattle.pos_dir.specs.Reading.{change_at}
-use Rattle.pos_dir.proofs.Items.{one_more, none_more, no_more, with_first}
+use Rattle.pos_dir.proofs.Items.{one_more, none_more, no_more}
 use Rattle.pos_dir.proofs.Loops.{rest_of, rest_of_first}
 use Rattle.pos_dir.proofs.changes.changes_end.Goals as goal
 

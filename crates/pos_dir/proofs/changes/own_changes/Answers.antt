@@ -1,4 +1,4 @@
-use Rattle.std.proofs.Common.{◌≡◌, ◌∙◌, ◌∷◌, ◌++◌, [], sym, ap}
+use Rattle.std.proofs.Common.{◌≡◌, ◌∙◌, ◌∷◌, ◌++◌, [], ap}
 use Rattle.pos_dir.specs.Reading.{change_at, items_at}
 use Rattle.pos_dir.specs.Texts.{change_of}
 use Rattle.pos_dir.proofs.Items.{kept_more, must_read, kept_all}

@@ -1,6 +1,4 @@
-use Rattle.std.proofs.Common.{subst, sym}
 use Rattle.pos_dir.specs.declared.limits.TheConstants.{LAYOUT_1}
-use Rattle.pos_dir.specs.Files.{IsDirectory}
 use Rattle.pos_dir.proofs.Directories.{length-spelling}
 use Rattle.pos_dir.proofs.writing.encode.Goals as goal
 
