@@ -1,5 +1,5 @@
 -- What a change of the images means for the files.
-use Rattle.std.proofs.Common.{◌≡◌, ◌≤◌, ◌+◌, ◌↔◌, ◌⊎◌, inl, inr, ⊎_elim, ℕ, List, Result, Ok, Err, IsErrOf, MatchResult, length, refl, sym, ap, subst, ◌∙◌}
+use Rattle.std.proofs.Common.{◌≡◌, ◌≤◌, ◌+◌, ◌↔◌, inl, inr, ⊎_elim, ℕ, List, Result, Ok, Err, MatchResult, length, refl, sym, ap, subst, ◌∙◌}
 use Rattle.pos_dir.specs.Changes.{outcome_of_all}
 use Rattle.pos_dir.specs.Files.{IsDirectory}
 use Rattle.pos_dir.specs.Spelling.{spelling}
@@ -8,14 +8,13 @@ use Rattle.pos_dir.specs.declared.fault.DirectoryFault.{DirectoryFault}
 use Rattle.pos_dir.specs.declared.file.File.{File}
 use Rattle.pos_dir.specs.declared.limits.TheConstants.{LAYOUT_1}
 use Rattle.pos_disk.proofs.Moments.{weaker}
-use Rattle.pos_disk.specs.State.{DiskState, LeavesOnly, MayLeave, Rises}
+use Rattle.pos_disk.specs.State.{LeavesOnly, MayLeave, Rises}
 use Rattle.pos_disk.specs.declared.device.Disk.{Ghosts}
 use Rattle.pos_image.specs.Standing as image
 use Rattle.pos_image.specs.Standing.{HasEither}
 use Rattle.pos_store.specs.Commits.{Commits, IsLast, before_or_after}
-use Rattle.pos_store.specs.Modes.{View, Off, Ready}
-use Rattle.pos_store.specs.Standing.{Standing, StandsForOneOf}
-use Rattle.pos_store.specs.declared.fault.StoreFault.{StoreFault}
+use Rattle.pos_store.specs.Modes.{Off, Ready}
+use Rattle.pos_store.specs.Standing.{StandsForOneOf}
 use Rattle.pos_store.specs.declared.fault.StoreFault.TheVariants as fault
 
 -- the bodies of a change spell the files before it and those after it
@@ -62,7 +61,7 @@ failed_commits bound disk failed files after body next log sequence changes spel
 pub is_made : {X : Type 0} (made : X) (directory : List File) (body : List ℕ) (outcome : Result (List File) DirectoryFault)
     → MatchResult outcome
     (λ after. (directory ≡ after) × IsDirectory LAYOUT_1 after × (body ≡ spelling after) × (length (spelling after) ≤ 16371))
-    (λ refusal. (Ok made ≡ Err (fault.Refused refusal)) ⊎ (Ok made ≡ Err fault.NoMemory))
+    (λ refusal. Ok made ≡ Err (fault.Refused refusal))
     → (outcome ≡ Ok directory) × IsDirectory LAYOUT_1 directory × (body ≡ spelling directory)
 is_made made directory body (Ok after) h = (ap Ok (sym h.0), subst (IsDirectory LAYOUT_1) (sym h.0) h.1, h.2 ∙ ap spelling (sym h.0))
-is_made made directory body (Err refusal) h = absurd (⊎_elim (λ e. cc) (λ e. cc) h)
+is_made made directory body (Err refusal) h = absurd (let is_refused = h in cc)

@@ -1,5 +1,5 @@
 -- Bytes stand for one thing at most, so what a recovery finds is one of the candidates.
-use Rattle.std.proofs.Common.{◌≡◌, inl, inr, ⊎_elim, ℕ, List, [], ◌∷◌, refl, sym, ◌∙◌, ap, subst, Result, Ok, Err}
+use Rattle.std.proofs.Common.{◌≡◌, inl, inr, ⊎_elim, ℕ, List, [], ◌∷◌, refl, sym, ◌∙◌, subst, Result, Ok, Err}
 use Rattle.pos_disk.specs.State.{DiskState, MayLeave, Watches}
 use Rattle.pos_disk.proofs.Moments.{seen_before, weaker}
 use Rattle.pos_dir.specs.Files.{IsDirectory}

@@ -4,7 +4,7 @@ use Rattle.pos_dir.specs.Calls.{IsBody, Decodes}
 use Rattle.pos_dir.specs.declared.fault.DirectoryFault.{DirectoryFault}
 use Rattle.pos_dir.specs.declared.fault.DirectoryFault.TheVariants as directory
 use Rattle.pos_dir.specs.declared.limits.TheConstants.{LAYOUT_1}
-use Rattle.pos_disk.specs.State.{DiskState, Watches, Rises}
+use Rattle.pos_disk.specs.State.{Watches, Rises}
 use Rattle.pos_disk.specs.declared.device.Disk.{Ghosts}
 use Rattle.pos_image.specs.Standing as image
 use Rattle.pos_image.specs.Standing.{stands}
@@ -13,7 +13,7 @@ use Rattle.pos_image.specs.declared.fault.ImageFault.TheVariants as images
 use Rattle.pos_store.proofs.Found.{finds_so, recovers_one}
 use Rattle.pos_store.specs.Modes.{View, Off, LeavesItsFiles}
 use Rattle.pos_store.specs.Recoveries.{Finds, Recovers}
-use Rattle.pos_store.specs.Standing.{Standing, Unformatted, Damaged, StandsFor, LeavesOneOf}
+use Rattle.pos_store.specs.Standing.{Standing, Unformatted, Damaged, StandsFor}
 use Rattle.pos_store.specs.Faults.{Tells}
 use Rattle.pos_store.specs.declared.fault.StoreFault.{StoreFault}
 use Rattle.pos_store.specs.declared.fault.StoreFault.TheVariants as fault

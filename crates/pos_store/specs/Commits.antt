@@ -25,19 +25,14 @@ PutsDown sequence after old (Err fault.Exhausted) new = IsLast sequence × (new 
 PutsDown sequence after old (Err fault.Device) new = ¬ (IsLast sequence) × (new ≡ Off)
 PutsDown sequence after old (Err other) new = ⊥
 
--- what a commit of a group that isn't applicable answers: the fault of its first change that isn't, unless memory ran out
-abbrev pub Refuses : DirectoryFault → Result (Unit {0}) StoreFault → Type 0
-Refuses refusal (Err (fault.Refused said)) = said ≡ refusal
-Refuses refusal (Err fault.NoMemory) = ⊤
-Refuses refusal other = ⊥
-
--- what a commit answers, and the state after it: a store that is off says so, and a group is either put down or refused
+-- what a commit answers, and the state after it: a store that is off says so, and a group is put down, or refused with
+-- the fault of its first change that isn't applicable
 abbrev pub Answers : State → List Change → Result (Unit {0}) StoreFault → State → Type 0
 Answers Off changes result new = (result ≡ Err fault.Off) × (new ≡ Off)
 Answers (Ready files sequence) changes result new =
     MatchResult (outcome_of_all LAYOUT_1 files changes)
     (λ after. PutsDown sequence after (Ready files sequence) result new)
-    (λ refusal. Refuses refusal result × (new ≡ Ready files sequence))
+    (λ refusal. (result ≡ Err (fault.Refused refusal)) × (new ≡ Ready files sequence))
 
 -- the files before a group, and those after the whole of it
 abbrev pub before_or_after : List File → ℕ → Result (List File) DirectoryFault → List Standing

@@ -1,5 +1,5 @@
 -- What a recovery answers, and what a crash during it may leave.
-use Rattle.std.specs.Prelude.{◌≡◌, ◌↔◌, ◌≤◌, ℕ, List, Result, Ok, Err, IsErrOf}
+use Rattle.std.specs.Prelude.{◌≡◌, ◌↔◌, ◌≤◌, List, Result, Ok, Err, IsErrOf}
 use Rattle.pos_disk.specs.State.{DiskState, LeavesOnly, Rises}
 use Rattle.pos_disk.specs.declared.device.Disk.{Ghosts}
 use Rattle.pos_store.specs.Modes.{State, View, Off, Ready, WhenOff, WhenReady, LeavesItsFiles}

@@ -28,7 +28,7 @@ struct Next {
 fn make_next(alloc: Global, directory: &Directory, group: &Group) -> Result<Next, StoreFault>
     ensures { MatchResult (outcome_of_all LAYOUT_1 directory.now group.now)
         (λ after. MatchResult result (λ next. (next.directory ≡ after) × IsDirectory LAYOUT_1 after × (next.body.items ≡ spelling after) × (length (spelling after) ≤ 16371)) (λ fault. fault ≡ StoreFault.NoMemory))
-        (λ refusal. (result ≡ Err (StoreFault.Refused refusal)) ⊎ (result ≡ Err StoreFault.NoMemory)) }
+        (λ refusal. result ≡ Err (StoreFault.Refused refusal)) }
 {
     let directory = match applied(alloc, directory, group) {
         Ok(directory) => directory,

@@ -1,7 +1,7 @@
 use super::*;
-use pos_dir::{Bytes, Change, DirectoryFault, Group, Name, encode_group};
+use pos_dir::{Bytes, Change, Directory, DirectoryFault, Group, Name, encode_group};
 use pos_disk::{Disk, DiskFault, Fill, FuseDisk, MemDisk};
-use pos_image::{ImageFault, Images};
+use pos_image::Images;
 use std::alloc::{AllocError, Global};
 use std::test::Fail;
 
@@ -91,233 +91,238 @@ fn read_back(disk: &mut MemDisk, at: u64, out: &mut [u8]) -> Result<(), DiskFaul
     disk.read(at, out)
 }
 
-/// Whether the store has no files.
-fn is_empty<D: Disk>(store: &Store<D>) -> bool {
-    match store.files() {
-        Some(files) => files.len() == 0,
-        None => false,
+/// What a store has.
+#[derive(Clone, Copy, PartialEq, Eq)]
+enum Seen {
+    Nothing,
+    Before,
+    After,
+    Other,
+}
+
+/// Whether these are the file A with 0xDEADBEEF alone.
+fn is_after(files: &Directory) -> bool {
+    files.len() == 1
+        && files.name(0) == Some(b"A".as_slice())
+        && files.bytes(0) == Some([0xde, 0xad, 0xbe, 0xef].as_slice())
+}
+
+fn look<D: Disk>(store: &Store<D>) -> Seen {
+    let Some(files) = store.files() else {
+        return Seen::Nothing;
+    };
+    match store.mode() {
+        Mode::Ready { sequence: 1 } if files.len() == 0 => Seen::Before,
+        Mode::Ready { sequence: 2 } if is_after(files) => Seen::After,
+        _ => Seen::Other,
     }
 }
 
-/// Whether the store has the file A with 0xDEADBEEF alone.
-fn is_after<D: Disk>(store: &Store<D>) -> bool {
-    match store.files() {
-        Some(files) => {
-            files.len() == 1
-                && files.name(0) == Some(b"A".as_slice())
-                && files.bytes(0) == Some([0xde, 0xad, 0xbe, 0xef].as_slice())
-        }
-        None => false,
-    }
+/// A store that put down the two changes on a formatted disk.
+fn changed(alloc: Global) -> Result<Store<MemDisk>, StoreFault> {
+    let mut store = ready(alloc, formatted(alloc)?)?;
+    let Ok(group) = two_changes(alloc) else {
+        return Err(StoreFault::NoMemory);
+    };
+    commit(&mut store, &group)?;
+    Ok(store)
 }
 
 #[test]
 fn a_group_on_the_disk(rt: HostRuntime) -> Result<(), Fail> {
     let alloc = rt.alloc();
-    let mut store = Store::new(alloc, formatted(alloc)?);
-    assert_eq!(rt; store.mode(), Mode::Off);
-    assert!(rt; store.files().is_none());
-    let group = two_changes(alloc)?;
-    assert_eq!(rt; encode_group(alloc, &group)?.as_slice(), GROUP.as_slice());
-    assert_eq!(rt; commit(&mut store, &group), Err(StoreFault::Off));
-    assert_eq!(rt; store.recover(), Ok(()));
-    assert_eq!(rt; store.mode(), Mode::Ready { sequence: 1 });
-    assert!(rt; is_empty(&store));
-    assert_eq!(rt; commit(&mut store, &group), Ok(()));
-    assert_eq!(rt; store.mode(), Mode::Ready { sequence: 2 });
-    assert!(rt; is_after(&store));
-    assert_eq!(rt; store.recover(), Ok(()));
-    assert_eq!(rt; store.mode(), Mode::Ready { sequence: 2 });
+    let store = changed(alloc)?;
+    assert!(rt; look(&store) == Seen::After);
     let mut disk = store.into_disk();
     let mut image = [0; 25];
-    assert_eq!(rt; read_back(&mut disk, 32_768, &mut image), Ok(()));
-    assert_eq!(rt; image, IMAGE);
-    let store = ready(alloc, disk)?;
-    assert_eq!(rt; store.mode(), Mode::Ready { sequence: 2 });
-    assert!(rt; is_after(&store));
+    read_back(&mut disk, 32_768, &mut image)?;
+    assert!(rt; image == IMAGE);
+    assert!(rt; look(&ready(alloc, disk)?) == Seen::After);
+    assert!(rt; encode_group(alloc, &two_changes(alloc)?)?.as_slice() == GROUP.as_slice());
     Ok(())
+}
+
+#[test]
+fn a_store_that_is_off(rt: HostRuntime) -> Result<(), Fail> {
+    let alloc = rt.alloc();
+    let mut store = Store::new(alloc, formatted(alloc)?);
+    assert!(rt; look(&store) == Seen::Nothing && store.mode() == Mode::Off);
+    assert!(rt; commit(&mut store, &two_changes(alloc)?) == Err(StoreFault::Off));
+    store.recover()?;
+    store.recover()?;
+    assert!(rt; look(&store) == Seen::Before);
+    Ok(())
+}
+
+/// What a commit of a group over the file A answers, and how many calls the disk had.
+fn answer_of(
+    alloc: Global,
+    group: Option<&Group>,
+) -> Result<(Option<StoreFault>, u64), StoreFault> {
+    let disk = changed(alloc)?.into_disk();
+    let mut store = ready(alloc, FuseDisk::new(disk, u64::MAX, 0))?;
+    let answer = match group {
+        Some(group) => commit(&mut store, group).err(),
+        None => None,
+    };
+    Ok((answer, store.into_disk().calls()))
 }
 
 #[test]
 fn a_refused_group_asks_nothing_of_the_disk(rt: HostRuntime) -> Result<(), Fail> {
     let alloc = rt.alloc();
-    let mut store = ready(alloc, formatted(alloc)?)?;
-    assert_eq!(rt; commit(&mut store, &two_changes(alloc)?), Ok(()));
-    let mut store = ready(alloc, FuseDisk::new(store.into_disk(), u64::MAX, 0))?;
-    let disk = store.into_disk();
-    let calls = disk.calls();
-    store = ready(alloc, FuseDisk::new(disk.into_inner(), u64::MAX, 0))?;
+    let (_, calls) = answer_of(alloc, None)?;
     let mut group = one(alloc, create(alloc, b"B", 0)?)?;
     push(&mut group, create(alloc, b"A", 0)?)?;
-    assert_eq!(rt;
-        commit(&mut store, &group),
-        Err(StoreFault::Refused(DirectoryFault::Exists))
-    );
+    let exists = Some(StoreFault::Refused(DirectoryFault::Exists));
+    assert!(rt; answer_of(alloc, Some(&group))? == (exists, calls));
     let group = one(alloc, write(alloc, 0, 1, &[1, 2, 3, 4])?)?;
-    assert_eq!(rt;
-        commit(&mut store, &group),
-        Err(StoreFault::Refused(DirectoryFault::Range))
-    );
-    let group = one(alloc, Change::Delete { index: 1 })?;
-    assert_eq!(rt;
-        commit(&mut store, &group),
-        Err(StoreFault::Refused(DirectoryFault::NoFile))
-    );
-    assert_eq!(rt; store.mode(), Mode::Ready { sequence: 2 });
-    assert!(rt; is_after(&store));
-    assert_eq!(rt; store.into_disk().calls(), calls);
+    let range = Some(StoreFault::Refused(DirectoryFault::Range));
+    assert!(rt; answer_of(alloc, Some(&group))? == (range, calls));
     Ok(())
 }
 
-/// Whether a store that recovers from a disk, as often as it takes, has the files before or after.
-#[derive(Clone, Copy, Debug, PartialEq, Eq)]
-enum Found {
-    Before,
-    After,
-    Neither,
-}
-
-fn look<D: Disk>(store: &Store<D>) -> Found {
-    if is_empty(store) && store.mode() == (Mode::Ready { sequence: 1 }) {
-        Found::Before
-    } else if is_after(store) && store.mode() == (Mode::Ready { sequence: 2 }) {
-        Found::After
-    } else {
-        Found::Neither
-    }
-}
-
-/// Commits two changes over a disk that fails once after `pass` calls: whether the commit was
-/// acknowledged, and the disk.
-fn stopped(alloc: Global, pass: u64) -> Result<(bool, MemDisk), Fail> {
+/// Commits two changes over a disk that fails once after `pass` calls, after a second recovery
+/// where the first one failed: whether the commit was acknowledged, and the store.
+fn stopped(alloc: Global, pass: u64) -> Result<(bool, Store<FuseDisk<MemDisk>>), StoreFault> {
     let mut store = Store::new(alloc, FuseDisk::new(formatted(alloc)?, pass, 1));
     if store.recover() == Err(StoreFault::Device) {
         store.recover()?;
     }
-    let answer = commit(&mut store, &two_changes(alloc)?);
-    Ok((answer.is_ok(), store.into_disk().into_inner()))
+    let Ok(group) = two_changes(alloc) else {
+        return Err(StoreFault::NoMemory);
+    };
+    let acknowledged = commit(&mut store, &group).is_ok();
+    Ok((acknowledged, store))
+}
+
+/// What a store finds on a disk after a crash, if a second one finds the same.
+fn reopened(alloc: Global, disk: &MemDisk, fill: Fill) -> Result<Seen, StoreFault> {
+    let Ok(crashed) = disk.crash(fill) else {
+        return Err(StoreFault::NoMemory);
+    };
+    let store = ready(alloc, crashed)?;
+    let first = look(&store);
+    let store = ready(alloc, store.into_disk())?;
+    Ok(if look(&store) == first {
+        first
+    } else {
+        Seen::Other
+    })
 }
 
 #[test]
 fn each_stop_leaves_the_files_before_or_after(rt: HostRuntime) -> Result<(), Fail> {
     let alloc = rt.alloc();
     let mut before = 0u32;
-    let mut after = 0u32;
     for pass in 0..24u64 {
-        let (acknowledged, disk) = stopped(alloc, pass)?;
+        let (acknowledged, store) = stopped(alloc, pass)?;
+        let disk = store.into_disk().into_inner();
         for fill in [Fill::Old, Fill::New, Fill::Byte(0xA5), Fill::Byte(0)] {
-            let store = ready(alloc, disk.crash(fill)?)?;
-            let first = look(&store);
-            assert!(rt; first != Found::Neither, "at {pass}");
-            assert!(rt; !acknowledged || first == Found::After, "at {pass}");
-            let store = ready(alloc, store.into_disk())?;
-            assert_eq!(rt; look(&store), first, "at {pass}");
-            if first == Found::Before {
+            let seen = reopened(alloc, &disk, fill)?;
+            assert!(rt;
+                seen == Seen::After || (seen == Seen::Before && !acknowledged),
+                "at {pass}"
+            );
+            if seen == Seen::Before {
                 before = before.saturating_add(1);
-            } else {
-                after = after.saturating_add(1);
             }
         }
     }
-    assert!(rt; before >= 12);
-    assert!(rt; after >= 12);
+    assert!(rt; before >= 12 && before <= 48);
     Ok(())
 }
 
-/// A store whose disk fails once inside the commit is off, and recovers the files before or after;
-/// a crash with any fill then leaves those.
+/// A store whose disk failed in the commit is off; its recovery decides, and every crash after it
+/// leaves what it found.
+fn decided(alloc: Global, pass: u64, fill: Fill) -> Result<bool, StoreFault> {
+    let (acknowledged, mut store) = stopped(alloc, pass)?;
+    if acknowledged {
+        return Ok(true);
+    }
+    let was_off = look(&store) == Seen::Nothing;
+    store.recover()?;
+    let seen = look(&store);
+    let disk = store.into_disk().into_inner();
+    Ok(was_off && reopened(alloc, &disk, fill)? == seen)
+}
+
 #[test]
 fn a_group_in_doubt_is_decided_once(rt: HostRuntime) -> Result<(), Fail> {
     let alloc = rt.alloc();
-    let mut stops = 0u32;
     for pass in 0..24u64 {
-        let mut store = Store::new(alloc, FuseDisk::new(formatted(alloc)?, pass, 1));
-        if store.recover().is_ok()
-            && commit(&mut store, &two_changes(alloc)?) == Err(StoreFault::Device)
-        {
-            stops = stops.saturating_add(1);
-            assert_eq!(rt; store.mode(), Mode::Off);
-            assert!(rt; store.files().is_none());
-            assert_eq!(rt;
-                commit(&mut store, &two_changes(alloc)?),
-                Err(StoreFault::Off)
-            );
-            assert_eq!(rt; store.recover(), Ok(()));
-            let first = look(&store);
-            assert!(rt; first != Found::Neither, "at {pass}");
-            let disk = store.into_disk().into_inner();
-            for fill in [Fill::Old, Fill::New, Fill::Byte(0xA5), Fill::Byte(0)] {
-                let store = ready(alloc, disk.crash(fill)?)?;
-                assert_eq!(rt; look(&store), first, "at {pass}");
-            }
-        }
+        assert!(rt; decided(alloc, pass, Fill::Old)?, "at {pass}");
+        assert!(rt; decided(alloc, pass, Fill::Byte(0xA5))?, "at {pass}");
     }
-    assert!(rt; stops >= 5);
     Ok(())
 }
 
-/// A disk of zero bytes but for an open gate, a sequence and a body in the first slot.
-fn with_image(alloc: Global, sequence: &[u8; 8], body: &[u8]) -> Result<MemDisk, AllocError> {
-    let mut bytes = vec![in alloc; 0u8; SIZE]?;
-    bytes[0] = 0xA5;
-    for (i, byte) in sequence.iter().enumerate() {
-        bytes[1 + i] = *byte;
-    }
-    bytes[12] = body.len() as u8;
-    for (i, byte) in body.iter().enumerate() {
-        bytes[13 + i] = *byte;
-    }
+/// A disk of this size with these bytes at its start, and zero bytes behind them.
+fn disk_of(alloc: Global, size: usize, start: &[u8]) -> Result<MemDisk, AllocError> {
+    let mut bytes = Vec::from_slice(alloc, start)?;
+    let zeros = vec![in alloc; 0u8; size]?;
+    bytes.extend_from_slice(&zeros)?;
+    bytes.truncate(size);
     MemDisk::new(alloc, bytes)
+}
+
+/// What a recovery answers on it.
+fn recovery_of(alloc: Global, size: usize, start: &[u8]) -> Result<Option<StoreFault>, AllocError> {
+    let mut store = Store::new(alloc, disk_of(alloc, size, start)?);
+    Ok(store.recover().err())
 }
 
 #[test]
 fn disks_that_stand_for_no_files(rt: HostRuntime) -> Result<(), Fail> {
     let alloc = rt.alloc();
-    let mut store = Store::new(alloc, MemDisk::new(alloc, vec![in alloc; 0u8; SIZE]?)?);
-    assert_eq!(rt; store.recover(), Err(StoreFault::Unformatted));
-    assert_eq!(rt; store.mode(), Mode::Off);
-    let mut store = Store::new(alloc, MemDisk::new(alloc, vec![in alloc; 0u8; SIZE - 1]?)?);
-    assert_eq!(rt; store.recover(), Err(StoreFault::Unformatted));
-    let short = with_image(alloc, &[0, 0, 0, 0, 0, 0, 0, 1], &[0, 1, 1, 0x41, 0])?;
-    let mut store = Store::new(alloc, short);
-    assert_eq!(rt; store.recover(), Err(StoreFault::Damaged));
-    assert_eq!(rt; store.mode(), Mode::Off);
+    assert!(rt; recovery_of(alloc, SIZE, &[])? == Some(StoreFault::Unformatted));
+    assert!(rt; recovery_of(alloc, SIZE - 1, &[0xa5])? == Some(StoreFault::Unformatted));
+    let short = [0xa5, 0, 0, 0, 0, 0, 0, 0, 1, 0, 0, 0, 5, 0, 1, 1, 0x41, 0];
+    assert!(rt; recovery_of(alloc, SIZE, &short)? == Some(StoreFault::Damaged));
     Ok(())
 }
+
+/// The image of the file A of size 0 with the last sequence.
+const LAST: [u8; 21] = [
+    0xa5, 0xff, 0xff, 0xff, 0xff, 0xff, 0xff, 0xff, 0xff, 0, 0, 0, 8, 0, 1, 1, 0x41, 0, 0, 0, 0,
+];
 
 #[test]
 fn the_last_sequence(rt: HostRuntime) -> Result<(), Fail> {
     let alloc = rt.alloc();
-    let disk = with_image(alloc, &[0xff; 8], &[0, 1, 1, 0x41, 0, 0, 0, 0])?;
-    let mut store = ready(alloc, disk)?;
+    let mut store = ready(alloc, disk_of(alloc, SIZE, &LAST)?)?;
     let group = one(alloc, Change::Delete { index: 0 })?;
-    assert_eq!(rt; commit(&mut store, &group), Err(StoreFault::Exhausted));
-    assert_eq!(rt; store.mode(), Mode::Ready { sequence: u64::MAX });
-    let names = store.files().map(|files| (files.len(), files.name(0) == Some(b"A".as_slice())));
-    assert_eq!(rt; names, Some((1, true)));
+    assert!(rt; commit(&mut store, &group) == Err(StoreFault::Exhausted));
+    assert!(rt; store.mode() == Mode::Ready { sequence: u64::MAX });
+    assert!(rt;
+        store
+            .files()
+            .is_some_and(|files| files.name(0) == Some(b"A".as_slice()))
+    );
     Ok(())
+}
+
+/// A recovery and a commit, each once more where a growth was refused: what the store had before
+/// the repeated call, and what it has at the end.
+fn with_repeats(alloc: Global, group: &Group) -> Result<(bool, Seen), StoreFault> {
+    let mut store = Store::new(alloc, formatted(alloc)?);
+    let mut unchanged = true;
+    if store.recover() == Err(StoreFault::NoMemory) {
+        unchanged = look(&store) == Seen::Nothing;
+        store.recover()?;
+    }
+    if commit(&mut store, group) == Err(StoreFault::NoMemory) {
+        unchanged = look(&store) == Seen::Before;
+        commit(&mut store, group)?;
+    }
+    Ok((unchanged, look(&store)))
 }
 
 /// Where a growth is refused, the store is as it was, and the same call succeeds after it.
 #[test]
 fn a_refused_growth_changes_nothing(rt: HostRuntime) -> Result<(), Fail> {
     let alloc = rt.alloc();
-    let mut store = Store::new(alloc, formatted(alloc)?);
-    let answer = store.recover();
-    if answer == Err(StoreFault::NoMemory) {
-        assert_eq!(rt; store.mode(), Mode::Off);
-        assert_eq!(rt; store.recover(), Ok(()));
-    } else {
-        assert_eq!(rt; answer, Ok(()));
-    }
-    let group = two_changes(alloc)?;
-    let answer = commit(&mut store, &group);
-    if answer == Err(StoreFault::NoMemory) {
-        assert_eq!(rt; look(&store), Found::Before);
-        assert_eq!(rt; commit(&mut store, &group), Ok(()));
-    } else {
-        assert_eq!(rt; answer, Ok(()));
-    }
-    assert_eq!(rt; look(&store), Found::After);
+    let (unchanged, seen) = with_repeats(alloc, &two_changes(alloc)?)?;
+    assert!(rt; unchanged && seen == Seen::After);
     Ok(())
 }

@@ -1,10 +1,9 @@
-use Rattle.std.proofs.Common.{◌≡◌, Err, ap, sym, subst, ◌∙◌}
+use Rattle.std.proofs.Common.{Err, ap, sym, subst, ◌∙◌}
 use Rattle.pos_dir.specs.Changes.{outcome_of_all}
 use Rattle.pos_dir.specs.declared.limits.TheConstants.{LAYOUT_1}
 use Rattle.pos_image.specs.Standing.{log_of}
 use Rattle.pos_store.proofs.Committed.{failed_commits, is_made}
 use Rattle.pos_store.specs.Modes.{IsSound}
-use Rattle.pos_store.specs.declared.fault.StoreFault.TheVariants as fault
 use Rattle.pos_store.proofs.committing.committed.Goals as goal
 
 pub returns-in-Err-Device-clause-commits : goal.returns-in-Err-Device-clause-commits

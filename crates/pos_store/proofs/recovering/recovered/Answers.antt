@@ -1,12 +1,9 @@
-use Rattle.std.proofs.Common.{rules, ◌≡◌, ℕ, List, Ok, Err, inl, inr, refl, sym, ap, subst, ◌∙◌}
+use Rattle.std.proofs.Common.{ℕ, List, inl, refl, sym, ap, subst, ◌∙◌}
 use Rattle.pos_dir.specs.Calls.{IsBody}
 use Rattle.pos_dir.specs.declared.limits.TheConstants.{LAYOUT_1}
 use Rattle.pos_image.specs.Standing as image
 use Rattle.pos_store.proofs.Recovered.{off_recovers, told_finds, told_device, damaged_stands, no_body_stands, malformed_none}
-use Rattle.pos_store.specs.Modes.{IsSound, view_of, Off, Ready}
-use Rattle.pos_store.specs.Recoveries.{Recovers}
 use Rattle.pos_store.specs.Standing.{StandsFor}
-use Rattle.pos_store.specs.declared.fault.StoreFault.TheVariants as fault
 use Rattle.pos_store.proofs.recovering.recovered.Goals as goal
 
 pub returns-in-Err-clause-recovers : goal.returns-in-Err-clause-recovers
