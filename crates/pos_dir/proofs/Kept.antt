@@ -1,6 +1,6 @@
 -- A change that is applicable leaves the files of a directory.
 use Rattle.std.proofs.Common.{◌≡◌, ℕ, zero, suc, ◌+◌, ◌<◌, ◌≤◌, Bool, true, false, not, ◌&&◌, ◌||◌, cond, List, [], ◌∷◌, ◌++◌, length, take, drop, get_or, set, Option, Some, None, Result, Ok, Err, refl, sym, ap, subst, ◌∙◌, arith, length-append}
-use Rattle.std.specs.Prelude.{slice_get, slice_set, remove, replicate, nat_lt, nat_le, IsOk}
+use Rattle.std.specs.Prelude.{slice_get, slice_set, remove, replicate, nat_lt, nat_le}
 use Rattle.std.specs.List.{list_all, AllByRecursion}
 use Rattle.std.proofs.lemmas.List.Elements.{All-from_recursion}
 use Rattle.std.specs.Str.{bytes_eq}
@@ -17,8 +17,7 @@ use Rattle.pos_dir.specs.declared.limits.Limits.{Limits}
 use Rattle.pos_dir.specs.declared.change.Change.{Change}
 use Rattle.pos_dir.specs.declared.change.Change.TheVariants.{Create, Delete, Rename, Write, SetAll}
 use Rattle.pos_dir.specs.declared.fault.DirectoryFault.{DirectoryFault}
-use Rattle.pos_dir.specs.declared.fault.DirectoryFault.TheVariants.{NoFile, Exists, Range, NoRoom, BadName, NoMemory, Malformed}
-use Rattle.pos_dir.specs.Calls.{Makes, MakesStep}
+use Rattle.pos_dir.specs.declared.fault.DirectoryFault.TheVariants.{Exists, Range, NoRoom, BadName}
 use Rattle.pos_dir.specs.Outlines.{Shape}
 use Rattle.pos_dir.specs.Files.{is_name, has_name, are_distinct, total_size, IsDirectory}
 use Rattle.pos_dir.specs.Changes.{splice, with_file, outcome, and_then, outcome_of_all, IsChange}
@@ -227,6 +226,19 @@ changed limits files next (Rename index name) was takes h = renamed limits files
 changed limits files next (Write index offset bytes) was takes h = written limits files next index offset bytes was h
 changed limits files next (SetAll index value) was takes h = all_set limits files next index value was h
 
+went_on : (r : Result (List File) DirectoryFault) (step : List File → Result (List File) DirectoryFault) (next : List File) → and_then r step ≡ Ok next → (mid : List File) × (r ≡ Ok mid) × (step mid ≡ Ok next)
+went_on (Ok mid) step next h = (mid, refl, h)
+went_on (Err fault) step next h = absurd cc
+
+-- So does a group.
+pub all_changed : (limits : Limits) (files next : List File) (changes : List Change) → IsDirectory limits files → AllByRecursion IsChange changes → outcome_of_all limits files changes ≡ Ok next → IsDirectory limits next
+all_changed limits files next [] was each h =
+    let e : files ≡ next = cc in
+    subst (λ (x : List File). IsDirectory limits x) e was
+all_changed limits files next (change ∷ changes) was each h =
+    let first = went_on (outcome limits files change) (λ mid. outcome_of_all limits mid changes) next h in
+    all_changed limits first.0 next changes (changed limits files first.0 change was each.0 first.1) each.1 first.2
+
 -- ---- a loop over the changes
 
 pub takes_change : (changes : List Change) (i : ℕ) (change : Change) → AllByRecursion IsChange changes → i < length changes → change ≡ get_or changes i change → IsChange change
@@ -251,23 +263,3 @@ stops limits files changes i change fault total lt at stopped so_far =
     let step : and_then (outcome limits files (get_or changes i change)) (λ x. outcome_of_all limits x (drop (i + 1) changes)) ≡ Err fault =
     ap (λ x. and_then (outcome limits files x) (λ y. outcome_of_all limits y (drop (i + 1) changes))) (sym at) ∙ ap (λ x. and_then x (λ y. outcome_of_all limits y (drop (i + 1) changes))) stopped in
     sym so_far ∙ one ∙ step
-
--- a step that stops, in a group that is applicable or not
-pub step_stops : (fault : DirectoryFault) (made : List File) (one total : Result (List File) DirectoryFault) → MakesStep (Err fault) made one → (one ≡ Err fault → total ≡ Err fault) → IsOk total → Makes {X = List File} (λ x. x) (Err fault) total
-step_stops NoFile made one total step carried ok = carried step
-step_stops Exists made one total step carried ok = carried step
-step_stops Range made one total step carried ok = carried step
-step_stops NoRoom made one total step carried ok = carried step
-step_stops BadName made one total step carried ok = carried step
-step_stops NoMemory made one total step carried ok = ok
-step_stops Malformed made one total step carried ok = carried step
-
--- a group that was found not to be applicable
-pub not_applicable : (fault : DirectoryFault) (total : Result (List File) DirectoryFault) → (total ≡ Err NoMemory → ⊥) → total ≡ Err fault → Makes {X = List File} (λ x. x) (Err fault) total
-not_applicable NoFile total never e = e
-not_applicable Exists total never e = e
-not_applicable Range total never e = e
-not_applicable NoRoom total never e = e
-not_applicable BadName total never e = e
-not_applicable NoMemory total never e = absurd (never e)
-not_applicable Malformed total never e = e

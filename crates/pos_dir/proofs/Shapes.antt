@@ -15,7 +15,8 @@ use Rattle.pos_dir.specs.declared.outlines.Outline.{Outline}
 use Rattle.pos_dir.specs.declared.change.Change.{Change}
 use Rattle.pos_dir.specs.declared.change.Change.TheVariants.{Create, Delete, Rename, Write, SetAll}
 use Rattle.pos_dir.specs.declared.fault.DirectoryFault.{DirectoryFault}
-use Rattle.pos_dir.specs.declared.fault.DirectoryFault.TheVariants.{Exists, Range, NoRoom, NoMemory}
+use Rattle.pos_dir.specs.declared.fault.DirectoryFault.TheVariants.{NoFile, Exists, Range, NoRoom, BadName, NoMemory, Malformed}
+use Rattle.pos_dir.specs.Calls.{Makes}
 use Rattle.pos_dir.specs.Files.{has_name, total_size, IsDirectory}
 use Rattle.pos_dir.specs.Changes.{splice, with_file, outcome, and_then, outcome_of_all, IsChange}
 use Rattle.pos_dir.proofs.Kept.{same_file, length-splice, changed, goes_on, stops, same_fault}
@@ -206,6 +207,16 @@ pub never_memory : (limits : Limits) (files : List File) (changes : List Change)
 never_memory limits files [] = λ e. cc
 never_memory limits files (change ∷ changes) =
     never_after limits (outcome limits files change) (λ next. outcome_of_all limits next changes) (never_one limits files change) (λ next. never_memory limits next changes)
+
+-- a group that isn't applicable has its fault
+pub not_applicable : {X : Type 0} (view : X → List File) (limits : Limits) (files : List File) (changes : List Change) (fault : DirectoryFault) → outcome_of_all limits files changes ≡ Err fault → Makes view (Err fault) (outcome_of_all limits files changes)
+not_applicable view limits files changes NoFile e = e
+not_applicable view limits files changes Exists e = e
+not_applicable view limits files changes Range e = e
+not_applicable view limits files changes NoRoom e = e
+not_applicable view limits files changes BadName e = e
+not_applicable view limits files changes NoMemory e = absurd (never_memory limits files changes e)
+not_applicable view limits files changes Malformed e = e
 
 -- ---- the walk over a group
 

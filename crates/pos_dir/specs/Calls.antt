@@ -21,12 +21,6 @@ Makes view (Ok made) expected = expected ≡ Ok (view made)
 Makes view (Err NoMemory) expected = IsOk expected
 Makes view (Err fault) expected = expected ≡ Err fault
 
--- The same for a step, whose want of memory says nothing of its outcome.
-abbrev pub MakesStep : Result (Unit {0}) DirectoryFault → List File → Result (List File) DirectoryFault → Type 0
-MakesStep (Ok _) made expected = expected ≡ Ok made
-MakesStep (Err NoMemory) made expected = Unit {0}
-MakesStep (Err fault) made expected = expected ≡ Err fault
-
 -- the bytes spell some directory
 abbrev pub IsBody : Limits → List ℕ → Type 0
 IsBody limits bytes = (files : List File) × IsDirectory limits files × (bytes ≡ spelling files)

@@ -5,3 +5,5 @@ pub mod Calls
 pub mod Reading
 pub mod Texts
 pub mod Outlines
+pub mod Steps
+pub mod Room

@@ -1,8 +1,9 @@
 ghost use Rattle.std.specs.Prelude.{◌≡◌, [], length, slice_get};
 ghost use Rattle.std.specs.Option.{option_copied, option_map};
-ghost use Rattle.pos_dir.specs.Files.{index_of};
+ghost use Rattle.pos_dir.specs.Files.{index_of, total_size};
 
-use crate::file::File;
+use crate::file::{File, total_of};
+use crate::limits::LAYOUT_1;
 use std::alloc::Global;
 use std::marker::Model;
 
@@ -42,6 +43,13 @@ impl Directory {
         ensures { result ≡ length self.now }
     {
         self.files.len()
+    }
+
+    /// The bytes of all files in sum, at most 8,192.
+    pub fn size(&self) -> usize
+        ensures { result ≡ total_size self.now }
+    {
+        total_of(LAYOUT_1, &self.files)
     }
 
     /// The name of the file at an index, or None where no file has the index.

@@ -1,10 +1,10 @@
 //! Laws over the definitions, and what is true of each directory and each group.
-ghost use Rattle.std.specs.Prelude.{◌≡◌, List};
+ghost use Rattle.std.specs.Prelude.{◌≡◌, ◌≤◌, List, length};
 ghost use Rattle.pos_dir.specs.declared.file.File.{File};
 ghost use Rattle.pos_dir.specs.declared.change.Change.{Change};
 ghost use Rattle.pos_dir.specs.Files.{IsDirectory};
 ghost use Rattle.pos_dir.specs.Changes.{IsGroup};
-ghost use Rattle.pos_dir.specs.Spelling.{spelling, group_spelling};
+ghost use Rattle.pos_dir.specs.Spelling.{spelling, group_spelling, body_limit};
 
 use crate::directory::Directory;
 use crate::group::Group;
@@ -22,9 +22,11 @@ pub fn one_group_spelling()
         → group_spelling changes ≡ group_spelling others → changes ≡ others }
 {}
 
-/// The files of a directory are within the limits and have distinct good names.
+/// The files of a directory are within the limits and have distinct good names, and their spelling
+/// is no longer than a body may be.
 pub fn is_directory(directory: &Directory)
-    ensures { IsDirectory LAYOUT_1 directory.now }
+    ensures directory { IsDirectory LAYOUT_1 directory.now }
+    ensures length { length (spelling directory.now) ≤ body_limit LAYOUT_1 }
 {
     let _ = &directory.files;
 }

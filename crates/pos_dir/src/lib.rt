@@ -17,9 +17,10 @@ mod limits;
 mod names;
 mod outlines;
 mod reading;
+mod steps;
 mod writing;
 
-pub use applying::{applied, apply_group};
+pub use applying::{apply_and_encode, apply_group};
 pub use bytes::{Bytes, Name};
 pub use change::Change;
 pub use directory::Directory;
@@ -27,6 +28,8 @@ pub use fault::DirectoryFault;
 pub use file::File;
 pub use group::Group;
 pub use limits::{LAYOUT_1, Limits};
+pub use names::is_name;
+pub use outlines::check_group;
 pub use reading::{decode, decode_group};
 pub use writing::{encode, encode_group};
 

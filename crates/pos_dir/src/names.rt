@@ -1,14 +1,12 @@
 ghost use Rattle.std.specs.Prelude.{◌≡◌};
 ghost use Rattle.std.specs.List.{list_all};
-ghost use Rattle.pos_dir.specs.Files.{is_name, is_name_byte, has_name};
-
-use crate::file::File;
+ghost use Rattle.pos_dir.specs.Files.{is_name, is_name_byte};
 
 /// The most bytes of a name.
 const NAME_LIMIT: usize = 10;
 
-/// Whether a name is good.
-pub(crate) fn is_name(name: &[u8]) -> bool
+/// Whether a file may have the name: 1 to 10 bytes of 0x20 to 0x7F (UnifiedPOS 1.16, Hard Totals).
+pub fn is_name(name: &[u8]) -> bool
     ensures { result ≡ is_name name.now }
 {
     if name.is_empty() {
@@ -32,11 +30,4 @@ fn is_name_byte(byte: u8) -> bool
     ensures { result ≡ is_name_byte byte }
 {
     byte >= 0x20 && byte <= 0x7f
-}
-
-/// Whether some file has the name.
-pub(crate) fn has_name(files: &[File], name: &[u8]) -> bool
-    ensures { result ≡ has_name files.now name.now }
-{
-    files.iter().any(|file| file.name.as_slice() == name)
 }

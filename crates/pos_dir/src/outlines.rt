@@ -13,8 +13,8 @@ use crate::group::Group;
 use crate::limits::{LAYOUT_1, Limits};
 use arrayvec::ArrayVec;
 
-/// The most files of a directory.
-const MOST_FILES: usize = 64;
+/// The most files of a directory, in the layout that allows the most.
+const MOST_FILES: usize = LAYOUT_1.files as usize;
 
 /// The name and the size of a file.
 #[derive(Clone, Copy, Default)]
@@ -45,7 +45,7 @@ fn check_create<'a>(
     name: &'a [u8],
     size: u32,
 ) -> Result<(), DirectoryFault>
-    requires files { limits.files ≤ 64 }
+    requires files { limits.files ≤ LAYOUT_1.files }
     requires total { sum_by (λ outline. outline.size) outlines.old.items ≤ limits.bytes }
     ensures { Checks result (shape_outcome limits (map shape_of outlines.old.items) (Create name.now size)) outlines.new.items }
 {
@@ -91,7 +91,8 @@ fn check_rename<'a>(
     if index >= outlines.len() {
         return Err(DirectoryFault::NoFile);
     }
-    if is_named(outlines.as_slice(), name) {
+    let is_taken = is_named(outlines.as_slice(), name);
+    if is_taken {
         return Err(DirectoryFault::Exists);
     }
     let Outline { name: _, size } = outlines.remove(index);
@@ -139,7 +140,7 @@ fn check<'a>(
     limits: Limits,
     change: &'a Change,
 ) -> Result<(), DirectoryFault>
-    requires files { limits.files ≤ 64 }
+    requires files { limits.files ≤ LAYOUT_1.files }
     requires total { sum_by (λ outline. outline.size) outlines.old.items ≤ limits.bytes }
     ensures { Checks result (shape_outcome limits (map shape_of outlines.old.items) change.now) outlines.new.items }
 {
@@ -158,7 +159,7 @@ fn check<'a>(
 
 /// The outlines of files.
 fn outlines_of(files: &[File]) -> ArrayVec<Outline<'_>, MOST_FILES>
-    requires { length files.now ≤ 64 }
+    requires { length files.now ≤ LAYOUT_1.files }
     ensures { map shape_of result.items ≡ shapes_of files.now }
 {
     let mut outlines = ArrayVec::new();
@@ -171,11 +172,9 @@ fn outlines_of(files: &[File]) -> ArrayVec<Outline<'_>, MOST_FILES>
     outlines
 }
 
-/// Whether a group is applicable, or the fault of the first change that isn't. It takes no memory.
-pub(crate) fn check_group<'a>(
-    directory: &'a Directory,
-    group: &'a Group,
-) -> Result<(), DirectoryFault>
+/// Whether a group is applicable, or the fault of the first change that isn't: NoFile, Exists,
+/// Range or NoRoom. It takes no memory.
+pub fn check_group<'a>(directory: &'a Directory, group: &'a Group) -> Result<(), DirectoryFault>
     ensures { Answers result (outcome_of_all LAYOUT_1 directory.now group.now) }
 {
     let mut outlines = outlines_of(&directory.files);

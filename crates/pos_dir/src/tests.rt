@@ -57,7 +57,9 @@ fn a_group_and_its_body(rt: HostRuntime) -> Result<(), Fail> {
     let mut directory = Directory::new(alloc);
     apply_group(&mut directory, &decode_group(alloc, &GROUP)?)?;
     assert_eq!(rt; encode(alloc, &directory)?.as_slice(), BODY.as_slice());
-    let made = applied(alloc, &Directory::new(alloc), &group)?;
+    let mut made = Directory::new(alloc);
+    let body = apply_and_encode(alloc, &mut made, &group)?;
+    assert_eq!(rt; body.as_slice(), BODY.as_slice());
     assert_eq!(rt; encode(alloc, &made)?.as_slice(), BODY.as_slice());
     let read = decode(alloc, &BODY)?;
     assert_eq!(rt; read.len(), 1);
@@ -107,6 +109,71 @@ fn each_change(rt: HostRuntime) -> Result<(), Fail> {
     Ok(())
 }
 
+/// A group of all changes: of C, which it creates, of A, which it renames, and of B, which it
+/// deletes.
+fn all_changes(alloc: Global) -> Result<Group, DirectoryFault> {
+    let mut group = Group::new(alloc);
+    push(&mut group, create(alloc, b"C", 3)?)?;
+    push(&mut group, write(alloc, 2, 1, &[5, 6])?)?;
+    push(&mut group, rename(alloc, 0, b"Z")?)?;
+    push(&mut group, Change::Delete { index: 1 })?;
+    push(&mut group, Change::SetAll { index: 0, value: 8 })?;
+    Ok(group)
+}
+
+/// The body of what it makes of A and B.
+const ALL_CHANGED: [u8; 19] = [
+    0, 2, 1, 0x5a, 0, 0, 0, 2, 8, 8, 1, 0x43, 0, 0, 0, 3, 0, 5, 6,
+];
+
+#[test]
+fn all_changes_together(rt: HostRuntime) -> Result<(), Fail> {
+    let alloc = rt.alloc();
+    let group = all_changes(alloc)?;
+    let mut directory = two_files(alloc)?;
+    assert_eq!(rt; check_group(&directory, &group), Ok(()));
+    apply_group(&mut directory, &group)?;
+    assert_eq!(rt;
+        encode(alloc, &directory)?.as_slice(),
+        ALL_CHANGED.as_slice()
+    );
+    let mut directory = two_files(alloc)?;
+    let body = apply_and_encode(alloc, &mut directory, &group)?;
+    assert_eq!(rt; body.as_slice(), ALL_CHANGED.as_slice());
+    assert_eq!(rt;
+        encode(alloc, &directory)?.as_slice(),
+        ALL_CHANGED.as_slice()
+    );
+    Ok(())
+}
+
+/// The body of A and B.
+const TWO_FILES: [u8; 19] = [
+    0, 2, 1, 0x41, 0, 0, 0, 2, 0, 0, 1, 0x42, 0, 0, 0, 3, 0, 0, 0,
+];
+
+/// Where memory is refused at whatever moment, all is as it was, or the whole group is applied.
+#[test]
+fn want_of_memory_leaves_all(rt: HostRuntime) -> Result<(), Fail> {
+    let alloc = rt.alloc();
+    let group = all_changes(alloc)?;
+    let mut directory = decode(alloc, &TWO_FILES)?;
+    let applied = apply_group(&mut directory, &group);
+    let after = encode(alloc, &directory)?;
+    let is_whole = applied == Ok(()) && after.as_slice() == ALL_CHANGED.as_slice();
+    let is_left = applied == Err(DirectoryFault::NoMemory)
+        && after.as_slice() == TWO_FILES.as_slice();
+    assert!(rt; is_whole || is_left);
+    let mut directory = decode(alloc, &TWO_FILES)?;
+    let fault = apply_and_encode(alloc, &mut directory, &group).err();
+    let after = encode(alloc, &directory)?;
+    let is_whole = fault == None && after.as_slice() == ALL_CHANGED.as_slice();
+    let is_left = fault == Some(DirectoryFault::NoMemory)
+        && after.as_slice() == TWO_FILES.as_slice();
+    assert!(rt; is_whole || is_left);
+    Ok(())
+}
+
 /// The fault of a change behind two that are applicable, which leave nothing behind.
 fn fault_of(alloc: Global, change: Change) -> Result<DirectoryFault, DirectoryFault> {
     let mut directory = two_files(alloc)?;
@@ -115,10 +182,13 @@ fn fault_of(alloc: Global, change: Change) -> Result<DirectoryFault, DirectoryFa
     push(&mut group, Change::SetAll { index: 0, value: 1 })?;
     push(&mut group, create(alloc, b"D", 1)?)?;
     push(&mut group, change)?;
-    match apply_group(&mut directory, &group) {
-        Ok(()) => Err(DirectoryFault::Malformed),
-        Err(fault) if encode(alloc, &directory)?.as_slice() == before.as_slice() => Ok(fault),
-        Err(_) => Err(DirectoryFault::Malformed),
+    let checked = check_group(&directory, &group);
+    let applied = apply_group(&mut directory, &group);
+    let encoded = apply_and_encode(alloc, &mut directory, &group).err();
+    let is_unchanged = encode(alloc, &directory)?.as_slice() == before.as_slice();
+    match applied {
+        Err(fault) if checked == Err(fault) && encoded == Some(fault) && is_unchanged => Ok(fault),
+        _ => Err(DirectoryFault::Malformed),
     }
 }
 

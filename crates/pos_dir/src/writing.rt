@@ -1,7 +1,8 @@
-ghost use Rattle.std.specs.Prelude.{◌≡◌, ◌*◌, ◌<◌, ◌≤◌, ◌^◌, ◌++◌, length, MatchResult, OnOk};
+ghost use Rattle.std.specs.Prelude.{◌≡◌, ◌*◌, ◌<◌, ◌≤◌, ◌^◌, [], length, vec_capacity, MatchResult};
 ghost use Rattle.std.specs.Int.{w16, w32, to_be_bytes};
 ghost use Rattle.std.specs.List.{flat_map};
-ghost use Rattle.pos_dir.specs.Files.{IsDirectory, total_size};
+ghost use Rattle.pos_dir.specs.Files.{IsDirectory};
+ghost use Rattle.pos_dir.specs.Room.{HasRoom, Puts};
 ghost use Rattle.pos_dir.specs.Changes.{IsGroup, IsChange};
 ghost use Rattle.pos_dir.specs.Spelling.{body_limit, spelling, group_spelling, name_spelling, text_spelling, file_spelling, change_spelling};
 
@@ -9,16 +10,22 @@ use crate::bytes::{Bytes, Name};
 use crate::change::Change;
 use crate::directory::Directory;
 use crate::fault::DirectoryFault;
-use crate::file::{File, total_of};
+use crate::file::File;
 use crate::group::Group;
+use crate::laws::is_directory;
 use crate::limits::LAYOUT_1;
-use std::alloc::{AllocError, Global};
+use std::alloc::Global;
 
 /// The bytes of a count.
 const COUNT_SIZE: usize = 2;
 
 /// The most bytes of a file's spelling beside its own bytes.
 const FILE_HEAD: usize = 15;
+
+/// The most bytes of a directory's spelling.
+pub(crate) const BODY_LIMIT: usize = COUNT_SIZE
+    + FILE_HEAD * LAYOUT_1.files as usize
+    + LAYOUT_1.bytes as usize;
 
 /// The one spelling of a directory (a body of the totals disk), at most 9,154 bytes: the number
 /// of files in two bytes; then for each file in index order the length of its name in one byte,
@@ -29,14 +36,26 @@ pub fn encode(alloc: Global, directory: &Directory) -> Result<Vec<u8>, Directory
     ensures length { length (spelling directory.now) ≤ body_limit LAYOUT_1 }
     ensures spelling { MatchResult result (λ bytes. bytes.items ≡ spelling directory.now) (λ fault. fault ≡ DirectoryFault.NoMemory) }
 {
+    is_directory(directory);
+    let mut body = Vec::with_capacity(alloc, BODY_LIMIT)?;
+    put_directory(&mut body, directory);
+    Ok(body)
+}
+
+/// Writes a directory.
+pub(crate) fn put_directory(out: &mut Vec<u8>, directory: &Directory)
+    requires empty { out.old.items ≡ [] }
+    requires room { body_limit LAYOUT_1 ≤ vec_capacity out.old }
+    ensures spelling { out.new.items ≡ spelling directory.now }
+    ensures directory { IsDirectory LAYOUT_1 directory.now }
+    ensures length { length (spelling directory.now) ≤ body_limit LAYOUT_1 }
+{
+    is_directory(directory);
     let files = directory.files.as_slice();
-    let size = COUNT_SIZE + FILE_HEAD * files.len() + total_of(LAYOUT_1, files);
-    let mut out = Vec::with_capacity(alloc, size)?;
-    put_u16(&mut out, files.len() as u16)?;
+    put_u16(out, files.len() as u16);
     for file in files {
-        put_file(&mut out, file)?;
+        put_file(out, file);
     }
-    Ok(out)
 }
 
 /// The one spelling of a group: the number of changes in two bytes; then for each change a tag of
@@ -57,9 +76,9 @@ pub fn encode_group(alloc: Global, group: &Group) -> Result<Vec<u8>, DirectoryFa
 {
     let changes = group.changes.as_slice();
     let mut out = Vec::with_capacity(alloc, COUNT_SIZE + size_of(changes))?;
-    put_u16(&mut out, changes.len() as u16)?;
+    put_u16(&mut out, changes.len() as u16);
     for change in changes {
-        put_change(&mut out, change)?;
+        put_change(&mut out, change);
     }
     Ok(out)
 }
@@ -96,90 +115,100 @@ fn size_of_change(change: &Change) -> usize
     }
 }
 
-/// Writes a big-endian number of two bytes.
-fn put_u16(out: &mut Vec<u8>, number: u16) -> Result<(), AllocError>
-    ensures { OnOk result (out.new.items ≡ out.old.items ++ to_be_bytes w16 number) }
+/// Writes bytes.
+fn put(out: &mut Vec<u8>, bytes: &[u8])
+    requires { HasRoom out.old bytes.now }
+    ensures { Puts out.old bytes.now out.new }
 {
-    out.extend_from_slice(&number.to_be_bytes())?;
-    Ok(())
+    if out.extend_from_slice(bytes).is_err() {
+        unreachable!();
+    }
+}
+
+/// Writes a big-endian number of two bytes.
+fn put_u16(out: &mut Vec<u8>, number: u16)
+    requires room { HasRoom out.old (to_be_bytes w16 number) }
+    ensures { Puts out.old (to_be_bytes w16 number) out.new }
+{
+    put(out, &number.to_be_bytes());
 }
 
 /// Writes a big-endian number of four bytes.
-fn put_u32(out: &mut Vec<u8>, number: u32) -> Result<(), AllocError>
-    ensures { OnOk result (out.new.items ≡ out.old.items ++ to_be_bytes w32 number) }
+fn put_u32(out: &mut Vec<u8>, number: u32)
+    requires room { HasRoom out.old (to_be_bytes w32 number) }
+    ensures { Puts out.old (to_be_bytes w32 number) out.new }
 {
-    out.extend_from_slice(&number.to_be_bytes())?;
-    Ok(())
+    put(out, &number.to_be_bytes());
 }
 
 /// Writes a name behind its length.
-fn put_name(out: &mut Vec<u8>, name: &Name) -> Result<(), AllocError>
-    requires { length name.now < 256 }
-    ensures { OnOk result (out.new.items ≡ out.old.items ++ name_spelling name.now) }
+fn put_name(out: &mut Vec<u8>, name: &Name)
+    requires name { length name.now < 256 }
+    requires room { HasRoom out.old (name_spelling name.now) }
+    ensures { Puts out.old (name_spelling name.now) out.new }
 {
     let name = name.as_slice();
-    out.push(name.len() as u8)?;
-    out.extend_from_slice(name)?;
-    Ok(())
+    put(out, &[name.len() as u8]);
+    put(out, name);
 }
 
 /// Writes bytes behind their number.
-fn put_text(out: &mut Vec<u8>, bytes: &Bytes) -> Result<(), AllocError>
-    requires { length bytes.now < 2 ^ 32 }
-    ensures { OnOk result (out.new.items ≡ out.old.items ++ text_spelling bytes.now) }
+fn put_text(out: &mut Vec<u8>, bytes: &Bytes)
+    requires bytes { length bytes.now < 2 ^ 32 }
+    requires room { HasRoom out.old (text_spelling bytes.now) }
+    ensures { Puts out.old (text_spelling bytes.now) out.new }
 {
     let bytes = bytes.as_slice();
-    put_u32(out, bytes.len() as u32)?;
-    out.extend_from_slice(bytes)?;
-    Ok(())
+    put_u32(out, bytes.len() as u32);
+    put(out, bytes);
 }
 
 /// Writes a file.
-fn put_file(out: &mut Vec<u8>, file: &File) -> Result<(), AllocError>
+fn put_file(out: &mut Vec<u8>, file: &File)
     requires name { length file.now.name < 256 }
     requires bytes { length file.now.bytes < 2 ^ 32 }
-    ensures { OnOk result (out.new.items ≡ out.old.items ++ file_spelling file.now) }
+    requires room { HasRoom out.old (file_spelling file.now) }
+    ensures { Puts out.old (file_spelling file.now) out.new }
 {
-    put_name(out, &file.name)?;
-    put_text(out, &file.bytes)?;
-    Ok(())
+    put_name(out, &file.name);
+    put_text(out, &file.bytes);
 }
 
 /// Writes a change behind its tag.
-fn put_change(out: &mut Vec<u8>, change: &Change) -> Result<(), AllocError>
-    requires { IsChange change.now }
-    ensures { OnOk result (out.new.items ≡ out.old.items ++ change_spelling change.now) }
+fn put_change(out: &mut Vec<u8>, change: &Change)
+    requires change { IsChange change.now }
+    requires room { HasRoom out.old (change_spelling change.now) }
+    ensures { Puts out.old (change_spelling change.now) out.new }
 {
     match change {
         Change::Create { name, size } => {
-            out.push(1)?;
-            put_name(out, name)?;
-            put_u32(out, *size)?;
+            put(out, &[1]);
+            put_name(out, name);
+            put_u32(out, *size);
         }
         Change::Delete { index } => {
-            out.push(2)?;
-            put_u16(out, *index)?;
+            put(out, &[2]);
+            put_u16(out, *index);
         }
         Change::Rename { index, name } => {
-            out.push(3)?;
-            put_u16(out, *index)?;
-            put_name(out, name)?;
+            put(out, &[3]);
+            put_u16(out, *index);
+            put_name(out, name);
         }
         Change::Write {
             index,
             offset,
             bytes,
         } => {
-            out.push(4)?;
-            put_u16(out, *index)?;
-            put_u32(out, *offset)?;
-            put_text(out, bytes)?;
+            put(out, &[4]);
+            put_u16(out, *index);
+            put_u32(out, *offset);
+            put_text(out, bytes);
         }
         Change::SetAll { index, value } => {
-            out.push(5)?;
-            put_u16(out, *index)?;
-            out.push(*value)?;
+            put(out, &[5]);
+            put_u16(out, *index);
+            put(out, &[*value]);
         }
     }
-    Ok(())
 }

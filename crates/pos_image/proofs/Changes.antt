@@ -1,20 +1,18 @@
 -- What each change of the images leaves.
-use Rattle.std.proofs.Common.{◌≡◌, inl, inr, ℕ, ◌+◌, ◌≤◌, ◌<◌, ◌^◌, List, ◌++◌, [], ◌∷◌, length, get_or, sym, ap, subst, ◌∙◌, arith, true, false, Option, Some}
+use Rattle.std.proofs.Common.{◌≡◌, inl, inr, ℕ, ◌+◌, ◌≤◌, ◌<◌, ◌^◌, List, [], ◌∷◌, length, get_or, sym, ap, subst, ◌∙◌, arith, true, false, Option, Some}
 use Rattle.std.specs.Prelude.{⊤, MatchOption}
 use Rattle.std.proofs.lemmas.Bool.{cases_Bool}
-use Rattle.byteorder.specs.Endian.{big_bytes}
 use Rattle.pos_disk.specs.State.{DiskState, MayLeave, LeavesOnly, splice, part}
 use Rattle.pos_disk.proofs.Moments.{started, weaker, rest_leaves}
 use Rattle.pos_disk.proofs.Bytes.{length-splice, splice_elsewhere, part-splice, get_or-part}
 use Rattle.pos_disk.specs.declared.device.Disk.{Ghosts}
 use Rattle.pos_disk.specs.Within.{SameBut}
 use Rattle.pos_image.specs.Layout.{start, other, is_open, Stages}
-use Rattle.pos_image.specs.Slots.{IsCurrent, IsPrepared}
+use Rattle.pos_image.specs.Slots.{IsCurrent, IsPrepared, HasFields}
 use Rattle.pos_image.specs.Standing.{log_of, HasImage, HasNewImage, HasEither}
 use Rattle.pos_image.specs.Images.{View, IsSound, IsReady, next_of, body_or_nothing}
 use Rattle.pos_image.specs.declared.slot.Slot.{Slot}
 use Rattle.pos_image.proofs.Current.{stage_current, published, unpublished, published_log}
-use Rattle.pos_image.proofs.Encoded.{sequence_is, length_is, body_is}
 use Rattle.pos_image.proofs.Logs.{image_here, kept_image, new_image}
 use Rattle.pos_image.proofs.Staged.{gate_open}
 
@@ -53,19 +51,23 @@ module _ (old new : DiskState) (slot : Slot) (body : List ℕ) (sequence : ℕ) 
         | inr shut ↦ inl (kept_image slot old.reading c body sequence (start (other slot)) 1 (omega arith) (omega arith) current (unpublished slot old.reading c body sequence current same shut) same)
       ])
 
+-- at any moment while an image is put beside the current one
+pub beside_leaves : {D : Type 0} (bound : Ghosts D) (old : View D) (disk : D) (at : ℕ) → at ≡ start (other old.slot) → bound.honest old.disk → IsReady bound old → LeavesOnly (bound.state old.disk) (bound.state disk) (Stages at (bound.state old.disk).reading)
+    → LeavesOnly (bound.state old.disk) (bound.state disk) (HasImage old.body old.sequence (log_of (bound.state old.disk).reading))
+beside_leaves bound old disk at at_is was is_ready moments =
+    staging (bound.state old.disk) (bound.state disk) old.slot old.body old.sequence (is_ready.sound was).current
+    (subst (λ (place : ℕ). LeavesOnly (bound.state old.disk) (bound.state disk) (Stages place (bound.state old.disk).reading)) at_is moments)
+
 -- the image that was put into a slot
-pub placed : (bytes body : List ℕ) (slot : Slot) (sequence : ℕ) → start slot + 16384 ≤ length bytes → length body ≤ 16371 → sequence < 2 ^ 64 → is_open bytes (start slot) ≡ false → is_open bytes (start slot + 16384) ≡ false
-    → (image : List ℕ) → image ≡ big_bytes 8 sequence ++ big_bytes 4 (length body) ++ body → part (start slot + 1) (length image) bytes ≡ image → IsPrepared bytes slot body sequence
-placed bytes body slot sequence fits short small shut no_log image encoded written =
-    let long : length image ≡ 12 + length body = omega (arith, ap length encoded) in
-    let holds : part (start slot + 1) (12 + length body) bytes ≡ big_bytes 8 sequence ++ big_bytes 4 (length body) ++ body = ap (λ (n : ℕ). part (start slot + 1) n bytes) (sym long) ∙ written ∙ encoded in
-    record {
-      gate = shut;
-      sequence_is = sequence_is bytes body (start slot) sequence fits short small holds;
-      fits = let is = length_is bytes body (start slot) sequence fits short small holds in omega (arith, is);
-      body_is = body_is bytes body (start slot) sequence fits short small holds;
-      log = no_log;
-    }
+pub placed : (bytes body : List ℕ) (slot : Slot) (sequence : ℕ) → length body ≤ 16371 → is_open bytes (start slot) ≡ false → is_open bytes (start slot + 16384) ≡ false → HasFields bytes (start slot) sequence body
+    → IsPrepared bytes slot body sequence
+placed bytes body slot sequence short shut no_log fields = record {
+  gate = shut;
+  sequence_is = fields.sequence_is;
+  fits = omega (arith, fields.length_is, short);
+  body_is = fields.body_is;
+  log = no_log;
+}
 
 -- a gate that was written
 pub written_gate : (old new : List ℕ) (at byte : ℕ) → at + 1 ≤ length old → new ≡ splice old at (byte ∷ []) → (SameBut at 1 old new) × (get_or new at 0 ≡ byte)
@@ -91,12 +93,13 @@ prepared_is state images next is sound = subst (λ (p : Option (List ℕ)). Matc
 
 module _ {D : Type 0} (bound : Ghosts D) (old : View D) (disk : D) (next : List ℕ) (is_next : old.prepared ≡ Some next) (was : bound.honest old.disk) (is_ready : IsReady bound old) where
   -- at any moment while the gate of the prepared image is opened
-  pub publish_leaves : LeavesOnly (bound.state old.disk) (bound.state disk) (SameBut (start (other old.slot)) 1 (bound.state old.disk).reading)
+  pub publish_leaves : (at : ℕ) → at ≡ start (other old.slot) → LeavesOnly (bound.state old.disk) (bound.state disk) (SameBut at 1 (bound.state old.disk).reading)
       → LeavesOnly (bound.state old.disk) (bound.state disk) (HasEither old.body (next_of old) old.sequence (log_of (bound.state old.disk).reading))
-  publish_leaves moments =
+  publish_leaves at at_is moments =
       let sound = is_ready.sound was in
       subst (λ (body : List ℕ). LeavesOnly (bound.state old.disk) (bound.state disk) (HasEither old.body body old.sequence (log_of (bound.state old.disk).reading))) (sym (ap body_or_nothing is_next))
-      (publishing (bound.state old.disk) (bound.state disk) old.slot old.body old.sequence sound.current next (prepared_is (bound.state old.disk) old next is_next sound) moments)
+      (publishing (bound.state old.disk) (bound.state disk) old.slot old.body old.sequence sound.current next (prepared_is (bound.state old.disk) old next is_next sound)
+      (subst (λ (place : ℕ). LeavesOnly (bound.state old.disk) (bound.state disk) (SameBut place 1 (bound.state old.disk).reading)) at_is moments))
 
   module _ (opened : SameBut (start (other old.slot)) 1 (bound.state old.disk).reading (bound.state disk).reading) (gate : is_open (bound.state disk).reading (start (other old.slot)) ≡ true) where
     -- and once it is open

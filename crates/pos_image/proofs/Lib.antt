@@ -1,6 +1,6 @@
 pub mod Changes
 pub mod Current
-pub mod Encoded
+pub mod Fields
 pub mod Logs
 pub mod Refused
 mod NewDisk

@@ -1,18 +1,17 @@
 -- What formatting leaves.
-use Rattle.std.proofs.Common.{◌≡◌, inl, inr, ℕ, ◌+◌, ◌≤◌, List, [], ◌∷◌, ◌++◌, length, sym, ap, subst, ◌∙◌, arith, true, false, nat_eq}
+use Rattle.std.proofs.Common.{◌≡◌, inl, inr, ℕ, ◌+◌, ◌≤◌, List, [], ◌∷◌, length, sym, ap, subst, ◌∙◌, arith, true, false, nat_eq}
 use Rattle.std.proofs.lemmas.Bool.{cases_lt}
-use Rattle.byteorder.specs.Endian.{big_bytes}
 use Rattle.pos_disk.specs.State.{part, splice}
-use Rattle.pos_disk.proofs.Bytes.{part-splice}
+use Rattle.pos_disk.proofs.Bytes.{part-part, part-splice}
 use Rattle.pos_image.specs.NewDisk.{no_files}
 use Rattle.pos_disk.specs.Within.{SameBut}
 use Rattle.pos_image.specs.Layout.{is_open}
-use Rattle.pos_image.specs.Slots.{IsCurrent}
+use Rattle.pos_image.specs.Slots.{IsCurrent, HasFields}
 use Rattle.pos_image.specs.Standing.{HasNewImage}
 use Rattle.pos_image.specs.declared.slot.Slot.TheVariants.{First}
 use Rattle.pos_image.proofs.Changes.{written_gate, opened_gate}
 use Rattle.pos_image.proofs.Current.{kept_gate, kept_sequence, kept_length, kept_body}
-use Rattle.pos_image.proofs.Encoded.{sequence_is, length_is, body_is}
+use Rattle.pos_image.proofs.Fields.{fields}
 use Rattle.pos_image.proofs.Logs.{new_image}
 
 -- a gate stays closed while another one, or it itself, is closed
@@ -39,8 +38,14 @@ module _ (closed mid new : List ℕ) (large : 327680 ≤ length closed) (second 
   opened : (SameBut 0 1 mid new) × (is_open new 0 ≡ true)
   opened = opened_gate mid new 0 (omega (arith, long)) gate
 
-  holds : part 1 (12 + 2) mid ≡ big_bytes 8 1 ++ big_bytes 4 2 ++ no_files
-  holds = ap (part 1 14) image ∙ part-splice closed (0 ∷ 0 ∷ 0 ∷ 0 ∷ 0 ∷ 0 ∷ 0 ∷ 1 ∷ 0 ∷ 0 ∷ 0 ∷ 2 ∷ 0 ∷ 0 ∷ []) 1 (omega (arith, large))
+  written : part 1 14 mid ≡ 0 ∷ 0 ∷ 0 ∷ 0 ∷ 0 ∷ 0 ∷ 0 ∷ 1 ∷ 0 ∷ 0 ∷ 0 ∷ 2 ∷ 0 ∷ 0 ∷ []
+  written = ap (part 1 14) image ∙ part-splice closed (0 ∷ 0 ∷ 0 ∷ 0 ∷ 0 ∷ 0 ∷ 0 ∷ 1 ∷ 0 ∷ 0 ∷ 0 ∷ 2 ∷ 0 ∷ 0 ∷ []) 1 (omega (arith, large))
+
+  holds : HasFields mid 0 1 no_files
+  holds =
+      fields mid no_files 0 1 (omega (arith, long)) (omega arith) (omega arith)
+      (sym (part-part 1 14 0 12 mid (omega (arith, long)) (omega arith)) ∙ ap (part 0 12) written)
+      (sym (part-part 1 14 12 2 mid (omega (arith, long)) (omega arith)) ∙ ap (part 12 2) written)
 
   stays : (i : ℕ) → 15 ≤ i → is_open closed i ≡ false → is_open new i ≡ false
   stays i far was =
@@ -50,14 +55,14 @@ module _ (closed mid new : List ℕ) (large : 327680 ≤ length closed) (second 
   -- the first slot has the body of no files and sequence 1
   first_current : IsCurrent new First no_files 1
   first_current =
-      let small = length_is mid no_files 0 1 (omega (arith, long)) (omega arith) (omega arith) holds in
+      let small = holds.length_is in
       record {
         whole = omega (arith, opened.0.same_length, long);
         first_layout = (stays 65536 (omega arith) third, stays 196608 (omega arith) fourth);
         gate = opened.1;
-        sequence_is = kept_sequence mid new 0 1 opened.0 0 (omega (arith, long)) (λ i inside hit. absurd (omega (arith, inside.0, hit.1))) ∙ sequence_is mid no_files 0 1 (omega (arith, long)) (omega arith) (omega arith) holds;
+        sequence_is = kept_sequence mid new 0 1 opened.0 0 (omega (arith, long)) (λ i inside hit. absurd (omega (arith, inside.0, hit.1))) ∙ holds.sequence_is;
         fits = let kept = kept_length mid new 0 1 opened.0 0 (omega (arith, long)) (λ i inside hit. absurd (omega (arith, inside.0, hit.1))) in omega (arith, kept, small);
-        body_is = kept_body mid new 0 1 opened.0 0 (omega (arith, long)) (omega (arith, small)) (λ i inside hit. absurd (omega (arith, inside.0, hit.1))) ∙ body_is mid no_files 0 1 (omega (arith, long)) (omega arith) (omega arith) holds;
+        body_is = kept_body mid new 0 1 opened.0 0 (omega (arith, long)) (omega (arith, small)) (λ i inside hit. absurd (omega (arith, inside.0, hit.1))) ∙ holds.body_is;
         greater = λ is. absurd (cc (is, stays 32768 (omega arith) second));
       }
 

@@ -1,11 +1,12 @@
 -- What contracts see of images on a disk.
-use Rattle.std.specs.Prelude.{◌≤◌, ◌<◌, ◌+◌, ◌^◌, ℕ, List, [], Option, Some, None, Result, Ok, Err, ⊤, MatchOption}
-use Rattle.pos_disk.specs.State.{DiskState, IsAtRest, MayLeave}
+use Rattle.std.specs.Prelude.{◌≡◌, ◌↔◌, ◌⊎◌, ◌≤◌, ◌<◌, ◌+◌, ◌^◌, ℕ, List, [], length, Option, Some, None, Result, Ok, Err, OnOk, IsErr, IsErrOf, ⊤, MatchOption}
+use Rattle.pos_disk.specs.State.{DiskState, IsAtRest, MayLeave, LeavesOnly, Rises}
 use Rattle.pos_disk.specs.declared.device.Disk.{Ghosts}
 use Rattle.pos_image.specs.Layout.{other}
 use Rattle.pos_image.specs.Slots.{IsCurrent, IsPrepared}
 use Rattle.pos_image.specs.Standing.{HasImage, log_of}
 use Rattle.pos_image.specs.declared.fault.ImageFault.{ImageFault}
+use Rattle.pos_image.specs.declared.fault.ImageFault.TheVariants as fault
 use Rattle.pos_image.specs.declared.slot.Slot.{Slot}
 
 -- The disk, the slot of the current image, its body and sequence, and the body of the image that is prepared.
@@ -29,6 +30,23 @@ pub record IsReady {D : Type 0} (bound : Ghosts D) (images : View D) : Type 0 wh
   pub counted : images.sequence < 2 ^ 64
   pub sound : bound.honest images.disk → IsSound (bound.state images.disk) images
   pub leaves : bound.honest images.disk → (c : List ℕ) → MayLeave (bound.state images.disk) c → HasImage images.body images.sequence (log_of (bound.state images.disk).reading) c
+
+-- What preparing an image with this body does, whether it copies the body or takes it over. Of the disk itself, and of
+-- what a crash may leave, it speaks where the disk is honest.
+pub record Prepares {D : Type 0} (bound : Ghosts D) (old : View D) (body : List ℕ) (result : Result (Unit {0}) ImageFault) (new : View D) : Type 0 where
+  pub ready : OnOk result (IsReady bound new)
+  pub prepared : OnOk result (new ≡ record old { disk = new.disk; prepared = Some body })
+  pub log : bound.honest old.disk → OnOk result (log_of (bound.state new.disk).reading ≡ log_of (bound.state old.disk).reading)
+  -- a crash at any moment of the call leaves the current image and its log
+  pub any_moment : bound.honest old.disk → LeavesOnly (bound.state old.disk) (bound.state new.disk) (HasImage old.body old.sequence (log_of (bound.state old.disk).reading))
+  pub too_large : IsErrOf result fault.TooLarge ↔ (16371 < length body)
+  pub exhausted : IsErrOf result fault.Exhausted ↔ (length body ≤ 16371) × (old.sequence + 1 ≡ 2 ^ 64)
+  pub unchanged : IsErr result → IsErrOf result fault.Device ⊎ (new ≡ old)
+  pub failed : IsErrOf result fault.Device → new ≡ record old { disk = new.disk }
+  pub device : bound.honest old.disk → IsErrOf result fault.Device → Rises (bound.state old.disk).failures (bound.state new.disk).failures
+  pub later : bound.honest old.disk → (bound.state old.disk).failures ≤ (bound.state new.disk).failures
+  pub size : bound.size new.disk ≡ bound.size old.disk
+  pub honest : bound.honest old.disk ↔ bound.honest new.disk
 
 -- the body of the image that is prepared
 abbrev pub body_or_nothing : Option (List ℕ) → List ℕ

@@ -14,6 +14,12 @@ pub record IsCurrent (bytes : List ℕ) (slot : Slot) (body : List ℕ) (sequenc
   pub body_is : body_at bytes (start slot) ≡ body
   pub greater : is_open bytes (start (other slot)) ≡ true → sequence_at bytes (start (other slot)) < sequence
 
+-- Behind the gate at this place stand the sequence, the length of the body, and the body.
+pub record HasFields (bytes : List ℕ) (at sequence : ℕ) (body : List ℕ) : Type 0 where
+  pub sequence_is : sequence_at bytes at ≡ sequence
+  pub length_is : length_at bytes at ≡ length body
+  pub body_is : body_at bytes at ≡ body
+
 -- An image is in this slot, behind a closed gate, and the first gate of its log is closed.
 pub record IsPrepared (bytes : List ℕ) (slot : Slot) (body : List ℕ) (sequence : ℕ) : Type 0 where
   pub gate : is_open bytes (start slot) ≡ false

@@ -4,8 +4,8 @@ ghost use Rattle.pos_disk.specs.State.{IsAtRest, Rises, Watches};
 ghost use Rattle.pos_image.specs.Slots.{HasHeads, IsCurrent, IsFound};
 ghost use Rattle.pos_image.specs.Standing.{Unformatted, Damaged, stands};
 
-use crate::encoding::{Image, LONGEST};
 use crate::fault::ImageFault;
+use crate::image::{Image, LONGEST};
 use crate::reading::{Head, read_body, read_heads};
 use crate::slot::Slot;
 use pos_disk::Disk;

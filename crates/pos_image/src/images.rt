@@ -2,13 +2,13 @@
 ghost use Rattle.std.specs.Prelude.{◌≡◌, ◌↔◌, ◌<◌, ◌≤◌, ◌+◌, ◌^◌, ◌⊎◌, length, IfOk, IfErr, OnOk, IsErr, IsErrOf, IsSome, Some, None, true, false};
 ghost use Rattle.pos_disk.specs.State.{IsAtRest, LeavesOnly, Rises, Watches};
 ghost use Rattle.pos_image.specs.NewDisk.{KeepsRest, no_files};
-ghost use Rattle.pos_image.specs.Standing.{Unformatted, Damaged, stands, is_marked, log_of, StandsFor, HasImage, HasNewImage, HasEither};
+ghost use Rattle.pos_image.specs.Standing.{Unformatted, Damaged, stands, is_marked, log_of, StandsFor, HasNewImage, HasEither};
 ghost use Rattle.pos_image.specs.declared.fault.ImageFault.TheVariants.{NoMemory, Device, TooLarge, Exhausted};
 
-use crate::encoding::{Image, LONGEST, encode};
 use crate::fault::ImageFault;
 use crate::finding::find;
 use crate::formatting::{is_marked, lay_out};
+use crate::image::{Image, LONGEST};
 use crate::slot::Slot;
 use crate::steps::{OPEN, place_image, write_through};
 use pos_disk::Disk;
@@ -43,7 +43,7 @@ impl<D: Disk> Model for Images<D> {
 }
 
 impl<D: Disk> Images<D> {
-    ghost use Rattle.pos_image.specs.Images.{IsReady, disk_after, handed_back, next_of, published};
+    ghost use Rattle.pos_image.specs.Images.{IsReady, Prepares, disk_after, handed_back, next_of, published};
 
     /// Makes the disk one that stands for the body of no files, `0000`, and sequence 1, and gives it back at rest. It takes
     /// no memory. Nothing is promised of a disk whose formatting was interrupted. docs/DISK.md, "Formatting".
@@ -147,7 +147,8 @@ impl<D: Disk> Images<D> {
         self.disk
     }
 
-    /// Puts a new image beside the current one, which stays the current one. docs/DISK.md, "A new image".
+    /// Puts a new image beside the current one, which stays the current one: the body is copied once. docs/DISK.md, "A new
+    /// image".
     ///
     /// # Errors
     ///
@@ -155,35 +156,27 @@ impl<D: Disk> Images<D> {
     /// else `NoMemory`: nothing has changed. `Device` where the disk failed: the images have to be opened again.
     pub fn prepare(&mut self, body: &[u8]) -> Result<(), ImageFault>
         requires { IsReady D.Disk self.old }
-        ensures ready { OnOk result (IsReady D.Disk self.new) }
-        ensures prepared { OnOk result (self.new ≡ record self.old { disk = self.new.disk; prepared = Some body.now }) }
-        ensures log { D.honest self.old.disk → OnOk result (log_of (D.state self.new.disk).reading ≡ log_of (D.state self.old.disk).reading) }
-
-        // A crash at any moment of the call leaves the current image and its log.
-        ensures any_moment { D.honest self.old.disk → LeavesOnly (D.state self.old.disk) (D.state self.new.disk) (HasImage self.old.body self.old.sequence (log_of (D.state self.old.disk).reading)) }
-
-        ensures too_large { IsErrOf result TooLarge ↔ (16371 < length body.now) }
-        ensures exhausted { IsErrOf result Exhausted ↔ (length body.now ≤ 16371) × (self.old.sequence + 1 ≡ 2 ^ 64) }
+        ensures prepares { Prepares D.Disk self.old body.now result self.new }
         ensures faults { IsErr result → IsErrOf result TooLarge ⊎ IsErrOf result Exhausted ⊎ IsErrOf result NoMemory ⊎ IsErrOf result Device }
-        ensures unchanged { IsErr result → IsErrOf result Device ⊎ (self.new ≡ self.old) }
-        ensures failed { IsErrOf result Device → self.new ≡ record self.old { disk = self.new.disk } }
-        ensures device { D.honest self.old.disk → IsErrOf result Device → Rises (D.state self.old.disk).failures (D.state self.new.disk).failures }
-        ensures later { D.honest self.old.disk → (D.state self.old.disk).failures ≤ (D.state self.new.disk).failures }
-        ensures size { D.size self.new.disk ≡ D.size self.old.disk }
-        ensures honest { D.honest self.old.disk ↔ D.honest self.new.disk }
     {
-        if body.len() > LONGEST as usize {
-            return Err(ImageFault::TooLarge);
-        }
-        if self.current.sequence == u64::MAX {
-            return Err(ImageFault::Exhausted);
-        }
-        let sequence = self.current.sequence + 1;
-        let encoded = encode(self.alloc, sequence, body)?;
-        let body = Vec::from_slice(self.alloc, body)?;
-        place_image(&mut self.disk, self.slot.other().start(), &encoded)?;
-        self.prepared = Some(Image { body, sequence });
-        Ok(())
+        self.check(body.len())?;
+        let copy = Vec::from_slice(self.alloc, body)?;
+        self.put_beside(copy)
+    }
+
+    /// As `prepare`, but it takes the body over: it copies nothing and takes no memory.
+    ///
+    /// # Errors
+    ///
+    /// `TooLarge` where the body has more than 16,371 bytes, else `Exhausted` where the current sequence is the last one:
+    /// nothing has changed. `Device` where the disk failed: the images have to be opened again.
+    pub fn prepare_owned(&mut self, body: Vec<u8>) -> Result<(), ImageFault>
+        requires { IsReady D.Disk self.old }
+        ensures prepares { Prepares D.Disk self.old body.items result self.new }
+        ensures faults { IsErr result → IsErrOf result TooLarge ⊎ IsErrOf result Exhausted ⊎ IsErrOf result Device }
+    {
+        self.check(body.len())?;
+        self.put_beside(body)
     }
 
     /// Makes the prepared image the current one, with the next sequence. It takes no memory. docs/DISK.md, "A new image".
@@ -215,6 +208,39 @@ impl<D: Disk> Images<D> {
         write_through(&mut self.disk, slot.start(), &[OPEN])?;
         self.slot = slot;
         self.current = next;
+        Ok(())
+    }
+}
+
+impl<D: Disk> Images<D> {
+    ghost use Rattle.pos_image.specs.Images.{IsReady, Prepares};
+
+    // Refuses a body that is too long, and any body after the last sequence.
+    fn check(&self, length: usize) -> Result<(), ImageFault>
+        ensures too_large { IsErrOf result TooLarge ↔ (16371 < length) }
+        ensures exhausted { IsErrOf result Exhausted ↔ (length ≤ 16371) × (self.now.sequence + 1 ≡ 2 ^ 64) }
+        ensures faults { IsErr result → IsErrOf result TooLarge ⊎ IsErrOf result Exhausted }
+    {
+        if length > LONGEST as usize {
+            return Err(ImageFault::TooLarge);
+        }
+        if self.current.sequence == u64::MAX {
+            return Err(ImageFault::Exhausted);
+        }
+        Ok(())
+    }
+
+    // Puts an image with this body beside the current one.
+    fn put_beside(&mut self, body: Vec<u8>) -> Result<(), ImageFault>
+        requires ready { IsReady D.Disk self.old }
+        requires short { length body.items ≤ 16371 }
+        requires more { self.old.sequence + 1 < 2 ^ 64 }
+        ensures prepares { Prepares D.Disk self.old body.items result self.new }
+        ensures faults { IsErr result → IsErrOf result Device }
+    {
+        let sequence = self.current.sequence + 1;
+        place_image(&mut self.disk, self.slot.other().start(), sequence, &body)?;
+        self.prepared = Some(Image { body, sequence });
         Ok(())
     }
 }

@@ -1,10 +1,10 @@
 //! Two images on a disk, of which one is the current one at every moment.
 #![tactic(auto)]
 
-mod encoding;
 mod fault;
 mod finding;
 mod formatting;
+mod image;
 mod images;
 mod reading;
 mod slot;

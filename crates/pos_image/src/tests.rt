@@ -1,9 +1,10 @@
-ghost use Rattle.std.specs.Prelude.{IfOk, OnOk};
+ghost use Rattle.std.specs.Prelude.{IfOk, OnOk, IsSome};
 ghost use Rattle.pos_image.specs.Images.{IsReady};
 
 use crate::{ImageFault, Images};
 use pos_disk::{Disk, Fill, FuseDisk, MemDisk};
 use std::alloc::{AllocError, Global};
+use std::process::Abort;
 use std::test::Fail;
 
 const SIZE: usize = 327_680;
@@ -61,22 +62,62 @@ fn open<D: Disk + Drop>(alloc: Global, disk: D) -> Result<Images<D>, ImageFault>
     }
 }
 
-fn replace<D: Disk>(images: &mut Images<D>, body: &[u8]) -> Result<(), ImageFault>
+// Which call prepares a body.
+#[derive(Clone, Copy, Debug)]
+enum Way {
+    Copied,
+    Owned,
+}
+
+const WAYS: [Way; 2] = [Way::Copied, Way::Owned];
+
+fn prepare<D: Disk>(
+    alloc: Global,
+    images: &mut Images<D>,
+    body: &[u8],
+    way: Way,
+) -> Result<(), ImageFault>
+    requires { IsReady D.Disk images.old }
+    ensures ready { OnOk result (IsReady D.Disk images.new) }
+    ensures prepared { OnOk result (IsSome images.new.prepared) }
+{
+    match way {
+        Way::Copied => images.prepare(body),
+        Way::Owned => {
+            let owned = Vec::from_slice(alloc, body)?;
+            images.prepare_owned(owned)
+        }
+    }
+}
+
+fn replace<D: Disk>(
+    alloc: Global,
+    images: &mut Images<D>,
+    body: &[u8],
+    way: Way,
+) -> Result<(), ImageFault>
     requires { IsReady D.Disk images.old }
     ensures { OnOk result (IsReady D.Disk images.new) }
 {
-    images.prepare(body)?;
+    prepare(alloc, images, body, way)?;
     images.publish()
+}
+
+// Opens a disk, replaces the body, and gives the disk back.
+fn round(alloc: Global, disk: MemDisk, body: &[u8], way: Way) -> Result<MemDisk, ImageFault> {
+    let mut images = open(alloc, disk)?;
+    replace(alloc, &mut images, body, way)?;
+    Ok(images.into_disk())
 }
 
 // Opens a disk after its first round and makes the second one, over a disk that fails once, after `pass` calls. Gives the
 // calls, whether the round was acknowledged, and the disk.
-fn second_round(alloc: Global, pass: u64) -> Result<(u64, bool, MemDisk), AllocError> {
+fn second_round(alloc: Global, pass: u64, way: Way) -> Result<(u64, bool, MemDisk), AllocError> {
     let fuse = FuseDisk::new(disk_with(alloc, SIZE, &ONE_ROUND)?, pass, 1);
     match Images::open(alloc, fuse) {
         Ok(images) => {
             let mut images = images;
-            let answer = replace(&mut images, &[4; 20]);
+            let answer = replace(alloc, &mut images, &[4; 20], way);
             let fuse = images.into_disk();
             Ok((fuse.calls(), answer.is_ok(), fuse.into_inner()))
         }
@@ -90,27 +131,30 @@ fn refusal(alloc: Global, bytes: &[(usize, u8)]) -> Result<Option<ImageFault>, A
 }
 
 #[test]
+fn a_formatted_disk_has_no_files(rt: HostRuntime) -> Result<(), Fail> {
+    let alloc = rt.alloc();
+    assert_eq!(rt; refusal(alloc, &[])?, Some(ImageFault::Unformatted));
+    let images = open(alloc, format(disk_with(alloc, SIZE, &[])?)?)?;
+    assert_eq!(rt; images.body(), [0, 0].as_slice());
+    assert_eq!(rt; images.sequence(), 1);
+    Ok(())
+}
+
+#[test]
 fn rounds_alternate_between_the_slots(rt: HostRuntime) -> Result<(), Fail> {
     let alloc = rt.alloc();
     let first = [0xA5, 0, 0, 0, 0, 0, 0, 0, 1, 0, 0, 0, 2, 0, 0];
     let second = [0xA5, 0, 0, 0, 0, 0, 0, 0, 2, 0, 0, 0, 2, 0, 0];
     let third = [0xA5, 0, 0, 0, 0, 0, 0, 0, 3, 0, 0, 0, 2, 0, 0];
-    assert_eq!(rt; refusal(alloc, &[])?, Some(ImageFault::Unformatted));
-    let mut disk = format(disk_with(alloc, SIZE, &[])?)?;
-    assert_eq!(rt; slot_at(&mut disk, 0), Some(first));
-    let mut images = open(alloc, disk)?;
-    assert_eq!(rt; images.body(), [0, 0].as_slice());
-    assert_eq!(rt; images.sequence(), 1);
-    replace(&mut images, &[0, 0])?;
-    assert_eq!(rt; images.sequence(), 2);
-    let mut disk = images.into_disk();
-    assert_eq!(rt; slot_at(&mut disk, 0), Some(first));
-    assert_eq!(rt; slot_at(&mut disk, 32_768), Some(second));
-    let mut images = open(alloc, disk)?;
-    replace(&mut images, &[0, 0])?;
-    let mut disk = images.into_disk();
-    assert_eq!(rt; slot_at(&mut disk, 0), Some(third));
-    assert_eq!(rt; format(disk).err(), Some(ImageFault::AlreadyFormatted));
+    for way in WAYS {
+        let disk = format(disk_with(alloc, SIZE, &[])?)?;
+        let mut disk = round(alloc, disk, &[0, 0], way)?;
+        assert_eq!(rt; slot_at(&mut disk, 0), Some(first));
+        assert_eq!(rt; slot_at(&mut disk, 32_768), Some(second));
+        let mut disk = round(alloc, disk, &[0, 0], way)?;
+        assert_eq!(rt; slot_at(&mut disk, 0), Some(third));
+        assert_eq!(rt; format(disk).err(), Some(ImageFault::AlreadyFormatted));
+    }
     Ok(())
 }
 
@@ -121,18 +165,48 @@ fn limits_are_met(rt: HostRuntime) -> Result<(), Fail> {
     assert_eq!(rt; open(alloc, short).err(), Some(ImageFault::TooSmall));
     let short = disk_with(alloc, SIZE - 1, &FORMATTED)?;
     assert_eq!(rt; format(short).err(), Some(ImageFault::TooSmall));
-    let mut images = open(alloc, disk_with(alloc, SIZE, &FORMATTED)?)?;
     let long = vec![in alloc; 7u8; 16_371]?;
     let longer = vec![in alloc; 7u8; 16_372]?;
-    replace(&mut images, &long)?;
-    assert_eq!(rt; images.prepare(&longer), Err(ImageFault::TooLarge));
-    let images = open(alloc, images.into_disk())?;
-    assert_eq!(rt; images.body(), long.as_slice());
+    for way in WAYS {
+        let mut images = open(alloc, disk_with(alloc, SIZE, &FORMATTED)?)?;
+        replace(alloc, &mut images, &long, way)?;
+        assert_eq!(rt;
+            prepare(alloc, &mut images, &longer, way),
+            Err(ImageFault::TooLarge)
+        );
+        let images = open(alloc, images.into_disk())?;
+        assert_eq!(rt; images.body(), long.as_slice());
+    }
     Ok(())
 }
 
-// Prepares this body, if there is one, at the last sequence. Gives the answer and the disk's calls since the opening.
-fn prepare_last(alloc: Global, body: &[u8]) -> Result<(Result<(), ImageFault>, u64), ImageFault> {
+#[test]
+fn an_empty_body_is_one(rt: HostRuntime) -> Result<(), Fail> {
+    let alloc = rt.alloc();
+    let third = [0xA5, 0, 0, 0, 0, 0, 0, 0, 3, 0, 0, 0, 0, 0, 0];
+    for way in WAYS {
+        let mut disk = round(alloc, disk_with(alloc, SIZE, &ONE_ROUND)?, &[], way)?;
+        assert_eq!(rt; slot_at(&mut disk, 0), Some(third));
+        assert_eq!(rt; open(alloc, disk)?.body(), [].as_slice());
+    }
+    Ok(())
+}
+
+#[test]
+fn an_owned_body_takes_no_memory(rt: HostRuntime) -> Result<(), Fail> {
+    let alloc = rt.alloc();
+    let mut images = open(alloc, disk_with(alloc, SIZE, &FORMATTED)?)?;
+    let long = vec![in alloc; 7u8; 16_371]?;
+    assert_eq!(rt; images.prepare_owned(long), Ok(()));
+    Ok(())
+}
+
+// Prepares this body at the last sequence. Gives the answer and the disk's calls since the opening.
+fn prepare_last(
+    alloc: Global,
+    body: &[u8],
+    way: Way,
+) -> Result<(Result<(), ImageFault>, u64), ImageFault> {
     let bytes = [
         (0, 0xA5),
         (1, 0xFF),
@@ -153,7 +227,7 @@ fn prepare_last(alloc: Global, body: &[u8]) -> Result<(Result<(), ImageFault>, u
         alloc,
         FuseDisk::new(disk_with(alloc, SIZE, &bytes)?, u64::MAX, 0),
     )?;
-    let answer = images.prepare(body);
+    let answer = prepare(alloc, &mut images, body, way);
     let calls = images.into_disk().calls();
     Ok((answer, calls.saturating_sub(untouched.into_disk().calls())))
 }
@@ -161,15 +235,17 @@ fn prepare_last(alloc: Global, body: &[u8]) -> Result<(Result<(), ImageFault>, u
 #[test]
 fn after_the_last_sequence_there_is_none(rt: HostRuntime) -> Result<(), Fail> {
     let alloc = rt.alloc();
-    assert_eq!(rt;
-        prepare_last(alloc, &[0, 0])?,
-        (Err(ImageFault::Exhausted), 0)
-    );
     let longer = vec![in alloc; 7u8; 16_372]?;
-    assert_eq!(rt;
-        prepare_last(alloc, &longer)?,
-        (Err(ImageFault::TooLarge), 0)
-    );
+    for way in WAYS {
+        assert_eq!(rt;
+            prepare_last(alloc, &[0, 0], way)?,
+            (Err(ImageFault::Exhausted), 0)
+        );
+        assert_eq!(rt;
+            prepare_last(alloc, &longer, way)?,
+            (Err(ImageFault::TooLarge), 0)
+        );
+    }
     Ok(())
 }
 
@@ -262,7 +338,7 @@ fn a_marked_disk_is_not_formatted(rt: HostRuntime) -> Result<(), Fail> {
     assert_eq!(rt; slot_at(&mut disk, 16_384), Some([0; 15]));
     assert_eq!(rt; slot_at(&mut disk, 49_152), Some([0; 15]));
     let mut images = open(alloc, disk)?;
-    replace(&mut images, &[6])?;
+    replace(alloc, &mut images, &[6], Way::Copied)?;
     assert_eq!(rt; images.sequence(), 2);
     Ok(())
 }
@@ -285,14 +361,13 @@ fn a_stopped_format_says_so(rt: HostRuntime) -> Result<(), Fail> {
     Ok(())
 }
 
-#[test]
-fn each_stop_leaves_the_image_before_or_after(rt: HostRuntime) -> Result<(), Fail> {
-    let alloc = rt.alloc();
+// Stops the second round at each of its calls, and fills the loose places in each way.
+fn stop_at_each_call(rt: &impl Abort, alloc: Global, way: Way) -> Result<(), Fail> {
     let mut before = 0u32;
     let mut after = 0u32;
-    for pass in 0..20u64 {
+    for pass in 0..21u64 {
         for fill in [Fill::Old, Fill::New, Fill::Byte(0xA5), Fill::Byte(0)] {
-            let (calls, acknowledged, disk) = second_round(alloc, pass)?;
+            let (calls, acknowledged, disk) = second_round(alloc, pass, way)?;
             let images = open(alloc, disk.crash(fill)?)?;
             if images.sequence() == 2 {
                 assert_eq!(rt; images.body(), [1, 2, 3].as_slice());
@@ -306,7 +381,17 @@ fn each_stop_leaves_the_image_before_or_after(rt: HostRuntime) -> Result<(), Fai
             assert_eq!(rt; acknowledged, calls <= pass);
         }
     }
-    assert!(rt; before >= 64);
+    assert!(rt; before >= 68);
     assert!(rt; after >= 8);
     Ok(())
+}
+
+#[test]
+fn each_stop_leaves_the_image_before_or_after(rt: HostRuntime) -> Result<(), Fail> {
+    stop_at_each_call(&rt, rt.alloc(), Way::Copied)
+}
+
+#[test]
+fn each_stop_with_an_owned_body_does_too(rt: HostRuntime) -> Result<(), Fail> {
+    stop_at_each_call(&rt, rt.alloc(), Way::Owned)
 }

@@ -5,6 +5,7 @@ use Rattle.pos_dir.specs.Files.{IsDirectory}
 use Rattle.pos_dir.specs.Spelling.{spelling}
 use Rattle.pos_dir.specs.declared.change.Change.{Change}
 use Rattle.pos_dir.specs.declared.fault.DirectoryFault.{DirectoryFault}
+use Rattle.pos_dir.specs.declared.fault.DirectoryFault.TheVariants as directory
 use Rattle.pos_dir.specs.declared.file.File.{File}
 use Rattle.pos_dir.specs.declared.limits.TheConstants.{LAYOUT_1}
 use Rattle.pos_disk.proofs.Moments.{weaker}
@@ -13,6 +14,7 @@ use Rattle.pos_disk.specs.declared.device.Disk.{Ghosts}
 use Rattle.pos_image.specs.Standing as image
 use Rattle.pos_image.specs.Standing.{HasEither}
 use Rattle.pos_store.specs.Commits.{Commits, IsLast, before_or_after}
+use Rattle.pos_store.specs.Faults.{refusal}
 use Rattle.pos_store.specs.Modes.{Off, Ready}
 use Rattle.pos_store.specs.Standing.{StandsForOneOf}
 use Rattle.pos_store.specs.declared.fault.StoreFault.TheVariants as fault
@@ -57,11 +59,21 @@ failed_commits bound disk failed files after body next log sequence changes spel
       honest = honest;
     }
 
+-- a fault of a change is told as a refusal
+pub told_refused : (cause : DirectoryFault) → (cause ≡ directory.NoMemory → ⊥) → refusal cause ≡ fault.Refused cause
+told_refused directory.NoFile other = refl
+told_refused directory.Exists other = refl
+told_refused directory.Range other = refl
+told_refused directory.NoRoom other = refl
+told_refused directory.BadName other = refl
+told_refused directory.NoMemory other = absurd (other refl)
+told_refused directory.Malformed other = refl
+
 -- what was made is the outcome, and its body the spelling
-pub is_made : {X : Type 0} (made : X) (directory : List File) (body : List ℕ) (outcome : Result (List File) DirectoryFault)
+pub is_made : {X : Type 0} (made : X) (directory : List File) (body : List ℕ) (sequence : ℕ) (outcome : Result (List File) DirectoryFault)
     → MatchResult outcome
-    (λ after. (directory ≡ after) × IsDirectory LAYOUT_1 after × (body ≡ spelling after) × (length (spelling after) ≤ 16371))
+    (λ after. ¬ (IsLast sequence) × (directory ≡ after) × IsDirectory LAYOUT_1 after × (body ≡ spelling after) × (length (spelling after) ≤ 16371))
     (λ refusal. Ok made ≡ Err (fault.Refused refusal))
-    → (outcome ≡ Ok directory) × IsDirectory LAYOUT_1 directory × (body ≡ spelling directory)
-is_made made directory body (Ok after) h = (ap Ok (sym h.0), subst (IsDirectory LAYOUT_1) (sym h.0) h.1, h.2 ∙ ap spelling (sym h.0))
-is_made made directory body (Err refusal) h = absurd (let is_refused = h in cc)
+    → ¬ (IsLast sequence) × (outcome ≡ Ok directory) × IsDirectory LAYOUT_1 directory × (body ≡ spelling directory)
+is_made made directory body sequence (Ok after) h = (h.0, ap Ok (sym h.1), subst (IsDirectory LAYOUT_1) (sym h.1) h.2, h.3 ∙ ap spelling (sym h.1))
+is_made made directory body sequence (Err cause) h = absurd (let is_refused = h in cc)

@@ -192,8 +192,10 @@ fn stopped(alloc: Global, pass: u64) -> Result<(bool, Store<FuseDisk<MemDisk>>),
     let Ok(group) = two_changes(alloc) else {
         return Err(StoreFault::NoMemory);
     };
-    let acknowledged = commit(&mut store, &group).is_ok();
-    Ok((acknowledged, store))
+    match commit(&mut store, &group) {
+        Err(StoreFault::NoMemory) => Err(StoreFault::NoMemory),
+        answer => Ok((answer.is_ok(), store)),
+    }
 }
 
 /// What a store finds on a disk after a crash, if a second one finds the same.

@@ -6,17 +6,17 @@ use Rattle.pos_dir.specs.Outlines.{shape_of, is_named}
 use Rattle.pos_dir.proofs.Shapes.{outline_at, rename_taken, rename_made}
 use Rattle.pos_dir.proofs.outlines.check_rename.Goals as goal
 
-pub returns-then-is_named : goal.returns-then-is_named
-returns-then-is_named c = λ limits.
+pub returns-then-is_taken : goal.returns-then-is_taken
+returns-then-is_taken c = λ limits.
     let outlines = c.args.outlines.now.items in
     let at = outline_at outlines c.args.index (omega (arith, c.len.ensures.value, c.if-index-len.false)) in
-    let taken : is_named outlines c.args.name.now ≡ true = ap (λ (x : List Outline). is_named x c.args.name.now) (sym c.as_slice.ensures.value) ∙ sym c.is_named.ensures ∙ c.if-is_named.true in
+    let taken : is_named outlines c.args.name.now ≡ true = ap (λ (x : List Outline). is_named x c.args.name.now) (sym c.as_slice.ensures.value) ∙ sym c.is_named-is_taken.ensures ∙ c.if-is_taken.true in
     rename_taken limits outlines c.args.index at.0 c.args.name.now at.1 taken
 
 pub returns : goal.returns
 returns c = λ limits.
     let outlines = c.args.outlines.now.items in
-    let free : is_named outlines c.args.name.now ≡ false = ap (λ (x : List Outline). is_named x c.args.name.now) (sym c.as_slice.ensures.value) ∙ sym c.is_named.ensures ∙ c.if-is_named.false in
+    let free : is_named outlines c.args.name.now ≡ false = ap (λ (x : List Outline). is_named x c.args.name.now) (sym c.as_slice.ensures.value) ∙ sym c.is_named-is_taken.ensures ∙ c.if-is_taken.false in
     let o = c.remove-size.result in
     let new : Outline = record { name = c.args.name; size = o.size } in
     let at = slice_get-get_or outlines c.args.index o (omega (arith, c.len.ensures.value, c.if-index-len.false)) ∙ ap (λ (x : Outline). Some x) (sym c.remove-size.ensures.value) in

@@ -1,13 +1,12 @@
 use Rattle.std.proofs.Common.{◌≡◌, ◌+◌, ℕ, [], ◌∷◌, Option, Some, sym, ◌∙◌, ap, subst, arith}
 use Rattle.std.specs.Option.{option_map}
 use Rattle.std.specs.Prelude.{⊤, MatchOption}
-use Rattle.pos_disk.specs.State.{LeavesOnly, splice}
-use Rattle.pos_disk.specs.Within.{SameBut}
+use Rattle.pos_disk.specs.State.{splice}
 use Rattle.pos_image.specs.Layout.{start, other}
 use Rattle.pos_image.specs.Images.{IsReady}
 use Rattle.pos_image.specs.Slots.{IsCurrent}
 use Rattle.pos_image.specs.Standing.{HasNewImage}
-use Rattle.pos_image.specs.declared.encoding.Image.{Image}
+use Rattle.pos_image.specs.declared.image.Image.{Image}
 use Rattle.pos_image.specs.declared.slot.Slot.{Slot}
 use Rattle.pos_image.proofs.Changes.{ready, opened_gate, publish_leaves, publish_current, publish_new}
 use Rattle.pos_image.proofs.Current.{start_low}
@@ -21,15 +20,13 @@ number_is prepared next sequence is holds = subst (λ (p : Option Image). MatchO
 
 pub returns-in_err-write_through-clause-any_moment : goal.returns-in_err-write_through-clause-any_moment
 returns-in_err-write_through-clause-any_moment g c = rw (← c.self.view_is) (λ honest.
-    let at_is : c.start.result ≡ start (other c.self.inside.slot) = c.start.ensures ∙ ap start c.other-slot.ensures in
-    let moments = subst (λ at. LeavesOnly (g.D.Disk.state c.self.inside.disk) (g.D.Disk.state c.write_through.new.disk) (SameBut at 1 (g.D.Disk.state c.self.inside.disk).reading)) at_is (c.write_through.ensures.any_moment honest) in
-    publish_leaves g.D.Disk _ c.write_through.new.disk c.in-Some.next.body.items (body_is c.self.inside.prepared c.in-Some.next (sym c.take.ensures.value ∙ c.in-Some.is)) honest (subst (IsReady g.D.Disk) (sym c.self.view_is) c.requires.ready) moments)
+    publish_leaves g.D.Disk _ c.write_through.new.disk c.in-Some.next.body.items (body_is c.self.inside.prepared c.in-Some.next (sym c.take.ensures.value ∙ c.in-Some.is)) honest
+    (subst (IsReady g.D.Disk) (sym c.self.view_is) c.requires.ready) c.start.result (c.start.ensures ∙ ap start c.other-slot.ensures) (c.write_through.ensures.any_moment honest))
 
 pub returns-clause-any_moment : goal.returns-clause-any_moment
 returns-clause-any_moment g c = rw (← c.self.view_is) (λ honest.
-    let at_is : c.start.result ≡ start (other c.self.inside.slot) = c.start.ensures ∙ ap start c.other-slot.ensures in
-    let moments = subst (λ at. LeavesOnly (g.D.Disk.state c.self.inside.disk) (g.D.Disk.state c.write_through.new.disk) (SameBut at 1 (g.D.Disk.state c.self.inside.disk).reading)) at_is (c.write_through.ensures.any_moment honest) in
-    publish_leaves g.D.Disk _ c.write_through.new.disk c.in-Some.next.body.items (body_is c.self.inside.prepared c.in-Some.next (sym c.take.ensures.value ∙ c.in-Some.is)) honest (subst (IsReady g.D.Disk) (sym c.self.view_is) c.requires.ready) moments)
+    publish_leaves g.D.Disk _ c.write_through.new.disk c.in-Some.next.body.items (body_is c.self.inside.prepared c.in-Some.next (sym c.take.ensures.value ∙ c.in-Some.is)) honest
+    (subst (IsReady g.D.Disk) (sym c.self.view_is) c.requires.ready) c.start.result (c.start.ensures ∙ ap start c.other-slot.ensures) (c.write_through.ensures.any_moment honest))
 
 pub returns-clause-ready : goal.returns-clause-ready
 returns-clause-ready g c =

@@ -1,8 +1,0 @@
-use Rattle.std.proofs.Common.{◌≡◌, ◌++◌, length, take}
-use Rattle.std.specs.Int.{w16, to_be_bytes}
-use Rattle.std.specs.List.{flat_map}
-use Rattle.pos_dir.specs.Spelling.{file_spelling}
-use Rattle.pos_dir.proofs.writing.encode.Given as goal
-
-abbrev pub invariant-loop-file : goal.invariant-loop-file
-invariant-loop-file l = l.out.items ≡ to_be_bytes w16 (length l.files) ++ flat_map file_spelling (take l.file-index l.files)

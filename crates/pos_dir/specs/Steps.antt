@@ -1,0 +1,19 @@
+-- What a change that is ready stands for.
+use Rattle.std.specs.Prelude.{◌≡◌, length, replicate}
+use Rattle.pos_dir.specs.declared.change.Change.{Change}
+use Rattle.pos_dir.specs.declared.change.Change.TheVariants as changes
+use Rattle.pos_dir.specs.declared.steps.Work.{Work}
+use Rattle.pos_dir.specs.declared.steps.Work.TheVariants.{Create, Delete, Rename, Write, SetAll}
+
+-- the change
+abbrev pub change_of : Work → Change
+change_of (Create file) = changes.Create file.name (length file.bytes)
+change_of (Delete index) = changes.Delete index
+change_of (Rename index name) = changes.Rename index name
+change_of (Write index offset bytes) = changes.Write index offset bytes.now
+change_of (SetAll index value) = changes.SetAll index value
+
+-- a new file is all zero bytes
+abbrev pub IsReady : Work → Type 0
+IsReady (Create file) = file.bytes ≡ replicate (length file.bytes) 0
+IsReady work = Unit {0}

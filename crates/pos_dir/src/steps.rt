@@ -1,0 +1,139 @@
+//! Changes with all memory that they take, so that carrying them out can't fail.
+ghost use Rattle.std.specs.Prelude.{◌≡◌, ◌≤◌, replicate, IsOk, Ok, MatchResult, vec_capacity};
+ghost use Rattle.pos_dir.specs.Changes.{outcome};
+
+use crate::bytes::{Bytes, Name};
+use crate::change::Change;
+use crate::fault::DirectoryFault;
+use crate::file::File;
+use crate::group::Group;
+use crate::limits::LAYOUT_1;
+use std::alloc::Global;
+use std::marker::Model;
+
+/// What a change does, in memory of its own.
+#[derive(Drop)]
+enum Work<'a> {
+    Create {
+        file: File,
+    },
+    Delete {
+        index: u16,
+    },
+    Rename {
+        index: u16,
+        name: Name,
+    },
+    Write {
+        index: u16,
+        offset: u32,
+        bytes: &'a [u8],
+    },
+    SetAll {
+        index: u16,
+        value: u8,
+    },
+}
+
+/// A change that is ready to be carried out. Contracts see the change.
+#[derive(Drop)]
+pub(crate) struct Step<'a> {
+    work: Work<'a>,
+}
+
+impl<'a> Model for Step<'a> {
+    ghost use Rattle.pos_dir.specs.declared.change.Change.{Change};
+
+    ghost Value = { Change };
+
+    ghost use Rattle.pos_dir.specs.Steps.{change_of, IsReady};
+
+    ghost view = { λ step. change_of step.work };
+
+    ghost invariant = { λ step. IsReady step.work };
+}
+
+impl<'a> Step<'a> {
+    /// The change, made ready.
+    fn new(alloc: Global, change: &'a Change) -> Result<Self, DirectoryFault>
+        ensures { MatchResult result (λ step. step ≡ change.now) (λ fault. fault ≡ DirectoryFault.NoMemory) }
+    {
+        let work = match change {
+            Change::Create { name, size } => Work::Create {
+                file: new_file(alloc, name, *size)?,
+            },
+            Change::Delete { index } => Work::Delete { index: *index },
+            Change::Rename { index, name } => Work::Rename {
+                index: *index,
+                name: copy_of_name(alloc, name)?,
+            },
+            Change::Write {
+                index,
+                offset,
+                bytes,
+            } => Work::Write {
+                index: *index,
+                offset: *offset,
+                bytes: bytes.as_slice(),
+            },
+            Change::SetAll { index, value } => Work::SetAll {
+                index: *index,
+                value: *value,
+            },
+        };
+        Ok(Step { work })
+    }
+
+    /// Carries the change out, which is applicable, where there is room for all files.
+    pub(crate) fn carry_out(self, files: &mut Vec<File>)
+        requires applicable { IsOk (outcome LAYOUT_1 files.old.items self) }
+        requires room { LAYOUT_1.files ≤ vec_capacity files.old }
+        ensures outcome { outcome LAYOUT_1 files.old.items self.entry ≡ Ok files.new.items }
+        ensures room { LAYOUT_1.files ≤ vec_capacity files.new }
+    {
+        let Step { work } = self;
+        match work {
+            Work::Create { file } => files.push_reserved(file),
+            Work::Delete { index } => {
+                let _removed = files.remove(index as usize);
+            }
+            Work::Rename { index, name } => files[index as usize].name = name,
+            Work::Write {
+                index,
+                offset,
+                bytes,
+            } => files[index as usize]
+                .bytes
+                .overwrite(offset as usize, bytes),
+            Work::SetAll { index, value } => files[index as usize].bytes.fill(value),
+        }
+    }
+}
+
+/// A file of zero bytes.
+fn new_file(alloc: Global, name: &Name, size: u32) -> Result<File, DirectoryFault>
+    ensures { MatchResult result (λ file. file ≡ record { name = name.now; bytes = replicate size 0 }) (λ fault. fault ≡ DirectoryFault.NoMemory) }
+{
+    Ok(File {
+        name: copy_of_name(alloc, name)?,
+        bytes: Bytes::from_vec(vec![in alloc; 0; size as usize]?),
+    })
+}
+
+/// The same name in memory of its own.
+fn copy_of_name(alloc: Global, name: &Name) -> Result<Name, DirectoryFault>
+    ensures { MatchResult result (λ copy. copy ≡ name.now) (λ fault. fault ≡ DirectoryFault.NoMemory) }
+{
+    Ok(Name::from_vec(Vec::from_slice(alloc, name.as_slice())?))
+}
+
+/// The changes of a group, all made ready.
+pub(crate) fn steps_of(alloc: Global, group: &Group) -> Result<Vec<Step<'_>>, DirectoryFault>
+    ensures { MatchResult result (λ steps. steps.items ≡ group.now) (λ fault. fault ≡ DirectoryFault.NoMemory) }
+{
+    let mut steps = Vec::with_capacity(alloc, group.changes.len())?;
+    for change in &group.changes {
+        steps.push_reserved(Step::new(alloc, change)?);
+    }
+    Ok(steps)
+}
