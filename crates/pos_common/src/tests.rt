@@ -165,3 +165,24 @@ fn ten_thousand_events_are_delivered_one_by_one(rt: HostRuntime) -> Result<(), F
     assert_eq!(rt; a.deliver(ErrorReply::Default), None);
     Ok(())
 }
+
+#[test]
+fn a_refused_room_changes_nothing(rt: HostRuntime) {
+    let mut a = Control::new(rt.alloc(), Category::CashDrawer);
+    a.open(Some(0), true, true);
+    a.set(Property::DeviceEnabled, &Value::Truth(true));
+    let mut told = [false; 100];
+    for is_told in told.iter_mut() {
+        if let Ok(()) = a.room_for(0, 3) {
+            a.hear(0, drawer_signs(false), drawer_signs(true));
+            *is_told = true;
+        }
+    }
+    for is_told in told {
+        if is_told {
+            let event = Some(Event::StatusUpdate(1));
+            assert_eq!(rt; a.deliver(ErrorReply::Default), event);
+        }
+    }
+    assert_eq!(rt; a.deliver(ErrorReply::Default), None);
+}

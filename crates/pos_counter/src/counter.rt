@@ -1,9 +1,9 @@
 ghost use Rattle.std.specs.Prelude.{◌≡◌, length, map, IfOk, IfErr, OnErr};
-ghost use Rattle.pos_service.specs.Steps.{Step, Run, NewControl, CallOf, InputTo, Deliver, Delivered, Snapshot as SnapshotOf};
+ghost use Rattle.pos_service.specs.Steps.{NewControl, CallOf, InputTo, Deliver, Delivered, Snapshot as SnapshotOf};
 ghost use Rattle.pos_counter.specs.Profile.{ServesProfile};
-ghost use Rattle.pos_counter.specs.Machines.{beginning, AllUnparked, HandsOver, parked};
+ghost use Rattle.pos_counter.specs.Machines.{AllUnparked, HandsOver, parked};
 ghost use Rattle.pos_counter.specs.Responses.{made, answered, taken_in, shown, request_of, response_of, steps_of};
-ghost use Rattle.pos_counter.specs.Counters.{machine, states_of, Sound};
+ghost use Rattle.pos_counter.specs.Counters.{machine, states_of, Begins, Steps, Runs, Stays, Sound};
 
 use crate::desk::Desk;
 use crate::device_calls;
@@ -34,7 +34,7 @@ impl Counter {
     ) -> Result<Self, (NoMemory, Vec<PeripheralBox>)>
         requires serves { ServesProfile (states_of ⟦<PeripheralBox as Stated>⟧ boxes.items) }
         requires unparked { AllUnparked (states_of ⟦<PeripheralBox as Stated>⟧ boxes.items) }
-        ensures machine { IfOk result (λ counter. machine ⟦<PeripheralBox as Stated>⟧ counter ≡ beginning (states_of ⟦<PeripheralBox as Stated>⟧ boxes.items)) }
+        ensures machine { IfOk result (λ counter. Begins ⟦<PeripheralBox as Stated>⟧ boxes.items counter) }
         ensures sound { IfOk result (λ counter. Sound ⟦<PeripheralBox as Stated>⟧ counter) }
         ensures handed_back { IfErr result (λ refusal. refusal.1.items ≡ boxes.items) }
     {
@@ -53,7 +53,7 @@ impl Counter {
     /// Refused with Full where there are 4,096 controls, closed ones included. Want of memory changes nothing.
     pub fn control(&mut self, category: Category) -> Result<usize, ControlFault>
         requires sound { Sound ⟦<PeripheralBox as Stated>⟧ self.old }
-        ensures step { Step (machine ⟦<PeripheralBox as Stated>⟧ self.old) (NewControl category) (made result) (machine ⟦<PeripheralBox as Stated>⟧ self.new) }
+        ensures step { Steps ⟦<PeripheralBox as Stated>⟧ self.old (NewControl category) (made result) self.new }
         ensures sound { Sound ⟦<PeripheralBox as Stated>⟧ self.new }
     {
         self.desk.control(category)
@@ -65,7 +65,7 @@ impl Counter {
     /// that applies, else what the call gives. Want of memory changes nothing.
     pub fn call(&mut self, number: usize, call: &Call) -> Result<Answer, NoMemory>
         requires sound { Sound ⟦<PeripheralBox as Stated>⟧ self.old }
-        ensures step { Step (machine ⟦<PeripheralBox as Stated>⟧ self.old) (CallOf number call.now) (answered result) (machine ⟦<PeripheralBox as Stated>⟧ self.new) }
+        ensures step { Steps ⟦<PeripheralBox as Stated>⟧ self.old (CallOf number call.now) (answered result) self.new }
         ensures sound { Sound ⟦<PeripheralBox as Stated>⟧ self.new }
     {
         device_calls::call(
@@ -83,7 +83,7 @@ impl Counter {
     /// peripheral of its kind has no such input. Want of memory changes nothing.
     pub fn input(&mut self, device: &[u8], input: &Input) -> Result<(), InputFault>
         requires sound { Sound ⟦<PeripheralBox as Stated>⟧ self.old }
-        ensures step { Step (machine ⟦<PeripheralBox as Stated>⟧ self.old) (InputTo device.now input.now) (taken_in result) (machine ⟦<PeripheralBox as Stated>⟧ self.new) }
+        ensures step { Steps ⟦<PeripheralBox as Stated>⟧ self.old (InputTo device.now input.now) (taken_in result) self.new }
         ensures sound { Sound ⟦<PeripheralBox as Stated>⟧ self.new }
     {
         device_calls::input(
@@ -99,7 +99,7 @@ impl Counter {
     /// It is None where there is none, or no control of this number.
     pub fn deliver(&mut self, number: usize, reply: ErrorReply) -> Option<Event>
         requires sound { Sound ⟦<PeripheralBox as Stated>⟧ self.old }
-        ensures step { Step (machine ⟦<PeripheralBox as Stated>⟧ self.old) (Deliver number reply) (Delivered result) (machine ⟦<PeripheralBox as Stated>⟧ self.new) }
+        ensures step { Steps ⟦<PeripheralBox as Stated>⟧ self.old (Deliver number reply) (Delivered result) self.new }
         ensures sound { Sound ⟦<PeripheralBox as Stated>⟧ self.new }
     {
         self.desk.deliver(number, reply)
@@ -110,7 +110,7 @@ impl Counter {
     /// Refused with NoDevice where no device has the name or no peripheral stands behind it.
     pub fn snapshot(&self, device: &[u8]) -> Result<Snapshot, SnapshotFault>
         requires sound { Sound ⟦<PeripheralBox as Stated>⟧ self.now }
-        ensures { Step (machine ⟦<PeripheralBox as Stated>⟧ self.now) (SnapshotOf device.now) (shown result) (machine ⟦<PeripheralBox as Stated>⟧ self.now) }
+        ensures { Steps ⟦<PeripheralBox as Stated>⟧ self.now (SnapshotOf device.now) (shown result) self.now }
     {
         device_calls::snapshot(&self.entries, &self.boxes, device)
     }
@@ -120,9 +120,9 @@ impl Counter {
     /// Want of memory for the list of answers changes nothing. A request that finds no memory is answered so.
     pub fn perform(&mut self, requests: &[Request]) -> Result<Vec<Response>, NoMemory>
         requires sound { Sound ⟦<PeripheralBox as Stated>⟧ self.old }
-        ensures run { IfOk result (λ responses. Run (machine ⟦<PeripheralBox as Stated>⟧ self.old) (steps_of requests.now responses.items) (machine ⟦<PeripheralBox as Stated>⟧ self.new)) }
+        ensures run { IfOk result (λ responses. Runs ⟦<PeripheralBox as Stated>⟧ self.old (steps_of requests.now responses.items) self.new) }
         ensures whole { IfOk result (λ responses. length responses.items ≡ length requests.now) }
-        ensures unchanged { OnErr result (machine ⟦<PeripheralBox as Stated>⟧ self.new ≡ machine ⟦<PeripheralBox as Stated>⟧ self.old) }
+        ensures unchanged { OnErr result (Stays ⟦<PeripheralBox as Stated>⟧ self.old self.new) }
         ensures sound { Sound ⟦<PeripheralBox as Stated>⟧ self.new }
     {
         let mut responses = Vec::with_capacity(self.desk.allocator(), requests.len())?;
@@ -136,7 +136,7 @@ impl Counter {
     /// Carries out a request.
     fn carry_out(&mut self, request: &Request) -> Response
         requires sound { Sound ⟦<PeripheralBox as Stated>⟧ self.old }
-        ensures step { Step (machine ⟦<PeripheralBox as Stated>⟧ self.old) (request_of request.now) (response_of result) (machine ⟦<PeripheralBox as Stated>⟧ self.new) }
+        ensures step { Steps ⟦<PeripheralBox as Stated>⟧ self.old (request_of request.now) (response_of result) self.new }
         ensures sound { Sound ⟦<PeripheralBox as Stated>⟧ self.new }
     {
         match request {
