@@ -6,4 +6,5 @@ pub mod Machine
 pub mod Refusals
 pub mod Calls
 pub mod DrawerCalls
+pub mod HardTotals
 pub mod Steps

@@ -1,0 +1,188 @@
+-- What each change does to the files is what its group does to the directory.
+use Rattle.std.proofs.Common.{◌≡◌, ◌∙◌, ℕ, suc, ◌+◌, ◌≤◌, ℤ, pos, negsuc, nat_abs, Bool, true, false, not, ◌&&◌, ◌||◌, cond, List, [], ◌∷◌, ◌++◌, length, take, drop, set, replicate, map, Option, Some, None, Result, Ok, Err, refl, sym, ap, subst, arith}
+use Rattle.std.specs.Prelude.{slice_get, slice_set, remove, nat_lt, nat_le, nat_eq, bytes_eq, is_some}
+use Rattle.std.specs.List.{find, AllByRecursion}
+use Rattle.std.specs.Option.{option_map}
+use Rattle.std.proofs.lemmas.Bool.{and_parts, and_from, not-true, not-false, le-leb, leb-true, eqb-true, cond-true, cond-false}
+use Rattle.std.proofs.lemmas.List.{map-set, map-append, take-map, drop-map, length-map}
+use Rattle.std.proofs.lemmas.List.Sums.{sum_by-cons}
+use Rattle.std.proofs.lemmas.Option.{slice_get-map}
+use Rattle.std.proofs.lemmas.Slice.Eq.{bytes_eq-Decides}
+use Rattle.pos_dir.specs.Changes.{splice, with_file, outcome, outcome_of_all, and_then}
+use Rattle.pos_dir.specs.Files.{IsDirectory, has_name, are_distinct, total_size}
+use Rattle.pos_dir.specs.declared.change.Change.{Change as FileChange}
+use Rattle.pos_dir.specs.declared.change.Change.TheVariants as file
+use Rattle.pos_dir.specs.declared.fault.DirectoryFault.{DirectoryFault}
+use Rattle.pos_dir.specs.declared.fault.DirectoryFault.TheVariants as fault
+use Rattle.pos_dir.specs.declared.file.File.{File as PlainFile}
+use Rattle.pos_dir.specs.declared.limits.Limits.{Limits}
+use Rattle.pos_dir.specs.declared.limits.TheConstants.{LAYOUT_1}
+use Rattle.pos_service.specs.declared.answer.Answer.{Answer}
+use Rattle.pos_service.specs.HardTotals.{File, Change, Create, Delete, Rename, Write, SetAll, is_name, is_natural, is_up_to, is_range, is_range_of, is_named, is_called, has_file, has_room, free_data, size_in_sum, with_each, overwritten, change_rows, files_after}
+use Rattle.pos_service.specs.Refusals.{first_refusal}
+use Rattle.pos_totals.proofs.Places.{OnlyOne, found_at, one_changed, one_gone}
+use Rattle.pos_totals.specs.Groups.{index_of, group_of}
+use Rattle.pos_totals.specs.Views.{plain, plain_file, handles_of, AreDistinct}
+
+-- ---- tables
+
+-- a row that doesn't refuse, and the rows behind it
+pub not_refused : (applies : Bool) (answer : Answer) (rest : Option Answer) → cond applies (Some answer) rest ≡ None → (applies ≡ false) × (rest ≡ None)
+not_refused true answer rest none = absurd cc
+not_refused false answer rest none = (refl, none)
+
+-- ---- names and handles
+
+-- the directory's test for a name
+pub plain_name : (files : List File) (name : List ℕ) → has_name (plain files) name ≡ has_file (is_named name) files
+plain_name [] name = refl
+plain_name (first ∷ files) name = by (bytes_eq first.name name) (plain_name files name)
+  where
+    by : (b : Bool) → has_name (plain files) name ≡ has_file (is_named name) files → (b || has_name (plain files) name) ≡ is_some (cond b (Some first) (find (is_named name) files))
+    by true rest = refl
+    by false rest = rest
+
+pub no_file : (found : Option File) → is_some found ≡ false → found ≡ None
+no_file None none = refl
+no_file (Some file) none = absurd cc
+
+pub some_file : (found : Option File) → is_some found ≡ true → (file : File) × (found ≡ Some file)
+some_file None some = absurd cc
+some_file (Some file) some = (file, refl)
+
+-- names are distinct, so at most one file has a name
+pub only_named : (files : List File) (name : List ℕ) → are_distinct (plain files) ≡ true → OnlyOne (is_named name) files
+only_named [] name distinct = tt
+only_named (first ∷ files) name distinct =
+    let parts = and_parts (not (has_name (plain files) first.name)) (are_distinct (plain files)) distinct in (
+      λ same. no_file (find (is_named name) files)
+          (sym (plain_name files name) ∙ ap (has_name (plain files)) (sym ((bytes_eq-Decides first.name name).0 same)) ∙ not-true (has_name (plain files) first.name) parts.0),
+      only_named files name parts.1,
+    )
+
+-- none of the files has a handle that differs from all of theirs
+others : (files : List File) (handle : ℕ) → AllByRecursion (λ other. ¬ (other ≡ handle)) (handles_of files) → find (is_called (pos handle)) files ≡ None
+others [] handle differ = refl
+others (first ∷ files) handle differ = by (nat_eq first.handle handle) refl (others files handle differ.1)
+  where
+    by : (b : Bool) → nat_eq first.handle handle ≡ b → find (is_called (pos handle)) files ≡ None → cond b (Some first) (find (is_called (pos handle)) files) ≡ None
+    by true same rest = absurd (differ.0 (eqb-true first.handle handle same))
+    by false same rest = rest
+
+-- handles are distinct, so at most one file has a handle
+pub only_called : (files : List File) (handle : ℤ) → AreDistinct (handles_of files) → OnlyOne (is_called handle) files
+only_called [] (pos handle) distinct = tt
+only_called (first ∷ files) (pos handle) distinct =
+    (λ same. subst (λ (h : ℕ). find (is_called (pos h)) files ≡ None) (eqb-true first.handle handle same) (others files first.handle distinct.0), only_called files (pos handle) distinct.1)
+only_called [] (negsuc n) distinct = tt
+only_called (first ∷ files) (negsuc n) distinct = (λ same. absurd cc, only_called files (negsuc n) distinct.1)
+
+-- ---- the directory
+
+pub map-remove : {X Y : Type 0} (f : X → Y) (xs : List X) (i : ℕ) → map f (remove xs i) ≡ remove (map f xs) i
+map-remove f xs i =
+    map-append f (take i xs) (drop (suc i) xs) ∙ ap (λ ys. ys ++ map f (drop (suc i) xs)) (sym (take-map f i xs)) ∙ ap (λ ys. take i (map f xs) ++ ys) (sym (drop-map f (suc i) xs))
+
+one_change : (limits : Limits) (files after : List PlainFile) (change : FileChange) → outcome limits files change ≡ Ok after → outcome_of_all limits files (change ∷ []) ≡ Ok after
+one_change limits files after change made = ap (λ r. and_then r (λ next. Ok next)) made
+
+-- the directory's change of a file at an index
+at_index : (files : List File) (i : ℕ) (f : File) (change : PlainFile → Result (List PlainFile) DirectoryFault) → slice_get files i ≡ Some f → with_file (slice_get (plain files) i) change ≡ change (plain_file f)
+at_index files i f change at = ap (λ o. with_file o change) (slice_get-map plain_file files i ∙ ap (option_map plain_file) at)
+
+pub plain_size : (files : List File) → total_size (plain files) ≡ size_in_sum files
+plain_size [] = refl
+plain_size (first ∷ files) =
+    let here = sum_by-cons (λ (x : PlainFile). length x.bytes) (plain_file first) (plain files) in
+    let there = sum_by-cons (λ (x : File). length x.bytes) first files in
+    let rest = plain_size files in
+    omega (arith, here, there, rest)
+
+-- what the directory makes is what the change makes
+abbrev Makes : List File → Change → ℕ → Type 0
+Makes files change next = outcome_of_all LAYOUT_1 (plain files) (group_of files change) ≡ Ok (plain (files_after next files change))
+
+up_to : (limit : ℕ) (n : ℤ) → is_up_to limit n ≡ true → nat_abs n ≤ limit
+up_to limit (pos n) fits = leb-true n limit fits
+up_to limit (negsuc n) fits = absurd cc
+
+made_create : (files : List File) (name : List ℕ) (size : ℤ) (next : ℕ) → total_size (plain files) ≤ 8192 → first_refusal (change_rows files (Create name size)) ≡ None → Makes files (Create name size) next
+made_create files name size next small unrefused =
+    let good = not_refused (not (is_name name && is_natural size)) _ _ unrefused in
+    let free = not_refused (has_file (is_named name) files) _ _ good.1 in
+    let room = not_refused (not (has_room files size)) _ _ free.1 in
+    let parts = and_parts (is_up_to (free_data files) size) (nat_lt (length files) 64) (not-false (has_room files size) room.0) in
+    let few : nat_lt (length (plain files)) 64 ≡ true = ap (λ n. nat_lt n 64) (length-map files plain_file) ∙ parts.1 in
+    let fits : nat_le (total_size (plain files) + nat_abs size) 8192 ≡ true = le-leb _ _ (omega (arith, small, plain_size files, up_to (free_data files) size parts.0)) in
+    let new : PlainFile = record { name = name; bytes = replicate (nat_abs size) 0 } in
+    one_change LAYOUT_1 (plain files) _ (file.Create name (nat_abs size))
+    (cond-false (has_name (plain files) name) _ _ (plain_name files name ∙ free.0)
+    ∙ cond-true (nat_lt (length (plain files)) 64 && nat_le (total_size (plain files) + nat_abs size) 8192) _ _ (and_from _ _ few fits)
+    ∙ ap (λ (fs : List PlainFile). Ok fs) (sym (map-append plain_file files (record { handle = next; name = name; bytes = replicate (nat_abs size) 0 } ∷ []))))
+
+made_delete : (files : List File) (name : List ℕ) (next : ℕ) → are_distinct (plain files) ≡ true → first_refusal (change_rows files (Delete name)) ≡ None → Makes files (Delete name) next
+made_delete files name next distinct unrefused =
+    let there = not_refused (not (has_file (is_named name) files)) _ _ unrefused in
+    let found = some_file (find (is_named name) files) (not-false (has_file (is_named name) files) there.0) in
+    let index = index_of (is_named name) files in
+    one_change LAYOUT_1 (plain files) _ (file.Delete index)
+    (at_index files index found.0 (λ f. Ok (remove (plain files) index)) (found_at (is_named name) files found.0 found.1)
+    ∙ ap (λ (fs : List PlainFile). Ok fs) (sym (map-remove plain_file files index))
+    ∙ ap (λ (fs : List File). Ok (plain fs)) (sym (one_gone (is_named name) files found.0 (only_named files name distinct) found.1)))
+
+-- the one file with a handle, changed in its place
+set_plain : (files : List File) (handle : ℤ) (f : File) (change : File → File) → AreDistinct (handles_of files) → find (is_called handle) files ≡ Some f
+    → set (plain files) (index_of (is_called handle) files) (plain_file (change f)) ≡ plain (with_each (is_called handle) change files)
+set_plain files handle f change distinct found =
+    sym (map-set plain_file files (index_of (is_called handle) files) (change f)) ∙ ap (λ (fs : List File). plain fs) (sym (one_changed (is_called handle) change files f (only_called files handle distinct) found))
+
+made_rename : (files : List File) (handle : ℤ) (name : List ℕ) (next : ℕ) → AreDistinct (handles_of files) → first_refusal (change_rows files (Rename handle name)) ≡ None → Makes files (Rename handle name) next
+made_rename files handle name next distinct unrefused =
+    let good = not_refused (not (has_file (is_called handle) files && is_name name)) _ _ unrefused in
+    let free = not_refused (has_file (is_named name) files) _ _ good.1 in
+    let parts = and_parts (has_file (is_called handle) files) (is_name name) (not-false (has_file (is_called handle) files && is_name name) good.0) in
+    let found = some_file (find (is_called handle) files) parts.0 in
+    let index = index_of (is_called handle) files in
+    one_change LAYOUT_1 (plain files) _ (file.Rename index name)
+    (at_index files index found.0 (λ f. cond (has_name (plain files) name) (Err fault.Exists) (Ok (slice_set (plain files) index (record f { name = name })))) (found_at (is_called handle) files found.0 found.1)
+    ∙ cond-false (has_name (plain files) name) _ _ (plain_name files name ∙ free.0)
+    ∙ ap (λ (fs : List PlainFile). Ok fs) (set_plain files handle found.0 (λ f. record f { name = name }) distinct found.1))
+
+-- a range of a file's bytes is of a file that is there
+pub ranged : (found : Option File) (offset count : ℤ) → is_range_of found offset count ≡ true → (f : File) × (found ≡ Some f) × (is_range (length f.bytes) offset count ≡ true)
+ranged None offset count fits = absurd cc
+ranged (Some f) offset count fits = (f, refl, fits)
+
+pub range_end : (size : ℕ) (offset : ℤ) (count : ℕ) → is_range size offset (pos count) ≡ true → nat_le (nat_abs offset + count) size ≡ true
+range_end size (pos offset) count fits = fits
+range_end size (negsuc n) count fits = absurd cc
+
+made_write : (files : List File) (handle offset : ℤ) (bytes : List ℕ) (next : ℕ) → AreDistinct (handles_of files) → first_refusal (change_rows files (Write handle offset bytes)) ≡ None → Makes files (Write handle offset bytes) next
+made_write files handle offset bytes next distinct unrefused =
+    let fits = not_refused (not (is_range_of (find (is_called handle) files) offset (pos (length bytes)))) _ _ unrefused in
+    let found = ranged (find (is_called handle) files) offset (pos (length bytes)) (not-false _ fits.0) in
+    let index = index_of (is_called handle) files in
+    one_change LAYOUT_1 (plain files) _ (file.Write index (nat_abs offset) bytes)
+    (at_index files index found.0
+    (λ f. cond (nat_le (nat_abs offset + length bytes) (length f.bytes)) (Ok (slice_set (plain files) index (record f { bytes = splice f.bytes (nat_abs offset) bytes }))) (Err fault.Range))
+    (found_at (is_called handle) files found.0 found.1)
+    ∙ cond-true (nat_le (nat_abs offset + length bytes) (length found.0.bytes)) _ _ (range_end (length found.0.bytes) offset (length bytes) found.2)
+    ∙ ap (λ (fs : List PlainFile). Ok fs) (set_plain files handle found.0 (λ f. record f { bytes = overwritten f.bytes (nat_abs offset) bytes }) distinct found.1))
+
+made_set_all : (files : List File) (handle n : ℤ) (next : ℕ) → AreDistinct (handles_of files) → first_refusal (change_rows files (SetAll handle n)) ≡ None → Makes files (SetAll handle n) next
+made_set_all files handle n next distinct unrefused =
+    let good = not_refused (not (has_file (is_called handle) files && is_up_to 255 n)) _ _ unrefused in
+    let parts = and_parts (has_file (is_called handle) files) (is_up_to 255 n) (not-false (has_file (is_called handle) files && is_up_to 255 n) good.0) in
+    let found = some_file (find (is_called handle) files) parts.0 in
+    let index = index_of (is_called handle) files in
+    one_change LAYOUT_1 (plain files) _ (file.SetAll index (nat_abs n))
+    (at_index files index found.0 (λ f. Ok (slice_set (plain files) index (record f { bytes = replicate (length f.bytes) (nat_abs n) }))) (found_at (is_called handle) files found.0 found.1)
+    ∙ ap (λ (fs : List PlainFile). Ok fs) (set_plain files handle found.0 (λ f. record f { bytes = replicate (length f.bytes) (nat_abs n) }) distinct found.1))
+
+-- Where nothing refuses a change, its group makes of the plain files those after it.
+pub makes : (files : List File) (change : Change) (next : ℕ) → IsDirectory LAYOUT_1 (plain files) → AreDistinct (handles_of files) → first_refusal (change_rows files change) ≡ None → Makes files change next
+makes files (Create name size) next sound distinct unrefused = made_create files name size next sound.size unrefused
+makes files (Delete name) next sound distinct unrefused = made_delete files name next sound.distinct unrefused
+makes files (Rename handle name) next sound distinct unrefused = made_rename files handle name next distinct unrefused
+makes files (Write handle offset bytes) next sound distinct unrefused = made_write files handle offset bytes next distinct unrefused
+makes files (SetAll handle n) next sound distinct unrefused = made_set_all files handle n next distinct unrefused

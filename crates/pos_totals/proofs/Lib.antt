@@ -1,0 +1,8 @@
+mod Changed
+mod Found
+mod Grouped
+mod Handled
+mod Numbered
+mod Pairs
+mod Places
+mod Recovered

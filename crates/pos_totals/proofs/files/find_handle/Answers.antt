@@ -1,0 +1,47 @@
+use Rattle.std.proofs.Common.{◌≡◌, ◌∙◌, false, ℤ, sym, subst}
+use Rattle.std.specs.Int.{w128}
+use Rattle.std.proofs.lemmas.Int.{to_z-of_z}
+use Rattle.std.specs.Prelude.{nat_eq}
+use Rattle.std.specs.List.{position_or_len}
+use Rattle.std.proofs.lemmas.Option.{IfSome_then}
+use Rattle.pos_service.specs.HardTotals.{is_natural, is_called}
+use Rattle.pos_totals.proofs.Found.{index_by_handle, none_below}
+use Rattle.pos_totals.proofs.Pairs.{length-with_handles}
+use Rattle.pos_totals.proofs.Places.{is_at, is_none, at_index}
+use Rattle.pos_totals.specs.Groups.{index_of}
+use Rattle.pos_totals.specs.Views.{with_handles}
+use Rattle.pos_totals.proofs.files.find_handle.Goals as goal
+
+pub returns-in_default : goal.returns-in_default
+returns-in_default c = record {
+  file = sym (none_below c.args.handle (with_handles c.args.files.handles.now c.args.files.directory.now) (subst (λ (h : ℤ). is_natural h ≡ false) (to_z-of_z w128 c.args.handle c.ranges.handle) c.in_default.ensures));
+  index = tt;
+  small = tt;
+}
+
+pub returns-in-Some-index_of : goal.returns-in-Some-index_of
+returns-in-Some-index_of c =
+    let handles = c.args.files.handles.now in
+    let files = c.args.files.directory.now in
+    let xs = with_handles handles files in
+    let n = c.in-Some.handle in
+    let index = subst (λ (h : ℤ). index_of (is_called h) xs ≡ position_or_len (λ given. nat_eq given n) handles) (sym c.in-Some.ensures ∙ to_z-of_z w128 c.args.handle c.ranges.handle) (index_by_handle handles files n c.requires.paired) in
+    let here = is_at (λ given. nat_eq given n) (is_called c.args.handle) handles xs c.in-Some-index_of.index index (sym c.in-Some-index_of.ensures) in
+    record {
+      file = c.file_at.ensures.file ∙ at_index (is_called c.args.handle) xs c.in-Some-index_of.index here;
+      index = IfSome_then c.file_at.result c.file_at.ensures.index (λ f is. is ∙ here);
+      small = c.file_at.ensures.small;
+    }
+
+pub returns-in-None : goal.returns-in-None
+returns-in-None c =
+    let handles = c.args.files.handles.now in
+    let files = c.args.files.directory.now in
+    let xs = with_handles handles files in
+    let n = c.in-Some.handle in
+    let index = subst (λ (h : ℤ). index_of (is_called h) xs ≡ position_or_len (λ given. nat_eq given n) handles) (sym c.in-Some.ensures ∙ to_z-of_z w128 c.args.handle c.ranges.handle) (index_by_handle handles files n c.requires.paired) in
+    record {
+      file = sym (is_none (λ given. nat_eq given n) (is_called c.args.handle) handles xs (length-with_handles handles files c.requires.paired ∙ sym c.requires.paired) index (sym c.in-None.ensures));
+      index = tt;
+      small = tt;
+    }

@@ -1,0 +1,13 @@
+use Rattle.std.proofs.Common.{◌∙◌, ◌<◌, ◌+◌, List, ℕ, ◌++◌, ◌∷◌, [], length, ap, arith, lit<}
+use Rattle.pos_totals.proofs.Numbered.{length-numbers, numbers_more}
+use Rattle.pos_totals.proofs.handles.numbers.Goals as goal
+
+pub push-requires : goal.push-requires
+push-requires c =
+    let held = ap (λ (numbers : List ℕ). length numbers) c.loop-place.invariant in
+    let small : length c.loop-place.numbers.items < 64 = omega (arith, held, length-numbers c.args.first c.loop-place.place, c.loop-place-test.true, c.requires.few) in
+    (lit< tt, small)
+
+pub loop-place-preserved : goal.loop-place-preserved
+loop-place-preserved c =
+    c.push.ensures.items ∙ ap (λ (numbers : List ℕ). numbers ++ (c.args.first + c.loop-place.place) ∷ []) c.loop-place.invariant ∙ numbers_more c.args.first c.loop-place.place

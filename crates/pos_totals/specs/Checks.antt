@@ -1,0 +1,107 @@
+-- What the checks of a call find, before anything is done.
+use Rattle.std.specs.Prelude.{◌≡◌, ◌≤◌, ◌+◌, ℕ, ℤ, pos, Bool, List, length, Option, Some, None, IfSome, MatchResult, Result, Ok, Err, ⊤}
+use Rattle.std.specs.List.{find}
+use Rattle.std.specs.Option.{option_map}
+use Rattle.pos_dir.specs.Changes.{flaw_of}
+use Rattle.pos_dir.specs.Files.{IsDirectory}
+use Rattle.pos_dir.specs.declared.change.Change.{Change as FileChange}
+use Rattle.pos_dir.specs.declared.change.Change.TheVariants as file
+use Rattle.pos_dir.specs.declared.limits.TheConstants.{LAYOUT_1}
+use Rattle.pos_service.specs.declared.answer.Answer.{Answer}
+use Rattle.pos_service.specs.declared.answer.Answer.TheVariants as answer
+use Rattle.pos_service.specs.declared.code.Code.TheVariants as code
+use Rattle.pos_service.specs.declared.memory.NoMemory.{NoMemory}
+use Rattle.pos_service.specs.HardTotals.{File, Mode, Off, Ready, Change, Create, Delete, Rename, Write, SetAll, change_rows, Question, question_rows, told_of}
+use Rattle.pos_service.specs.Refusals.{first_refusal, Decided}
+use Rattle.pos_store.specs.declared.fault.StoreFault.{StoreFault}
+use Rattle.pos_store.specs.declared.fault.StoreFault.TheVariants as fault
+use Rattle.pos_totals.specs.Groups.{index_of, file_change}
+use Rattle.pos_totals.specs.Views.{with_handles}
+use Rattle.pos_totals.specs.declared.files.Files.{Files}
+use Rattle.pos_totals.specs.declared.files.Found.{Found}
+use Rattle.pos_totals.specs.declared.request.Request.{Request}
+use Rattle.pos_totals.specs.declared.request.Request.TheVariants as request
+use Rattle.pos_totals.specs.declared.request.Checked.{Checked}
+use Rattle.pos_totals.specs.declared.request.Checked.TheVariants as checked
+
+-- the change that a request asks for
+abbrev pub change_of : Request → Change
+change_of (request.Create name size) = Create name.now size
+change_of (request.Delete name) = Delete name.now
+change_of (request.Rename handle name) = Rename handle name.now
+change_of (request.Write handle offset bytes) = Write handle offset bytes.now
+change_of (request.SetAll handle n) = SetAll handle n
+
+-- the change of the directory that a checked request is
+abbrev pub file_change_of : Checked → FileChange
+file_change_of (checked.Create name size) = file.Create name.now size
+file_change_of (checked.Delete index) = file.Delete index
+file_change_of (checked.Rename index name) = file.Rename index name.now
+file_change_of (checked.Write index offset bytes) = file.Write index offset bytes.now
+file_change_of (checked.SetAll index n) = file.SetAll index n
+
+-- the files with their handles
+abbrev pub files_in : Files → List File
+files_in files = with_handles files.handles.now files.directory.now
+
+-- The files are those of a directory, and each has a handle.
+pub record AreFiles (files : Files) : Type 0 where
+  pub directory : IsDirectory LAYOUT_1 files.directory.now
+  pub paired : length files.handles.now ≡ length files.directory.now
+
+-- what is seen of the files: none while they aren't known
+abbrev pub IsSeen : Mode → Option (List File) → Type 0
+IsSeen Off None = ⊤
+IsSeen Off (Some seen) = ⊥
+IsSeen (Ready files sequence) None = ⊥
+IsSeen (Ready files sequence) (Some seen) = seen ≡ files
+
+-- A range of bytes within a size, by the numbers of a call.
+pub record IsRange (size : ℕ) (offset count : ℤ) (from many : ℕ) : Type 0 where
+  pub first : offset ≡ pos from
+  pub number : count ≡ pos many
+  pub inside : from + many ≤ size
+
+-- a file that was found
+abbrev pub file_of : Found → File
+file_of found = record { handle = found.handle; name = found.name.now; bytes = found.bytes.now }
+
+-- A search finds the first file that meets a test, and its index.
+pub record Finds (test : File → Bool) (files : List File) (found : Option Found) : Type 0 where
+  pub file : option_map file_of found ≡ find test files
+  pub index : IfSome found (λ f. f.index ≡ index_of test files)
+  pub small : IfSome found (λ f. length f.bytes.now ≤ 8192)
+
+-- a question about files that are known is answered by its table, and then told; memory is wanted only behind the table
+abbrev pub AskedIn : List File → Question → Answer → Type 0
+AskedIn files question result = Decided (question_rows files question) result (Unit {0}) (result ≡ answer.Done (told_of files question))
+
+abbrev pub AskedForIn : List File → Question → Result Answer NoMemory → Type 0
+AskedForIn files question outcome = MatchResult outcome (λ result. AskedIn files question result) (λ want. first_refusal (question_rows files question) ≡ None)
+
+-- Nothing refuses the change, and a group takes it.
+pub record Passes (files : List File) (change : Change) (checked : FileChange) : Type 0 where
+  pub unrefused : first_refusal (change_rows files change) ≡ None
+  pub made : file_change files change ≡ checked
+  pub flawless : flaw_of checked ≡ None
+
+-- what a check of a change by its table finds
+abbrev pub Checks : List File → Change → Result Checked Answer → Type 0
+Checks files change (Ok made) = Passes files change (file_change_of made)
+Checks files change (Err refusal) = first_refusal (change_rows files change) ≡ Some refusal
+
+-- what a check of a change finds, the totals being off or ready
+abbrev pub ChecksAt : Mode → Change → Result Checked Answer → Type 0
+ChecksAt Off change (Ok made) = ⊥
+ChecksAt Off change (Err refusal) = refusal ≡ answer.Refused code.Failure 0
+ChecksAt (Ready files sequence) change result = Checks files change result
+
+-- what a change is answered that the store refuses
+abbrev pub answer_of : StoreFault → Result Answer NoMemory
+answer_of fault.NoMemory = Err (record {})
+answer_of fault.Off = Ok (answer.Refused code.Failure 0)
+answer_of (fault.Refused refusal) = Ok (answer.Refused code.Failure 0)
+answer_of fault.Exhausted = Ok (answer.Refused code.Failure 0)
+answer_of fault.Unformatted = Ok (answer.Refused code.Failure 0)
+answer_of fault.Damaged = Ok (answer.Refused code.Failure 0)
+answer_of fault.Device = Ok (answer.Refused code.Failure 0)

@@ -1,0 +1,22 @@
+-- The group of changes of the directory by which each call changes the files on the disk.
+use Rattle.std.specs.Prelude.{ℕ, nat_abs, Bool, List, [], ◌∷◌}
+use Rattle.std.specs.List.{position_or_len}
+use Rattle.pos_dir.specs.declared.change.Change.{Change as FileChange}
+use Rattle.pos_dir.specs.declared.change.Change.TheVariants as file
+use Rattle.pos_service.specs.HardTotals.{File, Change, Create, Delete, Rename, Write, SetAll, is_named, is_called}
+
+-- the index of the first file that meets a test; without one it is the number of files
+abbrev pub index_of : (File → Bool) → List File → ℕ
+index_of test files = position_or_len test files
+
+-- the change of the directory, which names files by their index
+abbrev pub file_change : List File → Change → FileChange
+file_change files (Create name size) = file.Create name (nat_abs size)
+file_change files (Delete name) = file.Delete (index_of (is_named name) files)
+file_change files (Rename handle name) = file.Rename (index_of (is_called handle) files) name
+file_change files (Write handle offset bytes) = file.Write (index_of (is_called handle) files) (nat_abs offset) bytes
+file_change files (SetAll handle n) = file.SetAll (index_of (is_called handle) files) (nat_abs n)
+
+-- each change is a group of its own
+abbrev pub group_of : List File → Change → List FileChange
+group_of files change = file_change files change ∷ []

@@ -1,0 +1,42 @@
+ghost use Rattle.std.specs.Prelude.{◌≡◌};
+ghost use Rattle.std.specs.Result.{result_ok};
+ghost use Rattle.pos_totals.specs.Recoveries.{code_of};
+
+use pos_service::{Code, NoMemory};
+use thiserror::Error;
+
+/// Why a recovery has found no files. The totals are still off, and the disk has what it had.
+#[derive(Clone, Copy, Debug, PartialEq, Eq, Error)]
+pub enum RecoveryFault {
+    /// The disk has no image, or it has fewer than 327,680 bytes.
+    #[error("the disk isn't formatted")]
+    Unformatted,
+    /// The disk is damaged.
+    #[error("the disk is damaged")]
+    Damaged,
+    /// The files are more than the handles that are left.
+    #[error("the file handles have run out")]
+    Handles,
+    /// Memory ran out.
+    #[error("out of memory")]
+    NoMemory,
+    /// The disk failed.
+    #[error("the disk failed")]
+    Device,
+}
+
+impl RecoveryFault {
+    /// The result code of the call that asked for the recovery: E_NOHARDWARE where the disk isn't formatted, else
+    /// E_FAILURE. Want of memory has none.
+    pub fn code(self) -> Result<Code, NoMemory>
+        ensures { result_ok result ≡ code_of self }
+    {
+        match self {
+            RecoveryFault::Unformatted => Ok(Code::NoHardware),
+            RecoveryFault::Damaged | RecoveryFault::Handles | RecoveryFault::Device => {
+                Ok(Code::Failure)
+            }
+            RecoveryFault::NoMemory => Err(NoMemory),
+        }
+    }
+}

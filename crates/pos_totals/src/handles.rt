@@ -1,0 +1,92 @@
+ghost use Rattle.std.specs.Prelude.{◌≡◌, ◌<◌, ◌≤◌, ◌+◌, ◌^◌, []};
+ghost use Rattle.pos_service.specs.HardTotals.{last_number};
+ghost use Rattle.pos_totals.specs.Checks.{file_change_of};
+ghost use Rattle.pos_totals.specs.Numbering.{numbers_from, lacks, given_after, next_after, value_after, HasPlace, Numbers};
+
+use crate::request::Checked;
+use arrayvec::ArrayVec;
+use pos_service::Value;
+
+/// The most files.
+pub const MOST_FILES: usize = 64;
+
+/// The handles of the files in index order, and the one that the next new file gets. 18,446,744,073,709,551,615 there
+/// means that none is left.
+#[derive(Drop)]
+pub struct Handles {
+    pub given: ArrayVec<u64, MOST_FILES>,
+    pub next: u64,
+}
+
+impl Handles {
+    /// No files yet.
+    pub fn new(next: u64) -> Self
+        ensures given { result.given.items ≡ [] }
+        ensures next { result.next ≡ next }
+    {
+        Handles {
+            given: ArrayVec::new(),
+            next,
+        }
+    }
+
+    /// Whether a change needs a handle where none is left.
+    pub fn lack(&self, checked: &Checked<'_>) -> bool
+        ensures lacks { result ≡ lacks self.now.next (file_change_of checked.now) }
+        ensures bound { self.now.next ≤ last_number }
+    {
+        let next = self.next;
+        match checked {
+            Checked::Create { .. } => next == u64::MAX,
+            _ => false,
+        }
+    }
+
+    /// The handles after a change that was done, and what it gives.
+    pub fn keep(&mut self, checked: &Checked<'_>) -> Value
+        requires { HasPlace self.old.given.items self.old.next (file_change_of checked.now) }
+        ensures given { self.new.given.items ≡ given_after self.old.given.items self.old.next (file_change_of checked.now) }
+        ensures next { self.new.next ≡ next_after self.old.next (file_change_of checked.now) }
+        ensures value { result ≡ value_after self.old.next (file_change_of checked.now) }
+    {
+        match checked {
+            Checked::Create { .. } => {
+                let handle = self.next;
+                self.given.push(handle);
+                self.next = handle + 1;
+                Value::Number(handle as i128)
+            }
+            Checked::Delete { index } => {
+                self.given.remove(*index as usize);
+                Value::Empty
+            }
+            _ => Value::Empty,
+        }
+    }
+
+    /// Gives so many files handles from the next one on, where so many are left.
+    pub fn number(&mut self, count: usize) -> bool
+        requires { count ≤ 64 }
+        ensures { Numbers self.old.given.items self.old.next count result self.new.given.items self.new.next }
+    {
+        let Some(end) = self.next.checked_add(count as u64) else {
+            return false;
+        };
+        self.given = numbers(self.next, count);
+        self.next = end;
+        true
+    }
+}
+
+/// So many handles from the first one on.
+fn numbers(first: u64, count: usize) -> ArrayVec<u64, MOST_FILES>
+    requires few { count ≤ 64 }
+    requires left { first + count < 2 ^ 64 }
+    ensures { result.items ≡ numbers_from first count }
+{
+    let mut numbers = ArrayVec::new();
+    for place in 0..count {
+        numbers.push(first + place as u64);
+    }
+    numbers
+}

@@ -1,0 +1,13 @@
+//! What is true of all totals.
+ghost use Rattle.pos_totals.specs.Views.{LeavesTheirFiles};
+
+use crate::totals::Totals;
+use pos_disk::Disk;
+use pos_store::laws::leaves_its_files;
+
+/// A crash at this moment leaves the files of totals that are ready alone.
+pub fn leaves_their_files<D: Disk>(totals: &Totals<D>)
+    ensures { D.honest totals.now.disk → LeavesTheirFiles totals.now.totals.mode (D.state totals.now.disk) }
+{
+    leaves_its_files(&totals.store);
+}

@@ -1,0 +1,20 @@
+//! The calls of Hard Totals on files, each change of which is one group on the disk (chapter Hard Totals).
+#![tactic(auto)]
+
+mod asking;
+mod changing;
+mod checking;
+mod fault;
+mod files;
+mod handles;
+pub mod laws;
+mod numbers;
+mod recovering;
+mod request;
+mod totals;
+
+pub use fault::RecoveryFault;
+pub use totals::Totals;
+
+#[cfg(test)]
+mod tests;

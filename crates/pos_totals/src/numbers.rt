@@ -1,0 +1,47 @@
+//! The numbers of calls.
+ghost use Rattle.std.specs.Prelude.{◌≡◌, ◌<◌, pos, false, MatchOption};
+ghost use Rattle.pos_service.specs.HardTotals.{is_natural, is_range, is_up_to};
+ghost use Rattle.pos_totals.specs.Checks.{IsRange};
+
+/// A number of a call, where it isn't below 0.
+pub fn natural(number: i128) -> Option<u128>
+    ensures { MatchOption result (is_natural number ≡ false) (λ n. number ≡ pos n) }
+{
+    if number < 0 {
+        return None;
+    }
+    Some(number as u128)
+}
+
+/// A number of a call, where it is the value of a byte.
+pub fn byte(number: i128) -> Option<u8>
+    ensures { MatchOption result (is_up_to 255 number ≡ false) (λ n. (number ≡ pos n) × (n < 256)) }
+{
+    let Some(number) = natural(number) else {
+        return None;
+    };
+    if number > 255 {
+        return None;
+    }
+    Some(number as u8)
+}
+
+/// A range of so many bytes from an offset on, where it is within a size.
+pub fn range(size: usize, offset: i128, count: i128) -> Option<(usize, usize)>
+    ensures { MatchOption result (is_range size offset count ≡ false) (λ r. IsRange size offset count r.0 r.1) }
+{
+    let Some(offset) = natural(offset) else {
+        return None;
+    };
+    let Some(count) = natural(count) else {
+        return None;
+    };
+    let size = size as u128;
+    if offset > size {
+        return None;
+    }
+    if count > size - offset {
+        return None;
+    }
+    Some((offset as usize, count as usize))
+}

@@ -1,0 +1,82 @@
+//! A recovery of the files, from the disk to their handles.
+ghost use Rattle.std.specs.Prelude.{◌≡◌, Some, IsSome};
+ghost use Rattle.pos_store.specs.Modes.{Off, mode_of};
+ghost use Rattle.pos_totals.specs.Recoveries.{Recovers, told};
+ghost use Rattle.pos_totals.specs.Views.{IsSound, view_of};
+
+use crate::fault::RecoveryFault;
+use crate::handles::Handles;
+use core::mem::replace_with;
+use pos_dir::laws::is_directory;
+use pos_disk::Disk;
+use pos_store::laws::leaves_its_files;
+use pos_store::{Mode, Store, StoreFault};
+use std::alloc::Global;
+
+/// Recovers the files of totals that are off, and gives them handles. Totals that are ready have them.
+pub fn recover<D: Disk>(
+    alloc: Global,
+    store: &mut Store<D>,
+    handles: &mut Handles,
+) -> Result<(), RecoveryFault>
+    requires sound { IsSound store.old.state handles.old.given.items handles.old.next }
+    ensures sound { IsSound store.new.state handles.new.given.items handles.new.next }
+    ensures recovers { Recovers D.Disk (view_of store.old handles.old.given.items handles.old.next) result
+        (view_of store.new handles.new.given.items handles.new.next) }
+{
+    leaves_its_files(store);
+    match store.mode() {
+        Mode::Ready { sequence: _ } => Ok(()),
+        Mode::Off => recover_off(alloc, store, handles),
+    }
+}
+
+/// Recovers the files of totals that are off, and gives them handles.
+fn recover_off<D: Disk>(
+    alloc: Global,
+    store: &mut Store<D>,
+    handles: &mut Handles,
+) -> Result<(), RecoveryFault>
+    requires off { mode_of store.old.state ≡ Mode.Off }
+    ensures sound { IsSound store.new.state handles.new.given.items handles.new.next }
+    ensures recovers { Recovers D.Disk (view_of store.old handles.old.given.items handles.old.next) result
+        (view_of store.new handles.new.given.items handles.new.next) }
+{
+    match store.recover() {
+        Ok(()) => {}
+        Err(fault) => return Err(of_store(fault)),
+    }
+    let count = match store.files() {
+        Some(files) => {
+            is_directory(files);
+            files.len()
+        }
+        None => unreachable!(),
+    };
+    if handles.number(count) {
+        return Ok(());
+    }
+    replace_with(store, alloc, turned_off);
+    Err(RecoveryFault::Handles)
+}
+
+/// Why a store finds no files, in the totals' words.
+fn of_store(fault: StoreFault) -> RecoveryFault
+    requires { IsSome (told fault) }
+    ensures { told fault ≡ Some result }
+{
+    match fault {
+        StoreFault::Unformatted => RecoveryFault::Unformatted,
+        StoreFault::Damaged => RecoveryFault::Damaged,
+        StoreFault::NoMemory => RecoveryFault::NoMemory,
+        StoreFault::Device => RecoveryFault::Device,
+        StoreFault::Off | StoreFault::Exhausted | StoreFault::Refused(_) => unreachable!(),
+    }
+}
+
+/// The same disk under a store that is off.
+fn turned_off<D: Disk>(store: Store<D>, alloc: Global) -> (Store<D>, ())
+    ensures { result.0 ≡ record { disk = store.disk; state = Off } }
+{
+    (Store::new(alloc, store.into_disk()), ())
+}

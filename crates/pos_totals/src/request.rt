@@ -1,0 +1,49 @@
+/// A change of the files, as a call asks for it.
+#[derive(Clone, Copy)]
+pub enum Request<'a> {
+    Create {
+        name: &'a [u8],
+        size: i128,
+    },
+    Delete {
+        name: &'a [u8],
+    },
+    Rename {
+        handle: i128,
+        name: &'a [u8],
+    },
+    Write {
+        handle: i128,
+        offset: i128,
+        bytes: &'a [u8],
+    },
+    SetAll {
+        handle: i128,
+        value: i128,
+    },
+}
+
+/// A change that nothing refuses: its file is known by its index, and its numbers are within their ranges.
+#[derive(Clone, Copy)]
+pub enum Checked<'a> {
+    Create {
+        name: &'a [u8],
+        size: u32,
+    },
+    Delete {
+        index: u16,
+    },
+    Rename {
+        index: u16,
+        name: &'a [u8],
+    },
+    Write {
+        index: u16,
+        offset: u32,
+        bytes: &'a [u8],
+    },
+    SetAll {
+        index: u16,
+        value: u8,
+    },
+}

@@ -1,0 +1,556 @@
+use super::*;
+use pos_disk::{Disk, DiskFault, Fill, FuseDisk, MemDisk};
+use pos_service::{Answer, Code, NoMemory, Value};
+use std::alloc::{AllocError, Global};
+use std::test::Fail;
+
+const SIZE: usize = 327_680;
+
+/// A formatted disk begins so.
+const FORMATTED: [u8; 15] = [0xa5, 0, 0, 0, 0, 0, 0, 0, 1, 0, 0, 0, 2, 0, 0];
+
+/// The image of the file A of size 0 with the last sequence.
+const LAST: [u8; 21] = [
+    0xa5, 0xff, 0xff, 0xff, 0xff, 0xff, 0xff, 0xff, 0xff, 0, 0, 0, 8, 0, 1, 1, 0x41, 0, 0, 0, 0,
+];
+
+/// A disk with these bytes at its start, and zero bytes behind them.
+fn disk_of(alloc: Global, start: &[u8]) -> Result<MemDisk, AllocError> {
+    let mut bytes = Vec::from_slice(alloc, start)?;
+    let zeros = vec![in alloc; 0u8; SIZE]?;
+    bytes.extend_from_slice(&zeros)?;
+    bytes.truncate(SIZE);
+    MemDisk::new(alloc, bytes)
+}
+
+/// Totals over a disk, ready.
+fn ready<D: Disk + Drop>(
+    alloc: Global,
+    disk: D,
+    first_handle: u64,
+) -> Result<Totals<D>, RecoveryFault> {
+    let mut totals = Totals::new(alloc, disk, first_handle);
+    totals.recover()?;
+    Ok(totals)
+}
+
+/// Totals over a formatted disk, ready, whose first handle is this.
+fn formatted(alloc: Global, first_handle: u64) -> Result<Totals<MemDisk>, RecoveryFault> {
+    let Ok(disk) = disk_of(alloc, &FORMATTED) else {
+        return Err(RecoveryFault::NoMemory);
+    };
+    ready(alloc, disk, first_handle)
+}
+
+fn is_refused(outcome: &Result<Answer, NoMemory>, code: Code, extended: u32) -> bool {
+    match outcome {
+        Ok(Answer::Refused(refusal, number)) => *refusal == code && *number == extended,
+        _ => false,
+    }
+}
+
+fn is_done(outcome: &Result<Answer, NoMemory>) -> bool {
+    matches!(outcome, Ok(Answer::Done(Value::Empty)))
+}
+
+fn gives_number(outcome: &Result<Answer, NoMemory>, wanted: i128) -> bool {
+    match outcome {
+        Ok(Answer::Done(Value::Number(number))) => *number == wanted,
+        _ => false,
+    }
+}
+
+fn gives_bytes(outcome: &Result<Answer, NoMemory>, wanted: &[u8]) -> bool {
+    match outcome {
+        Ok(Answer::Done(Value::Bytes(bytes))) => bytes.as_slice() == wanted,
+        _ => false,
+    }
+}
+
+/// Whether `find` gives this handle and this size.
+fn finds<D: Disk>(totals: &Totals<D>, name: &[u8], handle: i128, size: i128) -> bool {
+    match totals.find(name) {
+        Answer::Done(Value::Pair(found, bytes)) => found == handle && bytes == size,
+        _ => false,
+    }
+}
+
+/// FreeData and NumberOfFiles, where the totals are ready.
+fn room_and_count<D: Disk>(totals: &Totals<D>) -> Option<(usize, usize)> {
+    if !totals.is_ready() {
+        return None;
+    }
+    Some((totals.free(), totals.count()))
+}
+
+/// What a read of a disk gives from a place on.
+fn read_back(disk: &mut MemDisk, at: u64, out: &mut [u8]) -> Result<(), DiskFault> {
+    let size = disk.len();
+    if at > size || out.len() as u64 > size - at {
+        return Err(DiskFault);
+    }
+    disk.read(at, out)
+}
+
+#[test]
+fn a_file_is_made_read_and_on_the_disk(rt: HostRuntime) -> Result<(), Fail> {
+    let mut totals = formatted(rt.alloc(), 1)?;
+    assert!(rt; totals.size() == 8_192);
+    assert!(rt; gives_number(&totals.create(b"A", 4), 1));
+    assert!(rt; gives_bytes(&totals.read(1, 0, 4), &[0, 0, 0, 0]));
+    assert!(rt; room_and_count(&totals) == Some((8_188, 1)));
+    assert!(rt; gives_bytes(&totals.find_by_index(0), b"A"));
+    assert!(rt; is_refused(&totals.find_by_index(1), Code::Illegal, 0));
+    assert!(rt; finds(&totals, b"A", 1, 4));
+    let mut image = [0; 25];
+    read_back(&mut totals.into_disk(), 32_768, &mut image)?;
+    let wanted = [
+        0xa5, 0, 0, 0, 0, 0, 0, 0, 2, 0, 0, 0, 12, 0, 1, 1, 0x41, 0, 0, 0, 4, 0, 0, 0, 0,
+    ];
+    assert!(rt; image == wanted);
+    Ok(())
+}
+
+#[test]
+fn totals_that_are_off(rt: HostRuntime) -> Result<(), Fail> {
+    let alloc = rt.alloc();
+    let mut totals = Totals::new(alloc, disk_of(alloc, &FORMATTED)?, 1);
+    assert!(rt; !totals.is_ready());
+    assert!(rt; matches!(totals.find(b"A"), Answer::Refused(Code::Failure, 0)));
+    assert!(rt; is_refused(&totals.find_by_index(-1), Code::Failure, 0));
+    assert!(rt; is_refused(&totals.read(1, 0, -1), Code::Failure, 0));
+    assert!(rt; is_refused(&totals.create(b"", -1), Code::Failure, 0));
+    totals.recover()?;
+    assert!(rt; gives_number(&totals.create(b"A", 0), 1));
+    totals.recover()?;
+    assert!(rt; finds(&totals, b"A", 1, 0));
+    Ok(())
+}
+
+/// What a call is to answer.
+#[derive(Clone, Copy)]
+enum Wanted {
+    Nothing,
+    Handle(i128),
+    Refused(Code, u32),
+}
+
+const ILLEGAL: Wanted = Wanted::Refused(Code::Illegal, 0);
+
+fn answers(outcome: &Result<Answer, NoMemory>, wanted: Wanted) -> bool {
+    match wanted {
+        Wanted::Nothing => matches!(outcome, Ok(Answer::Done(Value::Empty))),
+        Wanted::Handle(handle) => gives_number(outcome, handle),
+        Wanted::Refused(code, extended) => is_refused(outcome, code, extended),
+    }
+}
+
+/// Whether these names and sizes are answered so, one after another.
+fn creates<D: Disk>(totals: &mut Totals<D>, cases: &[(&[u8], i128, Wanted)]) -> bool {
+    for (name, size, wanted) in cases {
+        if !answers(&totals.create(name, *size), *wanted) {
+            return false;
+        }
+    }
+    true
+}
+
+/// Whether these handles and names are answered so, one after another.
+fn renames<D: Disk>(totals: &mut Totals<D>, cases: &[(i128, &[u8], Wanted)]) -> bool {
+    for (handle, name, wanted) in cases {
+        if !answers(&totals.rename(*handle, name), *wanted) {
+            return false;
+        }
+    }
+    true
+}
+
+#[test]
+fn names_and_sizes(rt: HostRuntime) -> Result<(), Fail> {
+    let mut totals = formatted(rt.alloc(), 1)?;
+    let no_room = Wanted::Refused(Code::Extended, 201);
+    let cases = [
+        (b"0123456789".as_slice(), 0, Wanted::Handle(1)),
+        (b"01234567890".as_slice(), 0, ILLEGAL),
+        (b"".as_slice(), 0, ILLEGAL),
+        ([0x1f].as_slice(), 0, ILLEGAL),
+        (b"B".as_slice(), -1, ILLEGAL),
+        (b"B".as_slice(), 8_193, no_room),
+        (b"B".as_slice(), i128::MAX, no_room),
+        (b"B".as_slice(), 8_192, Wanted::Handle(2)),
+        (b"C".as_slice(), 1, no_room),
+        (b"C".as_slice(), 0, Wanted::Handle(3)),
+        (b"B".as_slice(), 0, Wanted::Refused(Code::Exists, 0)),
+    ];
+    assert!(rt; creates(&mut totals, &cases));
+    let cases = [
+        (3, b"D".as_slice(), Wanted::Nothing),
+        (3, b"D".as_slice(), Wanted::Refused(Code::Exists, 0)),
+        (4, b"E".as_slice(), ILLEGAL),
+        (3, b"".as_slice(), ILLEGAL),
+    ];
+    assert!(rt; renames(&mut totals, &cases));
+    assert!(rt; gives_number(&totals.create(b"E", 0), 4));
+    Ok(())
+}
+
+#[test]
+fn a_file_that_is_deleted(rt: HostRuntime) -> Result<(), Fail> {
+    let mut totals = formatted(rt.alloc(), 1)?;
+    assert!(rt; gives_number(&totals.create(b"A", 8_000), 1));
+    assert!(rt; gives_number(&totals.create(b"B", 0), 2));
+    assert!(rt; is_done(&totals.delete(b"A")));
+    assert!(rt; is_refused(&totals.delete(b"A"), Code::NoExist, 0));
+    assert!(rt; is_refused(&totals.rename(1, b"C"), Code::Illegal, 0));
+    assert!(rt; gives_bytes(&totals.find_by_index(0), b"B"));
+    assert!(rt; room_and_count(&totals) == Some((8_192, 1)));
+    Ok(())
+}
+
+/// Whether these handles, offsets and bytes are answered so, one after another.
+fn writes<D: Disk>(totals: &mut Totals<D>, cases: &[(i128, i128, &[u8], Wanted)]) -> bool {
+    for (handle, offset, bytes, wanted) in cases {
+        if !answers(&totals.write(*handle, *offset, bytes), *wanted) {
+            return false;
+        }
+    }
+    true
+}
+
+/// Whether each of these ranges is E_ILLEGAL.
+fn reads_nothing<D: Disk>(totals: &Totals<D>, cases: &[(i128, i128, i128)]) -> bool {
+    for (handle, offset, count) in cases {
+        if !is_refused(&totals.read(*handle, *offset, *count), Code::Illegal, 0) {
+            return false;
+        }
+    }
+    true
+}
+
+#[test]
+fn handles_and_ranges(rt: HostRuntime) -> Result<(), Fail> {
+    let mut totals = formatted(rt.alloc(), 1)?;
+    assert!(rt; gives_number(&totals.create(b"A", 4), 1));
+    let cases = [
+        (1, 1, [8, 9].as_slice(), Wanted::Nothing),
+        (1, 4, [].as_slice(), Wanted::Nothing),
+        (1, 3, [1, 1].as_slice(), ILLEGAL),
+        (1, -1, [1].as_slice(), ILLEGAL),
+        (-1, 0, [1].as_slice(), ILLEGAL),
+    ];
+    assert!(rt; writes(&mut totals, &cases));
+    assert!(rt; gives_bytes(&totals.read(1, 0, 4), &[0, 8, 9, 0]));
+    assert!(rt; gives_bytes(&totals.read(1, 4, 0), &[]));
+    let cases = [(1, i128::MAX, i128::MAX), (1, 0, -1), (1, 1, 4), (2, 0, 0)];
+    assert!(rt; reads_nothing(&totals, &cases));
+    Ok(())
+}
+
+#[test]
+fn values_of_bytes(rt: HostRuntime) -> Result<(), Fail> {
+    let mut totals = formatted(rt.alloc(), 1)?;
+    assert!(rt; gives_number(&totals.create(b"A", 2), 1));
+    assert!(rt; is_refused(&totals.set_all(1, 256), Code::Illegal, 0));
+    assert!(rt; is_refused(&totals.set_all(1, -1), Code::Illegal, 0));
+    assert!(rt; is_refused(&totals.set_all(0, 7), Code::Illegal, 0));
+    assert!(rt; is_done(&totals.set_all(1, 255)));
+    assert!(rt; gives_bytes(&totals.read(1, 0, 2), &[255, 255]));
+    Ok(())
+}
+
+#[test]
+fn the_last_handle(rt: HostRuntime) -> Result<(), Fail> {
+    let alloc = rt.alloc();
+    let mut totals = formatted(alloc, u64::MAX - 1)?;
+    assert!(rt; gives_number(&totals.create(b"A", 0), 18_446_744_073_709_551_614));
+    assert!(rt; is_refused(&totals.create(b"B", 0), Code::Failure, 0));
+    assert!(rt; room_and_count(&totals) == Some((8_192, 1)));
+    let disk = totals.into_disk();
+    assert!(rt;
+        ready(alloc, disk.crash(Fill::New)?, u64::MAX).err() == Some(RecoveryFault::Handles)
+    );
+    assert!(rt; ready(alloc, disk, u64::MAX - 1)?.is_ready());
+    assert!(rt; formatted(alloc, u64::MAX)?.is_ready());
+    Ok(())
+}
+
+#[test]
+fn the_last_sequence(rt: HostRuntime) -> Result<(), Fail> {
+    let alloc = rt.alloc();
+    let mut totals = ready(alloc, disk_of(alloc, &LAST)?, 1)?;
+    assert!(rt; is_refused(&totals.delete(b"A"), Code::Failure, 0));
+    assert!(rt; finds(&totals, b"A", 1, 0));
+    Ok(())
+}
+
+#[test]
+fn disks_without_files(rt: HostRuntime) -> Result<(), Fail> {
+    let alloc = rt.alloc();
+    let none = ready(alloc, disk_of(alloc, &[])?, 1).err();
+    assert!(rt; none == Some(RecoveryFault::Unformatted));
+    let short = [0xa5, 0, 0, 0, 0, 0, 0, 0, 1, 0, 0, 0, 5, 0, 1, 1, 0x41, 0];
+    let damaged = ready(alloc, disk_of(alloc, &short)?, 1).err();
+    assert!(rt; damaged == Some(RecoveryFault::Damaged));
+    assert!(rt; RecoveryFault::Unformatted.code() == Ok(Code::NoHardware));
+    assert!(rt; RecoveryFault::Damaged.code() == Ok(Code::Failure));
+    assert!(rt; RecoveryFault::Handles.code() == Ok(Code::Failure));
+    assert!(rt; RecoveryFault::Device.code() == Ok(Code::Failure));
+    assert!(rt; RecoveryFault::NoMemory.code() == Err(NoMemory));
+    Ok(())
+}
+
+/// A change, by which the file A of the bytes 1, 2, 3, 4 becomes something else.
+#[derive(Clone, Copy, PartialEq, Eq)]
+enum Call {
+    Create,
+    Delete,
+    Rename,
+    Write,
+    SetAll,
+}
+
+const CALLS: [Call; 5] = [
+    Call::Create,
+    Call::Delete,
+    Call::Rename,
+    Call::Write,
+    Call::SetAll,
+];
+
+/// Calls it on the file with a handle.
+fn carry_out<D: Disk>(
+    totals: &mut Totals<D>,
+    call: Call,
+    handle: i128,
+) -> Result<Answer, NoMemory> {
+    match call {
+        Call::Create => totals.create(b"B", 2),
+        Call::Delete => totals.delete(b"A"),
+        Call::Rename => totals.rename(handle, b"C"),
+        Call::Write => totals.write(handle, 1, &[8, 9]),
+        Call::SetAll => totals.set_all(handle, 7),
+    }
+}
+
+/// What the totals have.
+#[derive(Clone, Copy, PartialEq, Eq)]
+enum Seen {
+    Nothing,
+    Before,
+    After,
+    Other,
+}
+
+/// Whether they have this file at an index, under the handle that is so far behind the first one.
+fn has<D: Disk>(totals: &Totals<D>, first: u8, index: u8, name: &[u8], bytes: &[u8]) -> bool {
+    let handle = first as i128 + index as i128;
+    gives_bytes(&totals.find_by_index(index as i128), name)
+        && gives_bytes(&totals.read(handle, 0, bytes.len() as i128), bytes)
+        && finds(totals, name, handle, bytes.len() as i128)
+}
+
+/// What they have of a call, the files' handles being those from the first one on.
+fn look<D: Disk>(totals: &Totals<D>, call: Call, first: u8) -> Seen {
+    let Some((_, count)) = room_and_count(totals) else {
+        return Seen::Nothing;
+    };
+    if count == 1 && has(totals, first, 0, b"A", &[1, 2, 3, 4]) {
+        return Seen::Before;
+    }
+    let is_after = match call {
+        Call::Create => count == 2 && has(totals, first, 1, b"B", &[0, 0]),
+        Call::Delete => count == 0,
+        Call::Rename => count == 1 && has(totals, first, 0, b"C", &[1, 2, 3, 4]),
+        Call::Write => count == 1 && has(totals, first, 0, b"A", &[1, 8, 9, 4]),
+        Call::SetAll => count == 1 && has(totals, first, 0, b"A", &[7, 7, 7, 7]),
+    };
+    if is_after { Seen::After } else { Seen::Other }
+}
+
+/// A disk with the file A alone.
+fn with_a_file(alloc: Global) -> Result<MemDisk, RecoveryFault> {
+    let mut totals = formatted(alloc, 1)?;
+    if totals.create(b"A", 4).is_err() || totals.write(1, 0, &[1, 2, 3, 4]).is_err() {
+        return Err(RecoveryFault::NoMemory);
+    }
+    Ok(totals.into_disk())
+}
+
+/// What a call answered on a disk that failed once, and the totals.
+#[derive(Drop)]
+struct Attempt {
+    outcome: Result<Answer, NoMemory>,
+    totals: Totals<FuseDisk<MemDisk>>,
+}
+
+/// Carries out a call over a disk that fails once after `pass` calls, after a second recovery where the first one failed.
+fn stopped(alloc: Global, disk: &MemDisk, call: Call, pass: u64) -> Result<Attempt, RecoveryFault> {
+    let Ok(copy) = disk.crash(Fill::New) else {
+        return Err(RecoveryFault::NoMemory);
+    };
+    let mut totals = Totals::new(alloc, FuseDisk::new(copy, pass, 1), 1);
+    if totals.recover() == Err(RecoveryFault::Device) {
+        totals.recover()?;
+    }
+    let outcome = carry_out(&mut totals, call, 1);
+    Ok(Attempt { outcome, totals })
+}
+
+/// What is found on a disk after a crash, if a second recovery finds the same.
+fn reopened(alloc: Global, disk: &MemDisk, call: Call, fill: Fill) -> Result<Seen, RecoveryFault> {
+    let Ok(crashed) = disk.crash(fill) else {
+        return Err(RecoveryFault::NoMemory);
+    };
+    let totals = ready(alloc, crashed, 1)?;
+    let first = look(&totals, call, 1);
+    let totals = ready(alloc, totals.into_disk(), 5)?;
+    Ok(if look(&totals, call, 5) == first {
+        first
+    } else {
+        Seen::Other
+    })
+}
+
+/// Whether each crash of a disk leaves the files before a call or those after it, after it where it was done.
+fn is_whole(
+    alloc: Global,
+    disk: &MemDisk,
+    call: Call,
+    is_acknowledged: bool,
+) -> Result<bool, RecoveryFault> {
+    for fill in [Fill::Old, Fill::New, Fill::Byte(0xA5), Fill::Byte(0)] {
+        match reopened(alloc, disk, call, fill)? {
+            Seen::After => {}
+            Seen::Before if !is_acknowledged => {}
+            _ => return Ok(false),
+        }
+    }
+    Ok(true)
+}
+
+/// Stops a call at each disk call in turn: whether each crash leaves the files before it or after it, and how often the
+/// disk failed in it.
+fn stops(alloc: Global, call: Call) -> Result<(bool, u32), RecoveryFault> {
+    let disk = with_a_file(alloc)?;
+    let mut failures = 0u32;
+    for pass in 0..20u64 {
+        let Attempt { outcome, totals } = stopped(alloc, &disk, call, pass)?;
+        let is_acknowledged = matches!(outcome, Ok(Answer::Done(_)));
+        let seen = look(&totals, call, 1);
+        let left = totals.into_disk().into_inner();
+        if !is_whole(alloc, &left, call, is_acknowledged)? {
+            return Ok((false, failures));
+        }
+        if is_refused(&outcome, Code::Failure, 0) && seen == Seen::Nothing {
+            failures = failures.saturating_add(1);
+        } else if !is_acknowledged || seen != Seen::After {
+            return Ok((false, failures));
+        }
+    }
+    Ok((true, failures))
+}
+
+#[test]
+fn a_create_stopped_at_each_disk_call(rt: HostRuntime) -> Result<(), Fail> {
+    let (is_whole, failures) = stops(rt.alloc(), Call::Create)?;
+    assert!(rt; is_whole && failures >= 4);
+    Ok(())
+}
+
+#[test]
+fn a_delete_stopped_at_each_disk_call(rt: HostRuntime) -> Result<(), Fail> {
+    let (is_whole, failures) = stops(rt.alloc(), Call::Delete)?;
+    assert!(rt; is_whole && failures >= 4);
+    Ok(())
+}
+
+#[test]
+fn a_rename_stopped_at_each_disk_call(rt: HostRuntime) -> Result<(), Fail> {
+    let (is_whole, failures) = stops(rt.alloc(), Call::Rename)?;
+    assert!(rt; is_whole && failures >= 4);
+    Ok(())
+}
+
+#[test]
+fn a_write_stopped_at_each_disk_call(rt: HostRuntime) -> Result<(), Fail> {
+    let (is_whole, failures) = stops(rt.alloc(), Call::Write)?;
+    assert!(rt; is_whole && failures >= 4);
+    Ok(())
+}
+
+#[test]
+fn a_set_all_stopped_at_each_disk_call(rt: HostRuntime) -> Result<(), Fail> {
+    let (is_whole, failures) = stops(rt.alloc(), Call::SetAll)?;
+    assert!(rt; is_whole && failures >= 4);
+    Ok(())
+}
+
+/// Whether a write that the disk stopped is decided by the next recovery, under new handles, and stays so.
+fn is_decided(alloc: Global, disk: &MemDisk, pass: u64) -> Result<bool, RecoveryFault> {
+    let Attempt {
+        outcome,
+        mut totals,
+    } = stopped(alloc, disk, Call::Write, pass)?;
+    if !is_refused(&outcome, Code::Failure, 0) {
+        return Ok(true);
+    }
+    if !is_refused(&totals.read(1, 0, 4), Code::Failure, 0) {
+        return Ok(false);
+    }
+    totals.recover()?;
+    if !is_refused(&totals.read(1, 0, 4), Code::Illegal, 0) {
+        return Ok(false);
+    }
+    let seen = look(&totals, Call::Write, 2);
+    let mut left = totals.into_disk().into_inner();
+    for _ in 0..10u32 {
+        let again = ready(alloc, left, 2)?;
+        if look(&again, Call::Write, 2) != seen {
+            return Ok(false);
+        }
+        left = again.into_disk();
+    }
+    Ok(seen == Seen::Before || seen == Seen::After)
+}
+
+#[test]
+fn a_change_in_doubt_is_decided_once(rt: HostRuntime) -> Result<(), Fail> {
+    let alloc = rt.alloc();
+    let disk = with_a_file(alloc)?;
+    for pass in 0..24u64 {
+        assert!(rt; is_decided(alloc, &disk, pass)?, "at {pass}");
+    }
+    Ok(())
+}
+
+/// A recovery and a call, each once more where a growth was refused: whether nothing had changed then, and what the
+/// totals have at the end.
+fn with_repeats(alloc: Global, disk: MemDisk, call: Call) -> Result<(bool, Seen), RecoveryFault> {
+    let mut totals = Totals::new(alloc, disk, 1);
+    let mut is_unchanged = true;
+    if totals.recover() == Err(RecoveryFault::NoMemory) {
+        is_unchanged = !totals.is_ready();
+        totals.recover()?;
+    }
+    if carry_out(&mut totals, call, 1).is_err() {
+        is_unchanged = look(&totals, call, 1) == Seen::Before;
+        if carry_out(&mut totals, call, 1).is_err() {
+            return Err(RecoveryFault::NoMemory);
+        }
+    }
+    if look(&totals, call, 1) == Seen::After {
+        return Ok((is_unchanged, Seen::After));
+    }
+    Ok((is_unchanged, look(&totals, call, 1)))
+}
+
+/// Where a growth is refused, the totals are as they were, and the same call succeeds after it.
+#[test]
+fn a_refused_growth_changes_nothing(rt: HostRuntime) -> Result<(), Fail> {
+    let alloc = rt.alloc();
+    for call in CALLS {
+        let (is_unchanged, seen) = with_repeats(alloc, with_a_file(alloc)?, call)?;
+        assert!(rt; is_unchanged && seen == Seen::After);
+    }
+    Ok(())
+}

@@ -1,0 +1,210 @@
+ghost use Rattle.std.specs.Prelude.{◌≡◌, length};
+
+use crate::asking::{find, find_by_index, read};
+use crate::changing::change;
+use crate::fault::RecoveryFault;
+use crate::files::{TOTALS_SIZE, count, files_of, free_data};
+use crate::handles::Handles;
+use crate::recovering::recover;
+use crate::request::Request;
+use pos_disk::Disk;
+use pos_service::{Answer, NoMemory};
+use pos_store::{Mode, Store};
+use std::alloc::Global;
+use std::marker::Model;
+
+/// The totals: files of a fixed size on a disk, each with a handle (chapter Hard Totals). A handle is given once, and a
+/// recovery gives its files new ones. Contracts see the disk, the files with their handles, or Off, and the next handle.
+///
+/// The calls answer E_FAILURE while the totals are off, then by their tables of refusals, and want of memory behind those.
+/// A refused call changes nothing and doesn't touch the disk. Where the disk fails in a change, the answer is E_FAILURE,
+/// the totals are off, and the next recovery finds the files before the change or those after the whole of it.
+#[derive(Drop)]
+pub struct Totals<D: Disk> {
+    alloc: Global,
+    pub(crate) store: Store<D>,
+    handles: Handles,
+}
+
+impl<D: Disk> Model for Totals<D> {
+    ghost use Rattle.pos_totals.specs.Views.{View, view_of, IsSound};
+
+    ghost Value = { View D };
+
+    ghost view = { λ t. view_of t.store t.handles.given.items t.handles.next };
+
+    ghost invariant = { λ t. IsSound t.store.state t.handles.given.items t.handles.next };
+}
+
+impl<D: Disk> Totals<D> {
+    ghost use Rattle.pos_disk.specs.State.{IsAtRest};
+    ghost use Rattle.pos_service.specs.HardTotals.{Off, Create, Delete, Rename, Write, SetAll, Find, FindByIndex, Read, Asked, AskedFor, is_ready, files_of, free_data, totals_size};
+    ghost use Rattle.pos_totals.specs.Changes.{Changes};
+    ghost use Rattle.pos_totals.specs.Checks.{change_of};
+    ghost use Rattle.pos_totals.specs.Recoveries.{Recovers};
+    ghost use Rattle.pos_totals.specs.Views.{IsReady, WhenReady};
+
+    /// Totals that are off, over a disk. Nothing is read yet. The first file gets the first handle;
+    /// 18,446,744,073,709,551,615 there means that no handle is left.
+    pub fn new(alloc: Global, disk: D, first_handle: u64) -> Totals<D>
+        ensures { result ≡ record { disk = disk; totals = record { mode = Off; next = first_handle } } }
+    {
+        Totals {
+            alloc,
+            store: Store::new(alloc, disk),
+            handles: Handles::new(first_handle),
+        }
+    }
+
+    /// Reads the files of the disk, where the totals are off, and gives them handles from the next one on; where they are
+    /// ready it succeeds and does nothing. It may crash too, and may be called again: the disk then has what it had.
+    ///
+    /// # Errors
+    ///
+    /// `Unformatted`, `Damaged`, `Handles` where the files are more than the handles that are left, `NoMemory`, and
+    /// `Device` where the disk failed. The totals are still off, and the next handle is as it was.
+    pub fn recover(&mut self) -> Result<(), RecoveryFault>
+        ensures { Recovers D.Disk self.old result self.new }
+    {
+        recover(self.alloc, &mut self.store, &mut self.handles)
+    }
+
+    /// `create`: adds a file of zero bytes behind the others, and gives its handle.
+    ///
+    /// Refused with E_ILLEGAL for a bad name or a size below 0, E_EXISTS where a file has the name, E_EXTENDED 201 where
+    /// the size is above FreeData or there are 64 files, E_FAILURE where no handle or no sequence is left or the disk
+    /// fails.
+    pub fn create(&mut self, name: &[u8], size: i128) -> Result<Answer, NoMemory>
+        ensures { Changes D.Disk self.old (Create name.now size) result self.new }
+    {
+        self.change(Request::Create { name, size })
+    }
+
+    /// `delete`: removes a file; those behind it close up.
+    ///
+    /// Refused with E_NOEXIST where no file has the name, E_FAILURE where no sequence is left or the disk fails.
+    pub fn delete(&mut self, name: &[u8]) -> Result<Answer, NoMemory>
+        ensures { Changes D.Disk self.old (Delete name.now) result self.new }
+    {
+        self.change(Request::Delete { name })
+    }
+
+    /// `rename`: gives a file another name.
+    ///
+    /// Refused with E_ILLEGAL where no file has the handle or for a bad name, E_EXISTS where a file has the name, this one
+    /// too, E_FAILURE where no sequence is left or the disk fails.
+    pub fn rename(&mut self, handle: i128, name: &[u8]) -> Result<Answer, NoMemory>
+        ensures { Changes D.Disk self.old (Rename handle name.now) result self.new }
+    {
+        self.change(Request::Rename { handle, name })
+    }
+
+    /// `write`: puts bytes in the place of those of a file from an offset on.
+    ///
+    /// Refused with E_ILLEGAL where no file has the handle, or the bytes don't lie within the file, E_FAILURE where no
+    /// sequence is left or the disk fails.
+    pub fn write(&mut self, handle: i128, offset: i128, bytes: &[u8]) -> Result<Answer, NoMemory>
+        ensures { Changes D.Disk self.old (Write handle offset bytes.now) result self.new }
+    {
+        self.change(Request::Write {
+            handle,
+            offset,
+            bytes,
+        })
+    }
+
+    /// `setAll`: makes each byte of a file the same.
+    ///
+    /// Refused with E_ILLEGAL where no file has the handle, or the value isn't 0 to 255, E_FAILURE where no sequence is
+    /// left or the disk fails.
+    pub fn set_all(&mut self, handle: i128, value: i128) -> Result<Answer, NoMemory>
+        ensures { Changes D.Disk self.old (SetAll handle value) result self.new }
+    {
+        self.change(Request::SetAll { handle, value })
+    }
+
+    /// Carries out a change.
+    fn change(&mut self, request: Request<'_>) -> Result<Answer, NoMemory>
+        ensures { Changes D.Disk self.old (change_of request.entry) result self.new }
+    {
+        change(self.alloc, &mut self.store, &mut self.handles, request)
+    }
+
+    /// `find`: the handle and the size of the file with a name. It takes no memory.
+    ///
+    /// Refused with E_NOEXIST where no file has the name.
+    pub fn find(&self, name: &[u8]) -> Answer
+        ensures { Asked self.now.totals (Find name.now) result }
+    {
+        find(&self.store, &self.handles, name)
+    }
+
+    /// `findByIndex`: the name of the file at an index, counted from 0 in the order of creation.
+    ///
+    /// Refused with E_ILLEGAL where no file has the index.
+    pub fn find_by_index(&self, index: i128) -> Result<Answer, NoMemory>
+        ensures { AskedFor self.now.totals (FindByIndex index) result }
+    {
+        find_by_index(self.alloc, &self.store, &self.handles, index)
+    }
+
+    /// `read`: so many bytes of a file from an offset on.
+    ///
+    /// Refused with E_ILLEGAL where no file has the handle, or the range doesn't lie within the file.
+    pub fn read(&self, handle: i128, offset: i128, count: i128) -> Result<Answer, NoMemory>
+        ensures { AskedFor self.now.totals (Read handle offset count) result }
+    {
+        read(
+            self.alloc,
+            &self.store,
+            &self.handles,
+            handle,
+            offset,
+            count,
+        )
+    }
+
+    /// Whether the files are known.
+    pub fn is_ready(&self) -> bool
+        ensures { result ≡ is_ready self.now.totals.mode }
+    {
+        self.store.mode() != Mode::Off
+    }
+
+    /// TotalsSize: the most bytes of all files in sum.
+    pub fn size(&self) -> usize
+        ensures { result ≡ totals_size }
+    {
+        TOTALS_SIZE
+    }
+
+    /// FreeData: how many bytes are left for new files. The totals are ready.
+    pub fn free(&self) -> usize
+        requires { IsReady self.now.totals.mode }
+        ensures { result ≡ free_data (files_of self.now.totals.mode) }
+    {
+        match files_of(&self.store, &self.handles) {
+            Some(files) => free_data(files),
+            None => unreachable!(),
+        }
+    }
+
+    /// NumberOfFiles. The totals are ready.
+    pub fn count(&self) -> usize
+        requires { IsReady self.now.totals.mode }
+        ensures { result ≡ length (files_of self.now.totals.mode) }
+    {
+        match files_of(&self.store, &self.handles) {
+            Some(files) => count(files),
+            None => unreachable!(),
+        }
+    }
+
+    /// Gives the disk as it is, at rest where the totals are ready.
+    pub fn into_disk(self) -> D
+        ensures disk { result ≡ self.disk }
+        ensures at_rest { D.honest self.disk → WhenReady self.totals.mode (IsAtRest (D.state self.disk)) }
+    {
+        self.store.into_disk()
+    }
+}
