@@ -1,4 +1,4 @@
-ghost use Rattle.std.specs.Prelude.{◌≡◌};
+ghost use Rattle.std.specs.Prelude.{◌≡◌, Some, IsTrue, is_some};
 ghost use Rattle.pos_service.specs.Controls.{new_control};
 
 mod calls;
@@ -58,5 +58,13 @@ impl Control {
         ensures { result ≡ self.now.control.device }
     {
         self.device
+    }
+
+    /// The place in the profile of the device of an open control.
+    pub fn place(&self) -> usize
+        requires { IsTrue (is_some self.now.control.device) }
+        ensures { self.now.control.device ≡ Some result }
+    {
+        self.device.unwrap()
     }
 }

@@ -1,5 +1,7 @@
 use crate::{Control, Need, hear_all, room_all};
-use pos_service::{Answer, Category, Code, ErrorReply, Event, PaperLevel, Property, Signs, Value};
+use pos_service::{
+    Answer, Category, Code, ErrorReply, Event, Finding, PaperLevel, Property, Signs, Value,
+};
 use std::test::Fail;
 
 /// The signs of a drawer.
@@ -28,26 +30,10 @@ fn a_control_is_opened_and_enabled_and_closed(rt: HostRuntime) {
             Answer::Refused(Code::Closed, 0)
         )
     );
-    assert_eq!(rt; a.check(Need { is_enabled: false }), Err(Code::Closed));
-    assert!(rt;
-        matches!(
-            a.open(None, false, false),
-            Answer::Refused(Code::NoExist, 0)
-        )
-    );
-    assert!(rt;
-        matches!(
-            a.open(Some(3), true, false),
-            Answer::Refused(Code::NoService, 0)
-        )
-    );
-    assert!(rt; matches!(a.open(Some(3), true, true), Answer::Done(Value::Empty)));
-    assert!(rt;
-        matches!(
-            a.open(Some(3), true, true),
-            Answer::Refused(Code::Illegal, 0)
-        )
-    );
+    assert!(rt; matches!(a.open(Finding::NotThere), Answer::Refused(Code::NoExist, 0)));
+    assert!(rt; matches!(a.open(Finding::Vacant), Answer::Refused(Code::NoService, 0)));
+    assert!(rt; matches!(a.open(Finding::At(3)), Answer::Done(Value::Empty)));
+    assert!(rt; matches!(a.open(Finding::At(3)), Answer::Refused(Code::Illegal, 0)));
     assert_eq!(rt; a.device(), Some(3));
     assert!(rt; !a.listens(3));
     assert!(rt;
@@ -97,7 +83,7 @@ fn a_property_is_set_to_values_of_its_type_alone(rt: HostRuntime) {
     let mut a = Control::new(rt.alloc(), Category::CashDrawer);
     let closed = a.set(Property::State, &Value::Number(2));
     assert!(rt; matches!(closed, Answer::Refused(Code::Closed, 0)));
-    assert!(rt; matches!(a.open(Some(0), true, true), Answer::Done(Value::Empty)));
+    assert!(rt; matches!(a.open(Finding::At(0)), Answer::Done(Value::Empty)));
     let settings = [
         (Property::State, Value::Number(2)),
         (Property::CapStatus, Value::Truth(true)),
@@ -118,7 +104,7 @@ fn each_control_that_listens_hears_what_has_changed(rt: HostRuntime) -> Result<(
         Control::new(rt.alloc(), Category::CashDrawer),
     ];
     for (place, control) in controls.iter_mut().enumerate() {
-        control.open(Some(place / 2), true, true);
+        control.open(Finding::At(place / 2));
         control.set(Property::DeviceEnabled, &Value::Truth(true));
     }
     let closed = drawer_signs(false);
@@ -151,7 +137,7 @@ fn each_control_that_listens_hears_what_has_changed(rt: HostRuntime) -> Result<(
 #[test]
 fn ten_thousand_events_are_delivered_one_by_one(rt: HostRuntime) -> Result<(), Fail> {
     let mut a = Control::new(rt.alloc(), Category::CashDrawer);
-    a.open(Some(0), true, true);
+    a.open(Finding::At(0));
     a.set(Property::DeviceEnabled, &Value::Truth(true));
     for n in 0..10_000 {
         let was_open = n % 2 == 1;
@@ -169,7 +155,7 @@ fn ten_thousand_events_are_delivered_one_by_one(rt: HostRuntime) -> Result<(), F
 #[test]
 fn a_refused_room_changes_nothing(rt: HostRuntime) {
     let mut a = Control::new(rt.alloc(), Category::CashDrawer);
-    a.open(Some(0), true, true);
+    a.open(Finding::At(0));
     a.set(Property::DeviceEnabled, &Value::Truth(true));
     let mut told = [false; 100];
     for is_told in told.iter_mut() {

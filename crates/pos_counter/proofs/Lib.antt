@@ -5,3 +5,4 @@ pub mod Sound
 pub mod Stations
 pub mod Runs
 pub mod Parking
+pub mod Serving

@@ -7,11 +7,11 @@ use Rattle.pos_service.specs.declared.answer.Answer.{Answer}
 use Rattle.pos_service.specs.declared.event.Event.{Event}
 use Rattle.pos_service.specs.declared.event.ErrorReply.{ErrorReply}
 use Rattle.pos_service.specs.Controls.{Control, deliverable, delivered}
-use Rattle.pos_service.specs.Machine.{Device, Machine, with_control}
+use Rattle.pos_counter.specs.Machine.{Device, Machine, with_control}
 use Rattle.pos_service.specs.Refusals.{Row, Decided, first_refusal}
-use Rattle.pos_service.specs.Steps.{Step, Deliver, Delivered}
+use Rattle.pos_counter.specs.Steps.{Step, Deliver, Delivered}
 use Rattle.pos_common.specs.Held.{Held, controls_of}
-use Rattle.pos_counter.specs.Machines.{over}
+use Rattle.pos_counter.specs.Parts.{over}
 
 pub match_cases : {A : Type 0} (o : Option A) (P : Type 0) (R : A → Type 0) → MatchOption o P R → ((o ≡ None) × P) ⊎ ((a : A) × (o ≡ Some a) × R a)
 match_cases None P R h = inl (refl, h)
@@ -23,6 +23,10 @@ match_weaker (Some a) P Q R S f g h = g a h
 
 pub match_at_some : {A : Type 0} (o : Option A) (a : A) (P : Type 0) (R : A → Type 0) → o ≡ Some a → R a → MatchOption o P R
 match_at_some o a P R e r = subst (λ x. MatchOption x P R) (sym e) r
+
+-- the same at an equal option
+pub match_by : {A : Type 0} (o u : Option A) (P : Type 0) (R : A → Type 0) → o ≡ u → MatchOption u P R → MatchOption o P R
+match_by o u P R e h = subst (λ x. MatchOption x P R) (sym e) h
 
 pub match_at_none : {A : Type 0} (o : Option A) (P : Type 0) (R : A → Type 0) → o ≡ None → P → MatchOption o P R
 match_at_none o P R e p = subst (λ x. MatchOption x P R) (sym e) p

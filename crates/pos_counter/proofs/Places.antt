@@ -3,9 +3,9 @@ use Rattle.std.proofs.Common.{◌≡◌, ◌∷◌, [], ℕ, ◌+◌, ◌<◌, �
 use Rattle.std.specs.Prelude.{bytes_eq}
 use Rattle.std.proofs.lemmas.List.{drop_more, get_or-map, length-map, drop_all}
 use Rattle.pos_service.specs.Peripherals.{PeripheralState}
-use Rattle.pos_service.specs.Machine.{Device, place_from}
+use Rattle.pos_counter.specs.Machine.{Device, place_from}
 use Rattle.pos_counter.specs.declared.entry.Entry.{Entry}
-use Rattle.pos_counter.specs.Machines.{device_of, devices_of}
+use Rattle.pos_counter.specs.Parts.{device_of, devices_of}
 
 -- a device with no peripheral
 abbrev pub vacant : Entry → Device

@@ -1,8 +1,8 @@
 -- A run goes on by one more step.
 use Rattle.std.proofs.Common.{◌≡◌, ℕ, ◌+◌, ◌<◌, ◌∷◌, ◌++◌, [], List, zero, suc, length, take, get_or, ap, ◌∙◌, subst, refl, arith}
-use Rattle.pos_service.specs.Machine.{Machine}
-use Rattle.pos_service.specs.Steps as machine
-use Rattle.pos_service.specs.Steps.{Step, Run}
+use Rattle.pos_counter.specs.Machine.{Machine}
+use Rattle.pos_counter.specs.Steps as machine
+use Rattle.pos_counter.specs.Steps.{Step, Run}
 use Rattle.pos_counter.specs.declared.request.Request.{Request}
 use Rattle.pos_counter.specs.declared.request.Response.{Response}
 use Rattle.pos_counter.specs.Responses.{request_of, response_of, steps_of}

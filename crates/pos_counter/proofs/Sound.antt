@@ -1,29 +1,28 @@
 -- Every step keeps the machine sound.
 use Rattle.std.proofs.Common.{◌≡◌, ℕ, ◌∷◌, inl, inr, zero, suc, List, [], Option, Some, None, Bool, true, false, cond, set, ap, sym, ◌∙◌, subst, refl}
-use Rattle.std.specs.Prelude.{MatchOption, IfSome, IsTrue, All, ◌++◌, slice_get, is_some}
+use Rattle.std.specs.Prelude.{MatchOption, IfSome, IsTrue, All, ◌++◌, ◌||◌, slice_get, is_some, is_none}
 use Rattle.std.proofs.lemmas.List.Elements.{All-push, All-set, All-weaker, All-map, All-get_or}
 use Rattle.std.proofs.lemmas.Option.{slice_get_within, get_or_from_slice_get}
 use Rattle.pos_service.specs.declared.category.Category.{Category}
+use Rattle.pos_service.specs.declared.category.Category.TheVariants as category
 use Rattle.pos_service.specs.declared.answer.Answer.{Answer}
 use Rattle.pos_service.specs.declared.event.Event.{Event}
+use Rattle.pos_service.specs.declared.finding.Finding.TheVariants as finding
 use Rattle.pos_service.specs.declared.input.Input.{Input}
 use Rattle.pos_service.specs.declared.call.Call.{Call}
 use Rattle.pos_service.specs.declared.call.Call.TheVariants as call
-use Rattle.pos_service.specs.declared.property.Property.{Property}
-use Rattle.pos_service.specs.declared.property.Property.TheVariants as property
-use Rattle.pos_service.specs.declared.answer.Value.{Value}
-use Rattle.pos_service.specs.declared.answer.Value.TheVariants as value
-use Rattle.pos_service.specs.Controls.{Control, new_control, opened, closed, delivered, heard, listens, all_heard}
-use Rattle.pos_service.specs.Machine.{Station, Device, Machine, station_in, device_at, is_served, with_control}
+use Rattle.pos_service.specs.Controls.{Control, new_control, closed, delivered, heard, listens, all_heard}
 use Rattle.pos_service.specs.Refusals.{Row, Decided, first_refusal}
-use Rattle.pos_service.specs.Calls.{serves, open_rows, after_set, get_rows}
-use Rattle.pos_service.specs.DrawerCalls.{DrawerOpens, drawer_rows}
-use Rattle.pos_service.specs.Steps.{Request, NewControl, CallOf, InputTo, Deliver, Snapshot, Response, Made, Full, Answered, TakenIn, NoDevice, WrongInput, Delivered, Shown, OutOfMemory, OnStation, Step, Called, TakesIn, IsSound, HasItsKind, HasItsDevice}
+use Rattle.pos_service.specs.Calls.{serves, place_found, after_set, get_rows}
+use Rattle.pos_service.specs.Stations.{Station, Effect, TakesIn}
+use Rattle.pos_service.specs.DrawerCalls.{DrawerOpens}
+use Rattle.pos_counter.specs.Machine.{Device, Machine, device_at, place_of, found_at, with_control}
+use Rattle.pos_counter.specs.Steps.{Request, NewControl, CallOf, InputTo, Deliver, Snapshot, Response, Made, Full, Answered, TakenIn, NoDevice, WrongInput, Delivered, Shown, OutOfMemory, OnStation, Step, Called, CategoryDoes, refusals, IsSound, IsServed, HasItsKind, HasItsDevice}
 use Rattle.pos_counter.proofs.Lifts.{match_cases}
 
--- the device at a place has a peripheral, and the category serves it
+-- the device is there, and the category serves it
 abbrev pub Served : Category → Option Device → Type 0
-Served category o = MatchOption o ⊥ (λ device. IsTrue (is_some device.station) × (serves category device.kind ≡ true))
+Served category o = MatchOption o ⊥ (IsServed category)
 
 -- a category's control may have the device at this place open
 abbrev Seat : List Device → Category → Option ℕ → Type 0
@@ -54,44 +53,20 @@ decided_sound rows r m m' n c Done h d s =
       | inr x ↦ same_machine m m' x.2.1 s
     ]
 
-refused_by : (b : Bool) (x y : Answer) → cond b (Some x) (Some y) ≡ None → ⊥
-refused_by true x y e = cc
-refused_by false x y e = cc
+-- what a control finds to open is there, and its category serves it
+found_seat : (ds : List Device) (category : Category) (place : Option ℕ) → Seat ds category (place_found (found_at category place (device_at ds place)))
+found_seat ds category None = tt
+found_seat ds category (Some i) = there (slice_get ds i) refl
+  where
+    pick : (d : Device) → slice_get ds i ≡ Some d → (served attached : Bool) → serves category d.kind ≡ served → (is_none d.kind || is_some d.station) ≡ attached → Seat ds category (place_found (cond served (cond attached (finding.At i) finding.Vacant) finding.NotThere))
+    pick d e true true s a = subst (Served category) (sym e) (s, a)
+    pick d e true false s a = tt
+    pick d e false true s a = tt
+    pick d e false false s a = tt
 
--- where nothing refuses an open, the device exists and has a peripheral
-opens_there : (c : Control) (exists attached : Bool) → first_refusal (open_rows c exists attached) ≡ None → (exists ≡ true) × (attached ≡ true)
-opens_there c true true e = (refl, refl)
-opens_there c true false e = absurd (refused_by (is_some c.device) _ _ e)
-opens_there c false true e = absurd (refused_by (is_some c.device) _ _ e)
-opens_there c false false e = absurd (refused_by (is_some c.device) _ _ e)
-
-served_there : (category : Category) (o : Option Device) → is_served category o ≡ true → is_some (station_in o) ≡ true → Served category o
-served_there category None served attached = cc
-served_there category (Some device) served attached = (attached, served)
-
-opened_seat : (ds : List Device) (c : Control) (place : Option ℕ) → (is_served c.category (device_at ds place) ≡ true) × (is_some (station_in (device_at ds place)) ≡ true) → HasItsDevice ds (opened c place)
-opened_seat ds c None h = tt
-opened_seat ds c (Some at) h = served_there c.category (slice_get ds at) h.0 h.1
-
-set_keeps_device : (c : Control) (p : Property) (v : Value) → (after_set c p v).device ≡ c.device
-set_keeps_device c property.DeviceEnabled value.Empty = refl
-set_keeps_device c property.DeviceEnabled (value.Truth b) = refl
-set_keeps_device c property.DeviceEnabled (value.Number n) = refl
-set_keeps_device c property.DeviceEnabled (value.Pair n m) = refl
-set_keeps_device c property.DeviceEnabled (value.Bytes bytes) = refl
-set_keeps_device c property.State v = refl
-set_keeps_device c property.CapStatus v = refl
-set_keeps_device c property.DrawerOpened v = refl
-
-set_keeps_category : (c : Control) (p : Property) (v : Value) → (after_set c p v).category ≡ c.category
-set_keeps_category c property.DeviceEnabled value.Empty = refl
-set_keeps_category c property.DeviceEnabled (value.Truth b) = refl
-set_keeps_category c property.DeviceEnabled (value.Number n) = refl
-set_keeps_category c property.DeviceEnabled (value.Pair n m) = refl
-set_keeps_category c property.DeviceEnabled (value.Bytes bytes) = refl
-set_keeps_category c property.State v = refl
-set_keeps_category c property.CapStatus v = refl
-set_keeps_category c property.DrawerOpened v = refl
+    there : (o : Option Device) → slice_get ds i ≡ o → Seat ds category (place_found (found_at category (Some i) o))
+    there None e = tt
+    there (Some d) e = pick d e (serves category d.kind) (is_none d.kind || is_some d.station) refl refl
 
 -- a control with other events, or as it was, has its device
 events_keep : (ds : List Device) (b : Bool) (c : Control) (events : List Event) → HasItsDevice ds c → HasItsDevice ds (cond b c (record c { events = events }))
@@ -115,7 +90,11 @@ served_stays : (ds : List Device) (i k : ℕ) (d : Device) (after : Station) (ca
 served_stays [] i k d after category is h = absurd h
 served_stays (x ∷ ds) zero zero d after category is h =
     let same : x ≡ d = cc in
-    (refl, subst (λ (y : Device). serves category y.kind ≡ true) same h.1)
+    (subst (λ (y : Device). serves category y.kind ≡ true) same h.0, attached (is_none d.kind))
+  where
+    attached : (b : Bool) → (b || true) ≡ true
+    attached true = refl
+    attached false = refl
 served_stays (x ∷ ds) zero (suc k) d after category is h = h
 served_stays (x ∷ ds) (suc i) zero d after category is h = h
 served_stays (x ∷ ds) (suc i) (suc k) d after category is h = served_stays ds i k d after category is h
@@ -132,17 +111,17 @@ pub record Keeps (before : Station) (old : List Control) (after : Station) (new 
   pub kind : after.kind ≡ before.kind
   pub seats : (ds : List Device) → All (HasItsDevice ds) old → All (HasItsDevice ds) new
 
-on_station_sound : (m m' : Machine) (at : Option ℕ) (Does : ℕ → List Control → Station → List Control → Station → Type 0) → ((place : ℕ) (old : List Control) (before : Station) (new : List Control) (after : Station) → Does place old before new after → Keeps before old after new) → OnStation m at Does m' → IsSound m → IsSound m'
+on_station_sound : (m m' : Machine) (at : Option ℕ) (Does : ℕ → Effect) → ((place : ℕ) (old : List Control) (before : Station) (new : List Control) (after : Station) → Does place old before new after → Keeps before old after new) → OnStation m at Does m' → IsSound m → IsSound m'
 on_station_sound m m' at Does keeps o s =
     let kept = keeps _ _ _ _ _ o.does in
     let here : HasItsKind o.device = subst HasItsKind (get_or_from_slice_get m.devices o.place o.device o.device o.is_device) (All-get_or HasItsKind m.devices o.place o.device (slice_get_within m.devices o.place o.device o.is_device) s.kinds) in
-    let kind : o.before.kind ≡ o.device.kind = subst (λ (st : Option Station). IfSome st (λ station. station.kind ≡ o.device.kind)) o.is_attached here in
+    let kind : o.device.kind ≡ Some o.before.kind = subst (λ (st : Option Station). IfSome st (λ station. o.device.kind ≡ Some station.kind)) o.is_attached here in
     same_machine _ m' o.machine (record {
-      kinds = All-set HasItsKind m.devices o.place (with_after o.device o.after) (kept.kind ∙ kind) s.kinds;
+      kinds = All-set HasItsKind m.devices o.place (with_after o.device o.after) (kind ∙ ap Some (sym kept.kind)) s.kinds;
       places = All-weaker (HasItsDevice m.devices) (HasItsDevice (set m.devices o.place (with_after o.device o.after))) (seat_stays m.devices o.place o.device o.after o.is_device) o.controls (kept.seats m.devices s.places);
     })
 
-opens_keeps : (r : Answer) (place : ℕ) (old : List Control) (before : Station) (new : List Control) (after : Station) → DrawerOpens place old before r new after → Keeps before old after new
+opens_keeps : (r : Answer) (place : ℕ) (old : List Control) (before : Station) (new : List Control) (after : Station) → DrawerOpens place r old before new after → Keeps before old after new
 opens_keeps r place old before new after (inl h) = record {
   kind = ap (λ (s : Station). s.kind) h.1.station;
   seats = λ ds all. subst (All (HasItsDevice ds)) (sym h.1.events) (all_heard_keep ds place _ old all);
@@ -158,12 +137,21 @@ takes_keeps input place old before new after h = record {
   seats = λ ds all. subst (All (HasItsDevice ds)) (sym h.events) (all_heard_keep ds place _ old all);
 }
 
+-- what a category's call does keeps them
+does_keeps : (category : Category) (asked : Call) (r : Answer) (place : ℕ) (old : List Control) (before : Station) (new : List Control) (after : Station) → CategoryDoes category asked place r old before new after → Keeps before old after new
+does_keeps category.CashDrawer call.OpenDrawer r place old before new after h = opens_keeps r place old before new after h
+does_keeps category.CashDrawer asked r place old before new after h = absurd h
+
 called_sound : (m m' : Machine) (n : ℕ) (c : Control) (q : Call) (r : Answer) → slice_get m.controls n ≡ Some c → Called m n c q r m' → IsSound m → IsSound m'
-called_sound m m' n c (call.Open name) r e h s = decided_sound _ r m m' n _ _ (λ none. opened_seat m.devices c _ (opens_there c _ _ none)) h s
+called_sound m m' n c (call.Open name) r e h s = decided_sound _ r m m' n _ _ (λ none. found_seat m.devices c.category (place_of m.devices name)) h s
 called_sound m m' n c call.Close r e h s = decided_sound _ r m m' n (closed c) _ (λ none. tt) h s
-called_sound m m' n c (call.Set p v) r e h s = decided_sound _ r m m' n (after_set c p v) _ (λ none. same_seat m.devices c (after_set c p v) (set_keeps_category c p v) (set_keeps_device c p v) (seated m n c s e)) h s
+called_sound m m' n c (call.Set p v) r e h s = decided_sound _ r m m' n (after_set c p v) _ (λ none. seated m n c s e) h s
 called_sound m m' n c (call.Get p) r e h s = elim (match_cases (first_refusal (get_rows c p)) _ _ h.outcome) [ inl x ↦ same_machine m m' x.1.1 s | inr x ↦ same_machine m m' x.2.1 s ]
-called_sound m m' n c call.OpenDrawer r e h s = elim (match_cases (first_refusal (drawer_rows c call.OpenDrawer)) _ _ h.outcome) [ inl x ↦ on_station_sound m m' c.device _ (opens_keeps r) x.1 s | inr x ↦ same_machine m m' x.2.1 s ]
+called_sound m m' n c own r e h s =
+    elim (match_cases (first_refusal (refusals m n c own)) _ _ h.outcome) [
+      | inl x ↦ on_station_sound m m' c.device _ (λ place. does_keeps c.category own r place) x.1 s
+      | inr x ↦ same_machine m m' x.2.1 s
+    ]
 
 -- every step from a sound machine leads to a sound one
 pub step_sound : (m m' : Machine) (q : Request) (r : Response) → Step m q r m' → IsSound m → IsSound m'

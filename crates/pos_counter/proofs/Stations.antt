@@ -1,32 +1,33 @@
 -- What stands at a device: by a counter's parts, where a peripheral has changed.
-use Rattle.std.proofs.Common.{◌≡◌, ℕ, ◌<◌, inl, inr, [], ◌∷◌, zero, suc, List, Option, Some, None, Result, Ok, Err, Bool, true, false, get_or, set, map, length, ap, sym, ◌∙◌, subst, refl, arith}
-use Rattle.std.specs.Prelude.{slice_get, option_map, is_some, IfSome, IsTrue, MatchOption}
+use Rattle.std.proofs.Common.{◌≡◌, ℕ, ◌<◌, ◌≤◌, ◌⊎◌, inl, inr, [], ◌∷◌, zero, suc, List, Option, Some, None, Result, Ok, Err, Bool, true, false, get_or, set, map, length, ap, sym, ◌∙◌, subst, refl, arith}
+use Rattle.std.specs.Prelude.{slice_get, option_map, is_some, is_none, ◌||◌, IfSome, IsTrue, MatchOption, MatchResult}
 use Rattle.std.proofs.lemmas.List.{map-set, length-map}
 use Rattle.std.proofs.lemmas.List.Elements.{All-get_or, All-set}
 use Rattle.std.proofs.lemmas.Option.{slice_get-map, slice_get_within, get_or_from_slice_get}
 use Rattle.pos_service.specs.declared.answer.Answer.{Answer}
+use Rattle.pos_service.specs.declared.answer.Answer.TheVariants as answer
+use Rattle.pos_service.specs.declared.call.Call.{Call}
+use Rattle.pos_service.specs.declared.call.Call.TheVariants as call
 use Rattle.pos_service.specs.declared.category.Category.{Category}
 use Rattle.pos_service.specs.declared.category.Category.TheVariants as category
+use Rattle.pos_service.specs.declared.code.Code.TheVariants as code
+use Rattle.pos_service.specs.declared.input.Input.{Input}
 use Rattle.pos_service.specs.declared.kind.Kind.{Kind}
 use Rattle.pos_service.specs.declared.kind.Kind.TheVariants as kind
 use Rattle.pos_service.specs.declared.memory.NoMemory.{NoMemory}
-use Rattle.pos_service.specs.declared.call.Call.{Call}
-use Rattle.pos_service.specs.declared.call.Call.TheVariants as call
-use Rattle.pos_service.specs.declared.input.Input.{Input}
-use Rattle.pos_service.specs.Peripherals.{PeripheralState, input_fits}
+use Rattle.pos_service.specs.Calls.{serves, is_common, own_rows, takes_memory as own_takes_memory}
 use Rattle.pos_service.specs.Controls.{Control}
-use Rattle.pos_service.specs.Machine.{Device, Machine, Station, station_of, station_in, station_named, device_at, place_of}
-use Rattle.pos_service.specs.Refusals.{first_refusal}
-use Rattle.pos_service.specs.Calls.{serves}
-use Rattle.pos_service.specs.DrawerCalls.{drawer_rows, DrawerOpens, is_drawer_call}
-use Rattle.pos_service.specs.Steps.{OnStation, Step, CallOf, FindsFit, IsSound, HasItsKind}
+use Rattle.pos_service.specs.Peripherals.{PeripheralState, input_fits}
+use Rattle.pos_service.specs.Refusals.{Row, Decided, first_refusal, when}
+use Rattle.pos_service.specs.Stations.{Station, Effect, station_of, CalledAt, CalledBy, IsOpen}
 use Rattle.pos_common.specs.Held.{Held, controls_of}
-use Rattle.pos_drawer.specs.Drawers.{DrawerCalled, Answers, FindsNoMemory}
 use Rattle.pos_counter.specs.declared.entry.Entry.{Entry}
-use Rattle.pos_counter.specs.Machines.{over, machine_of, devices_of, device_of, AllUnparked}
+use Rattle.pos_counter.specs.Machine.{Device, Machine, station_in, station_named, device_at, place_of}
+use Rattle.pos_counter.specs.Parts.{over, machine_of, devices_of, device_of, AllUnparked}
 use Rattle.pos_counter.specs.Responses.{answered}
-use Rattle.pos_counter.proofs.Lifts.{match_cases, match_at_some, match_weaker}
+use Rattle.pos_counter.specs.Steps.{OnStation, Step, CallOf, Answered, Called, Wants, Does, CategoryDoes, category_rows, refusals, takes_memory, FindsFit, IsSound, IsServed, HasItsKind}
 use Rattle.pos_counter.proofs.DeviceLists.{device_there, devices_set, devices_same, station_there}
+use Rattle.pos_counter.proofs.Lifts.{match_cases, match_at_some, match_by, match_weaker}
 use Rattle.pos_counter.proofs.Sound.{seated, Served}
 
 entry_within : (es : List Entry) (i : ℕ) → i < length es → (e : Entry) × (slice_get es i ≡ Some e)
@@ -39,17 +40,30 @@ pub state_at : {P : Type 0} (state : P → PeripheralState) (ps : List P) (place
 state_at state ps place p at = slice_get-map state ps place ∙ ap (option_map state) at
 
 -- the station of a device that a name finds
-pub named_there : {P : Type 0} (state : P → PeripheralState) (hs : List Held) (es : List Entry) (ps : List P) (name : List ℕ) (place : ℕ) (p : P) → length ps ≡ length es → Some place ≡ place_of (devices_of es (map state ps)) name → slice_get ps place ≡ Some p → station_named (machine_of hs es (map state ps)) name ≡ Some (station_of (state p))
+pub named_there : {P : Type 0} (state : P → PeripheralState) (hs : List Held) (es : List Entry) (ps : List P) (name : List ℕ) (place : ℕ) (p : P) → length (map state ps) ≤ length es → Some place ≡ place_of (devices_of es (map state ps)) name → slice_get ps place ≡ Some p → station_named (machine_of hs es (map state ps)) name ≡ Some (station_of (state p))
 named_there state hs es ps name place p whole finds at =
     ap (λ o. station_in (device_at (devices_of es (map state ps)) o)) (sym finds)
-    ∙ station_there es (map state ps) (Some place) (length-map ps state ∙ whole)
+    ∙ station_there es (map state ps) (Some place) whole
     ∙ ap (option_map station_of) (state_at state ps place p at)
 
+-- behind the last peripheral nothing stands at the device that a name finds
+pub nothing_named : (hs : List Held) (es : List Entry) (ss : List PeripheralState) (name : List ℕ) (place : ℕ) → length ss ≤ length es → Some place ≡ place_of (devices_of es ss) name → length ss ≤ place → station_named (machine_of hs es ss) name ≡ None
+nothing_named hs es ss name place whole finds beyond =
+    ap (λ o. station_in (device_at (devices_of es ss) o)) (sym finds)
+    ∙ station_there es ss (Some place) whole
+    ∙ ap (option_map station_of) (behind ss place beyond)
+  where
+    behind : (ss : List PeripheralState) (place : ℕ) → length ss ≤ place → slice_get ss place ≡ None
+    behind [] zero le = refl
+    behind [] (suc i) le = refl
+    behind (s ∷ ss) zero le = absurd (omega arith)
+    behind (s ∷ ss) (suc i) le = behind ss i (omega arith)
+
 -- what is done with the peripheral at a place is done at the device's station
-pub on_station : {P : Type 0} (state : P → PeripheralState) (hs gs : List Held) (es : List Entry) (ps : List P) (place : ℕ) (p q : P) (o : Option ℕ) (Does : ℕ → List Control → Station → List Control → Station → Type 0) → length ps ≡ length es → slice_get ps place ≡ Some p → o ≡ Some place → Does place (controls_of hs) (station_of (state p)) (controls_of gs) (station_of (state q)) → OnStation (machine_of hs es (map state ps)) o Does (machine_of gs es (map state (set ps place q)))
+pub on_station : {P : Type 0} (state : P → PeripheralState) (hs gs : List Held) (es : List Entry) (ps : List P) (place : ℕ) (p q : P) (o : Option ℕ) (Does : ℕ → Effect) → length (map state ps) ≤ length es → slice_get ps place ≡ Some p → o ≡ Some place → Does place (controls_of hs) (station_of (state p)) (controls_of gs) (station_of (state q)) → OnStation (machine_of hs es (map state ps)) o Does (machine_of gs es (map state (set ps place q)))
 on_station state hs gs es ps place p q o Does whole at is does =
     let within : place < length (map state ps) = slice_get_within (map state ps) place (state p) (state_at state ps place p at) in
-    let entry = entry_within es place (omega (arith, length-map ps state)) in record {
+    let entry = entry_within es place (omega arith) in record {
       place = place;
       device = device_of entry.0 (Some (station_of (state p)));
       before = station_of (state p);
@@ -77,20 +91,14 @@ unparked_at state ps place p at all =
 pub unparked_set : {P : Type 0} (state : P → PeripheralState) (ps : List P) (place : ℕ) (q : P) → (state q).is_parked ≡ false → AllUnparked (map state ps) → AllUnparked (map state (set ps place q))
 unparked_set state ps place q unparked all = subst AllUnparked (sym (map-set state ps place q)) (All-set (λ (s : PeripheralState). s.is_parked ≡ false) (map state ps) place (state q) unparked all)
 
-drawer_kind : (c : Category) (k : Kind) → serves c k ≡ true → k ≡ kind.Drawer
-drawer_kind category.CashDrawer kind.Drawer h = refl
-drawer_kind category.CashDrawer kind.Scanner h = cc
-drawer_kind category.CashDrawer (kind.Display rows columns) h = cc
-drawer_kind category.CashDrawer (kind.Printer chars near) h = cc
-
--- at this place of a list there is a drawer
-pub record DrawerAt {P : Type 0} (state : P → PeripheralState) (ps : List P) (place : ℕ) : Type 0 where
+-- At this place of a list there is a peripheral of a kind that the category serves.
+pub record ServedAt {P : Type 0} (state : P → PeripheralState) (ps : List P) (category : Category) (place : ℕ) : Type 0 where
   pub within : place < length ps
-  pub is_drawer : (d : P) → (state (get_or ps place d)).kind ≡ kind.Drawer
+  pub is_served : (d : P) → serves category (Some (state (get_or ps place d)).kind) ≡ true
 
--- an open control's device has a peripheral, which is a drawer
-pub drawer_there : {P : Type 0} (state : P → PeripheralState) (hs : List Held) (es : List Entry) (ps : List P) (n : ℕ) (c : Control) (place : ℕ) → IsSound (machine_of hs es (map state ps)) → length ps ≡ length es → slice_get (controls_of hs) n ≡ Some c → c.device ≡ Some place → DrawerAt state ps place
-drawer_there {P = P} state hs es ps n c place sound whole at is =
+-- an open control's device has a peripheral, where its category serves no device without one
+pub served_there : {P : Type 0} (state : P → PeripheralState) (hs : List Held) (es : List Entry) (ps : List P) (n : ℕ) (c : Control) (place : ℕ) → IsSound (machine_of hs es (map state ps)) → length (map state ps) ≤ length es → slice_get (controls_of hs) n ≡ Some c → c.device ≡ Some place → serves c.category None ≡ false → ServedAt state ps c.category place
+served_there {P = P} state hs es ps n c place sound whole at is peripheral =
     let ds = devices_of es (map state ps) in
     let seat = subst (λ (o : Option ℕ). IfSome o (λ k. Served c.category (slice_get ds k))) is (seated (machine_of hs es (map state ps)) n c sound at) in
     elim (match_cases (slice_get ds place) _ _ seat) [
@@ -99,51 +107,115 @@ drawer_there {P = P} state hs es ps n c place sound whole at is =
     ]
   where
     stands : (d : Device) → slice_get (devices_of es (map state ps)) place ≡ Some d → d.station ≡ option_map station_of (option_map state (slice_get ps place))
-    stands d there = ap station_in (sym there) ∙ station_there es (map state ps) (Some place) (length-map ps state ∙ whole) ∙ ap (option_map station_of) (slice_get-map state ps place)
+    stands d there = ap station_in (sym there) ∙ station_there es (map state ps) (Some place) whole ∙ ap (option_map station_of) (slice_get-map state ps place)
 
-    by_peripheral : (d : Device) → slice_get (devices_of es (map state ps)) place ≡ Some d → IsTrue (is_some d.station) → serves c.category d.kind ≡ true → (o : Option P) → slice_get ps place ≡ o → DrawerAt state ps place
-    by_peripheral d there attached served None none =
-        let bad = subst (λ o. IsTrue (is_some o)) (stands d there ∙ ap (λ o. option_map station_of (option_map state o)) none) attached in
-        cc
-    by_peripheral d there attached served (Some p) some =
+    nothing : (o : Option Kind) (s : Option Station) → serves c.category o ≡ true → IsTrue (is_none o || is_some s) → s ≡ None → ⊥
+    nothing None s served attached none = let bad = sym peripheral ∙ served in cc
+    nothing (Some k) None served attached none = cc
+    nothing (Some k) (Some s) served attached none = cc
+
+    by_peripheral : (d : Device) → slice_get (devices_of es (map state ps)) place ≡ Some d → serves c.category d.kind ≡ true → IsTrue (is_none d.kind || is_some d.station) → (o : Option P) → slice_get ps place ≡ o → ServedAt state ps c.category place
+    by_peripheral d there served attached None none =
+        absurd (nothing d.kind d.station served attached (stands d there ∙ ap (λ o. option_map station_of (option_map state o)) none))
+    by_peripheral d there served attached (Some p) some =
         let its : HasItsKind d = subst HasItsKind (get_or_from_slice_get (devices_of es (map state ps)) place d d there) (All-get_or HasItsKind (devices_of es (map state ps)) place d (slice_get_within (devices_of es (map state ps)) place d there) sound.kinds) in
-        let same : (state p).kind ≡ d.kind = subst (λ (o : Option Station). IfSome o (λ station. station.kind ≡ d.kind)) (stands d there ∙ ap (λ o. option_map station_of (option_map state o)) some) its in
+        let same : d.kind ≡ Some (state p).kind = subst (λ (o : Option Station). IfSome o (λ station. d.kind ≡ Some station.kind)) (stands d there ∙ ap (λ o. option_map station_of (option_map state o)) some) its in
         record {
           within = slice_get_within ps place p some;
-          is_drawer = λ e. ap (λ q. (state q).kind) (get_or_from_slice_get ps place p e some) ∙ same ∙ drawer_kind c.category d.kind served;
+          is_served = λ e. ap (λ q. serves c.category (Some (state q).kind)) (get_or_from_slice_get ps place p e some) ∙ ap (serves c.category) (sym same) ∙ served;
         }
 
 -- a name finds a device whose peripheral has an input, or hasn't
-pub finds_fit : {P : Type 0} (state : P → PeripheralState) (hs : List Held) (es : List Entry) (ps : List P) (name : List ℕ) (place : ℕ) (p : P) (input : Input) (fits : Bool) → length ps ≡ length es → Some place ≡ place_of (devices_of es (map state ps)) name → slice_get ps place ≡ Some p → input_fits (state p).kind input ≡ fits → FindsFit (station_named (machine_of hs es (map state ps)) name) input fits
+pub finds_fit : {P : Type 0} (state : P → PeripheralState) (hs : List Held) (es : List Entry) (ps : List P) (name : List ℕ) (place : ℕ) (p : P) (input : Input) (fits : Bool) → length (map state ps) ≤ length es → Some place ≡ place_of (devices_of es (map state ps)) name → slice_get ps place ≡ Some p → input_fits (state p).kind input ≡ fits → FindsFit (station_named (machine_of hs es (map state ps)) name) input fits
 finds_fit state hs es ps name place p input fits whole finds at fit = record {
   before = station_of (state p);
   is_attached = named_there state hs es ps name place p whole finds at;
   fit = fit;
 }
 
--- a call on a drawer is a step
-pub drawer_step : {P : Type 0} (state : P → PeripheralState) (hs gs : List Held) (es : List Entry) (ps : List P) (n place : ℕ) (p q : P) (c : Control) (asked : Call) (r : Result Answer NoMemory)
-    → is_drawer_call asked ≡ true → length ps ≡ length es → slice_get (controls_of hs) n ≡ Some c → c.device ≡ Some place → slice_get ps place ≡ Some p
-    → DrawerCalled n asked (controls_of hs) (station_of (state p)) r (controls_of gs) (station_of (state q))
-    → Step (machine_of hs es (map state ps)) (CallOf n asked) (answered r) (machine_of gs es (map state (set ps place q)))
-drawer_step state hs gs es ps n place p q c (call.Open name) r is whole at device there called = cc
-drawer_step state hs gs es ps n place p q c call.Close r is whole at device there called = cc
-drawer_step state hs gs es ps n place p q c (call.Set property value) r is whole at device there called = cc
-drawer_step state hs gs es ps n place p q c (call.Get property) r is whole at device there called = cc
-drawer_step state hs gs es ps n place p q c call.OpenDrawer (Ok result) is whole at device there called =
-    let answers : Answers c call.OpenDrawer (controls_of hs) (station_of (state p)) result (controls_of gs) (station_of (state q)) = of_caller _ _ _ at called in
-    match_at_some _ c _ _ at (record {
-      outcome = match_weaker (first_refusal (drawer_rows c call.OpenDrawer)) _ _ _ _
-          (λ own. on_station state hs gs es ps place p q c.device _ whole there device (subst (λ i. DrawerOpens i (controls_of hs) (station_of (state p)) result (controls_of gs) (station_of (state q))) (same_place own.place own.is_at) own.does))
-          (λ refusal y. (y.0, unchanged state hs gs es ps place p q there y.1.controls y.1.station))
-          answers.outcome;
-    })
+-- a drawer's control has a drawer
+pub drawer_kind : (c : Category) (k : Kind) → c ≡ category.CashDrawer → serves c (Some k) ≡ true → k ≡ kind.Drawer
+drawer_kind c k is h = of_drawer k (subst (λ (j : Category). serves j (Some k) ≡ true) is h)
   where
-    of_caller : (o : Option Control) (R : Control → Type 0) (k : Control) → o ≡ Some k → MatchOption o ⊥ R → R k
-    of_caller o R k e h = subst (λ x. MatchOption x ⊥ R) e h
+    of_drawer : (k : Kind) → serves category.CashDrawer (Some k) ≡ true → k ≡ kind.Drawer
+    of_drawer kind.Drawer h = refl
+    of_drawer kind.Scanner h = cc
+    of_drawer (kind.Display rows columns) h = cc
+    of_drawer (kind.Printer chars near) h = cc
 
-    same_place : (i : ℕ) → c.device ≡ Some i → i ≡ place
-    same_place i e = cc
-drawer_step state hs gs es ps n place p q c call.OpenDrawer (Err want) is whole at device there called =
-    let none : FindsNoMemory c call.OpenDrawer (controls_of hs) (station_of (state p)) (controls_of gs) (station_of (state q)) = subst (λ x. MatchOption x ⊥ (λ caller. FindsNoMemory caller call.OpenDrawer (controls_of hs) (station_of (state p)) (controls_of gs) (station_of (state q)))) at called in
-    match_at_some _ c _ _ at (refl, none.0, unchanged state hs gs es ps place p q there none.1.controls none.1.station)
+-- what a call of a category's own is answered first, and what it does
+own_refusals : (m : Machine) (n : ℕ) (c : Control) (asked : Call) → is_common asked ≡ false → refusals m n c asked ≡ when (is_none c.device) code.Closed ∷ own_rows c asked (category_rows c.category c asked)
+own_refusals m n c (call.Open name) own = cc
+own_refusals m n c call.Close own = cc
+own_refusals m n c (call.Set p v) own = cc
+own_refusals m n c (call.Get p) own = cc
+own_refusals m n c asked own = refl
+
+own_does : (m : Machine) (n : ℕ) (c : Control) (asked : Call) (r : Answer) (m' : Machine) → is_common asked ≡ false → OnStation m c.device (λ place. CategoryDoes c.category asked place r) m' → Does m n c asked r m'
+own_does m n c (call.Open name) r m' own h = cc
+own_does m n c call.Close r m' own h = cc
+own_does m n c (call.Set p v) r m' own h = cc
+own_does m n c (call.Get p) r m' own h = cc
+own_does m n c asked r m' own h = h
+
+own_takes : (m : Machine) (c : Control) (asked : Call) → is_common asked ≡ false → IsTrue (own_takes_memory asked) → IsTrue (takes_memory m c asked)
+own_takes m c (call.Open name) own h = refl
+own_takes m c call.Close own h = cc
+own_takes m c (call.Set p v) own h = cc
+own_takes m c (call.Get p) own h = cc
+own_takes m c asked own h = h
+
+-- a call that is the first that is asked of an open control
+pub is_open_there : (cs : List Control) (n : ℕ) (c : Control) (k : Category) (place : ℕ) → slice_get cs n ≡ Some c → c.category ≡ k → c.device ≡ Some place → IsOpen k cs n
+is_open_there cs n c k place at is device = match_at_some _ c _ _ at (is, ap is_some device)
+
+-- a call of a category's own on a closed control is refused
+pub closed_step : (m : Machine) (n : ℕ) (c : Control) (asked : Call) → is_common asked ≡ false → slice_get m.controls n ≡ Some c → c.device ≡ None → Step m (CallOf n asked) (Answered (answer.Refused code.Closed 0)) m
+closed_step m n c asked own at closed =
+    match_at_some _ c _ _ at (record {
+      outcome = match_at_some (first_refusal (refusals m n c asked)) (answer.Refused code.Closed 0) _ _
+          (ap first_refusal (own_refusals m n c asked own) ∙ ap (λ (o : Option ℕ). first_refusal (when (is_none o) code.Closed ∷ own_rows c asked (category_rows c.category c asked))) closed)
+          (refl, refl);
+    })
+
+-- what is said of an open control and its device's place
+called_there : (o : Option Control) (c : Control) (place : ℕ) (Q : Control → ℕ → Type 0) → o ≡ Some c → c.device ≡ Some place → MatchOption o ⊥ (λ control. IfSome control.device (Q control)) → Q c place
+called_there o c place Q at device h =
+    subst (λ (d : Option ℕ). IfSome d (Q c)) device (subst (λ (u : Option Control). MatchOption u ⊥ (λ control. IfSome control.device (Q control))) at h)
+
+-- the refusals of a call of a category's own on an open control
+open_refusals : (m : Machine) (n : ℕ) (c : Control) (asked : Call) (place : ℕ) → is_common asked ≡ false → c.device ≡ Some place → first_refusal (refusals m n c asked) ≡ first_refusal (own_rows c asked (category_rows c.category c asked))
+open_refusals m n c asked place own device =
+    ap first_refusal (own_refusals m n c asked own)
+    ∙ ap (λ (o : Option ℕ). first_refusal (when (is_none o) code.Closed ∷ own_rows c asked (category_rows c.category c asked))) device
+
+-- a call of a category's own on an open control is a step
+pub own_step : {P : Type 0} (state : P → PeripheralState) (hs gs : List Held) (es : List Entry) (ps : List P) (n place : ℕ) (p q : P) (c : Control) (k : Category) (asked : Call) (r : Result Answer NoMemory)
+    → is_common asked ≡ false → slice_get (controls_of hs) n ≡ Some c → c.category ≡ k → c.device ≡ Some place → length (map state ps) ≤ length es → slice_get ps place ≡ Some p
+    → CalledBy (category_rows k) (CategoryDoes k) n asked r (controls_of hs) (station_of (state p)) (controls_of gs) (station_of (state q))
+    → Step (machine_of hs es (map state ps)) (CallOf n asked) (answered r) (machine_of gs es (map state (set ps place q)))
+own_step state hs gs es ps n place p q c k asked r own at is device whole there called =
+    let Q : Category → Control → ℕ → Type 0 = λ j control place. CalledAt asked (own_rows control asked (category_rows j control asked)) (CategoryDoes j asked place) r (controls_of hs) (station_of (state p)) (controls_of gs) (station_of (state q)) in
+    by_outcome r (subst (λ j. Q j c place) (sym is) (called_there _ c place (Q k) at device called))
+  where
+    m : Machine
+    m = machine_of hs es (map state ps)
+
+    m' : Machine
+    m' = machine_of gs es (map state (set ps place q))
+
+    by_outcome : (o : Result Answer NoMemory) → CalledAt asked (own_rows c asked (category_rows c.category c asked)) (CategoryDoes c.category asked place) o (controls_of hs) (station_of (state p)) (controls_of gs) (station_of (state q)) → Step m (CallOf n asked) (answered o) m'
+    by_outcome (Ok result) h =
+        match_at_some _ c _ _ at (record {
+          outcome = match_by _ _ _ _ (open_refusals m n c asked place own device) (
+              match_weaker (first_refusal (own_rows c asked (category_rows c.category c asked))) _ _ _ _
+              (λ does. own_does m n c asked result m' own (on_station state hs gs es ps place p q c.device _ whole there device does))
+              (λ refusal y. (y.0, unchanged state hs gs es ps place p q there y.1.controls y.1.station))
+              h.outcome);
+        })
+    by_outcome (Err want) h =
+        match_at_some _ c _ _ at (
+          own_takes m c asked own h.0,
+          open_refusals m n c asked place own device ∙ h.1,
+          unchanged state hs gs es ps place p q there h.2.controls h.2.station,
+        )

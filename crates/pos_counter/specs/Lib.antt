@@ -1,4 +1,6 @@
+pub mod Machine
+pub mod Steps
 pub mod Profile
-pub mod Machines
+pub mod Parts
 pub mod Responses
 pub mod Counters

@@ -3,7 +3,7 @@ use Rattle.std.specs.Prelude.{ℕ, List, Result, Ok, Err, map, zip}
 use Rattle.pos_service.specs.declared.answer.Answer.{Answer}
 use Rattle.pos_service.specs.declared.memory.NoMemory.{NoMemory}
 use Rattle.pos_service.specs.declared.plant.Snapshot.{Snapshot}
-use Rattle.pos_service.specs.Steps as machine
+use Rattle.pos_counter.specs.Steps as machine
 use Rattle.pos_counter.specs.declared.faults.ControlFault.{ControlFault}
 use Rattle.pos_counter.specs.declared.faults.ControlFault.TheVariants as control_fault
 use Rattle.pos_counter.specs.declared.faults.InputFault.{InputFault}

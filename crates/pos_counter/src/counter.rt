@@ -1,9 +1,9 @@
 ghost use Rattle.std.specs.Prelude.{◌≡◌, length, map, IfOk, IfErr, OnErr};
-ghost use Rattle.pos_service.specs.Steps.{NewControl, CallOf, InputTo, Deliver, Delivered, Snapshot as SnapshotOf};
+ghost use Rattle.pos_counter.specs.Steps.{NewControl, CallOf, InputTo, Deliver, Delivered, Snapshot as SnapshotOf};
 ghost use Rattle.pos_counter.specs.Profile.{ServesProfile};
-ghost use Rattle.pos_counter.specs.Machines.{AllUnparked, HandsOver, parked};
+ghost use Rattle.pos_counter.specs.Parts.{AllUnparked, HandsOver, parked};
 ghost use Rattle.pos_counter.specs.Responses.{made, answered, taken_in, shown, request_of, response_of, steps_of};
-ghost use Rattle.pos_counter.specs.Counters.{machine, states_of, Begins, Steps, Runs, Stays, Sound};
+ghost use Rattle.pos_counter.specs.Counters.{machine, states_of, Begins, IsStep, IsRun, Stays, IsCounterSound};
 
 use crate::desk::Desk;
 use crate::device_calls;
@@ -11,7 +11,7 @@ use crate::entry::{Entry, built_entries};
 use crate::faults::{ControlFault, InputFault, SnapshotFault};
 use crate::request::{Request, Response};
 use pos_service::{
-    Answer, Call, Category, ErrorReply, Event, Input, NoMemory, PeripheralBox, Snapshot, Stated,
+    Answer, Call, Category, ErrorReply, Event, HasState, Input, NoMemory, PeripheralBox, Snapshot,
 };
 use std::alloc::Global;
 
@@ -32,10 +32,10 @@ impl Counter {
         alloc: Global,
         boxes: Vec<PeripheralBox>,
     ) -> Result<Self, (NoMemory, Vec<PeripheralBox>)>
-        requires serves { ServesProfile (states_of ⟦<PeripheralBox as Stated>⟧ boxes.items) }
-        requires unparked { AllUnparked (states_of ⟦<PeripheralBox as Stated>⟧ boxes.items) }
-        ensures machine { IfOk result (λ counter. Begins ⟦<PeripheralBox as Stated>⟧ boxes.items counter) }
-        ensures sound { IfOk result (λ counter. Sound ⟦<PeripheralBox as Stated>⟧ counter) }
+        requires serves { ServesProfile (states_of ⟦<PeripheralBox as HasState>⟧ boxes.items) }
+        requires unparked { AllUnparked (states_of ⟦<PeripheralBox as HasState>⟧ boxes.items) }
+        ensures machine { IfOk result (λ counter. Begins ⟦<PeripheralBox as HasState>⟧ boxes.items counter) }
+        ensures sound { IfOk result (λ counter. IsCounterSound ⟦<PeripheralBox as HasState>⟧ counter) }
         ensures handed_back { IfErr result (λ refusal. refusal.1.items ≡ boxes.items) }
     {
         match built_entries(alloc) {
@@ -52,9 +52,9 @@ impl Counter {
     ///
     /// Refused with Full where there are 4,096 controls, closed ones included. Want of memory changes nothing.
     pub fn control(&mut self, category: Category) -> Result<usize, ControlFault>
-        requires sound { Sound ⟦<PeripheralBox as Stated>⟧ self.old }
-        ensures step { Steps ⟦<PeripheralBox as Stated>⟧ self.old (NewControl category) (made result) self.new }
-        ensures sound { Sound ⟦<PeripheralBox as Stated>⟧ self.new }
+        requires sound { IsCounterSound ⟦<PeripheralBox as HasState>⟧ self.old }
+        ensures step { IsStep ⟦<PeripheralBox as HasState>⟧ self.old (NewControl category) (made result) self.new }
+        ensures sound { IsCounterSound ⟦<PeripheralBox as HasState>⟧ self.new }
     {
         self.desk.control(category)
     }
@@ -64,9 +64,9 @@ impl Counter {
     /// The answer is E_ILLEGAL where there is no control of this number, else the first refusal of the call's table
     /// that applies, else what the call gives. Want of memory changes nothing.
     pub fn call(&mut self, number: usize, call: &Call) -> Result<Answer, NoMemory>
-        requires sound { Sound ⟦<PeripheralBox as Stated>⟧ self.old }
-        ensures step { Steps ⟦<PeripheralBox as Stated>⟧ self.old (CallOf number call.now) (answered result) self.new }
-        ensures sound { Sound ⟦<PeripheralBox as Stated>⟧ self.new }
+        requires sound { IsCounterSound ⟦<PeripheralBox as HasState>⟧ self.old }
+        ensures step { IsStep ⟦<PeripheralBox as HasState>⟧ self.old (CallOf number call.now) (answered result) self.new }
+        ensures sound { IsCounterSound ⟦<PeripheralBox as HasState>⟧ self.new }
     {
         device_calls::call(
             &mut self.desk.controls,
@@ -82,9 +82,9 @@ impl Counter {
     /// Refused with NoDevice where no device has the name or no peripheral stands behind it, with WrongInput where a
     /// peripheral of its kind has no such input. Want of memory changes nothing.
     pub fn input(&mut self, device: &[u8], input: &Input) -> Result<(), InputFault>
-        requires sound { Sound ⟦<PeripheralBox as Stated>⟧ self.old }
-        ensures step { Steps ⟦<PeripheralBox as Stated>⟧ self.old (InputTo device.now input.now) (taken_in result) self.new }
-        ensures sound { Sound ⟦<PeripheralBox as Stated>⟧ self.new }
+        requires sound { IsCounterSound ⟦<PeripheralBox as HasState>⟧ self.old }
+        ensures step { IsStep ⟦<PeripheralBox as HasState>⟧ self.old (InputTo device.now input.now) (taken_in result) self.new }
+        ensures sound { IsCounterSound ⟦<PeripheralBox as HasState>⟧ self.new }
     {
         device_calls::input(
             &mut self.desk.controls,
@@ -98,9 +98,9 @@ impl Counter {
     /// Takes the event that may be delivered to a control, with the application's answer in case it is an ErrorEvent.
     /// It is None where there is none, or no control of this number.
     pub fn deliver(&mut self, number: usize, reply: ErrorReply) -> Option<Event>
-        requires sound { Sound ⟦<PeripheralBox as Stated>⟧ self.old }
-        ensures step { Steps ⟦<PeripheralBox as Stated>⟧ self.old (Deliver number reply) (Delivered result) self.new }
-        ensures sound { Sound ⟦<PeripheralBox as Stated>⟧ self.new }
+        requires sound { IsCounterSound ⟦<PeripheralBox as HasState>⟧ self.old }
+        ensures step { IsStep ⟦<PeripheralBox as HasState>⟧ self.old (Deliver number reply) (Delivered result) self.new }
+        ensures sound { IsCounterSound ⟦<PeripheralBox as HasState>⟧ self.new }
     {
         self.desk.deliver(number, reply)
     }
@@ -109,8 +109,8 @@ impl Counter {
     ///
     /// Refused with NoDevice where no device has the name or no peripheral stands behind it.
     pub fn snapshot(&self, device: &[u8]) -> Result<Snapshot, SnapshotFault>
-        requires sound { Sound ⟦<PeripheralBox as Stated>⟧ self.now }
-        ensures { Steps ⟦<PeripheralBox as Stated>⟧ self.now (SnapshotOf device.now) (shown result) self.now }
+        requires sound { IsCounterSound ⟦<PeripheralBox as HasState>⟧ self.now }
+        ensures { IsStep ⟦<PeripheralBox as HasState>⟧ self.now (SnapshotOf device.now) (shown result) self.now }
     {
         device_calls::snapshot(&self.entries, &self.boxes, device)
     }
@@ -119,11 +119,11 @@ impl Counter {
     ///
     /// Want of memory for the list of answers changes nothing. A request that finds no memory is answered so.
     pub fn perform(&mut self, requests: &[Request]) -> Result<Vec<Response>, NoMemory>
-        requires sound { Sound ⟦<PeripheralBox as Stated>⟧ self.old }
-        ensures run { IfOk result (λ responses. Runs ⟦<PeripheralBox as Stated>⟧ self.old (steps_of requests.now responses.items) self.new) }
+        requires sound { IsCounterSound ⟦<PeripheralBox as HasState>⟧ self.old }
+        ensures run { IfOk result (λ responses. IsRun ⟦<PeripheralBox as HasState>⟧ self.old (steps_of requests.now responses.items) self.new) }
         ensures whole { IfOk result (λ responses. length responses.items ≡ length requests.now) }
-        ensures unchanged { OnErr result (Stays ⟦<PeripheralBox as Stated>⟧ self.old self.new) }
-        ensures sound { Sound ⟦<PeripheralBox as Stated>⟧ self.new }
+        ensures unchanged { OnErr result (Stays ⟦<PeripheralBox as HasState>⟧ self.old self.new) }
+        ensures sound { IsCounterSound ⟦<PeripheralBox as HasState>⟧ self.new }
     {
         let mut responses = Vec::with_capacity(self.desk.allocator(), requests.len())?;
         for request in requests {
@@ -135,9 +135,9 @@ impl Counter {
 
     /// Carries out a request.
     fn carry_out(&mut self, request: &Request) -> Response
-        requires sound { Sound ⟦<PeripheralBox as Stated>⟧ self.old }
-        ensures step { Steps ⟦<PeripheralBox as Stated>⟧ self.old (request_of request.now) (response_of result) self.new }
-        ensures sound { Sound ⟦<PeripheralBox as Stated>⟧ self.new }
+        requires sound { IsCounterSound ⟦<PeripheralBox as HasState>⟧ self.old }
+        ensures step { IsStep ⟦<PeripheralBox as HasState>⟧ self.old (request_of request.now) (response_of result) self.new }
+        ensures sound { IsCounterSound ⟦<PeripheralBox as HasState>⟧ self.new }
     {
         match request {
             Request::NewControl(category) => Response::of_control(self.control(*category)),
@@ -153,8 +153,8 @@ impl Counter {
     /// Ends the counter: its peripherals in the order of the devices, each taken out of service and else as it is. It
     /// takes no memory.
     pub fn shutdown(self) -> Vec<PeripheralBox>
-        requires sound { Sound ⟦<PeripheralBox as Stated>⟧ self }
-        ensures { HandsOver (machine ⟦<PeripheralBox as Stated>⟧ self) (states_of ⟦<PeripheralBox as Stated>⟧ result.items) }
+        requires sound { IsCounterSound ⟦<PeripheralBox as HasState>⟧ self }
+        ensures { HandsOver (machine ⟦<PeripheralBox as HasState>⟧ self) (states_of ⟦<PeripheralBox as HasState>⟧ result.items) }
     {
         let Counter {
             desk: _,
@@ -168,7 +168,7 @@ impl Counter {
 /// Takes each peripheral out of service.
 fn park_all(mut boxes: Vec<PeripheralBox>) -> Vec<PeripheralBox>
     requires { Unit {0} }
-    ensures { states_of ⟦<PeripheralBox as Stated>⟧ result.items ≡ map parked (states_of ⟦<PeripheralBox as Stated>⟧ boxes.items) }
+    ensures { states_of ⟦<PeripheralBox as HasState>⟧ result.items ≡ map parked (states_of ⟦<PeripheralBox as HasState>⟧ boxes.items) }
 {
     for place in 0..boxes.len() {
         boxes[place].park();

@@ -1,7 +1,7 @@
 ghost use Rattle.std.specs.Prelude.{◌≡◌, [], List};
-ghost use Rattle.pos_service.specs.Machine.{Device};
-ghost use Rattle.pos_service.specs.Steps.{Step, NewControl, Deliver, Delivered};
-ghost use Rattle.pos_counter.specs.Machines.{over};
+ghost use Rattle.pos_counter.specs.Machine.{Device};
+ghost use Rattle.pos_counter.specs.Steps.{Step, NewControl, Deliver, Delivered};
+ghost use Rattle.pos_counter.specs.Parts.{over};
 ghost use Rattle.pos_counter.specs.Responses.{made};
 
 use crate::faults::ControlFault;

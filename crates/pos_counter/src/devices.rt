@@ -1,10 +1,12 @@
-ghost use Rattle.std.specs.Prelude.{◌≡◌, ◌<◌, List, length, map, is_some, IfSome};
+//! The devices of the profile, by their names.
+ghost use Rattle.std.specs.Prelude.{◌≡◌, ◌<◌, ◌≤◌, ◌||◌, List, [], is_none, is_some, slice_get, length, map, IfSome};
 ghost use Rattle.pos_service.specs.Peripherals.{PeripheralState};
-ghost use Rattle.pos_service.specs.Machine.{place_of, device_at, is_served, signs_in};
-ghost use Rattle.pos_counter.specs.Machines.{devices_of, standing_at};
+ghost use Rattle.pos_service.specs.Stations.{signs_in};
+ghost use Rattle.pos_counter.specs.Machine.{place_of, found_under};
+ghost use Rattle.pos_counter.specs.Parts.{devices_of, machine_of, standing_at};
 
 use crate::entry::Entry;
-use pos_service::{Category, PaperLevel, Signs, Stated};
+use pos_service::{Category, Finding, HasState, Kind, PaperLevel, Signs};
 
 /// The place of the first device with a name.
 pub(crate) fn find(entries: &[Entry], name: &[u8]) -> Option<usize>
@@ -19,29 +21,38 @@ pub(crate) fn find(entries: &[Entry], name: &[u8]) -> Option<usize>
     None
 }
 
-/// Whether there is a device that a control of the category may open.
-pub(crate) fn is_served_by(entries: &[Entry], place: Option<usize>, category: Category) -> bool
-    requires { IfSome place (λ place. place < length entries.now) }
-    ensures { (states : List PeripheralState) → result ≡ is_served category (device_at (devices_of entries.now states) place) }
+/// What a control of a category finds under a name.
+pub(crate) fn find_for<P: HasState>(
+    category: Category,
+    entries: &[Entry],
+    peripherals: &[P],
+    name: &[u8],
+) -> Finding
+    requires { length peripherals.now ≤ length entries.now }
+    ensures { result ≡ found_under (machine_of [] entries.now (map P.state peripherals.now)) category name.now }
 {
-    match place {
-        Some(place) => category.serves(entries[place].kind),
-        None => false,
+    let Some(place) = find(entries, name) else {
+        return Finding::NotThere;
+    };
+    let kind = entries[place].kind;
+    if !category.serves(kind) {
+        return Finding::NotThere;
     }
+    if !is_attached(kind, peripherals, place) {
+        return Finding::Vacant;
+    }
+    Finding::At(place)
 }
 
-/// Whether a peripheral stands at the place.
-pub(crate) fn is_attached<P: Stated>(peripherals: &[P], place: Option<usize>) -> bool
-    ensures { result ≡ is_some (standing_at (map P.state peripherals.now) place) }
+/// Whether a device of this kind at a place has its peripheral, where it is of one that has any.
+fn is_attached<P: HasState>(kind: Option<Kind>, peripherals: &[P], place: usize) -> bool
+    ensures { result ≡ (is_none kind || is_some (slice_get (map P.state peripherals.now) place)) }
 {
-    match place {
-        Some(place) => place < peripherals.len(),
-        None => false,
-    }
+    kind.is_none() || place < peripherals.len()
 }
 
 /// The signs of the peripheral at the place, each false or good where there is none.
-pub(crate) fn signs_at<P: Stated>(peripherals: &[P], place: Option<usize>) -> Signs
+pub(crate) fn signs_at<P: HasState>(peripherals: &[P], place: Option<usize>) -> Signs
     ensures { result ≡ signs_in (standing_at (map P.state peripherals.now) place) }
 {
     if let Some(place) = place {

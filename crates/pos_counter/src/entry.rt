@@ -9,8 +9,8 @@ use std::alloc::Global;
 pub(crate) struct Entry {
     /// Its name, by which controls open it.
     pub(crate) name: Bytes,
-    /// What its peripheral is.
-    pub(crate) kind: Kind,
+    /// What its peripheral is, or none for a device that has no peripheral.
+    pub(crate) kind: Option<Kind>,
 }
 
 /// The built devices in order: the cash drawer `d1`.
@@ -21,7 +21,7 @@ pub(crate) fn built_entries(alloc: Global) -> Result<Vec<Entry>, NoMemory>
     let mut entries = Vec::with_capacity(alloc, 1)?;
     entries.push_reserved(Entry {
         name,
-        kind: Kind::Drawer,
+        kind: Some(Kind::Drawer),
     });
     Ok(entries)
 }

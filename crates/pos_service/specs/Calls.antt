@@ -1,5 +1,5 @@
 -- The calls and properties that every category has: the refusals of each in their order, and what it does.
-use Rattle.std.specs.Prelude.{Bool, true, false, not, pos, List, [], ◌∷◌, is_some, is_none}
+use Rattle.std.specs.Prelude.{ℕ, Bool, true, false, not, ◌&&◌, pos, List, [], ◌∷◌, Option, Some, None, is_some, is_none}
 use Rattle.pos_service.specs.declared.category.Category.{Category}
 use Rattle.pos_service.specs.declared.category.Category.TheVariants as category
 use Rattle.pos_service.specs.declared.kind.Kind.{Kind}
@@ -9,20 +9,73 @@ use Rattle.pos_service.specs.declared.property.Property.TheVariants as property
 use Rattle.pos_service.specs.declared.signs.Signs.{Signs}
 use Rattle.pos_service.specs.declared.answer.Value.{Value}
 use Rattle.pos_service.specs.declared.answer.Value.TheVariants as value
+use Rattle.pos_service.specs.declared.call.Call.{Call}
+use Rattle.pos_service.specs.declared.call.Call.TheVariants as call
 use Rattle.pos_service.specs.declared.code.Code.TheVariants as code
+use Rattle.pos_service.specs.declared.finding.Finding.{Finding}
+use Rattle.pos_service.specs.declared.finding.Finding.TheVariants as finding
 use Rattle.pos_service.specs.Controls.{Control, state_of}
 use Rattle.pos_service.specs.Refusals.{Row, when}
 
 -- controls of a category may open devices of its kind
-abbrev pub serves : Category → Kind → Bool
-serves category.CashDrawer kind.Drawer = true
-serves category.CashDrawer kind.Scanner = false
-serves category.CashDrawer (kind.Display rows columns) = false
-serves category.CashDrawer (kind.Printer chars near) = false
+abbrev pub serves : Category → Option Kind → Bool
+serves category.CashDrawer None = false
+serves category.CashDrawer (Some kind.Drawer) = true
+serves category.CashDrawer (Some kind.Scanner) = false
+serves category.CashDrawer (Some (kind.Display rows columns)) = false
+serves category.CashDrawer (Some (kind.Printer chars near)) = false
 
--- open: whether a device of the category has the name, and whether a peripheral is attached to it
-abbrev pub open_rows : Control → Bool → Bool → List Row
-open_rows control exists attached = when (is_some control.device) code.Illegal ∷ when (not exists) code.NoExist ∷ when (not attached) code.NoService ∷ []
+-- a call that every category has
+abbrev pub is_common : Call → Bool
+is_common (call.Open name) = true
+is_common call.Close = true
+is_common (call.Set p v) = true
+is_common (call.Get p) = true
+is_common asked = false
+
+-- the call is one of the category's own, besides those that every category has
+abbrev pub has_call : Category → Call → Bool
+has_call category.CashDrawer call.OpenDrawer = true
+has_call c asked = false
+
+-- the calls of a category's own that may want memory
+abbrev pub takes_memory : Call → Bool
+takes_memory call.OpenDrawer = true
+takes_memory asked = false
+
+-- the category has the property
+abbrev pub has_property : Category → Property → Bool
+has_property c property.State = true
+has_property c property.DeviceEnabled = true
+has_property category.CashDrawer property.CapStatus = true
+has_property category.CashDrawer property.DrawerOpened = true
+
+-- a call of another category is illegal before all that a call of its own asks
+abbrev pub own_rows : Control → Call → List Row → List Row
+own_rows control asked rows = when (not (has_call control.category asked)) code.Illegal ∷ rows
+
+-- nothing of the name is there for the control's category
+abbrev pub is_not_there : Finding → Bool
+is_not_there finding.NotThere = true
+is_not_there finding.Vacant = false
+is_not_there (finding.At place) = false
+
+-- the device has no peripheral
+abbrev pub is_vacant : Finding → Bool
+is_vacant finding.NotThere = false
+is_vacant finding.Vacant = true
+is_vacant (finding.At place) = false
+
+-- the place of the device that can be opened
+abbrev pub place_found : Finding → Option ℕ
+place_found finding.NotThere = None
+place_found finding.Vacant = None
+place_found (finding.At place) = Some place
+
+-- open, by what is found under the name
+abbrev pub open_rows : Control → Finding → List Row
+open_rows control found =
+    when (is_some control.device) code.Illegal ∷ when (is_not_there found) code.NoExist ∷ when (is_vacant found) code.NoService ∷ []
 
 abbrev pub close_rows : Control → List Row
 close_rows control = when (is_none control.device) code.Closed ∷ []
@@ -39,19 +92,41 @@ abbrev pub takes : Property → Value → Bool
 takes property.DeviceEnabled (value.Truth is_enabled) = true
 takes p v = false
 
+-- a property of another category can't be set either
 abbrev pub set_rows : Control → Property → Value → List Row
-set_rows control p v = when (is_none control.device) code.Closed ∷ when (not (is_settable p)) code.Illegal ∷ when (not (takes p v)) code.Illegal ∷ []
+set_rows control p v =
+    when (is_none control.device) code.Closed
+    ∷ when (not (has_property control.category p && is_settable p)) code.Illegal
+    ∷ when (not (takes p v)) code.Illegal ∷ []
+
+-- DeviceEnabled, once the property is set
+abbrev pub enabled_after : Bool → Property → Value → Bool
+enabled_after was property.DeviceEnabled (value.Truth is_enabled) = is_enabled
+enabled_after was p v = was
 
 -- the control with the property set
 abbrev pub after_set : Control → Property → Value → Control
-after_set control property.DeviceEnabled (value.Truth is_enabled) = record control { enabled = is_enabled }
-after_set control p v = control
+after_set control p v = record control { enabled = enabled_after control.enabled p v }
+
+-- the property can be read of an open control alone
+abbrev pub needs_open : Property → Bool
+needs_open property.State = false
+needs_open property.DeviceEnabled = true
+needs_open property.CapStatus = true
+needs_open property.DrawerOpened = true
+
+-- the property can be read of an enabled device alone
+abbrev pub needs_enabled : Property → Bool
+needs_enabled property.State = false
+needs_enabled property.DeviceEnabled = false
+needs_enabled property.CapStatus = false
+needs_enabled property.DrawerOpened = true
 
 abbrev pub get_rows : Control → Property → List Row
-get_rows control property.State = []
-get_rows control property.DeviceEnabled = when (is_none control.device) code.Closed ∷ []
-get_rows control property.CapStatus = when (is_none control.device) code.Closed ∷ []
-get_rows control property.DrawerOpened = when (is_none control.device) code.Closed ∷ when (not control.enabled) code.Disabled ∷ []
+get_rows control p =
+    when (needs_open p && is_none control.device) code.Closed
+    ∷ when (not (has_property control.category p)) code.Illegal
+    ∷ when (needs_enabled p && not control.enabled) code.Disabled ∷ []
 
 -- the value of a property, by the signs at the control's device
 abbrev pub property_of : Control → Signs → Property → Value

@@ -1,5 +1,5 @@
 -- The calls of a cash drawer (chapter Cash Drawer).
-use Rattle.std.specs.Prelude.{◌≡◌, ℕ, Bool, true, false, not, List, [], ◌∷◌, ◌⊎◌, is_none}
+use Rattle.std.specs.Prelude.{◌≡◌, ℕ, not, List, [], ◌∷◌, ◌⊎◌}
 use Rattle.pos_service.specs.declared.answer.Answer.{Answer}
 use Rattle.pos_service.specs.declared.answer.Answer.TheVariants as answer
 use Rattle.pos_service.specs.declared.answer.Value.TheVariants as value
@@ -8,24 +8,20 @@ use Rattle.pos_service.specs.declared.call.Call.{Call}
 use Rattle.pos_service.specs.declared.call.Call.TheVariants as call
 use Rattle.pos_service.specs.declared.order.Order.TheVariants as order
 use Rattle.pos_service.specs.declared.order.Reply.TheVariants as reply
-use Rattle.pos_service.specs.Peripherals.{Performs, Rose, signs_of}
-use Rattle.pos_service.specs.Statuses.{status_events}
 use Rattle.pos_service.specs.Controls.{Control, all_heard}
-use Rattle.pos_service.specs.Machine.{Station}
+use Rattle.pos_service.specs.Peripherals.{Performs, Rose, signs_of}
 use Rattle.pos_service.specs.Refusals.{Row, when}
+use Rattle.pos_service.specs.Stations.{Station, Effect}
+use Rattle.pos_service.specs.Statuses.{status_events}
 
--- the calls of this category alone
-abbrev pub is_drawer_call : Call → Bool
-is_drawer_call call.OpenDrawer = true
-is_drawer_call c = false
-
--- a call of another category is illegal before all that it asks
+-- what each call asks of its own, in order
 abbrev pub drawer_rows : Control → Call → List Row
-drawer_rows control call = when (is_none control.device) code.Closed ∷ when (not (is_drawer_call call)) code.Illegal ∷ when (not control.enabled) code.Disabled ∷ []
+drawer_rows control call.OpenDrawer = when (not control.enabled) code.Disabled ∷ []
+drawer_rows control asked = []
 
 -- The drawer opens, and each control that listens hears of it where it was closed.
 pub record DrawerOpened (place : ℕ) (old : List Control) (before : Station) (new : List Control) (after : Station) : Type 0 where
-  pub plant : Performs order.OpenDrawer before.plant reply.Done after.plant
+  pub plant : Performs before.kind order.OpenDrawer before.plant reply.Done after.plant
   pub station : after ≡ record before { plant = after.plant }
   pub events : new ≡ all_heard place (status_events (signs_of before.kind before.plant) (signs_of after.kind after.plant)) old
 
@@ -36,7 +32,12 @@ pub record LineFailed (old : List Control) (before : Station) (new : List Contro
   pub controls : new ≡ old
 
 -- openDrawer, where nothing refuses it
-abbrev pub DrawerOpens : ℕ → List Control → Station → Answer → List Control → Station → Type 0
-DrawerOpens place old before result new after =
+abbrev pub DrawerOpens : ℕ → Answer → Effect
+DrawerOpens place result old before new after =
     ((result ≡ answer.Done value.Empty) × DrawerOpened place old before new after)
     ⊎ ((result ≡ answer.Refused code.Failure 0) × LineFailed old before new after)
+
+-- what each call does with the drawer at a place, where nothing refuses it
+abbrev pub DrawerDoes : Call → ℕ → Answer → Effect
+DrawerDoes call.OpenDrawer place result old before new after = DrawerOpens place result old before new after
+DrawerDoes asked place result old before new after = ⊥

@@ -2,9 +2,8 @@ pub mod Codes
 pub mod Peripherals
 pub mod Statuses
 pub mod Controls
-pub mod Machine
 pub mod Refusals
 pub mod Calls
+pub mod Stations
 pub mod DrawerCalls
 pub mod HardTotals
-pub mod Steps

@@ -11,21 +11,12 @@ pub enum Category {
 }
 
 impl Category {
-    /// Whether its controls may open a device of this kind.
-    pub fn serves(self, kind: Kind) -> bool
+    /// Whether its controls may open a device of this kind; a device of no kind has no peripheral.
+    pub fn serves(self, kind: Option<Kind>) -> bool
         ensures { result ≡ serves self kind }
     {
-        match (self, kind) {
-            (Category::CashDrawer, Kind::Drawer) => true,
-            (Category::CashDrawer, Kind::Scanner) => false,
-            (
-                Category::CashDrawer,
-                Kind::Display {
-                    rows: _,
-                    columns: _,
-                },
-            ) => false,
-            (Category::CashDrawer, Kind::Printer { chars: _, near: _ }) => false,
+        match self {
+            Category::CashDrawer => matches!(kind, Some(Kind::Drawer)),
         }
     }
 }

@@ -34,8 +34,9 @@ fn loci_have_the_numbers_of_the_standard(rt: HostRuntime) {
 
 #[test]
 fn a_drawer_fits_its_category_order_and_input(rt: HostRuntime) {
-    assert!(rt; Category::CashDrawer.serves(Kind::Drawer));
-    assert!(rt; !Category::CashDrawer.serves(Kind::Scanner));
+    assert!(rt; Category::CashDrawer.serves(Some(Kind::Drawer)));
+    assert!(rt; !Category::CashDrawer.serves(Some(Kind::Scanner)));
+    assert!(rt; !Category::CashDrawer.serves(None));
     assert!(rt; Order::OpenDrawer.fits(Kind::Drawer));
     assert!(rt; !Order::OpenDrawer.fits(Kind::Printer { chars: 8, near: 2 }));
     assert!(rt; Input::DrawerMoved(true).fits(Kind::Drawer));

@@ -1,41 +1,40 @@
 ghost use Rattle.std.specs.Prelude.{◌≡◌, ⊤, MatchResult, None, Some};
-ghost use Rattle.pos_service.specs.Calls.{open_rows, close_rows, set_rows, after_set, get_rows, property_of};
+ghost use Rattle.pos_service.specs.Calls.{place_found, open_rows, close_rows, set_rows, after_set, get_rows, property_of};
 ghost use Rattle.pos_service.specs.Controls.{opened, closed};
 ghost use Rattle.pos_service.specs.Refusals.{Decided, first_refusal};
+ghost use Rattle.pos_common.specs.Held.{TurnsInto};
 ghost use Rattle.pos_common.specs.Needs.{need_rows};
 
 use super::Control;
 use crate::need::Need;
-use pos_service::{Answer, Code, Property, Signs, Value};
+use pos_service::{Answer, Code, Finding, Property, Signs, Value};
 
 impl Control {
-    /// `open`: it is for the device at this place from now on (common chapter). `exists` says whether the profile has
-    /// a device of the name and category, `attached` whether a peripheral stands behind it.
+    /// `open`: it is for the device that was found from now on (common chapter).
     ///
-    /// Refused with E_ILLEGAL where it is open, E_NOEXIST without a device, E_NOSERVICE without a peripheral.
-    pub fn open(&mut self, place: Option<usize>, exists: bool, attached: bool) -> Answer
-        ensures { Decided (open_rows self.old.control exists attached) result (self.new ≡ self.old)
-            ((result ≡ Answer.Done Value.Empty) × (self.new.control ≡ opened self.old.control place)) }
+    /// Refused with E_ILLEGAL where it is open, E_NOEXIST where there is no such device, E_NOSERVICE where nothing stands
+    /// behind it.
+    pub fn open(&mut self, found: Finding) -> Answer
+        ensures { TurnsInto (open_rows self.old.control found) result self.old self.new (opened self.old.control (place_found found)) }
     {
         if self.device.is_some() {
             return Answer::Refused(Code::Illegal, 0);
         }
-        if !exists {
-            return Answer::Refused(Code::NoExist, 0);
+        match found {
+            Finding::NotThere => Answer::Refused(Code::NoExist, 0),
+            Finding::Vacant => Answer::Refused(Code::NoService, 0),
+            Finding::At(place) => {
+                self.start_over(Some(place));
+                Answer::Done(Value::Empty)
+            }
         }
-        if !attached {
-            return Answer::Refused(Code::NoService, 0);
-        }
-        self.start_over(place);
-        Answer::Done(Value::Empty)
     }
 
     /// `close`: it is for no device any more, and its events are deleted (common chapter).
     ///
     /// Refused with E_CLOSED where it is closed.
     pub fn close(&mut self) -> Answer
-        ensures { Decided (close_rows self.old.control) result (self.new ≡ self.old)
-            ((result ≡ Answer.Done Value.Empty) × (self.new.control ≡ closed self.old.control)) }
+        ensures { TurnsInto (close_rows self.old.control) result self.old self.new (closed self.old.control) }
     {
         if self.device.is_none() {
             return Answer::Refused(Code::Closed, 0);
@@ -58,8 +57,8 @@ impl Control {
     /// Refused with E_CLOSED where the control is closed, E_ILLEGAL where the property can't be set, or not to a
     /// value of this type or range.
     pub fn set(&mut self, property: Property, value: &Value) -> Answer
-        ensures { Decided (set_rows self.old.control property value.now) result (self.new ≡ self.old)
-            ((result ≡ Answer.Done Value.Empty) × (self.new.control ≡ after_set self.old.control property value.now)) }
+        ensures { TurnsInto (set_rows self.old.control property value.now) result self.old self.new
+            (after_set self.old.control property value.now) }
     {
         if self.device.is_none() {
             return Answer::Refused(Code::Closed, 0);
@@ -92,17 +91,14 @@ impl Control {
         }
     }
 
-    /// Whether it is as a call asks it to be.
+    /// Whether it is as a call of its category asks an open control to be.
     ///
-    /// Refused with E_CLOSED where it is closed, E_DISABLED where the call needs the device enabled and it isn't.
+    /// Refused with E_DISABLED where the call needs the device enabled and it isn't.
     pub fn check(&self, need: Need) -> Result<(), Code>
         ensures { MatchResult result
             (λ _. first_refusal (need_rows self.now.control need) ≡ None)
             (λ code. first_refusal (need_rows self.now.control need) ≡ Some (Answer.Refused code 0)) }
     {
-        if self.device.is_none() {
-            return Err(Code::Closed);
-        }
         if need.is_enabled && !self.is_enabled {
             return Err(Code::Disabled);
         }

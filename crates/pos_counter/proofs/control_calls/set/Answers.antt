@@ -1,10 +1,17 @@
-use Rattle.std.proofs.Common.{get_or}
+use Rattle.std.proofs.Common.{get_or, set}
 use Rattle.std.proofs.lemmas.List.{get_or_default}
+use Rattle.pos_service.specs.declared.call.Call.TheVariants as call
+use Rattle.pos_counter.specs.Parts.{devices_of}
+use Rattle.pos_counter.specs.Steps.{CallOf, Answered}
 use Rattle.pos_counter.proofs.Lifts.{match_at_some, control_at, decided_at}
+use Rattle.pos_counter.proofs.Serving.{controls_serve}
 use Rattle.pos_counter.proofs.control_calls.set.Goals as goal
 
 pub returns : goal.returns
-returns c = λ devices.
+returns c = λ entries states sound.
     let hs = c.args.controls.now in
-    match_at_some _ _ _ _ (control_at hs c.args.number c.index-controls-number.result c.requires)
-    (decided_at hs devices c.args.number c.set.new.self (get_or hs c.args.number c.index-controls-number.result) _ _ _ _ (get_or_default hs c.args.number c.index-controls-number.result _ c.requires) c.set.ensures)
+    let n = c.args.number in
+    let held = c.index-controls-number.result in
+    controls_serve hs (set hs n c.set.new.self) entries states (CallOf n (call.Set c.args.property c.args.value.now)) (Answered c.set.result) sound
+    (match_at_some _ _ _ _ (control_at hs n held c.requires)
+    (decided_at hs (devices_of entries states) n c.set.new.self (get_or hs n held) _ _ _ _ (get_or_default hs n held _ c.requires) c.set.ensures))

@@ -1,6 +1,6 @@
 use Rattle.std.proofs.Common.{◌≡◌, ◌<◌, ◌≤◌, ◌∙◌, length, sym, arith}
 use Rattle.std.proofs.lemmas.List.{length-map, length-set}
-use Rattle.pos_service.specs.declared.peripheral_box.Stated.{Ghosts}
+use Rattle.pos_service.specs.declared.peripheral_box.HasState.{Ghosts}
 use Rattle.pos_counter.specs.Counters.{states_of}
 use Rattle.pos_counter.proofs.Parking.{parked_more, parked_whole}
 use Rattle.pos_counter.proofs.counter.park_all.Goals as goal

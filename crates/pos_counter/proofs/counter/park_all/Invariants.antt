@@ -1,6 +1,6 @@
 use Rattle.std.proofs.Common.{◌≡◌, ◌++◌, map, take, drop, length}
-use Rattle.pos_service.specs.declared.peripheral_box.Stated.{Ghosts}
-use Rattle.pos_counter.specs.Machines.{parked}
+use Rattle.pos_service.specs.declared.peripheral_box.HasState.{Ghosts}
+use Rattle.pos_counter.specs.Parts.{parked}
 use Rattle.pos_counter.specs.Counters.{states_of}
 use Rattle.pos_counter.proofs.counter.park_all.Given as goal
 

@@ -1,5 +1,5 @@
 use Rattle.std.proofs.Common.{◌≡◌, drop, map}
-use Rattle.pos_service.specs.Machine.{place_from}
+use Rattle.pos_counter.specs.Machine.{place_from}
 use Rattle.pos_counter.proofs.Places.{vacant}
 use Rattle.pos_counter.proofs.devices.find.Given as goal
 

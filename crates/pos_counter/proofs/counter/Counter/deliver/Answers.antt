@@ -1,14 +1,13 @@
-use Rattle.pos_service.specs.Steps.{Deliver, Delivered}
-use Rattle.pos_common.specs.Held.{controls_of}
-use Rattle.pos_counter.specs.Counters.{machine, boxes_of}
-use Rattle.pos_counter.proofs.Sound.{step_sound}
+use Rattle.pos_counter.specs.Steps.{Deliver, Delivered}
+use Rattle.pos_counter.specs.Counters.{states_of, boxes_of}
+use Rattle.pos_counter.specs.Parts.{devices_of}
+use Rattle.pos_counter.proofs.Serving.{controls_serve}
 use Rattle.pos_counter.proofs.counter.Counter.deliver.Goals as goal
 
 pub returns-clause-sound : goal.returns-clause-sound
 returns-clause-sound g c =
-    let sound = c.requires.sound in
-    let old = machine (boxes_of sound) c.args.self.now in record {
-      machine = step_sound old (record old { controls = controls_of c.deliver.new.self }) (Deliver c.args.number c.args.reply) (Delivered c.deliver.result) (c.deliver.ensures old.devices) sound.machine;
-      unparked = sound.unparked;
-      attached = sound.attached;
-    }
+    let boxes = boxes_of c.requires.sound in
+    let es = c.args.self.now.entries.items in
+    let ss = states_of boxes c.args.self.now.boxes.items in
+    let served = controls_serve c.args.self.now.desk c.deliver.new.self es ss (Deliver c.args.number c.args.reply) (Delivered c.deliver.result) c.requires.sound.parts (c.deliver.ensures (devices_of es ss)) in
+    record { parts = served.sound }

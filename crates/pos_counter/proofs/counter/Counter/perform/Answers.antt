@@ -1,6 +1,6 @@
 use Rattle.std.proofs.Common.{◌∙◌, ◌+◌, ◌++◌, ◌∷◌, [], take, length, ap, sym, subst, arith}
 use Rattle.std.proofs.lemmas.List.{length_push}
-use Rattle.pos_service.specs.Steps.{Run}
+use Rattle.pos_counter.specs.Steps.{Run}
 use Rattle.pos_counter.specs.Responses.{request_of, response_of, steps_of}
 use Rattle.pos_counter.specs.Counters.{machine, boxes_of}
 use Rattle.pos_counter.proofs.Runs.{one_more, steps_push}

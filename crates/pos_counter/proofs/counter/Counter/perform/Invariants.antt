@@ -1,9 +1,9 @@
 use Rattle.std.proofs.Common.{◌≡◌, ◌≤◌, take, length}
 use Rattle.std.specs.Prelude.{vec_capacity}
-use Rattle.pos_service.specs.declared.peripheral_box.Stated.{Ghosts}
-use Rattle.pos_service.specs.Steps.{Run}
+use Rattle.pos_service.specs.declared.peripheral_box.HasState.{Ghosts}
+use Rattle.pos_counter.specs.Steps.{Run}
 use Rattle.pos_counter.specs.Responses.{steps_of}
-use Rattle.pos_counter.specs.Counters.{machine, Sound}
+use Rattle.pos_counter.specs.Counters.{machine, IsCounterSound}
 use Rattle.pos_counter.proofs.counter.Counter.perform.Given as goal
 
 -- the requests before the place are a run, and there is room for the responses to the others
@@ -14,5 +14,5 @@ invariant-loop-request g l =
       run : Run (machine boxes l.fn.self) (steps_of (take l.request-index l.requests) l.responses.items) (machine boxes l.self);
       whole : length l.responses.items ≡ l.request-index;
       room : length l.requests ≤ vec_capacity l.responses;
-      sound : Sound boxes l.self;
+      sound : IsCounterSound boxes l.self;
     }

@@ -1,8 +1,8 @@
-use Rattle.std.proofs.Common.{◌≡◌, ◌∙◌, Some, ap, map, sym, subst, true}
+use Rattle.std.proofs.Common.{arith, ◌≡◌, ◌∙◌, Some, ap, map, sym, subst, true}
 use Rattle.std.specs.Prelude.{All}
 use Rattle.std.proofs.lemmas.List.{length-map}
 use Rattle.pos_service.specs.Peripherals.{PeripheralState}
-use Rattle.pos_service.specs.Machine.{station_of}
+use Rattle.pos_service.specs.Stations.{station_of}
 use Rattle.pos_counter.specs.Counters.{states_of, boxes_of}
 use Rattle.pos_counter.proofs.Parking.{stations_stay, all_parked}
 use Rattle.pos_counter.proofs.counter.Counter.shutdown.Goals as goal
@@ -12,6 +12,6 @@ returns g c =
     let boxes = boxes_of c.requires.sound in
     let bs = c.args.self.boxes.items in
     let states = states_of boxes bs in record {
-      stations = stations_stay c.args.self.entries.items states (length-map bs boxes.state ∙ c.requires.sound.attached) ∙ ap (map (λ (s : PeripheralState). Some (station_of s))) (sym c.park_all.ensures);
+      stations = ap (map station_of) c.park_all.ensures ∙ stations_stay c.args.self.entries.items states c.requires.sound.parts.attached;
       parked = subst (All (λ (s : PeripheralState). s.is_parked ≡ true)) (sym c.park_all.ensures) (all_parked states);
     }

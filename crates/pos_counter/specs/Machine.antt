@@ -1,28 +1,17 @@
 -- The state of the device machine: the controls of all applications, and the devices of the profile.
-use Rattle.std.specs.Prelude.{ℕ, ◌+◌, Bool, false, List, [], ◌∷◌, Option, Some, None, slice_get, slice_set, bytes_eq, if◌then◌else◌}
+use Rattle.std.specs.Prelude.{ℕ, ◌+◌, Bool, ◌||◌, List, [], ◌∷◌, Option, Some, None, is_none, is_some, slice_get, slice_set, bytes_eq, if◌then◌else◌}
 use Rattle.pos_service.specs.declared.category.Category.{Category}
+use Rattle.pos_service.specs.declared.finding.Finding.{Finding}
+use Rattle.pos_service.specs.declared.finding.Finding.TheVariants as finding
 use Rattle.pos_service.specs.declared.kind.Kind.{Kind}
-use Rattle.pos_service.specs.declared.plant.Plant.{Plant}
-use Rattle.pos_service.specs.declared.signs.PaperLevel.TheVariants as paper
-use Rattle.pos_service.specs.declared.signs.Signs.{Signs}
-use Rattle.pos_service.specs.Peripherals.{PeripheralState, signs_of}
-use Rattle.pos_service.specs.Controls.{Control}
 use Rattle.pos_service.specs.Calls.{serves}
+use Rattle.pos_service.specs.Controls.{Control}
+use Rattle.pos_service.specs.Stations.{Station}
 
--- what stands at a device: what it is, what it is physically, and how often its line has failed
-pub record Station : Type 0 where
-  pub kind : Kind
-  pub plant : Plant
-  pub failures : ℕ
-
--- what a peripheral is to the machine
-abbrev pub station_of : PeripheralState → Station
-station_of state = record { kind = state.kind; plant = state.plant; failures = state.failures }
-
--- a device of the profile, without a station where no peripheral is attached
+-- a device of the profile: of a kind, and without a station where no peripheral is attached
 pub record Device : Type 0 where
   pub name : List ℕ
-  pub kind : Kind
+  pub kind : Option Kind
   pub station : Option Station
 
 pub record Machine : Type 0 where
@@ -49,22 +38,26 @@ station_in (Some device) = device.station
 abbrev pub station_named : Machine → List ℕ → Option Station
 station_named machine name = station_in (device_at machine.devices (place_of machine.devices name))
 
--- the device is there, and of a kind that the category serves
-abbrev pub is_served : Category → Option Device → Bool
-is_served category None = false
-is_served category (Some device) = serves category device.kind
+-- what a control of a category finds at a place: a device of its kind, with a peripheral where there are such
+abbrev pub found_at : Category → Option ℕ → Option Device → Finding
+found_at category None device = finding.NotThere
+found_at category (Some place) None = finding.NotThere
+found_at category (Some place) (Some device) =
+    if serves category device.kind then (if is_none device.kind || is_some device.station then finding.At place else finding.Vacant)
+    else finding.NotThere
 
--- the signs at a device, each false or good where it has no peripheral
-abbrev pub signs_in : Option Station → Signs
-signs_in None = record { drawer_open = false; cover_open = false; paper = paper.Good }
-signs_in (Some station) = signs_of station.kind station.plant
+-- what a control of a category finds under a name
+abbrev pub found_under : Machine → Category → List ℕ → Finding
+found_under machine category name =
+    let place = place_of machine.devices name in
+    found_at category place (device_at machine.devices place)
 
 abbrev pub with_control : Machine → ℕ → Control → Machine
 with_control machine number control = record machine { controls = slice_set machine.controls number control }
 
 -- the machine with these controls, and another station at a device
 abbrev pub with_station : Machine → List Control → ℕ → Device → Station → Machine
-with_station machine controls place device station = record {
+with_station machine controls place device station = record machine {
   controls = controls;
   devices = slice_set machine.devices place (record device { station = Some station });
 }

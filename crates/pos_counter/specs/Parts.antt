@@ -1,8 +1,11 @@
 -- The machine that a counter's parts stand for.
-use Rattle.std.specs.Prelude.{◌≡◌, ℕ, true, false, List, [], ◌∷◌, Option, Some, None, All, map, option_map, slice_get}
+use Rattle.std.specs.Prelude.{◌≡◌, ◌≤◌, ℕ, true, false, List, [], ◌∷◌, Option, Some, None, All, length, map, option_map, slice_get}
+use Rattle.std.specs.List.{filter_map}
 use Rattle.pos_service.specs.Peripherals.{PeripheralState}
-use Rattle.pos_service.specs.Machine.{Station, Device, Machine, station_of}
+use Rattle.pos_service.specs.Stations.{Station, station_of}
 use Rattle.pos_common.specs.Held.{Held, controls_of}
+use Rattle.pos_counter.specs.Machine.{Device, Machine}
+use Rattle.pos_counter.specs.Steps.{Request, Response, Step, IsSound}
 use Rattle.pos_counter.specs.declared.entry.Entry.{Entry}
 use Rattle.pos_counter.specs.Profile.{profile}
 
@@ -41,7 +44,19 @@ AllUnparked states = All (λ state. state.is_parked ≡ false) states
 abbrev pub parked : PeripheralState → PeripheralState
 parked state = record state { is_parked = true }
 
--- the peripherals of a machine's devices, in order, are handed over: out of service, and else as they stand there
+-- What stands at a machine's devices, in order, is handed over: out of service, and else as it stands there.
 pub record HandsOver (machine : Machine) (states : List PeripheralState) : Type 0 where
-  pub stations : map (λ device. device.station) machine.devices ≡ map (λ state. Some (station_of state)) states
+  pub stations : map station_of states ≡ filter_map (λ device. device.station) machine.devices
   pub parked : All (λ state. state.is_parked ≡ true) states
+
+-- What is true of the parts of every counter: their machine is sound, and each peripheral has a device and is in service.
+pub record ArePartsSound (helds : List Held) (entries : List Entry) (states : List PeripheralState) : Type 0 where
+  pub machine : IsSound (machine_of helds entries states)
+  pub unparked : AllUnparked states
+  pub attached : length states ≤ length entries
+
+-- From some parts of a counter to others, the request gets this response, and the parts are sound again.
+pub record Serves (helds : List Held) (entries : List Entry) (states : List PeripheralState) (request : Request)
+  (response : Response) (new_helds : List Held) (new_states : List PeripheralState) : Type 0 where
+  pub step : Step (machine_of helds entries states) request response (machine_of new_helds entries new_states)
+  pub sound : ArePartsSound new_helds entries new_states

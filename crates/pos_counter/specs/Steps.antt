@@ -1,10 +1,10 @@
 -- The steps of the device machine, and its runs.
-use Rattle.std.specs.Prelude.{◌≡◌, ℕ, ◌++◌, ◌∷◌, Bool, true, false, List, [], Option, Some, None, MatchOption, IfSome, All, IsTrue, length, ◌<◌, ◌≤◌, slice_get, is_some}
+use Rattle.std.specs.Prelude.{◌≡◌, ℕ, ◌++◌, ◌∷◌, Bool, true, false, List, [], Option, Some, None, MatchOption, IfSome, All, IsTrue, length, ◌<◌, ◌≤◌, ◌||◌, slice_get, is_some, is_none}
 use Rattle.pos_service.specs.declared.category.Category.{Category}
+use Rattle.pos_service.specs.declared.category.Category.TheVariants as category
 use Rattle.pos_service.specs.declared.call.Call.{Call}
 use Rattle.pos_service.specs.declared.call.Call.TheVariants as call
 use Rattle.pos_service.specs.declared.input.Input.{Input}
-use Rattle.pos_service.specs.declared.input.Taken.TheVariants as taken
 use Rattle.pos_service.specs.declared.plant.Plant.{Plant}
 use Rattle.pos_service.specs.declared.event.Event.{Event}
 use Rattle.pos_service.specs.declared.event.ErrorReply.{ErrorReply}
@@ -12,13 +12,14 @@ use Rattle.pos_service.specs.declared.answer.Answer.{Answer}
 use Rattle.pos_service.specs.declared.answer.Answer.TheVariants as answer
 use Rattle.pos_service.specs.declared.answer.Value.TheVariants as value
 use Rattle.pos_service.specs.declared.code.Code.TheVariants as code
-use Rattle.pos_service.specs.Peripherals.{Takes, signs_of, input_fits}
-use Rattle.pos_service.specs.Statuses.{status_events}
-use Rattle.pos_service.specs.Controls.{Control, new_control, opened, closed, deliverable, delivered, all_heard}
-use Rattle.pos_service.specs.Machine.{Station, Device, Machine, place_of, device_at, station_in, station_named, is_served, signs_in, with_control, with_station}
-use Rattle.pos_service.specs.Refusals.{Row, Decided, first_refusal}
-use Rattle.pos_service.specs.Calls.{serves, open_rows, close_rows, set_rows, after_set, get_rows, property_of}
-use Rattle.pos_service.specs.DrawerCalls.{drawer_rows, DrawerOpens}
+use Rattle.pos_service.specs.Peripherals.{input_fits}
+use Rattle.pos_service.specs.Controls.{Control, new_control, opened, closed, deliverable, delivered}
+use Rattle.pos_service.specs.Refusals.{Row, Decided, first_refusal, when}
+use Rattle.pos_service.specs.Calls.{takes_memory as own_takes_memory}
+use Rattle.pos_service.specs.Calls.{serves, own_rows, place_found, open_rows, close_rows, set_rows, after_set, get_rows, property_of}
+use Rattle.pos_service.specs.Stations.{Station, Effect, TakesIn, signs_in}
+use Rattle.pos_service.specs.DrawerCalls.{drawer_rows, DrawerDoes}
+use Rattle.pos_counter.specs.Machine.{Device, Machine, place_of, device_at, station_in, station_named, found_under, with_control, with_station}
 
 -- what may be asked of the machine: controls by their numbers, devices by their names
 pub data Request : Type 0 where
@@ -45,7 +46,7 @@ abbrev pub most_controls : ℕ
 most_controls = 4096
 
 -- What happens at the station of a device, by what it does to the controls and the station.
-pub record OnStation (old : Machine) (at : Option ℕ) (Does : ℕ → List Control → Station → List Control → Station → Type 0) (new : Machine) : Type 0 where
+pub record OnStation (old : Machine) (at : Option ℕ) (Does : ℕ → Effect) (new : Machine) : Type 0 where
   pub place : ℕ
   pub device : Device
   pub before : Station
@@ -57,50 +58,51 @@ pub record OnStation (old : Machine) (at : Option ℕ) (Does : ℕ → List Cont
   pub does : Does place old.controls before controls after
   pub machine : new ≡ with_station old controls place device after
 
--- the calls that may want memory
-abbrev pub takes_memory : Call → Bool
-takes_memory (call.Open name) = true
-takes_memory call.Close = false
-takes_memory (call.Set property v) = false
-takes_memory (call.Get property) = false
-takes_memory call.OpenDrawer = true
+-- the call of a control may want memory
+abbrev pub takes_memory : Machine → Control → Call → Bool
+takes_memory machine control (call.Open name) = true
+takes_memory machine control call.Close = false
+takes_memory machine control (call.Set property v) = false
+takes_memory machine control (call.Get property) = false
+takes_memory machine control own = own_takes_memory own
 
--- The refusals of each call, in their order.
-abbrev pub refusals : Machine → Control → Call → List Row
-refusals machine control (call.Open name) =
-    let device = device_at machine.devices (place_of machine.devices name) in
-    open_rows control (is_served control.category device) (is_some (station_in device))
-refusals machine control call.Close = close_rows control
-refusals machine control (call.Set property v) = set_rows control property v
-refusals machine control (call.Get property) = get_rows control property
-refusals machine control call.OpenDrawer = drawer_rows control call.OpenDrawer
+-- what each call of a category's own asks, in order
+abbrev pub category_rows : Category → Control → Call → List Row
+category_rows category.CashDrawer = drawer_rows
+
+-- what each call of a category's own does at its device's station, where nothing refuses it
+abbrev pub CategoryDoes : Category → Call → ℕ → Answer → Effect
+CategoryDoes category.CashDrawer asked place result = DrawerDoes asked place result
+
+-- The refusals of the call of the control with a number, in their order.
+abbrev pub refusals : Machine → ℕ → Control → Call → List Row
+refusals machine number control (call.Open name) = open_rows control (found_under machine control.category name)
+refusals machine number control call.Close = close_rows control
+refusals machine number control (call.Set property v) = set_rows control property v
+refusals machine number control (call.Get property) = get_rows control property
+refusals machine number control own =
+    when (is_none control.device) code.Closed ∷ own_rows control own (category_rows control.category control own)
 
 -- What each call does where nothing refuses it.
 abbrev pub Does : Machine → ℕ → Control → Call → Answer → Machine → Type 0
 Does old number control (call.Open name) result new =
-    (result ≡ answer.Done value.Empty) × (new ≡ with_control old number (opened control (place_of old.devices name)))
+    (result ≡ answer.Done value.Empty) × (new ≡ with_control old number (opened control (place_found (found_under old control.category name))))
 Does old number control call.Close result new = (result ≡ answer.Done value.Empty) × (new ≡ with_control old number (closed control))
 Does old number control (call.Set property v) result new =
     (result ≡ answer.Done value.Empty) × (new ≡ with_control old number (after_set control property v))
 Does old number control (call.Get property) result new =
     (result ≡ answer.Done (property_of control (signs_in (station_in (device_at old.devices control.device))) property)) × (new ≡ old)
-Does old number control call.OpenDrawer result new =
-    OnStation old control.device (λ place controls before. DrawerOpens place controls before result) new
+Does old number control own result new =
+    OnStation old control.device (λ place. CategoryDoes control.category own place result) new
 
 -- A call on a control: by its table of refusals, and then by what it does.
 abbrev pub Called : Machine → ℕ → Control → Call → Answer → Machine → Type 0
-Called old number control call result new = Decided (refusals old control call) result (new ≡ old) (Does old number control call result new)
+Called old number control call result new = Decided (refusals old number control call) result (new ≡ old) (Does old number control call result new)
 
 -- A call may find no memory only where it takes some and nothing refuses it before.
-abbrev pub Wants : Machine → Control → Call → Machine → Type 0
-Wants old control call new = IsTrue (takes_memory call) × (first_refusal (refusals old control call) ≡ None) × (new ≡ old)
-
--- An input changes the plant, and each control that listens hears of it.
-pub record TakesIn (input : Input) (place : ℕ) (old : List Control) (before : Station) (new : List Control) (after : Station) : Type 0 where
-  pub fits : input_fits before.kind input ≡ true
-  pub plant : Takes input before.plant taken.Quiet after.plant
-  pub station : after ≡ record before { plant = after.plant }
-  pub events : new ≡ all_heard place (status_events (signs_of before.kind before.plant) (signs_of after.kind after.plant)) old
+abbrev pub Wants : Machine → ℕ → Control → Call → Machine → Type 0
+Wants old number control call new =
+    IsTrue (takes_memory old control call) × (first_refusal (refusals old number control call) ≡ None) × (new ≡ old)
 
 -- A device has a peripheral, and the input fits its kind, or doesn't.
 pub record FindsFit (station : Option Station) (input : Input) (fits : Bool) : Type 0 where
@@ -111,21 +113,25 @@ pub record FindsFit (station : Option Station) (input : Input) (fits : Bool) : T
 -- From old, the machine may give this response to the request, and is new then.
 abbrev pub Step : Machine → Request → Response → Machine → Type 0
 Step old (NewControl category) (Made number) new =
-    (length old.controls < most_controls) × (number ≡ length old.controls) × (new ≡ record old { controls = old.controls ++ new_control category ∷ [] })
+    (length old.controls < most_controls) × (number ≡ length old.controls)
+    × (new ≡ record old { controls = old.controls ++ new_control category ∷ [] })
 Step old (NewControl category) Full new = (most_controls ≤ length old.controls) × (new ≡ old)
 Step old (NewControl category) OutOfMemory new = (length old.controls < most_controls) × (new ≡ old)
 -- a call on a control that isn't there is illegal
 Step old (CallOf number call) (Answered result) new =
-    MatchOption (slice_get old.controls number) ((result ≡ answer.Refused code.Illegal 0) × (new ≡ old)) (λ control. Called old number control call result new)
-Step old (CallOf number call) OutOfMemory new = MatchOption (slice_get old.controls number) ⊥ (λ control. Wants old control call new)
+    MatchOption (slice_get old.controls number) ((result ≡ answer.Refused code.Illegal 0) × (new ≡ old))
+    (λ control. Called old number control call result new)
+Step old (CallOf number call) OutOfMemory new = MatchOption (slice_get old.controls number) ⊥ (λ control. Wants old number control call new)
 Step old (InputTo name input) TakenIn new = OnStation old (place_of old.devices name) (TakesIn input) new
 Step old (InputTo name input) NoDevice new = (station_named old name ≡ None) × (new ≡ old)
 Step old (InputTo name input) WrongInput new = FindsFit (station_named old name) input false × (new ≡ old)
 Step old (InputTo name input) OutOfMemory new = FindsFit (station_named old name) input true × (new ≡ old)
 -- no event but an error looks at the reply
 Step old (Deliver number reply) (Delivered event) new =
-    MatchOption (slice_get old.controls number) ((event ≡ None) × (new ≡ old)) (λ control. (event ≡ deliverable control) × (new ≡ with_control old number (delivered control)))
-Step old (Snapshot name) (Shown plant) new = IfSome (station_named old name) (λ station. station.plant ≡ plant) × (is_some (station_named old name) ≡ true) × (new ≡ old)
+    MatchOption (slice_get old.controls number) ((event ≡ None) × (new ≡ old))
+    (λ control. (event ≡ deliverable control) × (new ≡ with_control old number (delivered control)))
+Step old (Snapshot name) (Shown plant) new =
+    IfSome (station_named old name) (λ station. station.plant ≡ plant) × (is_some (station_named old name) ≡ true) × (new ≡ old)
 Step old (Snapshot name) NoDevice new = (station_named old name ≡ None) × (new ≡ old)
 Step old (Snapshot name) OutOfMemory new = (is_some (station_named old name) ≡ true) × (new ≡ old)
 -- no other response is given
@@ -138,12 +144,15 @@ Run old (step ∷ steps) new = (mid : Machine) × Step old step.0 step.1 mid × 
 
 -- A device's peripheral, where it has one, is of the device's kind.
 abbrev pub HasItsKind : Device → Type 0
-HasItsKind device = IfSome device.station (λ station. station.kind ≡ device.kind)
+HasItsKind device = IfSome device.station (λ station. device.kind ≡ Some station.kind)
 
--- The device of an open control has a peripheral, and the category serves it.
+-- The category serves the device, which has a peripheral where it is of a kind.
+abbrev pub IsServed : Category → Device → Type 0
+IsServed category device = (serves category device.kind ≡ true) × IsTrue (is_none device.kind || is_some device.station)
+
+-- The device of an open control is there, and the control's category serves it.
 abbrev pub HasItsDevice : List Device → Control → Type 0
-HasItsDevice devices control =
-    IfSome control.device (λ place. MatchOption (slice_get devices place) ⊥ (λ device. IsTrue (is_some device.station) × (serves control.category device.kind ≡ true)))
+HasItsDevice devices control = IfSome control.device (λ place. MatchOption (slice_get devices place) ⊥ (IsServed control.category))
 
 -- What is true of every machine that a counter stands for.
 pub record IsSound (machine : Machine) : Type 0 where

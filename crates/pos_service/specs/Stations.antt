@@ -1,0 +1,78 @@
+-- What stands at a device, and what a category's calls and inputs do there to the list of all controls.
+use Rattle.std.specs.Prelude.{◌≡◌, ℕ, true, false, List, Option, Some, None, Result, MatchOption, MatchResult, IfSome, IsTrue, is_some, slice_get}
+use Rattle.pos_service.specs.declared.answer.Answer.{Answer}
+use Rattle.pos_service.specs.declared.call.Call.{Call}
+use Rattle.pos_service.specs.declared.category.Category.{Category}
+use Rattle.pos_service.specs.declared.input.Input.{Input}
+use Rattle.pos_service.specs.declared.input.Taken.TheVariants as taken
+use Rattle.pos_service.specs.declared.kind.Kind.{Kind}
+use Rattle.pos_service.specs.declared.memory.NoMemory.{NoMemory}
+use Rattle.pos_service.specs.declared.plant.Plant.{Plant}
+use Rattle.pos_service.specs.declared.signs.PaperLevel.TheVariants as paper
+use Rattle.pos_service.specs.declared.signs.Signs.{Signs}
+use Rattle.pos_service.specs.Calls.{own_rows, takes_memory}
+use Rattle.pos_service.specs.Controls.{Control, all_heard}
+use Rattle.pos_service.specs.Peripherals.{PeripheralState, Takes, input_fits, signs_of}
+use Rattle.pos_service.specs.Refusals.{Row, Decided, first_refusal}
+use Rattle.pos_service.specs.Statuses.{status_events}
+
+-- what stands at a device: what it is, what it is physically, and how often its line has failed
+pub record Station : Type 0 where
+  pub kind : Kind
+  pub plant : Plant
+  pub failures : ℕ
+
+-- what a peripheral is to the machine
+abbrev pub station_of : PeripheralState → Station
+station_of state = record { kind = state.kind; plant = state.plant; failures = state.failures }
+
+-- the signs at a device, each false or good where it has no peripheral
+abbrev pub signs_in : Option Station → Signs
+signs_in None = record { drawer_open = false; cover_open = false; paper = paper.Good }
+signs_in (Some station) = signs_of station.kind station.plant
+
+-- The control that a number has is of this category, and open.
+abbrev pub IsOpen : Category → List Control → ℕ → Type 0
+IsOpen category controls number =
+    MatchOption (slice_get controls number) ⊥ (λ control. (control.category ≡ category) × IsTrue (is_some control.device))
+
+-- Controls and station are as they were.
+pub record SameStation (old : List Control) (before : Station) (new : List Control) (after : Station) : Type 0 where
+  pub controls : new ≡ old
+  pub station : after ≡ before
+
+-- what something does to all controls and a station
+abbrev pub Effect : Type 1
+Effect = List Control → Station → List Control → Station → Type 0
+
+-- A call at a station is answered by its table, and then by what it does. Want of memory comes only from a call that takes
+-- some, behind the table, and changes nothing.
+abbrev pub CalledAt : Call → List Row → (Answer → Effect) → Result Answer NoMemory → Effect
+CalledAt asked rows Does outcome old before new after = MatchResult outcome
+    (λ result. Decided rows result (SameStation old before new after) (Does result old before new after))
+    (λ want. IsTrue (takes_memory asked) × (first_refusal rows ≡ None) × SameStation old before new after)
+
+-- A call on the control with a number, which is open, at the station of its device: by a category's table, and by what the
+-- call does there.
+abbrev pub CalledBy : (Control → Call → List Row) → (Call → ℕ → Answer → Effect) → ℕ → Call → Result Answer NoMemory → Effect
+CalledBy rows Does number asked outcome old before new after =
+    MatchOption (slice_get old number) ⊥ (λ control. IfSome control.device (λ place.
+    CalledAt asked (own_rows control asked (rows control asked)) (Does asked place) outcome old before new after))
+
+-- A peripheral is in service, and of the kind that it was.
+pub record StaysInService (old new : PeripheralState) : Type 0 where
+  pub unparked : new.is_parked ≡ false
+  pub kind : new.kind ≡ old.kind
+
+-- An input changes the plant, and each control that listens hears of it.
+pub record TakesIn (input : Input) (place : ℕ) (old : List Control) (before : Station) (new : List Control) (after : Station) : Type 0 where
+  pub fits : input_fits before.kind input ≡ true
+  pub plant : Takes before.kind input before.plant taken.Quiet after.plant
+  pub station : after ≡ record before { plant = after.plant }
+  pub events : new ≡ all_heard place (status_events (signs_of before.kind before.plant) (signs_of after.kind after.plant)) old
+
+-- An input is taken in, or finds no memory and changes nothing.
+abbrev pub TakenAt : Input → ℕ → Result (Unit {0}) NoMemory → Effect
+TakenAt input place outcome old before new after = MatchResult outcome
+    (λ done. TakesIn input place old before new after)
+    (λ want. SameStation old before new after)

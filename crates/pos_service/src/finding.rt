@@ -1,0 +1,10 @@
+/// What `open` finds under a name in the profile (common chapter).
+#[derive(Clone, Copy, Debug, PartialEq, Eq)]
+pub enum Finding {
+    /// No device of the control's category has the name.
+    NotThere,
+    /// A device has it, but nothing stands behind the device.
+    Vacant,
+    /// The device at this place.
+    At(usize),
+}
