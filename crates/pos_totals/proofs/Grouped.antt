@@ -18,7 +18,7 @@ use Rattle.pos_dir.specs.declared.file.File.{File as PlainFile}
 use Rattle.pos_dir.specs.declared.limits.Limits.{Limits}
 use Rattle.pos_dir.specs.declared.limits.TheConstants.{LAYOUT_1}
 use Rattle.pos_service.specs.declared.answer.Answer.{Answer}
-use Rattle.pos_service.specs.HardTotals.{File, Change, Create, Delete, Rename, Write, SetAll, is_name, is_natural, is_up_to, is_range, is_range_of, is_named, is_called, has_file, has_room, free_data, size_in_sum, with_each, overwritten, change_rows, files_after}
+use Rattle.pos_service.specs.HardTotals.{File, Change, Create, Delete, Rename, Write, SetAll, is_name, is_natural, is_up_to, is_range, is_range_of, is_named, is_called, has_file, has_room, free_data, size_in_sum, with_each, overwritten, layout_1, change_rows, files_after}
 use Rattle.pos_service.specs.Refusals.{first_refusal}
 use Rattle.pos_totals.proofs.Places.{OnlyOne, found_at, one_changed, one_gone}
 use Rattle.pos_totals.specs.Groups.{index_of, group_of}
@@ -100,27 +100,27 @@ plain_size (first ∷ files) =
 
 -- what the directory makes is what the change makes
 abbrev Makes : List File → Change → ℕ → Type 0
-Makes files change next = outcome_of_all LAYOUT_1 (plain files) (group_of files change) ≡ Ok (plain (files_after next files change))
+Makes files change next = outcome_of_all LAYOUT_1 (plain files) (group_of files (change ∷ [])) ≡ Ok (plain (files_after next files change))
 
 up_to : (limit : ℕ) (n : ℤ) → is_up_to limit n ≡ true → nat_abs n ≤ limit
 up_to limit (pos n) fits = leb-true n limit fits
 up_to limit (negsuc n) fits = absurd cc
 
-made_create : (files : List File) (name : List ℕ) (size : ℤ) (next : ℕ) → total_size (plain files) ≤ 8192 → first_refusal (change_rows files (Create name size)) ≡ None → Makes files (Create name size) next
+made_create : (files : List File) (name : List ℕ) (size : ℤ) (next : ℕ) → total_size (plain files) ≤ 8192 → first_refusal (change_rows layout_1 files (Create name size)) ≡ None → Makes files (Create name size) next
 made_create files name size next small unrefused =
     let good = not_refused (not (is_name name && is_natural size)) _ _ unrefused in
     let free = not_refused (has_file (is_named name) files) _ _ good.1 in
-    let room = not_refused (not (has_room files size)) _ _ free.1 in
-    let parts = and_parts (is_up_to (free_data files) size) (nat_lt (length files) 64) (not-false (has_room files size) room.0) in
+    let room = not_refused (not (has_room layout_1 files size)) _ _ free.1 in
+    let parts = and_parts (is_up_to (free_data layout_1 files) size) (nat_lt (length files) 64) (not-false (has_room layout_1 files size) room.0) in
     let few : nat_lt (length (plain files)) 64 ≡ true = ap (λ n. nat_lt n 64) (length-map files plain_file) ∙ parts.1 in
-    let fits : nat_le (total_size (plain files) + nat_abs size) 8192 ≡ true = le-leb _ _ (omega (arith, small, plain_size files, up_to (free_data files) size parts.0)) in
+    let fits : nat_le (total_size (plain files) + nat_abs size) 8192 ≡ true = le-leb _ _ (omega (arith, small, plain_size files, up_to (free_data layout_1 files) size parts.0)) in
     let new : PlainFile = record { name = name; bytes = replicate (nat_abs size) 0 } in
     one_change LAYOUT_1 (plain files) _ (file.Create name (nat_abs size))
     (cond-false (has_name (plain files) name) _ _ (plain_name files name ∙ free.0)
     ∙ cond-true (nat_lt (length (plain files)) 64 && nat_le (total_size (plain files) + nat_abs size) 8192) _ _ (and_from _ _ few fits)
     ∙ ap (λ (fs : List PlainFile). Ok fs) (sym (map-append plain_file files (record { handle = next; name = name; bytes = replicate (nat_abs size) 0 } ∷ []))))
 
-made_delete : (files : List File) (name : List ℕ) (next : ℕ) → are_distinct (plain files) ≡ true → first_refusal (change_rows files (Delete name)) ≡ None → Makes files (Delete name) next
+made_delete : (files : List File) (name : List ℕ) (next : ℕ) → are_distinct (plain files) ≡ true → first_refusal (change_rows layout_1 files (Delete name)) ≡ None → Makes files (Delete name) next
 made_delete files name next distinct unrefused =
     let there = not_refused (not (has_file (is_named name) files)) _ _ unrefused in
     let found = some_file (find (is_named name) files) (not-false (has_file (is_named name) files) there.0) in
@@ -136,7 +136,7 @@ set_plain : (files : List File) (handle : ℤ) (f : File) (change : File → Fil
 set_plain files handle f change distinct found =
     sym (map-set plain_file files (index_of (is_called handle) files) (change f)) ∙ ap (λ (fs : List File). plain fs) (sym (one_changed (is_called handle) change files f (only_called files handle distinct) found))
 
-made_rename : (files : List File) (handle : ℤ) (name : List ℕ) (next : ℕ) → AreDistinct (handles_of files) → first_refusal (change_rows files (Rename handle name)) ≡ None → Makes files (Rename handle name) next
+made_rename : (files : List File) (handle : ℤ) (name : List ℕ) (next : ℕ) → AreDistinct (handles_of files) → first_refusal (change_rows layout_1 files (Rename handle name)) ≡ None → Makes files (Rename handle name) next
 made_rename files handle name next distinct unrefused =
     let good = not_refused (not (has_file (is_called handle) files && is_name name)) _ _ unrefused in
     let free = not_refused (has_file (is_named name) files) _ _ good.1 in
@@ -157,7 +157,7 @@ pub range_end : (size : ℕ) (offset : ℤ) (count : ℕ) → is_range size offs
 range_end size (pos offset) count fits = fits
 range_end size (negsuc n) count fits = absurd cc
 
-made_write : (files : List File) (handle offset : ℤ) (bytes : List ℕ) (next : ℕ) → AreDistinct (handles_of files) → first_refusal (change_rows files (Write handle offset bytes)) ≡ None → Makes files (Write handle offset bytes) next
+made_write : (files : List File) (handle offset : ℤ) (bytes : List ℕ) (next : ℕ) → AreDistinct (handles_of files) → first_refusal (change_rows layout_1 files (Write handle offset bytes)) ≡ None → Makes files (Write handle offset bytes) next
 made_write files handle offset bytes next distinct unrefused =
     let fits = not_refused (not (is_range_of (find (is_called handle) files) offset (pos (length bytes)))) _ _ unrefused in
     let found = ranged (find (is_called handle) files) offset (pos (length bytes)) (not-false _ fits.0) in
@@ -169,7 +169,7 @@ made_write files handle offset bytes next distinct unrefused =
     ∙ cond-true (nat_le (nat_abs offset + length bytes) (length found.0.bytes)) _ _ (range_end (length found.0.bytes) offset (length bytes) found.2)
     ∙ ap (λ (fs : List PlainFile). Ok fs) (set_plain files handle found.0 (λ f. record f { bytes = overwritten f.bytes (nat_abs offset) bytes }) distinct found.1))
 
-made_set_all : (files : List File) (handle n : ℤ) (next : ℕ) → AreDistinct (handles_of files) → first_refusal (change_rows files (SetAll handle n)) ≡ None → Makes files (SetAll handle n) next
+made_set_all : (files : List File) (handle n : ℤ) (next : ℕ) → AreDistinct (handles_of files) → first_refusal (change_rows layout_1 files (SetAll handle n)) ≡ None → Makes files (SetAll handle n) next
 made_set_all files handle n next distinct unrefused =
     let good = not_refused (not (has_file (is_called handle) files && is_up_to 255 n)) _ _ unrefused in
     let parts = and_parts (has_file (is_called handle) files) (is_up_to 255 n) (not-false (has_file (is_called handle) files && is_up_to 255 n) good.0) in
@@ -180,7 +180,7 @@ made_set_all files handle n next distinct unrefused =
     ∙ ap (λ (fs : List PlainFile). Ok fs) (set_plain files handle found.0 (λ f. record f { bytes = replicate (length f.bytes) (nat_abs n) }) distinct found.1))
 
 -- Where nothing refuses a change, its group makes of the plain files those after it.
-pub makes : (files : List File) (change : Change) (next : ℕ) → IsDirectory LAYOUT_1 (plain files) → AreDistinct (handles_of files) → first_refusal (change_rows files change) ≡ None → Makes files change next
+pub makes : (files : List File) (change : Change) (next : ℕ) → IsDirectory LAYOUT_1 (plain files) → AreDistinct (handles_of files) → first_refusal (change_rows layout_1 files change) ≡ None → Makes files change next
 makes files (Create name size) next sound distinct unrefused = made_create files name size next sound.size unrefused
 makes files (Delete name) next sound distinct unrefused = made_delete files name next sound.distinct unrefused
 makes files (Rename handle name) next sound distinct unrefused = made_rename files handle name next distinct unrefused

@@ -6,12 +6,12 @@ use Rattle.std.proofs.lemmas.Bool.{not-false}
 use Rattle.std.proofs.lemmas.List.{map-append, length-map}
 use Rattle.std.proofs.Math.Seq.{take-nil, drop-nil}
 use Rattle.pos_dir.specs.Files.{are_distinct}
-use Rattle.pos_service.specs.HardTotals.{File, Mode, Change, Create, Delete, Rename, Write, SetAll, is_named, is_called, has_file, with_each, overwritten, change_rows, files_after, after_change, given_by}
+use Rattle.pos_service.specs.HardTotals.{File, Change, Create, Delete, Rename, Write, SetAll, is_named, is_called, has_file, with_each, overwritten, layout_1, change_rows, files_after, next_after, given_by}
 use Rattle.pos_service.specs.Refusals.{first_refusal}
 use Rattle.pos_totals.proofs.Grouped.{not_refused, some_file, only_named, map-remove}
 use Rattle.pos_totals.proofs.Places.{one_gone}
 use Rattle.pos_totals.specs.Groups.{index_of, file_change}
-use Rattle.pos_totals.specs.Numbering.{given_after, next_after, value_after}
+use Rattle.pos_totals.specs.Numbering.{given_after, following, value_after}
 use Rattle.pos_totals.specs.Views.{plain, plain_file, handles_of, AreDistinct, AreHandles}
 
 -- ---- the files' handles
@@ -25,7 +25,7 @@ same_handles test change (first ∷ files) keeps = by (test first) (same_handles
     by true rest = ap (λ h. h ∷ handles_of (with_each test change files)) (keeps first) ∙ ap (λ hs. first.handle ∷ hs) rest
     by false rest = ap (λ hs. first.handle ∷ hs) rest
 
-pub given_is : (files : List File) (change : Change) (next : ℕ) → are_distinct (plain files) ≡ true → first_refusal (change_rows files change) ≡ None → given_after (handles_of files) next (file_change files change) ≡ handles_of (files_after next files change)
+pub given_is : (files : List File) (change : Change) (next : ℕ) → are_distinct (plain files) ≡ true → first_refusal (change_rows layout_1 files change) ≡ None → given_after (handles_of files) next (file_change files change) ≡ handles_of (files_after next files change)
 given_is files (Create name size) next distinct unrefused = sym (map-append (λ (file : File). file.handle) files (record { handle = next; name = name; bytes = replicate (nat_abs size) 0 } ∷ []))
 given_is files (Delete name) next distinct unrefused =
     let there = not_refused (not (has_file (is_named name) files)) _ _ unrefused in
@@ -35,12 +35,12 @@ given_is files (Rename handle name) next distinct unrefused = sym (same_handles 
 given_is files (Write handle offset bytes) next distinct unrefused = sym (same_handles (is_called handle) (λ file. record file { bytes = overwritten file.bytes (nat_abs offset) bytes }) files (λ file. refl))
 given_is files (SetAll handle n) next distinct unrefused = sym (same_handles (is_called handle) (λ file. record file { bytes = replicate (length file.bytes) (nat_abs n) }) files (λ file. refl))
 
-pub next_is : (files : List File) (change : Change) (next : ℕ) (mode : Mode) → next_after next (file_change files change) ≡ (after_change (record { mode = mode; next = next }) change).next
-next_is files (Create name size) next mode = refl
-next_is files (Delete name) next mode = refl
-next_is files (Rename handle name) next mode = refl
-next_is files (Write handle offset bytes) next mode = refl
-next_is files (SetAll handle n) next mode = refl
+pub next_is : (files : List File) (change : Change) (next : ℕ) → following next (file_change files change) ≡ next_after next change
+next_is files (Create name size) next = refl
+next_is files (Delete name) next = refl
+next_is files (Rename handle name) next = refl
+next_is files (Write handle offset bytes) next = refl
+next_is files (SetAll handle n) next = refl
 
 pub value_is : (files : List File) (change : Change) (next : ℕ) → value_after next (file_change files change) ≡ given_by next change
 value_is files (Create name size) next = refl
@@ -82,7 +82,7 @@ distinct_after files (Write handle offset bytes) handles next distinct below = d
 distinct_after files (SetAll handle n) handles next distinct below = distinct
 
 below_after : (files : List File) (change : Change) (handles : List ℕ) (next : ℕ) → AllByRecursion (λ handle. handle < next) handles
-    → AllByRecursion (λ handle. handle < next_after next (file_change files change)) (given_after handles next (file_change files change))
+    → AllByRecursion (λ handle. handle < following next (file_change files change)) (given_after handles next (file_change files change))
 below_after files (Create name size) handles next below =
     all_with (λ handle. handle < next + 1) handles next (all_so (λ handle. handle < next) (λ handle. handle < next + 1) handles (λ handle lt. omega (arith, lt)) below) (omega arith)
 below_after files (Delete name) handles next below = all_without (λ handle. handle < next) handles (index_of (is_named name) files) below
@@ -91,8 +91,8 @@ below_after files (Write handle offset bytes) handles next below = below
 below_after files (SetAll handle n) handles next below = below
 
 -- The handles after a change are handles of the files after it.
-pub are_after : (files : List File) (change : Change) (next : ℕ) → are_distinct (plain files) ≡ true → AreHandles (handles_of files) (plain files) next → first_refusal (change_rows files change) ≡ None
-    → AreHandles (given_after (handles_of files) next (file_change files change)) (plain (files_after next files change)) (next_after next (file_change files change))
+pub are_after : (files : List File) (change : Change) (next : ℕ) → are_distinct (plain files) ≡ true → AreHandles (handles_of files) (plain files) next → first_refusal (change_rows layout_1 files change) ≡ None
+    → AreHandles (given_after (handles_of files) next (file_change files change)) (plain (files_after next files change)) (following next (file_change files change))
 are_after files change next distinct handles unrefused = record {
   count = ap length (given_is files change next distinct unrefused) ∙ length-map (files_after next files change) (λ file. file.handle) ∙ sym (length-map (files_after next files change) plain_file);
   distinct = distinct_after files change (handles_of files) next handles.distinct handles.below;

@@ -1,3 +1,4 @@
+pub mod Causes
 mod Changed
 mod Found
 mod Grouped

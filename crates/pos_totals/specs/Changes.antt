@@ -1,50 +1,70 @@
 -- What a change of the totals answers, and what a crash during it may leave.
-use Rattle.std.specs.Prelude.{◌≡◌, ◌↔◌, ◌≤◌, ℕ, List, [], ◌++◌, Result, Ok, None, is_none, if◌then◌else◌}
+use Rattle.std.specs.Prelude.{◌≡◌, ◌⊎◌, ℕ, List, [], ◌∷◌, map, Result, Ok, Err, ⊤}
 use Rattle.pos_disk.specs.State.{DiskState, LeavesOnly, MayLeave, Rises}
 use Rattle.pos_disk.specs.declared.device.Disk.{Ghosts}
 use Rattle.pos_dir.specs.Changes.{outcome_of_all}
 use Rattle.pos_dir.specs.declared.limits.TheConstants.{LAYOUT_1}
 use Rattle.pos_service.specs.declared.answer.Answer.{Answer}
+use Rattle.pos_service.specs.declared.answer.Answer.TheVariants as answer
 use Rattle.pos_service.specs.declared.memory.NoMemory.{NoMemory}
-use Rattle.pos_service.specs.HardTotals.{Mode, Off, Ready, Totals, Change, files_of, refusals_of_change, after_change, Changed}
-use Rattle.pos_service.specs.Refusals.{first_refusal}
-use Rattle.pos_store.specs.Standing.{Standing, StandsForOneOf, LeavesOneOf}
+use Rattle.pos_service.specs.HardTotals.{Mode, Off, Ready, Totals, Change, files_of, files_after_all, next_sequences, layout_1, Changed, group_by_change}
+use Rattle.pos_store.specs.Standing.{Standing, Stands, StandsForOneOf, LeavesOneOf}
 use Rattle.pos_totals.specs.Groups.{group_of}
-use Rattle.pos_totals.specs.Views.{View, plain, standings_of, TurnsOff, LeavesTheirFiles}
+use Rattle.pos_totals.specs.Views.{TotalsView, plain, TurnsOff, LeavesTheirFiles, KeepsDisk}
 
--- the files before a change, and those after the whole of it where nothing refuses it
-abbrev pub before_or_after : Totals → Change → List Standing
-before_or_after old change =
-    standings_of old.mode ++ (if is_none (first_refusal (refusals_of_change old change)) then standings_of (after_change old change).mode else [])
+-- the files before a group of changes, and those after the whole of it with each of the next sequences
+abbrev pub before_or_after : ℕ → Mode → List Change → List Standing
+before_or_after next Off changes = []
+before_or_after next (Ready files sequence) [] = Stands (plain files) sequence ∷ []
+before_or_after next (Ready files sequence) (change ∷ changes) =
+    Stands (plain files) sequence
+    ∷ map (λ follows. Stands (plain (files_after_all next files (change ∷ changes))) follows) (next_sequences sequence)
 
--- what a crash during a change may leave: while the totals are off, what a crash might have left before the call; while they
--- are ready, bytes that stand for the files before it or for those after the whole of it
-abbrev pub LeftOf : Mode → DiskState → List Standing → List ℕ → Type 0
-LeftOf Off disk candidates bytes = MayLeave disk bytes
-LeftOf (Ready files sequence) disk candidates bytes = StandsForOneOf candidates bytes
+-- what a crash during a group may leave: while the totals are off, what a crash might have left before the call;
+-- while they are ready, bytes that stand for the files before it or for those after the whole of it
+abbrev pub IsBeforeOrAfter : DiskState → ℕ → Mode → List Change → List ℕ → Type 0
+IsBeforeOrAfter disk next Off changes bytes = MayLeave disk bytes
+IsBeforeOrAfter disk next (Ready files sequence) changes bytes =
+    StandsForOneOf (before_or_after next (Ready files sequence) changes) bytes
 
-abbrev pub IsBeforeOrAfter : DiskState → Totals → Change → List ℕ → Type 0
-IsBeforeOrAfter disk old change bytes = LeftOf old.mode disk (before_or_after old change) bytes
+-- without their handles, the files after changes are those after the whole of their group
+abbrev pub IsOneGroup : Totals → List Change → Type 0
+IsOneGroup old changes =
+    let files = files_of old.mode in
+    outcome_of_all LAYOUT_1 (plain files) (group_of files changes) ≡ Ok (plain (files_after_all old.next files changes))
 
--- without their handles, the files after a change that nothing refuses are those after the whole of its group
-abbrev pub IsItsGroup : Totals → Change → Type 0
-IsItsGroup old change = first_refusal (refusals_of_change old change) ≡ None
-    → outcome_of_all LAYOUT_1 (plain (files_of old.mode)) (group_of (files_of old.mode) change) ≡ Ok (plain (files_of (after_change old change).mode))
+-- it was answered that the call was done
+abbrev pub IsDone : Result Answer NoMemory → Type 0
+IsDone (Ok (answer.Done given)) = ⊤
+IsDone (Ok (answer.Refused code extended)) = ⊥
+IsDone (Err want) = ⊥
 
--- What a change does. Of the disk itself, and of what a crash may leave, it speaks where the disk is honest.
-pub record Changes {D : Type 0} (bound : Ghosts D) (old : View D) (change : Change) (outcome : Result Answer NoMemory) (new : View D) : Type 0 where
-  pub answer : Changed old.totals change outcome new.totals
-  -- a call that changes nothing hasn't touched the disk
-  pub unchanged : new.totals ≡ old.totals → new ≡ old
-  -- it is one group
-  pub group : IsItsGroup old.totals change
+-- the disk has failed in a call: of a disk that isn't honest nothing is known
+abbrev pub HasFailed : {D : Type 0} → Ghosts D → D → D → Type 0
+HasFailed bound old new = bound.honest old → Rises (bound.state old).failures (bound.state new).failures
+
+-- What a call does that puts changes on the disk as one group. Of the disk itself, and of what a crash may leave, it
+-- speaks where the disk is honest.
+pub record PutsGroup {D : Type 0} (bound : Ghosts D) (old : TotalsView D) (changes : List Change)
+    (outcome : Result Answer NoMemory) (new : TotalsView D) : Type 0 where
+  pub group : IsOneGroup old.totals changes
+  -- a call without changes doesn't touch the disk
+  pub untouched : changes ≡ [] → new.disk ≡ old.disk
+  -- nor does one that isn't done, but after a fault of the disk; it changes nothing
+  pub unchanged : ¬ (IsDone outcome) → TurnsOff old.totals.mode new.totals.mode ⊎ (new ≡ old)
   -- a crash at any moment of the call leaves the files before it or those after the whole of it
-  pub any_moment : bound.honest old.disk → LeavesOnly (bound.state old.disk) (bound.state new.disk) (IsBeforeOrAfter (bound.state old.disk) old.totals change)
+  pub any_moment : bound.honest old.disk
+      → LeavesOnly (bound.state old.disk) (bound.state new.disk)
+      (IsBeforeOrAfter (bound.state old.disk) old.totals.next old.totals.mode changes)
   -- a crash now leaves the files that the totals have alone
   pub now : bound.honest old.disk → LeavesTheirFiles new.totals.mode (bound.state new.disk)
-  -- after a fault of the disk the change is in doubt: a crash now leaves the files before it or those after it
-  pub in_doubt : bound.honest old.disk → TurnsOff old.totals.mode new.totals.mode → LeavesOneOf (before_or_after old.totals change) (bound.state new.disk)
-  pub device : bound.honest old.disk → TurnsOff old.totals.mode new.totals.mode → Rises (bound.state old.disk).failures (bound.state new.disk).failures
-  pub later : bound.honest old.disk → (bound.state old.disk).failures ≤ (bound.state new.disk).failures
-  pub size : bound.size new.disk ≡ bound.size old.disk
-  pub honest : bound.honest old.disk ↔ bound.honest new.disk
+  -- after a fault of the disk the group is in doubt: a crash now leaves the files before it or those after it
+  pub in_doubt : bound.honest old.disk → TurnsOff old.totals.mode new.totals.mode
+      → LeavesOneOf (before_or_after old.totals.next old.totals.mode changes) (bound.state new.disk)
+  pub kept : KeepsDisk bound old.disk new.disk
+
+-- What a change does: it is answered by its table, and its group is put on the disk.
+pub record Changes {D : Type 0} (bound : Ghosts D) (old : TotalsView D) (control : ℕ) (change : Change)
+    (outcome : Result Answer NoMemory) (new : TotalsView D) : Type 0 where
+  pub answer : Changed layout_1 (HasFailed bound old.disk new.disk) old.totals control change outcome new.totals
+  pub disk : PutsGroup bound old (group_by_change layout_1 old.totals control change) outcome new

@@ -11,7 +11,7 @@ use Rattle.pos_service.specs.declared.answer.Answer.{Answer}
 use Rattle.pos_service.specs.declared.answer.Answer.TheVariants as answer
 use Rattle.pos_service.specs.declared.code.Code.TheVariants as code
 use Rattle.pos_service.specs.declared.memory.NoMemory.{NoMemory}
-use Rattle.pos_service.specs.HardTotals.{File, Mode, Off, Ready, Change, Create, Delete, Rename, Write, SetAll, change_rows, Question, question_rows, told_of}
+use Rattle.pos_service.specs.HardTotals.{File, Mode, Off, Ready, Change, Create, Delete, Rename, Write, SetAll, layout_1, change_rows, Question, question_rows, told_of}
 use Rattle.pos_service.specs.Refusals.{first_refusal, Decided}
 use Rattle.pos_store.specs.declared.fault.StoreFault.{StoreFault}
 use Rattle.pos_store.specs.declared.fault.StoreFault.TheVariants as fault
@@ -67,28 +67,31 @@ abbrev pub file_of : Found → File
 file_of found = record { handle = found.handle; name = found.name.now; bytes = found.bytes.now }
 
 -- A search finds the first file that meets a test, and its index.
-pub record Finds (test : File → Bool) (files : List File) (found : Option Found) : Type 0 where
+pub record FindsFile (test : File → Bool) (files : List File) (found : Option Found) : Type 0 where
   pub file : option_map file_of found ≡ find test files
   pub index : IfSome found (λ f. f.index ≡ index_of test files)
   pub small : IfSome found (λ f. length f.bytes.now ≤ 8192)
 
 -- a question about files that are known is answered by its table, and then told; memory is wanted only behind the table
-abbrev pub AskedIn : List File → Question → Answer → Type 0
-AskedIn files question result = Decided (question_rows files question) result (Unit {0}) (result ≡ answer.Done (told_of files question))
+abbrev pub TellsIn : List File → Question → Answer → Type 0
+TellsIn files question result =
+    Decided (question_rows files question) result (Unit {0}) (result ≡ answer.Done (told_of files question))
 
-abbrev pub AskedForIn : List File → Question → Result Answer NoMemory → Type 0
-AskedForIn files question outcome = MatchResult outcome (λ result. AskedIn files question result) (λ want. first_refusal (question_rows files question) ≡ None)
+abbrev pub MayTellIn : List File → Question → Result Answer NoMemory → Type 0
+MayTellIn files question outcome =
+    MatchResult outcome (λ result. TellsIn files question result)
+    (λ want. first_refusal (question_rows files question) ≡ None)
 
 -- Nothing refuses the change, and a group takes it.
 pub record Passes (files : List File) (change : Change) (checked : FileChange) : Type 0 where
-  pub unrefused : first_refusal (change_rows files change) ≡ None
+  pub unrefused : first_refusal (change_rows layout_1 files change) ≡ None
   pub made : file_change files change ≡ checked
   pub flawless : flaw_of checked ≡ None
 
 -- what a check of a change by its table finds
 abbrev pub Checks : List File → Change → Result Checked Answer → Type 0
 Checks files change (Ok made) = Passes files change (file_change_of made)
-Checks files change (Err refusal) = first_refusal (change_rows files change) ≡ Some refusal
+Checks files change (Err refusal) = first_refusal (change_rows layout_1 files change) ≡ Some refusal
 
 -- what a check of a change finds, the totals being off or ready
 abbrev pub ChecksAt : Mode → Change → Result Checked Answer → Type 0

@@ -1,5 +1,5 @@
--- The group of changes of the directory by which each call changes the files on the disk.
-use Rattle.std.specs.Prelude.{ℕ, nat_abs, Bool, List, [], ◌∷◌}
+-- The group of changes of the directory by which calls change the files on the disk.
+use Rattle.std.specs.Prelude.{ℕ, nat_abs, Bool, List, map}
 use Rattle.std.specs.List.{position_or_len}
 use Rattle.pos_dir.specs.declared.change.Change.{Change as FileChange}
 use Rattle.pos_dir.specs.declared.change.Change.TheVariants as file
@@ -17,6 +17,6 @@ file_change files (Rename handle name) = file.Rename (index_of (is_called handle
 file_change files (Write handle offset bytes) = file.Write (index_of (is_called handle) files) (nat_abs offset) bytes
 file_change files (SetAll handle n) = file.SetAll (index_of (is_called handle) files) (nat_abs n)
 
--- each change is a group of its own
-abbrev pub group_of : List File → Change → List FileChange
-group_of files change = file_change files change ∷ []
+-- the group of changes that are done together; none but its last adds a file or removes one
+abbrev pub group_of : List File → List Change → List FileChange
+group_of files changes = map (file_change files) changes

@@ -36,12 +36,12 @@ given_after given next (file.Write index offset bytes) = given
 given_after given next (file.SetAll index n) = given
 
 -- the next handle after it
-abbrev pub next_after : ℕ → FileChange → ℕ
-next_after next (file.Create name size) = next + 1
-next_after next (file.Delete index) = next
-next_after next (file.Rename index name) = next
-next_after next (file.Write index offset bytes) = next
-next_after next (file.SetAll index n) = next
+abbrev pub following : ℕ → FileChange → ℕ
+following next (file.Create name size) = next + 1
+following next (file.Delete index) = next
+following next (file.Rename index name) = next
+following next (file.Write index offset bytes) = next
+following next (file.SetAll index n) = next
 
 -- what it gives
 abbrev pub value_after : ℕ → FileChange → Value
@@ -53,5 +53,6 @@ value_after next (file.SetAll index n) = value.Empty
 
 -- so many handles were given from the next one on, or fewer are left and none was given
 abbrev pub Numbers : List ℕ → ℕ → ℕ → Bool → List ℕ → ℕ → Type 0
-Numbers given next count true now next_now = (next + count ≤ last_number) × (now ≡ numbers_from next count) × (next_now ≡ next + count)
+Numbers given next count true now next_now =
+    (next + count ≤ last_number) × (now ≡ numbers_from next count) × (next_now ≡ next + count)
 Numbers given next count false now next_now = (last_number < next + count) × (now ≡ given) × (next_now ≡ next)

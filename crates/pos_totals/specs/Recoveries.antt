@@ -1,6 +1,6 @@
 -- What a recovery of the totals answers, and what a crash during it may leave.
-use Rattle.std.specs.Prelude.{◌≡◌, ◌↔◌, ◌≤◌, ◌+◌, ℕ, List, [], ◌∷◌, length, Option, Some, None, Result, Ok, Err, IsErrOf}
-use Rattle.pos_disk.specs.State.{DiskState, LeavesOnly, Rises}
+use Rattle.std.specs.Prelude.{◌≡◌, ◌≤◌, ◌+◌, ℕ, List, [], ◌∷◌, length, Option, Some, None, Result, Ok, Err, IsErrOf}
+use Rattle.pos_disk.specs.State.{DiskState, LeavesOnly}
 use Rattle.pos_disk.specs.declared.device.Disk.{Ghosts}
 use Rattle.pos_dir.specs.declared.file.File.{File as PlainFile}
 use Rattle.pos_service.specs.declared.code.Code.{Code}
@@ -9,7 +9,8 @@ use Rattle.pos_service.specs.HardTotals.{File, Off, Ready, Totals, last_number}
 use Rattle.pos_store.specs.Standing.{Standing, Unformatted, Damaged, Stands, IsOneOf, StandsFor, StandsForOneOf, LeavesOneOf}
 use Rattle.pos_store.specs.declared.fault.StoreFault.{StoreFault}
 use Rattle.pos_store.specs.declared.fault.StoreFault.TheVariants as store
-use Rattle.pos_totals.specs.Views.{View, called, WhenOff, WhenReady, LeavesTheirFiles}
+use Rattle.pos_totals.specs.Changes.{HasFailed}
+use Rattle.pos_totals.specs.Views.{TotalsView, called, WhenOff, WhenReady, LeavesTheirFiles, KeepsDisk}
 use Rattle.pos_totals.specs.declared.fault.RecoveryFault.{RecoveryFault}
 use Rattle.pos_totals.specs.declared.fault.RecoveryFault.TheVariants as fault
 
@@ -23,12 +24,12 @@ abbrev pub AreLeft : ℕ → ℕ → Type 0
 AreLeft next count = next + count ≤ last_number
 
 -- The files that were found have the handles from the next one on, and it is behind them.
-pub record HasFound (P : Standing → Type 0) (next : ℕ) (new : Totals) : Type 0 where
+pub record HasFound (P : Standing → Type 0) (old new : Totals) : Type 0 where
   pub files : List PlainFile
   pub sequence : ℕ
   pub found : P (Stands files sequence)
-  pub handles : AreLeft next (length files)
-  pub totals : new ≡ record { mode = Ready (numbered next files) sequence; next = next + length files }
+  pub handles : AreLeft old.next (length files)
+  pub totals : new ≡ record old { mode = Ready (numbered old.next files) sequence; next = old.next + length files }
 
 -- Files were found that are more than the handles that are left.
 pub record HasTooMany (P : Standing → Type 0) (next : ℕ) : Type 0 where
@@ -38,35 +39,44 @@ pub record HasTooMany (P : Standing → Type 0) (next : ℕ) : Type 0 where
   pub handles : ¬ (AreLeft next (length files))
 
 -- what a recovery of totals that are off answers, and the totals after it, where P tells what is found
-abbrev pub Finds : (Standing → Type 0) → ℕ → Result (Unit {0}) RecoveryFault → Totals → Type 0
-Finds P next (Ok _) new = HasFound P next new
-Finds P next (Err fault.Unformatted) new = P Unformatted × (new ≡ record { mode = Off; next = next })
-Finds P next (Err fault.Damaged) new = P Damaged × (new ≡ record { mode = Off; next = next })
-Finds P next (Err fault.Handles) new = HasTooMany P next × (new ≡ record { mode = Off; next = next })
-Finds P next (Err fault.NoMemory) new = new ≡ record { mode = Off; next = next }
-Finds P next (Err fault.Device) new = new ≡ record { mode = Off; next = next }
+abbrev pub FindsFiles : (Standing → Type 0) → Totals → Result (Unit {0}) RecoveryFault → Totals → Type 0
+FindsFiles P old (Ok _) new = HasFound P old new
+FindsFiles P old (Err fault.Unformatted) new = P Unformatted × (new ≡ old)
+FindsFiles P old (Err fault.Damaged) new = P Damaged × (new ≡ old)
+FindsFiles P old (Err fault.Handles) new = HasTooMany P old.next × (new ≡ old)
+FindsFiles P old (Err fault.NoMemory) new = new ≡ old
+FindsFiles P old (Err fault.Device) new = new ≡ old
 
 -- A recovery of a disk that may leave only bytes that stand for one of the candidates finds one of them; a crash at any
 -- moment during it leaves one of them, and so does a crash after it.
-pub record RecoversOneOf (candidates : List Standing) (old new : DiskState) (next : ℕ) (result : Result (Unit {0}) RecoveryFault) (totals : Totals) : Type 0 where
-  pub found : Finds (IsOneOf candidates) next result totals
+pub record RecoversOneOf (candidates : List Standing) (old new : DiskState) (before : Totals)
+    (result : Result (Unit {0}) RecoveryFault) (after : Totals) : Type 0 where
+  pub found : FindsFiles (IsOneOf candidates) before result after
   pub any_moment : LeavesOnly old new (StandsForOneOf candidates)
   pub still : LeavesOneOf candidates new
 
+-- the bytes of an honest disk stand for this
+abbrev pub ReadsAs : {D : Type 0} → Ghosts D → D → Standing → Type 0
+ReadsAs bound disk standing = bound.honest disk → StandsFor standing (bound.state disk).reading
+
+-- for all candidates of which the disk may leave one alone, a recovery finds one of them
+abbrev pub RecoversAny : DiskState → DiskState → Totals → Result (Unit {0}) RecoveryFault → Totals → Type 0
+RecoversAny old new before result after =
+    (candidates : List Standing) → LeavesOneOf candidates old → RecoversOneOf candidates old new before result after
+
 -- What a recovery does. Of the disk itself, and of what a crash may leave, it speaks where the disk is honest.
-pub record Recovers {D : Type 0} (bound : Ghosts D) (old : View D) (result : Result (Unit {0}) RecoveryFault) (new : View D) : Type 0 where
+pub record Recovers {D : Type 0} (bound : Ghosts D) (old : TotalsView D) (result : Result (Unit {0}) RecoveryFault)
+    (new : TotalsView D) : Type 0 where
   -- where the totals are ready it succeeds and does nothing
   pub ready : WhenReady old.totals.mode ((result ≡ Ok tt) × (new ≡ old))
   -- else it finds what the bytes of the disk stand for
-  pub answer : WhenOff old.totals.mode (Finds (λ standing. bound.honest old.disk → StandsFor standing (bound.state old.disk).reading) old.totals.next result new.totals)
-  pub one_of : bound.honest old.disk → WhenOff old.totals.mode ((candidates : List Standing) → LeavesOneOf candidates (bound.state old.disk)
-      → RecoversOneOf candidates (bound.state old.disk) (bound.state new.disk) old.totals.next result new.totals)
+  pub answer : WhenOff old.totals.mode (FindsFiles (ReadsAs bound old.disk) old.totals result new.totals)
+  pub one_of : bound.honest old.disk → WhenOff old.totals.mode
+      (RecoversAny (bound.state old.disk) (bound.state new.disk) old.totals result new.totals)
   -- a crash now leaves the files that were found alone
   pub now : bound.honest old.disk → LeavesTheirFiles new.totals.mode (bound.state new.disk)
-  pub device : bound.honest old.disk → IsErrOf result fault.Device → Rises (bound.state old.disk).failures (bound.state new.disk).failures
-  pub later : bound.honest old.disk → (bound.state old.disk).failures ≤ (bound.state new.disk).failures
-  pub size : bound.size new.disk ≡ bound.size old.disk
-  pub honest : bound.honest old.disk ↔ bound.honest new.disk
+  pub device : IsErrOf result fault.Device → HasFailed bound old.disk new.disk
+  pub kept : KeepsDisk bound old.disk new.disk
 
 -- the result code of the call that asked for a recovery; want of memory has none
 abbrev pub code_of : RecoveryFault → Option Code
@@ -77,11 +87,11 @@ code_of fault.NoMemory = None
 code_of fault.Device = Some code.Failure
 
 -- a store's fault of a recovery, in the totals' words; a recovery has no other
-abbrev pub told : StoreFault → Option RecoveryFault
-told store.Off = None
-told (store.Refused refusal) = None
-told store.Exhausted = None
-told store.Unformatted = Some fault.Unformatted
-told store.Damaged = Some fault.Damaged
-told store.NoMemory = Some fault.NoMemory
-told store.Device = Some fault.Device
+abbrev pub told_as : StoreFault → Option RecoveryFault
+told_as store.Off = None
+told_as (store.Refused refusal) = None
+told_as store.Exhausted = None
+told_as store.Unformatted = Some fault.Unformatted
+told_as store.Damaged = Some fault.Damaged
+told_as store.NoMemory = Some fault.NoMemory
+told_as store.Device = Some fault.Device

@@ -1,24 +1,24 @@
 //! The questions about the files, by their tables.
 ghost use Rattle.std.specs.Prelude.{◌≡◌};
 ghost use Rattle.std.specs.Option.{option_map};
-ghost use Rattle.pos_service.specs.HardTotals.{Find, FindByIndex, Read, Asked, AskedFor, file_at};
-ghost use Rattle.pos_totals.specs.Checks.{files_in, file_of, AreFiles, AskedIn, AskedForIn};
-ghost use Rattle.pos_totals.specs.Views.{IsSound, view_of};
+ghost use Rattle.pos_service.specs.HardTotals.{Find, FindByIndex, Read, Tells, MayTell, file_at};
+ghost use Rattle.pos_totals.specs.Checks.{files_in, file_of, AreFiles, TellsIn, MayTellIn};
+ghost use Rattle.pos_totals.specs.Views.{HasTable, view_with};
 
-use crate::files::{Files, Found, count, file_at, files_of, find_handle, find_name};
+use crate::files::{Files, Found, count_files, find_handle, find_name, get_file, see_files};
 use crate::handles::Handles;
-use crate::numbers::{natural, range};
+use crate::numbers::{to_natural, to_range};
 use pos_disk::Disk;
 use pos_service::{Answer, Bytes, Code, NoMemory, Value};
 use pos_store::Store;
 use std::alloc::Global;
 
 /// The handle and the size of the file with a name.
-pub fn find<D: Disk>(store: &Store<D>, handles: &Handles, name: &[u8]) -> Answer
-    requires sound { IsSound store.now.state handles.now.given.items handles.now.next }
-    ensures { Asked (view_of store.now handles.now.given.items handles.now.next).totals (Find name.now) result }
+pub fn find<D: Disk>(store: &Store<D>, handles: &Handles, control: usize, name: &[u8]) -> Answer
+    requires sound { HasTable store.now.state handles.now }
+    ensures { Tells (view_with store.now handles.now).totals control (Find name.now) result }
 {
-    match files_of(store, handles) {
+    match see_files(store, handles) {
         Some(files) => find_in(files, name),
         None => Answer::Refused(Code::Failure, 0),
     }
@@ -27,7 +27,7 @@ pub fn find<D: Disk>(store: &Store<D>, handles: &Handles, name: &[u8]) -> Answer
 /// The handle and the size of the file with a name, where the totals are ready.
 fn find_in(files: Files<'_>, name: &[u8]) -> Answer
     requires { AreFiles files }
-    ensures { AskedIn (files_in files.entry) (Find name.now) result }
+    ensures { TellsIn (files_in files.entry) (Find name.now) result }
 {
     match find_name(files, name) {
         Some(found) => {
@@ -43,12 +43,13 @@ pub fn find_by_index<D: Disk>(
     alloc: Global,
     store: &Store<D>,
     handles: &Handles,
+    control: usize,
     index: i128,
 ) -> Result<Answer, NoMemory>
-    requires sound { IsSound store.now.state handles.now.given.items handles.now.next }
-    ensures { AskedFor (view_of store.now handles.now.given.items handles.now.next).totals (FindByIndex index) result }
+    requires sound { HasTable store.now.state handles.now }
+    ensures { MayTell (view_with store.now handles.now).totals control (FindByIndex index) result }
 {
-    match files_of(store, handles) {
+    match see_files(store, handles) {
         Some(files) => find_by_index_in(alloc, files, index),
         None => Ok(Answer::Refused(Code::Failure, 0)),
     }
@@ -57,7 +58,7 @@ pub fn find_by_index<D: Disk>(
 /// The name of the file at an index, where the totals are ready.
 fn find_by_index_in(alloc: Global, files: Files<'_>, index: i128) -> Result<Answer, NoMemory>
     requires { AreFiles files }
-    ensures { AskedForIn (files_in files.entry) (FindByIndex index) result }
+    ensures { MayTellIn (files_in files.entry) (FindByIndex index) result }
 {
     let Some(found) = file_by_index(files, index) else {
         return Ok(Answer::Refused(Code::Illegal, 0));
@@ -70,13 +71,13 @@ fn file_by_index<'a>(files: Files<'a>, index: i128) -> Option<Found<'a>>
     requires { AreFiles files }
     ensures { option_map file_of result ≡ file_at (files_in files.entry) index }
 {
-    let Some(index) = natural(index) else {
+    let Some(index) = to_natural(index) else {
         return None;
     };
-    if index >= count(files) as u128 {
+    if index >= count_files(files) as u128 {
         return None;
     }
-    file_at(files, index as usize)
+    get_file(files, index as usize)
 }
 
 /// A range of the bytes of the file with a handle.
@@ -84,14 +85,15 @@ pub fn read<D: Disk>(
     alloc: Global,
     store: &Store<D>,
     handles: &Handles,
+    control: usize,
     handle: i128,
     offset: i128,
     count: i128,
 ) -> Result<Answer, NoMemory>
-    requires sound { IsSound store.now.state handles.now.given.items handles.now.next }
-    ensures { AskedFor (view_of store.now handles.now.given.items handles.now.next).totals (Read handle offset count) result }
+    requires sound { HasTable store.now.state handles.now }
+    ensures { MayTell (view_with store.now handles.now).totals control (Read handle offset count) result }
 {
-    match files_of(store, handles) {
+    match see_files(store, handles) {
         Some(files) => read_in(alloc, files, handle, offset, count),
         None => Ok(Answer::Refused(Code::Failure, 0)),
     }
@@ -106,12 +108,12 @@ fn read_in(
     count: i128,
 ) -> Result<Answer, NoMemory>
     requires { AreFiles files }
-    ensures { AskedForIn (files_in files.entry) (Read handle offset count) result }
+    ensures { MayTellIn (files_in files.entry) (Read handle offset count) result }
 {
     let Some(found) = find_handle(files, handle) else {
         return Ok(Answer::Refused(Code::Illegal, 0));
     };
-    let Some((start, size)) = range(found.bytes.len(), offset, count) else {
+    let Some((start, size)) = to_range(found.bytes.len(), offset, count) else {
         return Ok(Answer::Refused(Code::Illegal, 0));
     };
     let part = &found.bytes[start..start + size];

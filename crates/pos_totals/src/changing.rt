@@ -3,10 +3,10 @@ ghost use Rattle.std.specs.Prelude.{◌≡◌, IfOk, None, ◌∷◌, []};
 ghost use Rattle.pos_dir.specs.Changes.{flaw_of};
 ghost use Rattle.pos_totals.specs.Changes.{Changes};
 ghost use Rattle.pos_totals.specs.Checks.{change_of, file_change_of, answer_of, ChecksAt};
-ghost use Rattle.pos_totals.specs.Views.{HasDirectory, IsSound, mode_of, view_of};
+ghost use Rattle.pos_totals.specs.Views.{HasDirectory, HasTable, mode_of, view_with};
 
 use crate::checking::check;
-use crate::files::files_of;
+use crate::files::see_files;
 use crate::handles::Handles;
 use crate::request::{Checked, Request};
 use pos_dir::{Bytes, Change, Group, Name};
@@ -21,19 +21,21 @@ pub fn change<D: Disk>(
     alloc: Global,
     store: &mut Store<D>,
     handles: &mut Handles,
+    control: usize,
     request: Request<'_>,
 ) -> Result<Answer, NoMemory>
-    requires sound { IsSound store.old.state handles.old.given.items handles.old.next }
-    ensures sound { IsSound store.new.state handles.new.given.items handles.new.next }
-    ensures changes { Changes D.Disk (view_of store.old handles.old.given.items handles.old.next) (change_of request.entry) result
-        (view_of store.new handles.new.given.items handles.new.next) }
+    requires sound { HasTable store.old.state handles.old }
+    ensures sound { HasTable store.new.state handles.new }
+    ensures changes { Changes D.Disk (view_with store.old handles.old) control (change_of request.entry) result
+        (view_with store.new handles.new) }
 {
+    let _control = control;
     leaves_its_files(store);
-    let checked = match checked(store, handles, &request) {
+    let checked = match check_request(store, handles, &request) {
         Ok(checked) => checked,
         Err(refusal) => return Ok(refusal),
     };
-    let group = match group_of(alloc, &checked) {
+    let group = match make_group(alloc, &checked) {
         Ok(group) => group,
         Err(NoMemory) => return Err(NoMemory),
     };
@@ -42,12 +44,12 @@ pub fn change<D: Disk>(
     }
     match store.commit(&group) {
         Ok(()) => Ok(Answer::Done(handles.keep(&checked))),
-        Err(fault) => refused(fault),
+        Err(fault) => answer_fault(fault),
     }
 }
 
 /// What a change that the store refuses is answered.
-fn refused(fault: StoreFault) -> Result<Answer, NoMemory>
+fn answer_fault(fault: StoreFault) -> Result<Answer, NoMemory>
     ensures { result ≡ answer_of fault }
 {
     match fault {
@@ -57,27 +59,27 @@ fn refused(fault: StoreFault) -> Result<Answer, NoMemory>
 }
 
 /// Checks a change by its table.
-fn checked<'a, D: Disk>(
+fn check_request<'a, D: Disk>(
     store: &Store<D>,
     handles: &Handles,
     request: &Request<'a>,
 ) -> Result<Checked<'a>, Answer>
-    requires sound { IsSound store.now.state handles.now.given.items handles.now.next }
-    ensures checks { ChecksAt (mode_of handles.now.given.items store.now.state) (change_of request.now) result }
+    requires sound { HasTable store.now.state handles.now }
+    ensures checks { ChecksAt (mode_of handles.now.given store.now.state) (change_of request.now) result }
     ensures directory { HasDirectory store.now.state }
 {
-    match files_of(store, handles) {
+    match see_files(store, handles) {
         Some(files) => check(files, request),
         None => Err(Answer::Refused(Code::Failure, 0)),
     }
 }
 
 /// The group of the one change of the directory that a checked change is.
-fn group_of(alloc: Global, checked: &Checked<'_>) -> Result<Group, NoMemory>
+fn make_group(alloc: Global, checked: &Checked<'_>) -> Result<Group, NoMemory>
     requires { flaw_of (file_change_of checked.now) ≡ None }
     ensures { IfOk result (λ group. group ≡ file_change_of checked.now ∷ []) }
 {
-    let change = file_change(alloc, checked)?;
+    let change = make_change(alloc, checked)?;
     let mut group = Group::new(alloc);
     match group.push(change) {
         Ok(()) => Ok(group),
@@ -86,18 +88,18 @@ fn group_of(alloc: Global, checked: &Checked<'_>) -> Result<Group, NoMemory>
 }
 
 /// The change of the directory that a checked change is.
-fn file_change(alloc: Global, checked: &Checked<'_>) -> Result<Change, NoMemory>
+fn make_change(alloc: Global, checked: &Checked<'_>) -> Result<Change, NoMemory>
     ensures { IfOk result (λ change. change ≡ file_change_of checked.now) }
 {
     match checked {
         Checked::Create { name, size } => Ok(Change::Create {
-            name: copy_of_name(alloc, name)?,
+            name: copy_name(alloc, name)?,
             size: *size,
         }),
         Checked::Delete { index } => Ok(Change::Delete { index: *index }),
         Checked::Rename { index, name } => Ok(Change::Rename {
             index: *index,
-            name: copy_of_name(alloc, name)?,
+            name: copy_name(alloc, name)?,
         }),
         Checked::Write {
             index,
@@ -116,7 +118,7 @@ fn file_change(alloc: Global, checked: &Checked<'_>) -> Result<Change, NoMemory>
 }
 
 /// The same name in memory of its own.
-fn copy_of_name(alloc: Global, name: &[u8]) -> Result<Name, NoMemory>
+fn copy_name(alloc: Global, name: &[u8]) -> Result<Name, NoMemory>
     ensures { IfOk result (λ copy. copy ≡ name.now) }
 {
     Ok(Name::from_vec(Vec::from_slice(alloc, name)?))

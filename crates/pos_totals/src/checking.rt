@@ -4,7 +4,7 @@ ghost use Rattle.pos_service.specs.HardTotals.{Create, Delete, Rename, Write, Se
 ghost use Rattle.pos_totals.specs.Checks.{files_in, change_of, AreFiles, Checks};
 
 use crate::files::{Files, find_handle, find_name, has_room};
-use crate::numbers::{byte, natural, range};
+use crate::numbers::{to_byte, to_natural, to_range};
 use crate::request::{Checked, Request};
 use pos_dir::is_name;
 use pos_service::{Answer, Code};
@@ -38,7 +38,7 @@ fn check_create<'a>(files: Files<'_>, name: &'a [u8], size: i128) -> Result<Chec
     if !is_name(name) {
         return Err(Answer::Refused(Code::Illegal, 0));
     }
-    let Some(size) = natural(size) else {
+    let Some(size) = to_natural(size) else {
         return Err(Answer::Refused(Code::Illegal, 0));
     };
     if find_name(files, name).is_some() {
@@ -97,7 +97,7 @@ fn check_write<'a>(
     let Some(found) = find_handle(files, handle) else {
         return Err(Answer::Refused(Code::Illegal, 0));
     };
-    let Some((start, _)) = range(found.bytes.len(), offset, bytes.len() as i128) else {
+    let Some((start, _)) = to_range(found.bytes.len(), offset, bytes.len() as i128) else {
         return Err(Answer::Refused(Code::Illegal, 0));
     };
     Ok(Checked::Write {
@@ -115,7 +115,7 @@ fn check_set_all<'a>(files: Files<'_>, handle: i128, value: i128) -> Result<Chec
     let Some(found) = find_handle(files, handle) else {
         return Err(Answer::Refused(Code::Illegal, 0));
     };
-    let Some(value) = byte(value) else {
+    let Some(value) = to_byte(value) else {
         return Err(Answer::Refused(Code::Illegal, 0));
     };
     Ok(Checked::SetAll {

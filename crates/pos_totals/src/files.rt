@@ -1,11 +1,11 @@
 ghost use Rattle.std.specs.Prelude.{◌≡◌, ◌≤◌, pos, length, position, IfSome, slice_get, nat_eq};
 ghost use Rattle.std.specs.Option.{option_map};
-ghost use Rattle.pos_service.specs.HardTotals.{is_named, is_called, free_data, has_room};
-ghost use Rattle.pos_totals.specs.Checks.{files_in, file_of, AreFiles, Finds, IsSeen};
-ghost use Rattle.pos_totals.specs.Views.{HasDirectory, IsSound, mode_of};
+ghost use Rattle.pos_service.specs.HardTotals.{is_named, is_called, layout_1, free_data, has_room};
+ghost use Rattle.pos_totals.specs.Checks.{files_in, file_of, AreFiles, FindsFile, IsSeen};
+ghost use Rattle.pos_totals.specs.Views.{HasDirectory, HasTable, mode_of};
 
 use crate::handles::{Handles, MOST_FILES};
-use crate::numbers::natural;
+use crate::numbers::to_natural;
 use pos_dir::Directory;
 use pos_dir::laws::is_directory;
 use pos_disk::Disk;
@@ -31,9 +31,9 @@ pub struct Found<'a> {
 }
 
 /// The files of a store that is ready, with their handles.
-pub fn files_of<'a, D: Disk>(store: &'a Store<D>, handles: &'a Handles) -> Option<Files<'a>>
-    requires { IsSound store.now.state handles.now.given.items handles.now.next }
-    ensures seen { IsSeen (mode_of handles.now.given.items store.now.state) (option_map files_in result) }
+pub fn see_files<'a, D: Disk>(store: &'a Store<D>, handles: &'a Handles) -> Option<Files<'a>>
+    requires { HasTable store.now.state handles.now }
+    ensures seen { IsSeen (mode_of handles.now.given store.now.state) (option_map files_in result) }
     ensures files { IfSome result AreFiles }
     ensures directory { HasDirectory store.now.state }
 {
@@ -43,12 +43,12 @@ pub fn files_of<'a, D: Disk>(store: &'a Store<D>, handles: &'a Handles) -> Optio
     is_directory(directory);
     Some(Files {
         directory,
-        handles: handles.given.as_slice(),
+        handles: handles.as_slice(),
     })
 }
 
 /// The file at an index.
-pub fn file_at<'a>(files: Files<'a>, index: usize) -> Option<Found<'a>>
+pub fn get_file<'a>(files: Files<'a>, index: usize) -> Option<Found<'a>>
     requires { AreFiles files }
     ensures file { option_map file_of result ≡ slice_get (files_in files.entry) index }
     ensures index { IfSome result (λ found. found.index ≡ index) }
@@ -74,10 +74,10 @@ pub fn file_at<'a>(files: Files<'a>, index: usize) -> Option<Found<'a>>
 /// The file with a name.
 pub fn find_name<'a>(files: Files<'a>, name: &[u8]) -> Option<Found<'a>>
     requires { AreFiles files }
-    ensures { Finds (is_named name.now) (files_in files.entry) result }
+    ensures { FindsFile (is_named name.now) (files_in files.entry) result }
 {
     match files.directory.index_of(name) {
-        Some(index) => file_at(files, index),
+        Some(index) => get_file(files, index),
         None => None,
     }
 }
@@ -85,34 +85,34 @@ pub fn find_name<'a>(files: Files<'a>, name: &[u8]) -> Option<Found<'a>>
 /// The file with a handle.
 pub fn find_handle<'a>(files: Files<'a>, handle: i128) -> Option<Found<'a>>
     requires { AreFiles files }
-    ensures { Finds (is_called handle) (files_in files.entry) result }
+    ensures { FindsFile (is_called handle) (files_in files.entry) result }
 {
-    let Some(handle) = natural(handle) else {
+    let Some(handle) = to_natural(handle) else {
         return None;
     };
-    match index_of(files.handles, handle) {
-        Some(index) => file_at(files, index),
+    match search(files.handles, handle) {
+        Some(index) => get_file(files, index),
         None => None,
     }
 }
 
 /// The index of a handle.
-fn index_of(handles: &[u64], handle: u128) -> Option<usize>
+fn search(handles: &[u64], handle: u128) -> Option<usize>
     ensures { result ≡ position (λ given. nat_eq given handle) handles.now }
 {
     handles.iter().position(|given| *given as u128 == handle)
 }
 
 /// FreeData: how many bytes are left for new files.
-pub fn free_data(files: Files<'_>) -> usize
+pub fn measure_free(files: Files<'_>) -> usize
     requires { AreFiles files }
-    ensures { result ≡ free_data (files_in files.entry) }
+    ensures { result ≡ free_data layout_1 (files_in files.entry) }
 {
     TOTALS_SIZE - files.directory.size()
 }
 
 /// NumberOfFiles.
-pub fn count(files: Files<'_>) -> usize
+pub fn count_files(files: Files<'_>) -> usize
     requires { AreFiles files }
     ensures { result ≡ length (files_in files.entry) }
 {
@@ -122,7 +122,7 @@ pub fn count(files: Files<'_>) -> usize
 /// Whether there is room for one more file, of this size.
 pub fn has_room(files: Files<'_>, size: u128) -> bool
     requires { AreFiles files }
-    ensures { result ≡ has_room (files_in files.entry) (pos size) }
+    ensures { result ≡ has_room layout_1 (files_in files.entry) (pos size) }
 {
-    size <= free_data(files) as u128 && count(files) < MOST_FILES
+    size <= measure_free(files) as u128 && count_files(files) < MOST_FILES
 }

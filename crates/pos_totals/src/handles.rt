@@ -1,11 +1,12 @@
 ghost use Rattle.std.specs.Prelude.{◌≡◌, ◌<◌, ◌≤◌, ◌+◌, ◌^◌, []};
 ghost use Rattle.pos_service.specs.HardTotals.{last_number};
 ghost use Rattle.pos_totals.specs.Checks.{file_change_of};
-ghost use Rattle.pos_totals.specs.Numbering.{numbers_from, lacks, given_after, next_after, value_after, HasPlace, Numbers};
+ghost use Rattle.pos_totals.specs.Numbering.{numbers_from, lacks, given_after, following, value_after, HasPlace, Numbers};
 
 use crate::request::Checked;
 use arrayvec::ArrayVec;
 use pos_service::Value;
+use std::marker::Model;
 
 /// The most files.
 pub const MOST_FILES: usize = 64;
@@ -14,20 +15,34 @@ pub const MOST_FILES: usize = 64;
 /// means that none is left.
 #[derive(Drop)]
 pub struct Handles {
-    pub given: ArrayVec<u64, MOST_FILES>,
-    pub next: u64,
+    given: ArrayVec<u64, MOST_FILES>,
+    next: u64,
+}
+
+impl Model for Handles {
+    ghost use Rattle.pos_totals.specs.Views.{HandleTable};
+
+    ghost Value = { HandleTable };
+
+    ghost view = { λ h. record { given = h.given.items; next = h.next } };
 }
 
 impl Handles {
     /// No files yet.
     pub fn new(next: u64) -> Self
-        ensures given { result.given.items ≡ [] }
-        ensures next { result.next ≡ next }
+        ensures { result ≡ record { given = []; next = next } }
     {
         Handles {
             given: ArrayVec::new(),
             next,
         }
+    }
+
+    /// The handles in index order.
+    pub fn as_slice(&self) -> &[u64]
+        ensures { result.now ≡ self.now.given }
+    {
+        self.given.as_slice()
     }
 
     /// Whether a change needs a handle where none is left.
@@ -44,9 +59,9 @@ impl Handles {
 
     /// The handles after a change that was done, and what it gives.
     pub fn keep(&mut self, checked: &Checked<'_>) -> Value
-        requires { HasPlace self.old.given.items self.old.next (file_change_of checked.now) }
-        ensures given { self.new.given.items ≡ given_after self.old.given.items self.old.next (file_change_of checked.now) }
-        ensures next { self.new.next ≡ next_after self.old.next (file_change_of checked.now) }
+        requires { HasPlace self.old.given self.old.next (file_change_of checked.now) }
+        ensures given { self.new.given ≡ given_after self.old.given self.old.next (file_change_of checked.now) }
+        ensures next { self.new.next ≡ following self.old.next (file_change_of checked.now) }
         ensures value { result ≡ value_after self.old.next (file_change_of checked.now) }
     {
         match checked {
@@ -67,19 +82,19 @@ impl Handles {
     /// Gives so many files handles from the next one on, where so many are left.
     pub fn number(&mut self, count: usize) -> bool
         requires { count ≤ 64 }
-        ensures { Numbers self.old.given.items self.old.next count result self.new.given.items self.new.next }
+        ensures { Numbers self.old.given self.old.next count result self.new.given self.new.next }
     {
         let Some(end) = self.next.checked_add(count as u64) else {
             return false;
         };
-        self.given = numbers(self.next, count);
+        self.given = count_from(self.next, count);
         self.next = end;
         true
     }
 }
 
 /// So many handles from the first one on.
-fn numbers(first: u64, count: usize) -> ArrayVec<u64, MOST_FILES>
+fn count_from(first: u64, count: usize) -> ArrayVec<u64, MOST_FILES>
     requires few { count ≤ 64 }
     requires left { first + count < 2 ^ 64 }
     ensures { result.items ≡ numbers_from first count }

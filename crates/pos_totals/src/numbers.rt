@@ -4,7 +4,7 @@ ghost use Rattle.pos_service.specs.HardTotals.{is_natural, is_range, is_up_to};
 ghost use Rattle.pos_totals.specs.Checks.{IsRange};
 
 /// A number of a call, where it isn't below 0.
-pub fn natural(number: i128) -> Option<u128>
+pub fn to_natural(number: i128) -> Option<u128>
     ensures { MatchOption result (is_natural number ≡ false) (λ n. number ≡ pos n) }
 {
     if number < 0 {
@@ -14,10 +14,10 @@ pub fn natural(number: i128) -> Option<u128>
 }
 
 /// A number of a call, where it is the value of a byte.
-pub fn byte(number: i128) -> Option<u8>
+pub fn to_byte(number: i128) -> Option<u8>
     ensures { MatchOption result (is_up_to 255 number ≡ false) (λ n. (number ≡ pos n) × (n < 256)) }
 {
-    let Some(number) = natural(number) else {
+    let Some(number) = to_natural(number) else {
         return None;
     };
     if number > 255 {
@@ -27,13 +27,13 @@ pub fn byte(number: i128) -> Option<u8>
 }
 
 /// A range of so many bytes from an offset on, where it is within a size.
-pub fn range(size: usize, offset: i128, count: i128) -> Option<(usize, usize)>
+pub fn to_range(size: usize, offset: i128, count: i128) -> Option<(usize, usize)>
     ensures { MatchOption result (is_range size offset count ≡ false) (λ r. IsRange size offset count r.0 r.1) }
 {
-    let Some(offset) = natural(offset) else {
+    let Some(offset) = to_natural(offset) else {
         return None;
     };
-    let Some(count) = natural(count) else {
+    let Some(count) = to_natural(count) else {
         return None;
     };
     let size = size as u128;

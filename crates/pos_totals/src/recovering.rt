@@ -1,8 +1,8 @@
 //! A recovery of the files, from the disk to their handles.
 ghost use Rattle.std.specs.Prelude.{◌≡◌, Some, IsSome};
 ghost use Rattle.pos_store.specs.Modes.{Off, mode_of};
-ghost use Rattle.pos_totals.specs.Recoveries.{Recovers, told};
-ghost use Rattle.pos_totals.specs.Views.{IsSound, view_of};
+ghost use Rattle.pos_totals.specs.Recoveries.{Recovers, told_as};
+ghost use Rattle.pos_totals.specs.Views.{HasTable, view_with};
 
 use crate::fault::RecoveryFault;
 use crate::handles::Handles;
@@ -19,10 +19,10 @@ pub fn recover<D: Disk>(
     store: &mut Store<D>,
     handles: &mut Handles,
 ) -> Result<(), RecoveryFault>
-    requires sound { IsSound store.old.state handles.old.given.items handles.old.next }
-    ensures sound { IsSound store.new.state handles.new.given.items handles.new.next }
-    ensures recovers { Recovers D.Disk (view_of store.old handles.old.given.items handles.old.next) result
-        (view_of store.new handles.new.given.items handles.new.next) }
+    requires sound { HasTable store.old.state handles.old }
+    ensures sound { HasTable store.new.state handles.new }
+    ensures recovers { Recovers D.Disk (view_with store.old handles.old) result
+        (view_with store.new handles.new) }
 {
     leaves_its_files(store);
     match store.mode() {
@@ -38,13 +38,13 @@ fn recover_off<D: Disk>(
     handles: &mut Handles,
 ) -> Result<(), RecoveryFault>
     requires off { mode_of store.old.state ≡ Mode.Off }
-    ensures sound { IsSound store.new.state handles.new.given.items handles.new.next }
-    ensures recovers { Recovers D.Disk (view_of store.old handles.old.given.items handles.old.next) result
-        (view_of store.new handles.new.given.items handles.new.next) }
+    ensures sound { HasTable store.new.state handles.new }
+    ensures recovers { Recovers D.Disk (view_with store.old handles.old) result
+        (view_with store.new handles.new) }
 {
     match store.recover() {
         Ok(()) => {}
-        Err(fault) => return Err(of_store(fault)),
+        Err(fault) => return Err(tell_fault(fault)),
     }
     let count = match store.files() {
         Some(files) => {
@@ -56,14 +56,14 @@ fn recover_off<D: Disk>(
     if handles.number(count) {
         return Ok(());
     }
-    replace_with(store, alloc, turned_off);
+    replace_with(store, alloc, turn_off);
     Err(RecoveryFault::Handles)
 }
 
 /// Why a store finds no files, in the totals' words.
-fn of_store(fault: StoreFault) -> RecoveryFault
-    requires { IsSome (told fault) }
-    ensures { told fault ≡ Some result }
+fn tell_fault(fault: StoreFault) -> RecoveryFault
+    requires { IsSome (told_as fault) }
+    ensures { told_as fault ≡ Some result }
 {
     match fault {
         StoreFault::Unformatted => RecoveryFault::Unformatted,
@@ -75,7 +75,7 @@ fn of_store(fault: StoreFault) -> RecoveryFault
 }
 
 /// The same disk under a store that is off.
-fn turned_off<D: Disk>(store: Store<D>, alloc: Global) -> (Store<D>, ())
+fn turn_off<D: Disk>(store: Store<D>, alloc: Global) -> (Store<D>, ())
     ensures { result.0 ≡ record { disk = store.disk; state = Off } }
 {
     (Store::new(alloc, store.into_disk()), ())

@@ -69,7 +69,7 @@ fn gives_bytes(outcome: &Result<Answer, NoMemory>, wanted: &[u8]) -> bool {
 
 /// Whether `find` gives this handle and this size.
 fn finds<D: Disk>(totals: &Totals<D>, name: &[u8], handle: i128, size: i128) -> bool {
-    match totals.find(name) {
+    match totals.find(0, name) {
         Answer::Done(Value::Pair(found, bytes)) => found == handle && bytes == size,
         _ => false,
     }
@@ -96,11 +96,11 @@ fn read_back(disk: &mut MemDisk, at: u64, out: &mut [u8]) -> Result<(), DiskFaul
 fn a_file_is_made_read_and_on_the_disk(rt: HostRuntime) -> Result<(), Fail> {
     let mut totals = formatted(rt.alloc(), 1)?;
     assert!(rt; totals.size() == 8_192);
-    assert!(rt; gives_number(&totals.create(b"A", 4), 1));
-    assert!(rt; gives_bytes(&totals.read(1, 0, 4), &[0, 0, 0, 0]));
+    assert!(rt; gives_number(&totals.create(0, b"A", 4, false), 1));
+    assert!(rt; gives_bytes(&totals.read(0, 1, 0, 4), &[0, 0, 0, 0]));
     assert!(rt; room_and_count(&totals) == Some((8_188, 1)));
-    assert!(rt; gives_bytes(&totals.find_by_index(0), b"A"));
-    assert!(rt; is_refused(&totals.find_by_index(1), Code::Illegal, 0));
+    assert!(rt; gives_bytes(&totals.find_by_index(0, 0), b"A"));
+    assert!(rt; is_refused(&totals.find_by_index(0, 1), Code::Illegal, 0));
     assert!(rt; finds(&totals, b"A", 1, 4));
     let mut image = [0; 25];
     read_back(&mut totals.into_disk(), 32_768, &mut image)?;
@@ -116,12 +116,12 @@ fn totals_that_are_off(rt: HostRuntime) -> Result<(), Fail> {
     let alloc = rt.alloc();
     let mut totals = Totals::new(alloc, disk_of(alloc, &FORMATTED)?, 1);
     assert!(rt; !totals.is_ready());
-    assert!(rt; matches!(totals.find(b"A"), Answer::Refused(Code::Failure, 0)));
-    assert!(rt; is_refused(&totals.find_by_index(-1), Code::Failure, 0));
-    assert!(rt; is_refused(&totals.read(1, 0, -1), Code::Failure, 0));
-    assert!(rt; is_refused(&totals.create(b"", -1), Code::Failure, 0));
+    assert!(rt; matches!(totals.find(0, b"A"), Answer::Refused(Code::Failure, 0)));
+    assert!(rt; is_refused(&totals.find_by_index(0, -1), Code::Failure, 0));
+    assert!(rt; is_refused(&totals.read(0, 1, 0, -1), Code::Failure, 0));
+    assert!(rt; is_refused(&totals.create(0, b"", -1, false), Code::Failure, 0));
     totals.recover()?;
-    assert!(rt; gives_number(&totals.create(b"A", 0), 1));
+    assert!(rt; gives_number(&totals.create(0, b"A", 0, false), 1));
     totals.recover()?;
     assert!(rt; finds(&totals, b"A", 1, 0));
     Ok(())
@@ -148,7 +148,7 @@ fn answers(outcome: &Result<Answer, NoMemory>, wanted: Wanted) -> bool {
 /// Whether these names and sizes are answered so, one after another.
 fn creates<D: Disk>(totals: &mut Totals<D>, cases: &[(&[u8], i128, Wanted)]) -> bool {
     for (name, size, wanted) in cases {
-        if !answers(&totals.create(name, *size), *wanted) {
+        if !answers(&totals.create(0, name, *size, false), *wanted) {
             return false;
         }
     }
@@ -158,7 +158,7 @@ fn creates<D: Disk>(totals: &mut Totals<D>, cases: &[(&[u8], i128, Wanted)]) -> 
 /// Whether these handles and names are answered so, one after another.
 fn renames<D: Disk>(totals: &mut Totals<D>, cases: &[(i128, &[u8], Wanted)]) -> bool {
     for (handle, name, wanted) in cases {
-        if !answers(&totals.rename(*handle, name), *wanted) {
+        if !answers(&totals.rename(0, *handle, name), *wanted) {
             return false;
         }
     }
@@ -190,19 +190,19 @@ fn names_and_sizes(rt: HostRuntime) -> Result<(), Fail> {
         (3, b"".as_slice(), ILLEGAL),
     ];
     assert!(rt; renames(&mut totals, &cases));
-    assert!(rt; gives_number(&totals.create(b"E", 0), 4));
+    assert!(rt; gives_number(&totals.create(0, b"E", 0, false), 4));
     Ok(())
 }
 
 #[test]
 fn a_file_that_is_deleted(rt: HostRuntime) -> Result<(), Fail> {
     let mut totals = formatted(rt.alloc(), 1)?;
-    assert!(rt; gives_number(&totals.create(b"A", 8_000), 1));
-    assert!(rt; gives_number(&totals.create(b"B", 0), 2));
-    assert!(rt; is_done(&totals.delete(b"A")));
-    assert!(rt; is_refused(&totals.delete(b"A"), Code::NoExist, 0));
-    assert!(rt; is_refused(&totals.rename(1, b"C"), Code::Illegal, 0));
-    assert!(rt; gives_bytes(&totals.find_by_index(0), b"B"));
+    assert!(rt; gives_number(&totals.create(0, b"A", 8_000, false), 1));
+    assert!(rt; gives_number(&totals.create(0, b"B", 0, false), 2));
+    assert!(rt; is_done(&totals.delete(0, b"A")));
+    assert!(rt; is_refused(&totals.delete(0, b"A"), Code::NoExist, 0));
+    assert!(rt; is_refused(&totals.rename(0, 1, b"C"), Code::Illegal, 0));
+    assert!(rt; gives_bytes(&totals.find_by_index(0, 0), b"B"));
     assert!(rt; room_and_count(&totals) == Some((8_192, 1)));
     Ok(())
 }
@@ -210,7 +210,7 @@ fn a_file_that_is_deleted(rt: HostRuntime) -> Result<(), Fail> {
 /// Whether these handles, offsets and bytes are answered so, one after another.
 fn writes<D: Disk>(totals: &mut Totals<D>, cases: &[(i128, i128, &[u8], Wanted)]) -> bool {
     for (handle, offset, bytes, wanted) in cases {
-        if !answers(&totals.write(*handle, *offset, bytes), *wanted) {
+        if !answers(&totals.write(0, *handle, *offset, bytes), *wanted) {
             return false;
         }
     }
@@ -220,7 +220,7 @@ fn writes<D: Disk>(totals: &mut Totals<D>, cases: &[(i128, i128, &[u8], Wanted)]
 /// Whether each of these ranges is E_ILLEGAL.
 fn reads_nothing<D: Disk>(totals: &Totals<D>, cases: &[(i128, i128, i128)]) -> bool {
     for (handle, offset, count) in cases {
-        if !is_refused(&totals.read(*handle, *offset, *count), Code::Illegal, 0) {
+        if !is_refused(&totals.read(0, *handle, *offset, *count), Code::Illegal, 0) {
             return false;
         }
     }
@@ -230,7 +230,7 @@ fn reads_nothing<D: Disk>(totals: &Totals<D>, cases: &[(i128, i128, i128)]) -> b
 #[test]
 fn handles_and_ranges(rt: HostRuntime) -> Result<(), Fail> {
     let mut totals = formatted(rt.alloc(), 1)?;
-    assert!(rt; gives_number(&totals.create(b"A", 4), 1));
+    assert!(rt; gives_number(&totals.create(0, b"A", 4, false), 1));
     let cases = [
         (1, 1, [8, 9].as_slice(), Wanted::Nothing),
         (1, 4, [].as_slice(), Wanted::Nothing),
@@ -239,8 +239,8 @@ fn handles_and_ranges(rt: HostRuntime) -> Result<(), Fail> {
         (-1, 0, [1].as_slice(), ILLEGAL),
     ];
     assert!(rt; writes(&mut totals, &cases));
-    assert!(rt; gives_bytes(&totals.read(1, 0, 4), &[0, 8, 9, 0]));
-    assert!(rt; gives_bytes(&totals.read(1, 4, 0), &[]));
+    assert!(rt; gives_bytes(&totals.read(0, 1, 0, 4), &[0, 8, 9, 0]));
+    assert!(rt; gives_bytes(&totals.read(0, 1, 4, 0), &[]));
     let cases = [(1, i128::MAX, i128::MAX), (1, 0, -1), (1, 1, 4), (2, 0, 0)];
     assert!(rt; reads_nothing(&totals, &cases));
     Ok(())
@@ -249,12 +249,12 @@ fn handles_and_ranges(rt: HostRuntime) -> Result<(), Fail> {
 #[test]
 fn values_of_bytes(rt: HostRuntime) -> Result<(), Fail> {
     let mut totals = formatted(rt.alloc(), 1)?;
-    assert!(rt; gives_number(&totals.create(b"A", 2), 1));
-    assert!(rt; is_refused(&totals.set_all(1, 256), Code::Illegal, 0));
-    assert!(rt; is_refused(&totals.set_all(1, -1), Code::Illegal, 0));
-    assert!(rt; is_refused(&totals.set_all(0, 7), Code::Illegal, 0));
-    assert!(rt; is_done(&totals.set_all(1, 255)));
-    assert!(rt; gives_bytes(&totals.read(1, 0, 2), &[255, 255]));
+    assert!(rt; gives_number(&totals.create(0, b"A", 2, false), 1));
+    assert!(rt; is_refused(&totals.set_all(0, 1, 256), Code::Illegal, 0));
+    assert!(rt; is_refused(&totals.set_all(0, 1, -1), Code::Illegal, 0));
+    assert!(rt; is_refused(&totals.set_all(0, 0, 7), Code::Illegal, 0));
+    assert!(rt; is_done(&totals.set_all(0, 1, 255)));
+    assert!(rt; gives_bytes(&totals.read(0, 1, 0, 2), &[255, 255]));
     Ok(())
 }
 
@@ -262,8 +262,13 @@ fn values_of_bytes(rt: HostRuntime) -> Result<(), Fail> {
 fn the_last_handle(rt: HostRuntime) -> Result<(), Fail> {
     let alloc = rt.alloc();
     let mut totals = formatted(alloc, u64::MAX - 1)?;
-    assert!(rt; gives_number(&totals.create(b"A", 0), 18_446_744_073_709_551_614));
-    assert!(rt; is_refused(&totals.create(b"B", 0), Code::Failure, 0));
+    assert!(rt;
+        gives_number(
+            &totals.create(0, b"A", 0, false),
+            18_446_744_073_709_551_614
+        )
+    );
+    assert!(rt; is_refused(&totals.create(0, b"B", 0, false), Code::Failure, 0));
     assert!(rt; room_and_count(&totals) == Some((8_192, 1)));
     let disk = totals.into_disk();
     assert!(rt;
@@ -278,7 +283,7 @@ fn the_last_handle(rt: HostRuntime) -> Result<(), Fail> {
 fn the_last_sequence(rt: HostRuntime) -> Result<(), Fail> {
     let alloc = rt.alloc();
     let mut totals = ready(alloc, disk_of(alloc, &LAST)?, 1)?;
-    assert!(rt; is_refused(&totals.delete(b"A"), Code::Failure, 0));
+    assert!(rt; is_refused(&totals.delete(0, b"A"), Code::Failure, 0));
     assert!(rt; finds(&totals, b"A", 1, 0));
     Ok(())
 }
@@ -324,11 +329,11 @@ fn carry_out<D: Disk>(
     handle: i128,
 ) -> Result<Answer, NoMemory> {
     match call {
-        Call::Create => totals.create(b"B", 2),
-        Call::Delete => totals.delete(b"A"),
-        Call::Rename => totals.rename(handle, b"C"),
-        Call::Write => totals.write(handle, 1, &[8, 9]),
-        Call::SetAll => totals.set_all(handle, 7),
+        Call::Create => totals.create(0, b"B", 2, false),
+        Call::Delete => totals.delete(0, b"A"),
+        Call::Rename => totals.rename(0, handle, b"C"),
+        Call::Write => totals.write(0, handle, 1, &[8, 9]),
+        Call::SetAll => totals.set_all(0, handle, 7),
     }
 }
 
@@ -344,8 +349,8 @@ enum Seen {
 /// Whether they have this file at an index, under the handle that is so far behind the first one.
 fn has<D: Disk>(totals: &Totals<D>, first: u8, index: u8, name: &[u8], bytes: &[u8]) -> bool {
     let handle = first as i128 + index as i128;
-    gives_bytes(&totals.find_by_index(index as i128), name)
-        && gives_bytes(&totals.read(handle, 0, bytes.len() as i128), bytes)
+    gives_bytes(&totals.find_by_index(0, index as i128), name)
+        && gives_bytes(&totals.read(0, handle, 0, bytes.len() as i128), bytes)
         && finds(totals, name, handle, bytes.len() as i128)
 }
 
@@ -370,7 +375,7 @@ fn look<D: Disk>(totals: &Totals<D>, call: Call, first: u8) -> Seen {
 /// A disk with the file A alone.
 fn with_a_file(alloc: Global) -> Result<MemDisk, RecoveryFault> {
     let mut totals = formatted(alloc, 1)?;
-    if totals.create(b"A", 4).is_err() || totals.write(1, 0, &[1, 2, 3, 4]).is_err() {
+    if totals.create(0, b"A", 4, false).is_err() || totals.write(0, 1, 0, &[1, 2, 3, 4]).is_err() {
         return Err(RecoveryFault::NoMemory);
     }
     Ok(totals.into_disk())
@@ -383,7 +388,8 @@ struct Attempt {
     totals: Totals<FuseDisk<MemDisk>>,
 }
 
-/// Carries out a call over a disk that fails once after `pass` calls, after a second recovery where the first one failed.
+/// Carries out a call over a disk that fails once after `pass` calls, after a second recovery where the first one
+/// failed.
 fn stopped(alloc: Global, disk: &MemDisk, call: Call, pass: u64) -> Result<Attempt, RecoveryFault> {
     let Ok(copy) = disk.crash(Fill::New) else {
         return Err(RecoveryFault::NoMemory);
@@ -494,11 +500,11 @@ fn is_decided(alloc: Global, disk: &MemDisk, pass: u64) -> Result<bool, Recovery
     if !is_refused(&outcome, Code::Failure, 0) {
         return Ok(true);
     }
-    if !is_refused(&totals.read(1, 0, 4), Code::Failure, 0) {
+    if !is_refused(&totals.read(0, 1, 0, 4), Code::Failure, 0) {
         return Ok(false);
     }
     totals.recover()?;
-    if !is_refused(&totals.read(1, 0, 4), Code::Illegal, 0) {
+    if !is_refused(&totals.read(0, 1, 0, 4), Code::Illegal, 0) {
         return Ok(false);
     }
     let seen = look(&totals, Call::Write, 2);

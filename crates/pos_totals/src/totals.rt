@@ -3,7 +3,7 @@ ghost use Rattle.std.specs.Prelude.{◌≡◌, length};
 use crate::asking::{find, find_by_index, read};
 use crate::changing::change;
 use crate::fault::RecoveryFault;
-use crate::files::{TOTALS_SIZE, count, files_of, free_data};
+use crate::files::{TOTALS_SIZE, count_files, measure_free, see_files};
 use crate::handles::Handles;
 use crate::recovering::recover;
 use crate::request::Request;
@@ -13,32 +13,34 @@ use pos_store::{Mode, Store};
 use std::alloc::Global;
 use std::marker::Model;
 
-/// The totals: files of a fixed size on a disk, each with a handle (chapter Hard Totals). A handle is given once, and a
-/// recovery gives its files new ones. Contracts see the disk, the files with their handles, or Off, and the next handle.
+/// The totals: files of a fixed size on a disk, each with a handle (chapter Hard Totals). A handle is given once, and
+/// a recovery gives its files new ones. Contracts see the disk, the files with their handles, or Off, and the next
+/// handle.
 ///
-/// The calls answer E_FAILURE while the totals are off, then by their tables of refusals, and want of memory behind those.
-/// A refused call changes nothing and doesn't touch the disk. Where the disk fails in a change, the answer is E_FAILURE,
-/// the totals are off, and the next recovery finds the files before the change or those after the whole of it.
+/// The calls answer E_FAILURE while the totals are off, then by their tables of refusals, and want of memory behind
+/// those. A refused call changes nothing and doesn't touch the disk. Where the disk fails in a change, the answer is
+/// E_FAILURE, the totals are off, and the next recovery finds the files before the change or those after the whole of
+/// it.
 #[derive(Drop)]
 pub struct Totals<D: Disk> {
     alloc: Global,
     pub(crate) store: Store<D>,
-    handles: Handles,
+    pub(crate) handles: Handles,
 }
 
 impl<D: Disk> Model for Totals<D> {
-    ghost use Rattle.pos_totals.specs.Views.{View, view_of, IsSound};
+    ghost use Rattle.pos_totals.specs.Views.{TotalsView, view_with, HasTable};
 
-    ghost Value = { View D };
+    ghost Value = { TotalsView D };
 
-    ghost view = { λ t. view_of t.store t.handles.given.items t.handles.next };
+    ghost view = { λ t. view_with t.store t.handles };
 
-    ghost invariant = { λ t. IsSound t.store.state t.handles.given.items t.handles.next };
+    ghost invariant = { λ t. HasTable t.store.state t.handles };
 }
 
 impl<D: Disk> Totals<D> {
     ghost use Rattle.pos_disk.specs.State.{IsAtRest};
-    ghost use Rattle.pos_service.specs.HardTotals.{Off, Create, Delete, Rename, Write, SetAll, Find, FindByIndex, Read, Asked, AskedFor, is_ready, files_of, free_data, totals_size};
+    ghost use Rattle.pos_service.specs.HardTotals.{Off, Create, Delete, Rename, Write, SetAll, Find, FindByIndex, Read, Tells, MayTell, is_ready, files_of, free_data, layout_1};
     ghost use Rattle.pos_totals.specs.Changes.{Changes};
     ghost use Rattle.pos_totals.specs.Checks.{change_of};
     ghost use Rattle.pos_totals.specs.Recoveries.{Recovers};
@@ -56,8 +58,9 @@ impl<D: Disk> Totals<D> {
         }
     }
 
-    /// Reads the files of the disk, where the totals are off, and gives them handles from the next one on; where they are
-    /// ready it succeeds and does nothing. It may crash too, and may be called again: the disk then has what it had.
+    /// Reads the files of the disk, where the totals are off, and gives them handles from the next one on; where they
+    /// are ready it succeeds and does nothing. It may crash too, and may be called again: the disk then has what it
+    /// had.
     ///
     /// # Errors
     ///
@@ -69,95 +72,123 @@ impl<D: Disk> Totals<D> {
         recover(self.alloc, &mut self.store, &mut self.handles)
     }
 
-    /// `create`: adds a file of zero bytes behind the others, and gives its handle.
+    /// `create`: adds a file of zero bytes behind the others, and gives its handle. Error detection changes nothing.
     ///
-    /// Refused with E_ILLEGAL for a bad name or a size below 0, E_EXISTS where a file has the name, E_EXTENDED 201 where
-    /// the size is above FreeData or there are 64 files, E_FAILURE where no handle or no sequence is left or the disk
-    /// fails.
-    pub fn create(&mut self, name: &[u8], size: i128) -> Result<Answer, NoMemory>
-        ensures { Changes D.Disk self.old (Create name.now size) result self.new }
+    /// Refused with E_ILLEGAL for a bad name or a size below 0, E_EXISTS where a file has the name, E_EXTENDED 201
+    /// where the size is above FreeData or there are 64 files, E_FAILURE where no handle or no sequence is left or
+    /// the disk fails.
+    pub fn create(
+        &mut self,
+        control: usize,
+        name: &[u8],
+        size: i128,
+        _error_detection: bool,
+    ) -> Result<Answer, NoMemory>
+        ensures { Changes D.Disk self.old control (Create name.now size) result self.new }
     {
-        self.change(Request::Create { name, size })
+        self.change(control, Request::Create { name, size })
     }
 
     /// `delete`: removes a file; those behind it close up.
     ///
     /// Refused with E_NOEXIST where no file has the name, E_FAILURE where no sequence is left or the disk fails.
-    pub fn delete(&mut self, name: &[u8]) -> Result<Answer, NoMemory>
-        ensures { Changes D.Disk self.old (Delete name.now) result self.new }
+    pub fn delete(&mut self, control: usize, name: &[u8]) -> Result<Answer, NoMemory>
+        ensures { Changes D.Disk self.old control (Delete name.now) result self.new }
     {
-        self.change(Request::Delete { name })
+        self.change(control, Request::Delete { name })
     }
 
     /// `rename`: gives a file another name.
     ///
-    /// Refused with E_ILLEGAL where no file has the handle or for a bad name, E_EXISTS where a file has the name, this one
-    /// too, E_FAILURE where no sequence is left or the disk fails.
-    pub fn rename(&mut self, handle: i128, name: &[u8]) -> Result<Answer, NoMemory>
-        ensures { Changes D.Disk self.old (Rename handle name.now) result self.new }
+    /// Refused with E_ILLEGAL where no file has the handle or for a bad name, E_EXISTS where a file has the name,
+    /// this one too, E_FAILURE where no sequence is left or the disk fails.
+    pub fn rename(&mut self, control: usize, handle: i128, name: &[u8]) -> Result<Answer, NoMemory>
+        ensures { Changes D.Disk self.old control (Rename handle name.now) result self.new }
     {
-        self.change(Request::Rename { handle, name })
+        self.change(control, Request::Rename { handle, name })
     }
 
     /// `write`: puts bytes in the place of those of a file from an offset on.
     ///
     /// Refused with E_ILLEGAL where no file has the handle, or the bytes don't lie within the file, E_FAILURE where no
     /// sequence is left or the disk fails.
-    pub fn write(&mut self, handle: i128, offset: i128, bytes: &[u8]) -> Result<Answer, NoMemory>
-        ensures { Changes D.Disk self.old (Write handle offset bytes.now) result self.new }
+    pub fn write(
+        &mut self,
+        control: usize,
+        handle: i128,
+        offset: i128,
+        bytes: &[u8],
+    ) -> Result<Answer, NoMemory>
+        ensures { Changes D.Disk self.old control (Write handle offset bytes.now) result self.new }
     {
-        self.change(Request::Write {
-            handle,
-            offset,
-            bytes,
-        })
+        self.change(
+            control,
+            Request::Write {
+                handle,
+                offset,
+                bytes,
+            },
+        )
     }
 
     /// `setAll`: makes each byte of a file the same.
     ///
     /// Refused with E_ILLEGAL where no file has the handle, or the value isn't 0 to 255, E_FAILURE where no sequence is
     /// left or the disk fails.
-    pub fn set_all(&mut self, handle: i128, value: i128) -> Result<Answer, NoMemory>
-        ensures { Changes D.Disk self.old (SetAll handle value) result self.new }
+    pub fn set_all(&mut self, control: usize, handle: i128, value: i128) -> Result<Answer, NoMemory>
+        ensures { Changes D.Disk self.old control (SetAll handle value) result self.new }
     {
-        self.change(Request::SetAll { handle, value })
+        self.change(control, Request::SetAll { handle, value })
     }
 
     /// Carries out a change.
-    fn change(&mut self, request: Request<'_>) -> Result<Answer, NoMemory>
-        ensures { Changes D.Disk self.old (change_of request.entry) result self.new }
+    fn change(&mut self, control: usize, request: Request<'_>) -> Result<Answer, NoMemory>
+        ensures { Changes D.Disk self.old control (change_of request.entry) result self.new }
     {
-        change(self.alloc, &mut self.store, &mut self.handles, request)
+        change(
+            self.alloc,
+            &mut self.store,
+            &mut self.handles,
+            control,
+            request,
+        )
     }
 
     /// `find`: the handle and the size of the file with a name. It takes no memory.
     ///
     /// Refused with E_NOEXIST where no file has the name.
-    pub fn find(&self, name: &[u8]) -> Answer
-        ensures { Asked self.now.totals (Find name.now) result }
+    pub fn find(&self, _control: usize, name: &[u8]) -> Answer
+        ensures { Tells self.now.totals _control (Find name.now) result }
     {
-        find(&self.store, &self.handles, name)
+        find(&self.store, &self.handles, _control, name)
     }
 
     /// `findByIndex`: the name of the file at an index, counted from 0 in the order of creation.
     ///
     /// Refused with E_ILLEGAL where no file has the index.
-    pub fn find_by_index(&self, index: i128) -> Result<Answer, NoMemory>
-        ensures { AskedFor self.now.totals (FindByIndex index) result }
+    pub fn find_by_index(&self, _control: usize, index: i128) -> Result<Answer, NoMemory>
+        ensures { MayTell self.now.totals _control (FindByIndex index) result }
     {
-        find_by_index(self.alloc, &self.store, &self.handles, index)
+        find_by_index(self.alloc, &self.store, &self.handles, _control, index)
     }
 
     /// `read`: so many bytes of a file from an offset on.
     ///
     /// Refused with E_ILLEGAL where no file has the handle, or the range doesn't lie within the file.
-    pub fn read(&self, handle: i128, offset: i128, count: i128) -> Result<Answer, NoMemory>
-        ensures { AskedFor self.now.totals (Read handle offset count) result }
+    pub fn read(
+        &self,
+        control: usize,
+        handle: i128,
+        offset: i128,
+        count: i128,
+    ) -> Result<Answer, NoMemory>
+        ensures { MayTell self.now.totals control (Read handle offset count) result }
     {
         read(
             self.alloc,
             &self.store,
             &self.handles,
+            control,
             handle,
             offset,
             count,
@@ -173,7 +204,7 @@ impl<D: Disk> Totals<D> {
 
     /// TotalsSize: the most bytes of all files in sum.
     pub fn size(&self) -> usize
-        ensures { result ≡ totals_size }
+        ensures { result ≡ layout_1.bytes }
     {
         TOTALS_SIZE
     }
@@ -181,10 +212,10 @@ impl<D: Disk> Totals<D> {
     /// FreeData: how many bytes are left for new files. The totals are ready.
     pub fn free(&self) -> usize
         requires { IsReady self.now.totals.mode }
-        ensures { result ≡ free_data (files_of self.now.totals.mode) }
+        ensures { result ≡ free_data layout_1 (files_of self.now.totals.mode) }
     {
-        match files_of(&self.store, &self.handles) {
-            Some(files) => free_data(files),
+        match see_files(&self.store, &self.handles) {
+            Some(files) => measure_free(files),
             None => unreachable!(),
         }
     }
@@ -194,8 +225,8 @@ impl<D: Disk> Totals<D> {
         requires { IsReady self.now.totals.mode }
         ensures { result ≡ length (files_of self.now.totals.mode) }
     {
-        match files_of(&self.store, &self.handles) {
-            Some(files) => count(files),
+        match see_files(&self.store, &self.handles) {
+            Some(files) => count_files(files),
             None => unreachable!(),
         }
     }

@@ -10,52 +10,52 @@ pub returns-in-Err-clause-changes : goal.returns-in-Err-clause-changes
 returns-in-Err-clause-changes g c =
     let store = c.args.store.now in
     let handles = c.args.handles.now in
-    stays g.D.Disk store.disk (λ h bytes left. g.met.D.Disk.only_now store.disk bytes h left) store.state handles.given.items handles.next (change_of c.args.request) (Ok c.in-Err.refusal)
+    stays g.D.Disk store.disk (λ h bytes left. g.met.D.Disk.only_now store.disk bytes h left) store.state handles.given handles.next c.args.control (change_of c.args.request) (Ok c.in-Err.refusal)
     c.in-Err.ensures.directory c.requires.sound c.leaves_its_files.ensures
-    (refused (mode_of handles.given.items store.state) handles.next (change_of c.args.request) c.in-Err.refusal c.in-Err.ensures.checks)
+    (refused (mode_of handles.given store.state) handles.next c.args.control (change_of c.args.request) c.in-Err.refusal c.in-Err.ensures.checks)
 
-pub returns-in-Err-group_of-clause-changes : goal.returns-in-Err-group_of-clause-changes
-returns-in-Err-group_of-clause-changes g c =
+pub returns-in-Err-make_group-clause-changes : goal.returns-in-Err-make_group-clause-changes
+returns-in-Err-make_group-clause-changes g c =
     let store = c.args.store.now in
     let handles = c.args.handles.now in
-    stays g.D.Disk store.disk (λ h bytes left. g.met.D.Disk.only_now store.disk bytes h left) store.state handles.given.items handles.next (change_of c.args.request) (Err (record {}))
+    stays g.D.Disk store.disk (λ h bytes left. g.met.D.Disk.only_now store.disk bytes h left) store.state handles.given handles.next c.args.control (change_of c.args.request) (Err (record {}))
     c.in-Ok.ensures.directory c.requires.sound c.leaves_its_files.ensures
-    (wants (mode_of handles.given.items store.state) handles.next (change_of c.args.request) c.in-Ok.checked c.in-Ok.ensures.checks)
+    (wants (mode_of handles.given store.state) handles.next c.args.control (change_of c.args.request) c.in-Ok.checked c.in-Ok.ensures.checks)
 
 pub returns-then-lack-clause-changes : goal.returns-then-lack-clause-changes
 returns-then-lack-clause-changes g c =
     let store = c.args.store.now in
     let handles = c.args.handles.now in
-    stays g.D.Disk store.disk (λ h bytes left. g.met.D.Disk.only_now store.disk bytes h left) store.state handles.given.items handles.next (change_of c.args.request) _
+    stays g.D.Disk store.disk (λ h bytes left. g.met.D.Disk.only_now store.disk bytes h left) store.state handles.given handles.next c.args.control (change_of c.args.request) _
     c.in-Ok.ensures.directory c.requires.sound c.leaves_its_files.ensures
-    (lacking store.state handles.given.items handles.next (change_of c.args.request) c.in-Ok.checked c.in-Ok.ensures.checks (sym c.lack.ensures.lacks ∙ c.if-lack.true))
+    (lacking store.state handles.given handles.next c.args.control (change_of c.args.request) c.in-Ok.checked c.in-Ok.ensures.checks (sym c.lack.ensures.lacks ∙ c.if-lack.true))
 
 pub keep-requires : goal.keep-requires
 keep-requires g c =
     let store = c.args.store.now in
     let handles = c.args.handles.now in
-    place store.state handles.given.items handles.next (change_of c.args.request) c.in-Ok.checked c.requires.sound c.in-Ok.ensures.checks (sym c.lack.ensures.lacks ∙ c.if-lack.false) (let bound = c.lack.ensures.bound in omega (arith, bound))
+    place store.state handles.given handles.next (change_of c.args.request) c.in-Ok.checked c.requires.sound c.in-Ok.ensures.checks (sym c.lack.ensures.lacks ∙ c.if-lack.false) (let bound = c.lack.ensures.bound in omega (arith, bound))
 
 pub returns-in-Ok-commit-clause-sound : goal.returns-in-Ok-commit-clause-sound
 returns-in-Ok-commit-clause-sound g c =
     let store = c.args.store.now in
     let handles = c.args.handles.now in
-    let commits = subst (λ (changes : List Change). Commits g.D.Disk store changes (Ok tt) c.commit.new.self) c.in-Ok-group_of.ensures c.in-Ok-commit.ensures in
-    rw (c.keep.ensures.given, c.keep.ensures.next) (store_done g.D.Disk store.disk (λ h bytes left. g.met.D.Disk.only_now store.disk bytes h left) handles.given.items handles.next (change_of c.args.request) c.in-Ok.checked
+    let commits = subst (λ (changes : List Change). Commits g.D.Disk store changes (Ok tt) c.commit.new.self) c.in-Ok-make_group.ensures c.in-Ok-commit.ensures in
+    rw (c.keep.ensures.given, c.keep.ensures.next) (store_done g.D.Disk store.disk (λ h bytes left. g.met.D.Disk.only_now store.disk bytes h left) handles.given handles.next c.args.control (change_of c.args.request) c.in-Ok.checked
     store.state c.commit.new.self c.in-Ok.ensures.directory c.requires.sound c.leaves_its_files.ensures c.in-Ok.ensures.checks (sym c.lack.ensures.lacks ∙ c.if-lack.false) commits).1
 
 pub returns-in-Ok-commit-clause-changes : goal.returns-in-Ok-commit-clause-changes
 returns-in-Ok-commit-clause-changes g c =
     let store = c.args.store.now in
     let handles = c.args.handles.now in
-    let commits = subst (λ (changes : List Change). Commits g.D.Disk store changes (Ok tt) c.commit.new.self) c.in-Ok-group_of.ensures c.in-Ok-commit.ensures in
-    rw (c.keep.ensures.given, c.keep.ensures.next, c.keep.ensures.value) (store_done g.D.Disk store.disk (λ h bytes left. g.met.D.Disk.only_now store.disk bytes h left) handles.given.items handles.next (change_of c.args.request) c.in-Ok.checked
+    let commits = subst (λ (changes : List Change). Commits g.D.Disk store changes (Ok tt) c.commit.new.self) c.in-Ok-make_group.ensures c.in-Ok-commit.ensures in
+    rw (c.keep.ensures.given, c.keep.ensures.next, c.keep.ensures.value) (store_done g.D.Disk store.disk (λ h bytes left. g.met.D.Disk.only_now store.disk bytes h left) handles.given handles.next c.args.control (change_of c.args.request) c.in-Ok.checked
     store.state c.commit.new.self c.in-Ok.ensures.directory c.requires.sound c.leaves_its_files.ensures c.in-Ok.ensures.checks (sym c.lack.ensures.lacks ∙ c.if-lack.false) commits).0
 
 pub returns-clause-changes : goal.returns-clause-changes
 returns-clause-changes g c =
     let store = c.args.store.now in
     let handles = c.args.handles.now in
-    let commits = subst (λ (changes : List Change). Commits g.D.Disk store changes (Err c.in-Err-commit.fault) c.commit.new.self) c.in-Ok-group_of.ensures c.in-Err-commit.ensures in
-    rw c.refused.ensures (store_refused g.D.Disk store.disk (λ h bytes left. g.met.D.Disk.only_now store.disk bytes h left) handles.given.items handles.next (change_of c.args.request) c.in-Ok.checked
+    let commits = subst (λ (changes : List Change). Commits g.D.Disk store changes (Err c.in-Err-commit.fault) c.commit.new.self) c.in-Ok-make_group.ensures c.in-Err-commit.ensures in
+    rw c.answer_fault.ensures (store_refused g.D.Disk store.disk (λ h bytes left. g.met.D.Disk.only_now store.disk bytes h left) handles.given handles.next c.args.control (change_of c.args.request) c.in-Ok.checked
     store.state c.commit.new.self c.in-Err-commit.fault c.in-Ok.ensures.directory c.requires.sound c.leaves_its_files.ensures c.in-Ok.ensures.checks (sym c.lack.ensures.lacks ∙ c.if-lack.false) commits).0

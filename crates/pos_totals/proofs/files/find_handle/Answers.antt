@@ -19,18 +19,18 @@ returns-in_default c = record {
   small = tt;
 }
 
-pub returns-in-Some-index_of : goal.returns-in-Some-index_of
-returns-in-Some-index_of c =
+pub returns-in-Some-search : goal.returns-in-Some-search
+returns-in-Some-search c =
     let handles = c.args.files.handles.now in
     let files = c.args.files.directory.now in
     let xs = with_handles handles files in
     let n = c.in-Some.handle in
     let index = subst (λ (h : ℤ). index_of (is_called h) xs ≡ position_or_len (λ given. nat_eq given n) handles) (sym c.in-Some.ensures ∙ to_z-of_z w128 c.args.handle c.ranges.handle) (index_by_handle handles files n c.requires.paired) in
-    let here = is_at (λ given. nat_eq given n) (is_called c.args.handle) handles xs c.in-Some-index_of.index index (sym c.in-Some-index_of.ensures) in
+    let here = is_at (λ given. nat_eq given n) (is_called c.args.handle) handles xs c.in-Some-search.index index (sym c.in-Some-search.ensures) in
     record {
-      file = c.file_at.ensures.file ∙ at_index (is_called c.args.handle) xs c.in-Some-index_of.index here;
-      index = IfSome_then c.file_at.result c.file_at.ensures.index (λ f is. is ∙ here);
-      small = c.file_at.ensures.small;
+      file = c.get_file.ensures.file ∙ at_index (is_called c.args.handle) xs c.in-Some-search.index here;
+      index = IfSome_then c.get_file.result c.get_file.ensures.index (λ f is. is ∙ here);
+      small = c.get_file.ensures.small;
     }
 
 pub returns-in-None : goal.returns-in-None

@@ -15,9 +15,9 @@ returns-in-Some c =
     let name = c.args.name.now in
     let here = is_at (λ file. bytes_eq file.name name) (is_named name) files (with_handles handles files) c.in-Some.index (index_by_name handles files name c.requires.paired) (sym c.in-Some.ensures) in
     record {
-      file = c.file_at.ensures.file ∙ at_index (is_named name) (with_handles handles files) c.in-Some.index here;
-      index = IfSome_then c.file_at.result c.file_at.ensures.index (λ f is. is ∙ here);
-      small = c.file_at.ensures.small;
+      file = c.get_file.ensures.file ∙ at_index (is_named name) (with_handles handles files) c.in-Some.index here;
+      index = IfSome_then c.get_file.result c.get_file.ensures.index (λ f is. is ∙ here);
+      small = c.get_file.ensures.small;
     }
 
 pub returns-in-None : goal.returns-in-None

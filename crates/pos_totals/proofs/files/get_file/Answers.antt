@@ -2,7 +2,7 @@ use Rattle.std.proofs.Common.{sym, arith}
 use Rattle.std.proofs.lemmas.Option.{slice_get-get_or, slice_get_past}
 use Rattle.pos_totals.proofs.Pairs.{pair_at, one_of_sum, none_at, length-with_handles}
 use Rattle.pos_totals.specs.Views.{with_handles}
-use Rattle.pos_totals.proofs.files.file_at.Goals as goal
+use Rattle.pos_totals.proofs.files.get_file.Goals as goal
 
 pub returns-then-index-files-clause-file : goal.returns-then-index-files-clause-file
 returns-then-index-files-clause-file c =

@@ -3,7 +3,7 @@ use Rattle.pos_dir.specs.Files.{total_size}
 use Rattle.pos_totals.proofs.Grouped.{plain_size}
 use Rattle.pos_totals.proofs.Pairs.{plain_of}
 use Rattle.pos_totals.specs.Views.{with_handles}
-use Rattle.pos_totals.proofs.files.free_data.Goals as goal
+use Rattle.pos_totals.proofs.files.measure_free.Goals as goal
 
 pub returns : goal.returns
 returns c =

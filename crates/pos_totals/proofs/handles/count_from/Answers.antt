@@ -1,6 +1,6 @@
 use Rattle.std.proofs.Common.{◌∙◌, ◌<◌, ◌+◌, List, ℕ, ◌++◌, ◌∷◌, [], length, ap, arith, lit<}
 use Rattle.pos_totals.proofs.Numbered.{length-numbers, numbers_more}
-use Rattle.pos_totals.proofs.handles.numbers.Goals as goal
+use Rattle.pos_totals.proofs.handles.count_from.Goals as goal
 
 pub push-requires : goal.push-requires
 push-requires c =
