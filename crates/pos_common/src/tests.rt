@@ -1,6 +1,6 @@
 use crate::{Control, Need, hear_all, room_all};
 use pos_service::{
-    Answer, Category, Code, ErrorReply, Event, Finding, PaperLevel, Property, Signs, Value,
+    Answer, Category, Code, ErrorReply, Event, Facts, Finding, PaperLevel, Property, Signs, Value,
 };
 use std::test::Fail;
 
@@ -13,20 +13,29 @@ fn drawer_signs(is_open: bool) -> Signs {
     }
 }
 
+/// What is known of a drawer.
+fn drawer_facts(is_open: bool) -> Facts {
+    Facts {
+        signs: drawer_signs(is_open),
+        totals_size: 8192,
+        files: None,
+    }
+}
+
 #[test]
 fn a_control_is_opened_and_enabled_and_closed(rt: HostRuntime) {
-    let signs = drawer_signs(true);
+    let facts = drawer_facts(true);
     let mut a = Control::new(rt.alloc(), Category::CashDrawer);
     assert_eq!(rt; a.category(), Category::CashDrawer);
     assert!(rt;
         matches!(
-            a.get(Property::State, signs),
+            a.get(Property::State, &facts),
             Answer::Done(Value::Number(1))
         )
     );
     assert!(rt;
         matches!(
-            a.get(Property::DeviceEnabled, signs),
+            a.get(Property::DeviceEnabled, &facts),
             Answer::Refused(Code::Closed, 0)
         )
     );
@@ -38,19 +47,19 @@ fn a_control_is_opened_and_enabled_and_closed(rt: HostRuntime) {
     assert!(rt; !a.listens(3));
     assert!(rt;
         matches!(
-            a.get(Property::State, signs),
+            a.get(Property::State, &facts),
             Answer::Done(Value::Number(2))
         )
     );
     assert!(rt;
         matches!(
-            a.get(Property::CapStatus, signs),
+            a.get(Property::CapStatus, &facts),
             Answer::Done(Value::Truth(true))
         )
     );
     assert!(rt;
         matches!(
-            a.get(Property::DrawerOpened, signs),
+            a.get(Property::DrawerOpened, &facts),
             Answer::Refused(Code::Disabled, 0)
         )
     );
@@ -63,13 +72,13 @@ fn a_control_is_opened_and_enabled_and_closed(rt: HostRuntime) {
     assert_eq!(rt; a.check(Need { is_enabled: true }), Ok(()));
     assert!(rt;
         matches!(
-            a.get(Property::DeviceEnabled, signs),
+            a.get(Property::DeviceEnabled, &facts),
             Answer::Done(Value::Truth(true))
         )
     );
     assert!(rt;
         matches!(
-            a.get(Property::DrawerOpened, signs),
+            a.get(Property::DrawerOpened, &facts),
             Answer::Done(Value::Truth(true))
         )
     );

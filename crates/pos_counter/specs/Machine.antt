@@ -7,6 +7,7 @@ use Rattle.pos_service.specs.declared.kind.Kind.{Kind}
 use Rattle.pos_service.specs.Calls.{serves}
 use Rattle.pos_service.specs.Controls.{Control}
 use Rattle.pos_service.specs.Stations.{Station}
+use Rattle.pos_counter.specs.Totals.{TotalsPart}
 
 -- a device of the profile: of a kind, and without a station where no peripheral is attached
 pub record Device : Type 0 where
@@ -17,6 +18,7 @@ pub record Device : Type 0 where
 pub record Machine : Type 0 where
   pub controls : List Control
   pub devices : List Device
+  pub totals : TotalsPart
 
 -- the place, from this one on, of the first device with a name
 abbrev pub place_from : ℕ → List ℕ → List Device → Option ℕ

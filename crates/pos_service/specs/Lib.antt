@@ -7,3 +7,4 @@ pub mod Calls
 pub mod Stations
 pub mod DrawerCalls
 pub mod HardTotals
+pub mod TotalsCalls
