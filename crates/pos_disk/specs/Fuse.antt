@@ -1,6 +1,6 @@
 -- A disk that fails on demand, as contracts see it.
 use Rattle.std.specs.Prelude.{◌≡◌, ◌⊎◌, ◌≤◌, ◌+◌, ◌-◌, ◌/◌, ◌^◌, ◌&&◌, ℕ, List, Bool, true, false, min, leb, ltb, length, take, get_or, Result, Ok, Err}
-use Rattle.pos_disk.specs.State.{DiskState, Elapses, InRange, Rises, Reads, Writes, Syncs, splice}
+use Rattle.pos_disk.specs.State.{DiskState, Answer, Elapses, InRange, Rises, Reads, Writes, Syncs, splice}
 use Rattle.pos_disk.specs.declared.device.DiskFault.{DiskFault}
 use Rattle.pos_disk.specs.declared.device.Disk.{Ghosts}
 
@@ -59,20 +59,38 @@ pub record PutsHalf (old new : DiskState) (at : ℕ) (bytes : List ℕ) : Type 0
   pub later : old.failures ≤ new.failures
   pub half : ¬ (Rises old.failures new.failures) → new.reading ≡ splice old.reading at (take (length bytes / 2) bytes)
 
--- A read through a fuse: one that fails asks nothing of the disk within, and any other is its read.
-pub record FuseReads {D : Type 0} (bound : Ghosts D) (old new : Fuse D) (at : ℕ) (before after : List ℕ) {T : Type 0} (result : Result T DiskFault) : Type 0 where
-  pub counts : new ≡ after_call old new.inner result
-  pub blown : is_blown old ≡ true → (result ≡ Err record {}) × (new.inner ≡ old.inner) × (after ≡ before)
-  pub passed : is_blown old ≡ false → bound.honest old.inner → Reads (bound.state old.inner) (bound.state new.inner) at after result
+-- the fuse as a disk
+abbrev pub fuse_state : {D : Type 0} → Ghosts D → Fuse D → DiskState
+fuse_state bound fuse = with_failures (bound.state fuse.inner) fuse.failures
 
--- A write through a fuse: one that fails puts down half, and any other is the write of the disk within.
-pub record FuseWrites {D : Type 0} (bound : Ghosts D) (old new : Fuse D) (at : ℕ) (bytes : List ℕ) {T : Type 0} (result : Result T DiskFault) : Type 0 where
-  pub counts : new ≡ after_call old new.inner result
-  pub blown : is_blown old ≡ true → (result ≡ Err record {}) × (bound.honest old.inner → PutsHalf (bound.state old.inner) (bound.state new.inner) at bytes)
-  pub passed : is_blown old ≡ false → bound.honest old.inner → Writes (bound.state old.inner) (bound.state new.inner) at bytes result
+-- a call that fails asks nothing of the disk within
+abbrev pub IsRefused : {D : Type 0} → Fuse D → Fuse D → Answer → Type 0
+IsRefused old new answer = (answer ≡ Err record {}) × (new.inner ≡ old.inner)
 
--- A sync through a fuse: one that fails asks nothing of the disk within, and any other is its sync.
-pub record FuseSyncs {D : Type 0} (bound : Ghosts D) (old new : Fuse D) {T : Type 0} (result : Result T DiskFault) : Type 0 where
-  pub counts : new ≡ after_call old new.inner result
-  pub blown : is_blown old ≡ true → (result ≡ Err record {}) × (new.inner ≡ old.inner)
-  pub passed : is_blown old ≡ false → bound.honest old.inner → Syncs (bound.state old.inner) (bound.state new.inner) result
+-- A read through a fuse: one that fails asks nothing of the disk within, and any other is one read of it.
+pub record FuseReads {D : Type 0} (bound : Ghosts D) (old new : Fuse D) (at : ℕ) (before after : List ℕ) (answer : Answer)
+    : Type 0 where
+  pub counts : new ≡ after_call old new.inner answer
+  pub blown : is_blown old ≡ true → IsRefused old new answer × (after ≡ before)
+  pub passed : is_blown old ≡ false → bound.own_read old.inner new.inner at before after answer
+  pub reads : is_blown old ≡ false → bound.honest old.inner
+      → Reads (bound.state old.inner) (bound.state new.inner) at after answer
+
+-- A write through a fuse: one that fails puts down half, and any other is one write of the disk within.
+pub record FuseWrites {D : Type 0} (bound : Ghosts D) (old new : Fuse D) (at : ℕ) (bytes : List ℕ) (answer : Answer)
+    : Type 0 where
+  pub counts : new ≡ after_call old new.inner answer
+  pub fails : is_blown old ≡ true → answer ≡ Err record {}
+  pub blown : is_blown old ≡ true → bound.honest old.inner
+      → PutsHalf (bound.state old.inner) (bound.state new.inner) at bytes
+  pub passed : is_blown old ≡ false → bound.own_write old.inner new.inner at bytes answer
+  pub writes : is_blown old ≡ false → bound.honest old.inner
+      → Writes (bound.state old.inner) (bound.state new.inner) at bytes answer
+
+-- A sync through a fuse: one that fails asks nothing of the disk within, and any other is one sync of it.
+pub record FuseSyncs {D : Type 0} (bound : Ghosts D) (old new : Fuse D) (answer : Answer) : Type 0 where
+  pub counts : new ≡ after_call old new.inner answer
+  pub blown : is_blown old ≡ true → IsRefused old new answer
+  pub passed : is_blown old ≡ false → bound.own_sync old.inner new.inner answer
+  pub syncs : is_blown old ≡ false → bound.honest old.inner
+      → Syncs (bound.state old.inner) (bound.state new.inner) answer

@@ -1,6 +1,6 @@
 -- A disk in memory, as contracts see it.
-use Rattle.std.specs.Prelude.{◌≡◌, ◌⊎◌, ◌≤◌, ◌<◌, ◌++◌, ℕ, List, [], ◌∷◌, Bool, true, false, length, get_or, replicate}
-use Rattle.pos_disk.specs.State.{DiskState, splice}
+use Rattle.std.specs.Prelude.{◌≡◌, ◌⊎◌, ◌≤◌, ◌<◌, ◌++◌, ℕ, List, [], ◌∷◌, Bool, true, false, length, get_or, replicate, Ok}
+use Rattle.pos_disk.specs.State.{DiskState, Answer, splice}
 use Rattle.pos_disk.specs.declared.fill.Fill.{Fill}
 use Rattle.pos_disk.specs.declared.fill.Fill.TheVariants.{Old, New, Byte}
 
@@ -61,3 +61,15 @@ abbrev pub filled : Fill → Memory → List ℕ
 filled Old disk = disk.settled
 filled New disk = disk.present.reading
 filled (Byte byte) disk = choose disk.present.loose (replicate (length disk.present.reading) byte) disk.present.reading
+
+-- a read of a disk in memory succeeds and leaves it as it is
+abbrev pub MemoryReads : Memory → Memory → ℕ → List ℕ → List ℕ → Answer → Type 0
+MemoryReads old new at before after answer = (answer ≡ Ok tt) × (new ≡ old)
+
+-- a write succeeds and puts the bytes down
+abbrev pub MemoryWrites : Memory → Memory → ℕ → List ℕ → Answer → Type 0
+MemoryWrites old new at bytes answer = (answer ≡ Ok tt) × (new ≡ written at bytes old)
+
+-- a sync succeeds and settles what was written
+abbrev pub MemorySyncs : Memory → Memory → Answer → Type 0
+MemorySyncs old new answer = (answer ≡ Ok tt) × (new ≡ synced old)

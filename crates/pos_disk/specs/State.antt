@@ -2,6 +2,10 @@
 use Rattle.std.specs.Prelude.{◌≡◌, ◌⊎◌, ◌≤◌, ◌<◌, ◌^◌, ℕ, ◌+◌, List, ◌++◌, length, take, drop, get_or, Result, OnOk, OnErr}
 use Rattle.pos_disk.specs.declared.device.DiskFault.{DiskFault}
 
+-- what a read, a write or a sync answers
+abbrev pub Answer : Type 0
+Answer = Result (Unit {0}) DiskFault
+
 -- An honest disk at one moment.
 pub record DiskState : Type 1 where
   -- the bytes that a read gives
@@ -86,6 +90,14 @@ pub record LeavesOnly (old new : DiskState) (P : List ℕ → Type 0) : Type 0 w
   pub each : (bytes : List ℕ) → new.left_since old.moment bytes → P bytes
   -- for a run that began earlier
   pub before : (t : ℕ) (bytes : List ℕ) → t ≤ old.moment → new.left_since t bytes → old.left_since t bytes ⊎ P bytes
+
+-- what a crash may leave now is among what a crash since an earlier moment may have left
+abbrev pub CountsNow : DiskState → ℕ → List ℕ → Type 0
+CountsNow disk t bytes = t ≤ disk.moment → MayLeave disk bytes → disk.left_since t bytes
+
+-- what a crash since this very moment may have left is among what a crash may leave now
+abbrev pub OnlyNow : DiskState → List ℕ → Type 0
+OnlyNow disk bytes = disk.left_since disk.moment bytes → MayLeave disk bytes
 
 -- The disk was only looked at: a crash at any moment leaves what a crash before might have left.
 pub record Watches (old new : DiskState) : Type 0 where

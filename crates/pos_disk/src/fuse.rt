@@ -106,13 +106,19 @@ impl<D: Disk> FuseDisk<D> {
 
 impl<D: Disk> Disk for FuseDisk<D> {
     ghost use Rattle.pos_disk.specs.State.{Reads, Writes, Syncs};
-    ghost use Rattle.pos_disk.specs.Fuse.{with_failures, FuseReads, FuseWrites, FuseSyncs};
+    ghost use Rattle.pos_disk.specs.Fuse.{fuse_state, FuseReads, FuseWrites, FuseSyncs};
 
     ghost size = { λ f. D.size f.inner };
 
     ghost honest = { λ f. D.honest f.inner };
 
-    ghost state = { λ f. with_failures (D.state f.inner) f.failures };
+    ghost state = { fuse_state D.Disk };
+
+    ghost own_read = { FuseReads D.Disk };
+
+    ghost own_write = { FuseWrites D.Disk };
+
+    ghost own_sync = { FuseSyncs D.Disk };
 
     ghost whole = { λ f honest. D.whole f.inner honest };
 
@@ -128,7 +134,7 @@ impl<D: Disk> Disk for FuseDisk<D> {
         requires { at + length out.old ≤ D.size self.old.inner }
         ensures size { D.size self.new.inner ≡ D.size self.old.inner }
         ensures honest { D.honest self.old.inner ↔ D.honest self.new.inner }
-        ensures reads { D.honest self.old.inner → Reads (with_failures (D.state self.old.inner) self.old.failures) (with_failures (D.state self.new.inner) self.new.failures) at out.new result }
+        ensures reads { D.honest self.old.inner → Reads (fuse_state D.Disk self.old) (fuse_state D.Disk self.new) at out.new result }
         ensures fuse { FuseReads D.Disk self.old self.new at out.old out.new result }
     {
         let blown = self.is_blown();
@@ -148,7 +154,7 @@ impl<D: Disk> Disk for FuseDisk<D> {
         requires { at + length bytes.now ≤ D.size self.old.inner }
         ensures size { D.size self.new.inner ≡ D.size self.old.inner }
         ensures honest { D.honest self.old.inner ↔ D.honest self.new.inner }
-        ensures writes { D.honest self.old.inner → Writes (with_failures (D.state self.old.inner) self.old.failures) (with_failures (D.state self.new.inner) self.new.failures) at bytes.now result }
+        ensures writes { D.honest self.old.inner → Writes (fuse_state D.Disk self.old) (fuse_state D.Disk self.new) at bytes.now result }
         ensures fuse { FuseWrites D.Disk self.old self.new at bytes.now result }
     {
         let blown = self.is_blown();
@@ -168,7 +174,7 @@ impl<D: Disk> Disk for FuseDisk<D> {
     fn sync(&mut self) -> Result<(), DiskFault>
         ensures size { D.size self.new.inner ≡ D.size self.old.inner }
         ensures honest { D.honest self.old.inner ↔ D.honest self.new.inner }
-        ensures syncs { D.honest self.old.inner → Syncs (with_failures (D.state self.old.inner) self.old.failures) (with_failures (D.state self.new.inner) self.new.failures) result }
+        ensures syncs { D.honest self.old.inner → Syncs (fuse_state D.Disk self.old) (fuse_state D.Disk self.new) result }
         ensures fuse { FuseSyncs D.Disk self.old self.new result }
     {
         let blown = self.is_blown();

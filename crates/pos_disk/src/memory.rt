@@ -123,7 +123,7 @@ fn next_stamp(stamps: &mut Vec<u32>, stamp: u32) -> u32
 
 impl Disk for MemDisk {
     ghost use Rattle.pos_disk.specs.State.{Reads, Writes, Syncs};
-    ghost use Rattle.pos_disk.specs.Memory.{state_of, written, synced};
+    ghost use Rattle.pos_disk.specs.Memory.{state_of, written, synced, MemoryReads, MemoryWrites, MemorySyncs};
     ghost use Rattle.pos_disk.specs.Kept.{counts, only};
 
     ghost size = { λ m. length m.present.reading };
@@ -131,6 +131,12 @@ impl Disk for MemDisk {
     ghost honest = { λ _. ⊤ };
 
     ghost state = { state_of };
+
+    ghost own_read = { MemoryReads };
+
+    ghost own_write = { MemoryWrites };
+
+    ghost own_sync = { MemorySyncs };
 
     ghost whole = { λ m _. refl };
 
