@@ -59,7 +59,7 @@ beside_leaves bound old disk at at_is was is_ready moments =
     (subst (λ (place : ℕ). LeavesOnly (bound.state old.disk) (bound.state disk) (Stages place (bound.state old.disk).reading)) at_is moments)
 
 -- the image that was put into a slot
-pub placed : (bytes body : List ℕ) (slot : Slot) (sequence : ℕ) → length body ≤ 16371 → is_open bytes (start slot) ≡ false → is_open bytes (start slot + 16384) ≡ false → HasFields bytes (start slot) sequence body
+pub placed : (bytes body : List ℕ) (slot : Slot) (sequence : ℕ) → length body ≤ 16371 → is_open bytes (start slot) ≡ false → get_or bytes (start slot + 16384) 0 ≡ 0 → HasFields bytes (start slot) sequence body
     → IsPrepared bytes slot body sequence
 placed bytes body slot sequence short shut no_log fields = record {
   gate = shut;

@@ -1,5 +1,5 @@
 -- The current image, and what changes of the other slot leave of it.
-use Rattle.std.proofs.Common.{◌≡◌, ◌⊎◌, inl, inr, ⊎_elim, ℕ, ◌+◌, ◌≤◌, ◌<◌, List, length, refl, sym, ap, subst, ◌∙◌, arith, true, false, nat_lt, nat_le, nat_eq}
+use Rattle.std.proofs.Common.{◌≡◌, ◌⊎◌, inl, inr, ⊎_elim, ℕ, ◌+◌, ◌≤◌, ◌<◌, List, length, get_or, refl, sym, ap, subst, ◌∙◌, arith, true, false, nat_lt, nat_le, nat_eq}
 use Rattle.std.specs.Int.{w32, w64, from_be_bytes}
 use Rattle.std.proofs.lemmas.Bool.{cases_Bool}
 use Rattle.std.proofs.lemmas.Bool.Decides.{nat_tests}
@@ -111,11 +111,11 @@ published slot old new body next sequence current prepared same opened =
       greater = λ _. subst (λ (s : Slot). sequence_at new (start s) < sequence + 1) (sym (other_other slot)) (omega (arith, kept, was));
     }
 
--- the first gate of its log stays closed
+-- the first gate of its log stays 0
 pub published_log : (slot : Slot) (old new body next : List ℕ) (sequence : ℕ) → IsCurrent old slot body sequence → IsPrepared old (other slot) next (sequence + 1) → SameBut (start (other slot)) 1 old new
-    → is_open new (start (other slot) + 16384) ≡ false
+    → get_or new (start (other slot) + 16384) 0 ≡ 0
 published_log slot old new body next sequence current prepared same =
-    kept_gate old new (start (other slot)) 1 same (start (other slot) + 16384) (λ hit. absurd (omega (arith, hit.1))) ∙ prepared.log
+    same.elsewhere (start (other slot) + 16384) (λ hit. absurd (omega (arith, hit.1))) ∙ prepared.log
 
 pub differ : (a b : ℕ) → a < b → (nat_eq a b ≡ false) × (nat_eq b a ≡ false)
 differ a b less = (grind (arith, nat_tests), grind (arith, nat_tests))

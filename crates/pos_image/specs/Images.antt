@@ -1,8 +1,8 @@
 -- What contracts see of images on a disk.
-use Rattle.std.specs.Prelude.{◌≡◌, ◌↔◌, ◌⊎◌, ◌≤◌, ◌<◌, ◌+◌, ◌^◌, ℕ, List, [], length, Option, Some, None, Result, Ok, Err, OnOk, IsErr, IsErrOf, ⊤, MatchOption}
+use Rattle.std.specs.Prelude.{◌≡◌, ◌↔◌, ◌⊎◌, ◌≤◌, ◌<◌, ◌+◌, ◌^◌, ℕ, List, [], length, get_or, Option, Some, None, Result, Ok, Err, OnOk, IsErr, IsErrOf, ⊤, MatchOption}
 use Rattle.pos_disk.specs.State.{DiskState, IsAtRest, MayLeave, LeavesOnly, Rises}
 use Rattle.pos_disk.specs.declared.device.Disk.{Ghosts}
-use Rattle.pos_image.specs.Layout.{other}
+use Rattle.pos_image.specs.Layout.{start, other, closed_gate, KeepsBeside}
 use Rattle.pos_image.specs.Slots.{IsCurrent, IsPrepared}
 use Rattle.pos_image.specs.Standing.{HasImage, log_of}
 use Rattle.pos_image.specs.declared.fault.ImageFault.{ImageFault}
@@ -31,6 +31,10 @@ pub record IsReady {D : Type 0} (bound : Ghosts D) (images : View D) : Type 0 wh
   pub sound : bound.honest images.disk → IsSound (bound.state images.disk) images
   pub leaves : bound.honest images.disk → (c : List ℕ) → MayLeave (bound.state images.disk) c → HasImage images.body images.sequence (log_of (bound.state images.disk).reading) c
 
+-- the gate at this place was closed where it was open, and else kept its byte
+abbrev pub LeavesGate : ℕ → List ℕ → List ℕ → Type 0
+LeavesGate at old new = get_or new at 0 ≡ closed_gate old at
+
 -- What preparing an image with this body does, whether it copies the body or takes it over. Of the disk itself, and of
 -- what a crash may leave, it speaks where the disk is honest.
 pub record Prepares {D : Type 0} (bound : Ghosts D) (old : View D) (body : List ℕ) (result : Result (Unit {0}) ImageFault) (new : View D) : Type 0 where
@@ -39,6 +43,11 @@ pub record Prepares {D : Type 0} (bound : Ghosts D) (old : View D) (body : List 
   pub log : bound.honest old.disk → OnOk result (log_of (bound.state new.disk).reading ≡ log_of (bound.state old.disk).reading)
   -- a crash at any moment of the call leaves the current image and its log
   pub any_moment : bound.honest old.disk → LeavesOnly (bound.state old.disk) (bound.state new.disk) (HasImage old.body old.sequence (log_of (bound.state old.disk).reading))
+  -- whatever it answers, nothing but the other slot's gate, fields, body and log gate was written
+  pub rest : bound.honest old.disk
+      → KeepsBeside (start (other old.slot)) (length body) (bound.state old.disk).reading (bound.state new.disk).reading
+  pub gate : bound.honest old.disk
+      → OnOk result (LeavesGate (start (other old.slot)) (bound.state old.disk).reading (bound.state new.disk).reading)
   pub too_large : IsErrOf result fault.TooLarge ↔ (16371 < length body)
   pub exhausted : IsErrOf result fault.Exhausted ↔ (length body ≤ 16371) × (old.sequence + 1 ≡ 2 ^ 64)
   pub unchanged : IsErr result → IsErrOf result fault.Device ⊎ (new ≡ old)

@@ -1,5 +1,5 @@
 -- What slots and their gates hold.
-use Rattle.std.specs.Prelude.{◌≡◌, ◌≤◌, ◌<◌, ◌+◌, ℕ, List, length, Bool, true, false, ◌||◌}
+use Rattle.std.specs.Prelude.{◌≡◌, ◌≤◌, ◌<◌, ◌+◌, ℕ, List, length, get_or, Bool, true, false, ◌||◌}
 use Rattle.pos_image.specs.Layout.{start, other, is_open, sequence_at, length_at, body_at}
 use Rattle.pos_image.specs.declared.slot.Slot.{Slot}
 use Rattle.pos_image.specs.declared.reading.Head.{Head}
@@ -20,13 +20,13 @@ pub record HasFields (bytes : List ℕ) (at sequence : ℕ) (body : List ℕ) : 
   pub length_is : length_at bytes at ≡ length body
   pub body_is : body_at bytes at ≡ body
 
--- An image is in this slot, behind a closed gate, and the first gate of its log is closed.
+-- An image is in this slot, behind a closed gate, and the first gate of its log is 0.
 pub record IsPrepared (bytes : List ℕ) (slot : Slot) (body : List ℕ) (sequence : ℕ) : Type 0 where
   pub gate : is_open bytes (start slot) ≡ false
   pub sequence_is : sequence_at bytes (start slot) ≡ sequence
   pub fits : length_at bytes (start slot) ≤ 16371
   pub body_is : body_at bytes (start slot) ≡ body
-  pub log : is_open bytes (start slot + 16384) ≡ false
+  pub log : get_or bytes (start slot + 16384) 0 ≡ 0
 
 -- What a slot's gate and first fields say.
 pub record HasHead (bytes : List ℕ) (at : ℕ) (head : Head) : Type 0 where

@@ -1,5 +1,5 @@
 -- What the bytes of a disk stand for.
-use Rattle.std.specs.Prelude.{◌≡◌, ◌⊎◌, ◌+◌, ℕ, List, length, nat_lt, nat_le, nat_eq, Bool, false, not, ◌&&◌, ◌||◌, if◌then◌else◌}
+use Rattle.std.specs.Prelude.{◌≡◌, ◌⊎◌, ◌+◌, ℕ, List, length, get_or, nat_lt, nat_le, nat_eq, Bool, false, not, ◌&&◌, ◌||◌, if◌then◌else◌}
 use Rattle.pos_disk.specs.State.{part}
 use Rattle.pos_image.specs.Layout.{is_open, sequence_at, length_at, body_at}
 
@@ -50,10 +50,10 @@ pub record HasImage (body : List ℕ) (sequence : ℕ) (span : List ℕ) (bytes 
   pub image : StandsFor body sequence bytes
   pub log : log_of bytes ≡ span
 
--- The bytes stand for this body and sequence, and the first gate of the log span is closed.
+-- The bytes stand for this body and sequence, and the first gate of the log span is 0.
 pub record HasNewImage (body : List ℕ) (sequence : ℕ) (bytes : List ℕ) : Type 0 where
   pub image : StandsFor body sequence bytes
-  pub log : is_open (log_of bytes) 0 ≡ false
+  pub log : get_or (log_of bytes) 0 0 ≡ 0
 
 -- while an image is published: the old one as it was, or the new one with the next sequence and no log
 abbrev pub HasEither : List ℕ → List ℕ → ℕ → List ℕ → List ℕ → Type 0

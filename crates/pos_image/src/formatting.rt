@@ -1,8 +1,7 @@
 // A new disk.
-ghost use Rattle.std.specs.Prelude.{◌↔◌, ◌≡◌, ◌≤◌, ◌<◌, ◌∷◌, [], ℕ, IfOk, OnOk, get_or, false};
+ghost use Rattle.std.specs.Prelude.{◌↔◌, ◌≡◌, ◌≤◌, ◌<◌, ◌∷◌, [], ℕ, IfOk, OnOk, get_or};
 ghost use Rattle.pos_disk.specs.State.{IsAtRest, HasCause, Watches};
-ghost use Rattle.pos_image.specs.NewDisk.{KeepsRest, no_files};
-ghost use Rattle.pos_image.specs.Layout.{is_open};
+ghost use Rattle.pos_image.specs.NewDisk.{KeepsRest, HasClosedGates, no_files};
 ghost use Rattle.pos_image.specs.Standing.{HasNewImage, is_marked};
 
 use crate::reading::read_gate;
@@ -37,7 +36,7 @@ fn close_gates<D: Disk>(disk: &mut D) -> Result<(), DiskFault>
     ensures size { D.size disk.new ≡ D.size disk.old }
     ensures honest { D.honest disk.old ↔ D.honest disk.new }
     ensures at_rest { D.honest disk.old → OnOk result (IsAtRest (D.state disk.new)) }
-    ensures closed { D.honest disk.old → OnOk result ((k : ℕ) → k < 6 → is_open (D.state disk.new).reading (get_or GATES k 0) ≡ false) }
+    ensures closed { D.honest disk.old → OnOk result ((k : ℕ) → k < 6 → get_or (D.state disk.new).reading (get_or GATES k 0) 0 ≡ 0) }
     ensures rest { D.honest disk.old → KeepsRest (D.state disk.old).reading (D.state disk.new).reading }
     ensures cause { D.honest disk.old → HasCause (D.state disk.old) (D.state disk.new) result }
 {
@@ -55,6 +54,7 @@ pub fn lay_out<D: Disk>(disk: &mut D) -> Result<(), DiskFault>
     ensures honest { D.honest disk.old ↔ D.honest disk.new }
     ensures at_rest { D.honest disk.old → OnOk result (IsAtRest (D.state disk.new)) }
     ensures image { D.honest disk.old → OnOk result (HasNewImage no_files 1 (D.state disk.new).reading) }
+    ensures gates { D.honest disk.old → OnOk result (HasClosedGates (D.state disk.new).reading) }
     ensures rest { D.honest disk.old → KeepsRest (D.state disk.old).reading (D.state disk.new).reading }
     ensures cause { D.honest disk.old → HasCause (D.state disk.old) (D.state disk.new) result }
 {

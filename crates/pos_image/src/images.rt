@@ -1,7 +1,9 @@
 // The current image of a disk, and the next one.
 ghost use Rattle.std.specs.Prelude.{◌≡◌, ◌↔◌, ◌<◌, ◌≤◌, ◌+◌, ◌^◌, ◌⊎◌, length, IfOk, IfErr, OnOk, IsErr, IsErrOf, IsSome, Some, None, true, false};
 ghost use Rattle.pos_disk.specs.State.{IsAtRest, LeavesOnly, Rises, Watches};
-ghost use Rattle.pos_image.specs.NewDisk.{KeepsRest, no_files};
+ghost use Rattle.pos_disk.specs.Within.{SameBut};
+ghost use Rattle.pos_image.specs.Layout.{start, other};
+ghost use Rattle.pos_image.specs.NewDisk.{KeepsRest, HasClosedGates, no_files};
 ghost use Rattle.pos_image.specs.Standing.{Unformatted, Damaged, stands, is_marked, log_of, StandsFor, HasNewImage, HasEither};
 ghost use Rattle.pos_image.specs.declared.fault.ImageFault.TheVariants.{NoMemory, Device, TooLarge, Exhausted};
 
@@ -55,6 +57,7 @@ impl<D: Disk> Images<D> {
     pub fn format(mut disk: D) -> Result<D, (ImageFault, D)>
         ensures at_rest { D.honest disk → IfOk result (λ formatted. IsAtRest (D.state formatted)) }
         ensures image { D.honest disk → IfOk result (λ formatted. HasNewImage no_files 1 (D.state formatted).reading) }
+        ensures gates { D.honest disk → IfOk result (λ formatted. HasClosedGates (D.state formatted).reading) }
         ensures large { IfOk result (λ formatted. 327680 ≤ D.size formatted) }
         ensures too_small { IfErr result (λ e. e.0 ≡ ImageFault.TooSmall ↔ (D.size disk < 327680)) }
         ensures unmarked { D.honest disk → IfOk result (λ formatted. is_marked (D.state disk).reading ≡ false) }
@@ -190,6 +193,9 @@ impl<D: Disk> Images<D> {
         ensures ready { OnOk result (IsReady D.Disk self.new) }
         ensures published { OnOk result (self.new ≡ published self.old self.new.disk) }
         ensures log { D.honest self.old.disk → OnOk result (HasNewImage self.new.body self.new.sequence (D.state self.new.disk).reading) }
+
+        // Whatever it answers, nothing but the gate of the other slot was written.
+        ensures rest { D.honest self.old.disk → SameBut (start (other self.old.slot)) 1 (D.state self.old.disk).reading (D.state self.new.disk).reading }
 
         // A crash at any moment of the call leaves the current image and its log, or the new one with a closed log.
         ensures any_moment { D.honest self.old.disk → LeavesOnly (D.state self.old.disk) (D.state self.new.disk) (HasEither self.old.body (next_of self.old) self.old.sequence (log_of (D.state self.old.disk).reading)) }

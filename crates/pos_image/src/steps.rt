@@ -1,9 +1,9 @@
 // The few disk calls of which each change of the images is made.
-ghost use Rattle.std.specs.Prelude.{◌↔◌, ◌≡◌, ◌≤◌, ◌+◌, ◌∷◌, ◌++◌, [], length, OnOk, true, false, if◌then◌else◌};
+ghost use Rattle.std.specs.Prelude.{◌↔◌, ◌≡◌, ◌≤◌, ◌+◌, ◌∷◌, ◌++◌, [], length, get_or, OnOk, true, false, if◌then◌else◌};
 ghost use Rattle.byteorder.specs.Endian.{big_bytes};
 ghost use Rattle.pos_disk.specs.State.{IsAtRest, HasCause, LeavesOnly, splice};
 ghost use Rattle.pos_disk.specs.Within.{SameBut};
-ghost use Rattle.pos_image.specs.Layout.{Stages, is_open};
+ghost use Rattle.pos_image.specs.Layout.{Stages, KeepsBeside, is_open, closed_gate};
 ghost use Rattle.pos_image.specs.Slots.{HasFields};
 
 use byteorder::{BigEndian, ByteOrder};
@@ -45,7 +45,8 @@ pub fn close_gate<D: Disk>(disk: &mut D, at: u64) -> Result<(), DiskFault>
     ensures honest { D.honest disk.old ↔ D.honest disk.new }
     ensures at_rest { D.honest disk.old → OnOk result (IsAtRest (D.state disk.new)) }
     ensures closed { D.honest disk.old → OnOk result (is_open (D.state disk.new).reading at ≡ false) }
-    ensures same { D.honest disk.old → OnOk result (SameBut at 1 (D.state disk.old).reading (D.state disk.new).reading) }
+    ensures gate { D.honest disk.old → OnOk result (get_or (D.state disk.new).reading at 0 ≡ closed_gate (D.state disk.old).reading at) }
+    ensures same { D.honest disk.old → SameBut at 1 (D.state disk.old).reading (D.state disk.new).reading }
     ensures any_moment { D.honest disk.old → LeavesOnly (D.state disk.old) (D.state disk.new) (SameBut at (if is_open (D.state disk.old).reading at then 1 else 0) (D.state disk.old).reading) }
     ensures cause { D.honest disk.old → HasCause (D.state disk.old) (D.state disk.new) result }
 {
@@ -82,7 +83,8 @@ pub fn write_image<D: Disk>(
     ensures honest { D.honest disk.old ↔ D.honest disk.new }
     ensures at_rest { D.honest disk.old → OnOk result (IsAtRest (D.state disk.new)) }
     ensures written { D.honest disk.old → OnOk result (HasFields (D.state disk.new).reading at sequence body.now) }
-    ensures no_log { D.honest disk.old → OnOk result (is_open (D.state disk.new).reading (at + 16384) ≡ false) }
+    ensures no_log { D.honest disk.old → OnOk result (get_or (D.state disk.new).reading (at + 16384) 0 ≡ 0) }
+    ensures rest { D.honest disk.old → KeepsBeside at (length body.now) (D.state disk.old).reading (D.state disk.new).reading }
     ensures same { D.honest disk.old → OnOk result (SameBut (at + 1) 32767 (D.state disk.old).reading (D.state disk.new).reading) }
     ensures any_moment { D.honest disk.old → LeavesOnly (D.state disk.old) (D.state disk.new) (SameBut (at + 1) 32767 (D.state disk.old).reading) }
     ensures cause { D.honest disk.old → HasCause (D.state disk.old) (D.state disk.new) result }
@@ -109,7 +111,9 @@ pub fn place_image<D: Disk>(
     ensures at_rest { D.honest disk.old → OnOk result (IsAtRest (D.state disk.new)) }
     ensures closed { D.honest disk.old → OnOk result (is_open (D.state disk.new).reading at ≡ false) }
     ensures written { D.honest disk.old → OnOk result (HasFields (D.state disk.new).reading at sequence body.now) }
-    ensures no_log { D.honest disk.old → OnOk result (is_open (D.state disk.new).reading (at + 16384) ≡ false) }
+    ensures no_log { D.honest disk.old → OnOk result (get_or (D.state disk.new).reading (at + 16384) 0 ≡ 0) }
+    ensures rest { D.honest disk.old → KeepsBeside at (length body.now) (D.state disk.old).reading (D.state disk.new).reading }
+    ensures gate { D.honest disk.old → OnOk result (get_or (D.state disk.new).reading at 0 ≡ closed_gate (D.state disk.old).reading at) }
     ensures same { D.honest disk.old → OnOk result (Stages at (D.state disk.old).reading (D.state disk.new).reading) }
     ensures any_moment { D.honest disk.old → LeavesOnly (D.state disk.old) (D.state disk.new) (Stages at (D.state disk.old).reading) }
     ensures cause { D.honest disk.old → HasCause (D.state disk.old) (D.state disk.new) result }
