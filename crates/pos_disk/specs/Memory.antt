@@ -22,7 +22,8 @@ pub record LeftAt (moment : Moment) (bytes : List ℕ) : Type 0 where
 
 -- a crash at the moment with number t, or at some moment after it, may have left these bytes
 abbrev pub LeftSince : List Moment → Moment → ℕ → List ℕ → Type 0
-LeftSince past present t bytes = ((k : ℕ) × (t ≤ k) × (k < length past) × LeftAt (get_or past k present) bytes) ⊎ LeftAt present bytes
+LeftSince past present t bytes =
+    ((k : ℕ) × (t ≤ k) × (k < length past) × LeftAt (get_or past k present) bytes) ⊎ LeftAt present bytes
 
 -- the disk in the terms of every disk; it never fails
 abbrev pub state_of : Memory → DiskState
@@ -36,12 +37,19 @@ state_of disk = record {
 
 -- a disk with these bytes, at rest
 abbrev pub fresh : List ℕ → Memory
-fresh bytes = record { present = record { reading = bytes; loose = replicate (length bytes) false }; settled = bytes; past = [] }
+fresh bytes = record {
+  present = record { reading = bytes; loose = replicate (length bytes) false };
+  settled = bytes;
+  past = [];
+}
 
 -- bytes were written at a place
 abbrev pub written : ℕ → List ℕ → Memory → Memory
 written at bytes disk = record {
-  present = record { reading = splice disk.present.reading at bytes; loose = splice disk.present.loose at (replicate (length bytes) true) };
+  present = record {
+    reading = splice disk.present.reading at bytes;
+    loose = splice disk.present.loose at (replicate (length bytes) true);
+  };
   settled = disk.settled;
   past = disk.past ++ disk.present ∷ [];
 }

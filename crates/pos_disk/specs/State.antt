@@ -48,7 +48,8 @@ Rises before now = (before < now) ⊎ (before + 1 ≡ 2 ^ 64)
 pub record Elapses (old new : DiskState) : Type 0 where
   pub later : old.moment ≤ new.moment
   pub keeps : (t : ℕ) (bytes : List ℕ) → t ≤ old.moment → old.left_since t bytes → new.left_since t bytes
-  pub nothing_else : (t : ℕ) (bytes : List ℕ) → t ≤ old.moment → new.left_since t bytes → old.left_since t bytes ⊎ MayLeave new bytes
+  pub nothing_else : (t : ℕ) (bytes : List ℕ) → t ≤ old.moment → new.left_since t bytes
+      → old.left_since t bytes ⊎ MayLeave new bytes
 
 -- A fault is answered only where the disk has failed. The count never falls, and its last value is 2 ^ 64 - 1.
 pub record HasCause {T : Type 0} (old new : DiskState) (result : Result T DiskFault) : Type 0 where
@@ -67,7 +68,8 @@ pub record Reads {T : Type 0} (old new : DiskState) (at : ℕ) (out : List ℕ) 
 
 -- Bytes were written at a place: all of them where the write succeeded, else any bytes in their range.
 -- The range is loose from the beginning of the write on, whatever its result.
-pub record Writes {T : Type 0} (old new : DiskState) (at : ℕ) (bytes : List ℕ) (result : Result T DiskFault) : Type 0 where
+pub record Writes {T : Type 0} (old new : DiskState) (at : ℕ) (bytes : List ℕ) (result : Result T DiskFault)
+    : Type 0 where
   pub written : OnOk result (new.reading ≡ splice old.reading at bytes)
   pub same_length : length new.reading ≡ length old.reading
   pub elsewhere : (i : ℕ) → ¬ (InRange at (length bytes) i) → get_or new.reading i 0 ≡ get_or old.reading i 0

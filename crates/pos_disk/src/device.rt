@@ -21,8 +21,8 @@ pub trait Disk {
     /// What an honest disk is at this moment.
     ghost state: { Self → DiskState };
 
-    /// What one read of this very disk does, honest or not: the disk before and after, the place, what `out` held before
-    /// and holds after, and the answer. A disk that hands a call on to another says by it that it made this one call.
+    /// What one read of this very disk does, honest or not: the disk before and after, the place, what `out` held
+    /// before and holds after, and the answer. By it a disk that hands a call on says that it made this one call.
     ghost own_read: { Self → Self → ℕ → List ℕ → List ℕ → Answer → Type 0 };
 
     /// What one write of this very disk does: the disk before and after, the place, the bytes and the answer.

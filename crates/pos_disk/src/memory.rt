@@ -140,9 +140,9 @@ impl Disk for MemDisk {
 
     ghost whole = { λ m _. refl };
 
-    ghost counts_now = { λ m t bytes _ _ may. counts m t bytes may };
+    ghost counts_now = { λ m t bytes _. counts m t bytes };
 
-    ghost only_now = { λ m bytes _ left. only m bytes left };
+    ghost only_now = { λ m bytes _. only m bytes };
 
     fn len(&self) -> u64 {
         self.bytes.len() as u64
