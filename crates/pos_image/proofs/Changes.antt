@@ -7,7 +7,8 @@ use Rattle.pos_disk.proofs.Moments.{started, weaker, rest_leaves}
 use Rattle.pos_disk.proofs.Bytes.{length-splice, splice_elsewhere, part-splice, get_or-part}
 use Rattle.pos_disk.specs.declared.device.Disk.{Ghosts}
 use Rattle.pos_disk.specs.Within.{SameBut}
-use Rattle.pos_image.specs.Layout.{start, other, is_open, Stages}
+use Rattle.pos_image.specs.Layout.{start, other, is_open}
+use Rattle.pos_image.specs.Steps.{Stages}
 use Rattle.pos_image.specs.Slots.{IsCurrent, IsPrepared, HasFields}
 use Rattle.pos_image.specs.Standing.{log_of, HasImage, HasNewImage, HasEither}
 use Rattle.pos_image.specs.Images.{View, IsSound, IsReady, next_of, body_or_nothing}

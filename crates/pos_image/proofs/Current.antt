@@ -6,9 +6,10 @@ use Rattle.std.proofs.lemmas.Bool.Decides.{nat_tests}
 use Rattle.pos_disk.specs.State.{InRange, part}
 use Rattle.pos_disk.proofs.Bytes.{same_part}
 use Rattle.pos_disk.specs.Within.{SameBut}
-use Rattle.pos_image.specs.Layout.{start, other, is_open, sequence_at, length_at, body_at, Stages}
+use Rattle.pos_image.specs.Layout.{start, other, is_open, sequence_at, length_at, body_at}
+use Rattle.pos_image.specs.Steps.{Stages}
 use Rattle.pos_image.specs.Slots.{IsCurrent, IsPrepared, IsFound}
-use Rattle.pos_image.specs.Standing.{Stands, stands, image_at}
+use Rattle.pos_image.specs.Standing.{OneImage, image_on, image_at}
 use Rattle.pos_image.specs.declared.slot.Slot.{Slot}
 use Rattle.pos_image.specs.declared.slot.Slot.TheVariants.{First, Second}
 
@@ -130,14 +131,14 @@ at_most : (a b : ℕ) → a ≤ b → nat_le a b ≡ true
 at_most a b le = grind (arith, nat_tests)
 
 -- the image in a slot, where it fits
-stands_at : (bytes body : List ℕ) (sequence place : ℕ) → length_at bytes place ≤ 16371 → body_at bytes place ≡ body → sequence_at bytes place ≡ sequence → image_at bytes place ≡ Stands body sequence
+stands_at : (bytes body : List ℕ) (sequence place : ℕ) → length_at bytes place ≤ 16371 → body_at bytes place ≡ body → sequence_at bytes place ≡ sequence → image_at bytes place ≡ OneImage body sequence
 stands_at bytes body sequence place fits body_is sequence_is =
     let yes = at_most (length_at bytes place) 16371 fits in
-    rw yes (λ i. Stands (body_is i) (sequence_is i))
+    rw yes (λ i. OneImage (body_is i) (sequence_is i))
 
 -- the bytes stand for the current image
-pub current_stands : (slot : Slot) (bytes body : List ℕ) (sequence : ℕ) → IsCurrent bytes slot body sequence → stands bytes ≡ Stands body sequence
-unfolding stands
+pub current_stands : (slot : Slot) (bytes body : List ℕ) (sequence : ℕ) → IsCurrent bytes slot body sequence → image_on bytes ≡ OneImage body sequence
+unfolding image_on
 current_stands First bytes body sequence current =
     let long = long_enough (length bytes) 327680 current.whole in
     let here : is_open bytes 0 ≡ true = current.gate in

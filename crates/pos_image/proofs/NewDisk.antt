@@ -1,5 +1,5 @@
 -- What formatting leaves.
-use Rattle.std.proofs.Common.{◌≡◌, inl, inr, ℕ, ◌+◌, ◌≤◌, List, [], ◌∷◌, length, get_or, sym, ap, subst, ◌∙◌, arith, true, false, nat_eq}
+use Rattle.std.proofs.Common.{◌≡◌, inl, inr, ℕ, ◌≤◌, List, [], ◌∷◌, length, get_or, sym, ap, subst, ◌∙◌, arith, true, false, nat_eq}
 use Rattle.std.proofs.lemmas.Bool.{cases_lt}
 use Rattle.pos_disk.specs.State.{part, splice}
 use Rattle.pos_disk.proofs.Bytes.{part-part, part-splice}
@@ -9,7 +9,7 @@ use Rattle.pos_image.specs.Layout.{is_open}
 use Rattle.pos_image.specs.Slots.{IsCurrent, HasFields}
 use Rattle.pos_image.specs.Standing.{HasNewImage}
 use Rattle.pos_image.specs.declared.slot.Slot.TheVariants.{First}
-use Rattle.pos_image.proofs.Changes.{written_gate, opened_gate}
+use Rattle.pos_image.proofs.Changes.{opened_gate}
 use Rattle.pos_image.proofs.Current.{kept_sequence, kept_length, kept_body}
 use Rattle.pos_image.proofs.Fields.{fields}
 use Rattle.pos_image.proofs.Logs.{new_image}

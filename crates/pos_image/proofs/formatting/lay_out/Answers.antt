@@ -17,26 +17,26 @@ gates_closed bytes closed = record {
 
 pub returns-clause-gates : goal.returns-clause-gates
 returns-clause-gates g c honest =
-    let honest1 = c.close_gates.ensures.honest.0 honest in
-    let honest2 = c.write_through.ensures.honest.0 honest1 in
+    let honest1 = c.close_gates.ensures.keeps.honest.0 honest in
+    let honest2 = c.write_through.ensures.keeps.honest.0 honest1 in
     let r1 = (g.D.Disk.state c.close_gates.new.disk).reading in
     let r2 = (g.D.Disk.state c.write_through.new.disk).reading in
     let r3 = (g.D.Disk.state c.write_through-2.new.disk).reading in
     let whole = g.met.D.Disk.whole c.close_gates.new.disk honest1 in
     let closed = gates_closed r1 (c.in_ok-close_gates.ensures.closed honest) in
     so_ok c.write_through-2.result _ _ (λ gate.
-    still_closed r1 r2 r3 (omega (arith, whole, c.close_gates.ensures.size, c.requires.large)) closed
+    still_closed r1 r2 r3 (omega (arith, whole, c.close_gates.ensures.keeps.size, c.requires.large)) closed
     (c.in_ok-write_through.ensures.written honest1) (c.in_ok-write_through.ensures.same honest1) gate) (c.write_through-2.ensures.written honest2)
 
 pub returns-clause-image : goal.returns-clause-image
 returns-clause-image g c honest =
-    let honest1 = c.close_gates.ensures.honest.0 honest in
-    let honest2 = c.write_through.ensures.honest.0 honest1 in
+    let honest1 = c.close_gates.ensures.keeps.honest.0 honest in
+    let honest2 = c.write_through.ensures.keeps.honest.0 honest1 in
     let r1 = (g.D.Disk.state c.close_gates.new.disk).reading in
     let r2 = (g.D.Disk.state c.write_through.new.disk).reading in
     let r3 = (g.D.Disk.state c.write_through-2.new.disk).reading in
     let whole = g.met.D.Disk.whole c.close_gates.new.disk honest1 in
     let closed = gates_closed r1 (c.in_ok-close_gates.ensures.closed honest) in
     so_ok c.write_through-2.result _ _ (λ gate.
-    first_image r1 r2 r3 (omega (arith, whole, c.close_gates.ensures.size, c.requires.large)) closed
+    first_image r1 r2 r3 (omega (arith, whole, c.close_gates.ensures.keeps.size, c.requires.large)) closed
     (c.in_ok-write_through.ensures.written honest1) (c.in_ok-write_through.ensures.same honest1) gate) (c.write_through-2.ensures.written honest2)

@@ -1,5 +1,6 @@
-use Rattle.std.proofs.Common.{◌≡◌, ◌+◌, ℕ, List, get_or, length, sym, ◌∙◌, ap, subst, arith, rules, false}
-use Rattle.pos_image.specs.Layout.{start, other, is_open, Stages}
+use Rattle.std.proofs.Common.{◌≡◌, ◌+◌, ℕ, List, get_or, sym, ◌∙◌, ap, subst, arith, rules, false}
+use Rattle.pos_image.specs.Layout.{start, other, is_open}
+use Rattle.pos_image.specs.Steps.{Stages}
 use Rattle.pos_image.specs.Images.{IsReady}
 use Rattle.pos_image.specs.Slots.{HasFields}
 use Rattle.pos_image.proofs.Current.{stage_current}
@@ -20,9 +21,7 @@ returns-in_err-place_image-clause-prepares g c = record {
   unchanged = search rules;
   failed = search rules;
   device = search rules;
-  later = search rules;
-  size = search rules;
-  honest = search rules;
+  keeps = search rules;
 }
 
 pub returns-clause-prepares : goal.returns-clause-prepares
@@ -33,8 +32,8 @@ returns-clause-prepares g c =
     let at_is : c.start.result ≡ start (other c.self.inside.slot) = c.start.ensures ∙ ap start c.other.ensures in
     let ok = c.in_ok-place_image.ensures in
     record {
-      ready = ready g.D.Disk _ (omega (arith, is_ready.large, c.place_image.ensures.size)) is_ready.counted (λ honest.
-          let was = c.place_image.ensures.honest.1 honest in
+      ready = ready g.D.Disk _ (omega (arith, is_ready.large, c.place_image.ensures.keeps.size)) is_ready.counted (λ honest.
+          let was = c.place_image.ensures.keeps.honest.1 honest in
           let body_is : c.deref.result.now ≡ c.args.body.items = c.deref.ensures.value in
           let stages = subst (λ (at : ℕ). Stages at s0.reading s1.reading) at_is (ok.same was) in
           let shut = subst (λ (at : ℕ). is_open s1.reading at ≡ false) at_is (ok.closed was) in
@@ -58,7 +57,5 @@ returns-clause-prepares g c =
       unchanged = search rules;
       failed = search rules;
       device = search rules;
-      later = search rules;
-      size = search rules;
-      honest = search rules;
+              keeps = search rules;
     }
