@@ -102,6 +102,7 @@ module _ {D : Type 0} (bound : Ghosts D) (old new : Fuse D) (answer : Answer) (f
   cause : new ≡ after_call old new.inner answer → HasCause (fuse_state bound old) (fuse_state bound new) answer
   cause count = subst (λ (f : ℕ). HasCause (fuse_state bound old) (with_failures is f) answer) (sym (ap (λ (m : Fuse D). m.failures) count)) (caused was is old.failures answer fits)
 
+  -- a read of the fuse does what a read of an honest disk does
   pub fuse_reads : (at : ℕ) (before after : List ℕ) → FuseReads bound old new at before after answer → Reads (fuse_state bound old) (fuse_state bound new) at after answer
   fuse_reads at before after call = elim (cases_Bool (is_blown old)) [
     | inl blown ↦
@@ -113,6 +114,7 @@ module _ {D : Type 0} (bound : Ghosts D) (old new : Fuse D) (answer : Answer) (f
     | inr passed ↦ reads_under was is old.failures new.failures at after answer (call.reads passed honest) (cause call.counts)
   ]
 
+  -- so does a write
   pub fuse_writes : (at : ℕ) (bytes : List ℕ) → FuseWrites bound old new at bytes answer → Writes (fuse_state bound old) (fuse_state bound new) at bytes answer
   fuse_writes at bytes call = elim (cases_Bool (is_blown old)) [
     | inl blown ↦
@@ -123,6 +125,7 @@ module _ {D : Type 0} (bound : Ghosts D) (old new : Fuse D) (answer : Answer) (f
     | inr passed ↦ writes_under was is old.failures new.failures at bytes answer (call.writes passed honest) (cause call.counts)
   ]
 
+  -- and a sync
   pub fuse_syncs : FuseSyncs bound old new answer → Syncs (fuse_state bound old) (fuse_state bound new) answer
   fuse_syncs call = elim (cases_Bool (is_blown old)) [
     | inl blown ↦

@@ -1,5 +1,5 @@
 -- The laws of a disk whose past is a list of moments.
-use Rattle.std.specs.Prelude.{ℕ, List, length}
+use Rattle.std.specs.Prelude.{ℕ, List}
 use Rattle.std.proofs.Common.{inr, ⊎_elim, arith}
 use Rattle.pos_disk.specs.State.{MayLeave, CountsNow, OnlyNow}
 use Rattle.pos_disk.specs.Memory.{Memory, LeftAt, state_of}
