@@ -13,36 +13,44 @@ use Rattle.pos_image.specs.Standing.{OneImage, image_on, image_at}
 use Rattle.pos_image.specs.declared.slot.Slot.{Slot}
 use Rattle.pos_image.specs.declared.slot.Slot.TheVariants.{First, Second}
 
+-- the slot beside the slot beside this one is this one
 pub other_other : (slot : Slot) → other (other slot) ≡ slot
 other_other First = refl
 other_other Second = refl
 
+-- both slots begin at 32,768 at the latest
 pub start_low : (slot : Slot) → start slot ≤ 32768
 start_low First = omega arith
 start_low Second = omega arith
 
+-- the slots lie apart
 pub apart : (slot : Slot) → (start slot + 32768 ≤ start (other slot)) ⊎ (start (other slot) + 32768 ≤ start slot)
 apart First = inl (omega arith)
 apart Second = inr (omega arith)
 
 module _ (old new : List ℕ) (at n : ℕ) (same : SameBut at n old new) where
+  -- a gate outside the range is as it was
   pub kept_gate : (i : ℕ) → ¬ (InRange at n i) → is_open new i ≡ is_open old i
   kept_gate i outside = ap (λ (b : ℕ). nat_eq b 165) (same.elsewhere i outside)
 
+  -- so is a part
   pub kept_part : (place m : ℕ) → place + m ≤ length old → ((i : ℕ) → InRange place m i → ¬ (InRange at n i)) → part place m new ≡ part place m old
   kept_part place m fits outside =
       same_part new old place m (omega (arith, same.same_length)) same.same_length (λ i inside. same.elsewhere i (outside i inside))
 
+  -- a sequence
   pub kept_sequence : (place : ℕ) → place + 13 ≤ length old → ((i : ℕ) → InRange (place + 1) 12 i → ¬ (InRange at n i)) → sequence_at new place ≡ sequence_at old place
   unfolding sequence_at
   kept_sequence place fits outside =
       ap (from_be_bytes w64) (kept_part (place + 1) 8 (omega arith) (λ i inside. outside i (inside.0, omega (arith, inside.1))))
 
+  -- a length
   pub kept_length : (place : ℕ) → place + 13 ≤ length old → ((i : ℕ) → InRange (place + 1) 12 i → ¬ (InRange at n i)) → length_at new place ≡ length_at old place
   unfolding length_at
   kept_length place fits outside =
       ap (from_be_bytes w32) (kept_part (place + 9) 4 (omega arith) (λ i inside. outside i (omega (arith, inside.0), omega (arith, inside.1))))
 
+  -- and a body
   pub kept_body : (place : ℕ) → place + 16384 ≤ length old → length_at old place ≤ 16371 → ((i : ℕ) → InRange (place + 1) 16383 i → ¬ (InRange at n i)) → body_at new place ≡ body_at old place
   unfolding body_at
   kept_body place fits short outside =
@@ -118,12 +126,15 @@ pub published_log : (slot : Slot) (old new body next : List ℕ) (sequence : ℕ
 published_log slot old new body next sequence current prepared same =
     same.elsewhere (start (other slot) + 16384) (λ hit. absurd (omega (arith, hit.1))) ∙ prepared.log
 
+-- the lesser of two numbers is not the other
 pub differ : (a b : ℕ) → a < b → (nat_eq a b ≡ false) × (nat_eq b a ≡ false)
 differ a b less = (grind (arith, nat_tests), grind (arith, nat_tests))
 
+-- the tests of the definitions, by the numbers
 pub long_enough : (a b : ℕ) → b ≤ a → nat_lt a b ≡ false
 long_enough a b le = grind (arith, nat_tests)
 
+-- and of a lesser number
 pub less_than : (a b : ℕ) → a < b → nat_lt a b ≡ true
 less_than a b less = grind (arith, nat_tests)
 

@@ -30,6 +30,7 @@ current_place Second bytes body sequence current =
       | inr shut ↦ rw shut refl
     ]
 
+-- the log lies behind the current image
 pub log_place : (slot : Slot) (bytes body : List ℕ) (sequence : ℕ) → IsCurrent bytes slot body sequence → log_of bytes ≡ part (start slot + 16384) 16384 bytes
 unfolding log_of
 log_place slot bytes body sequence current = ap (λ (at : ℕ). part (at + 16384) 16384 bytes) (current_place slot bytes body sequence current)

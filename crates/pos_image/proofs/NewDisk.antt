@@ -76,5 +76,6 @@ module _ (closed mid new : List ℕ) (large : 327680 ≤ length closed) (gates :
         greater = λ is. absurd (cc (is, shut_gate new 32768 still_closed.second));
       }
 
+  -- it is the current image, and there is no log
   pub first_image : HasNewImage no_files 1 new
   first_image = new_image First new no_files 1 first_current still_closed.first_log

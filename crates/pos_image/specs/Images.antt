@@ -7,7 +7,7 @@ use Rattle.pos_disk.specs.declared.device.Disk.{Ghosts}
 use Rattle.pos_image.specs.Layout.{disk_size, longest, start, other}
 use Rattle.pos_image.specs.Steps.{Keeps, ClosesGate, KeepsBeside}
 use Rattle.pos_image.specs.Slots.{IsCurrent, IsPrepared}
-use Rattle.pos_image.specs.Standing.{HasImage, HasNewImage, HasEither, NoImage, DamagedImage}
+use Rattle.pos_image.specs.Standing.{HasImage, NoImage, DamagedImage}
 use Rattle.pos_image.specs.Standing.{image_on, is_marked, log_of}
 use Rattle.pos_image.specs.declared.fault.ImageFault.{ImageFault}
 use Rattle.pos_image.specs.declared.fault.ImageFault.TheVariants as fault
