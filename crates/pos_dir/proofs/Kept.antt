@@ -18,7 +18,6 @@ use Rattle.pos_dir.specs.declared.change.Change.{Change}
 use Rattle.pos_dir.specs.declared.change.Change.TheVariants.{Create, Delete, Rename, Write, SetAll}
 use Rattle.pos_dir.specs.declared.fault.DirectoryFault.{DirectoryFault}
 use Rattle.pos_dir.specs.declared.fault.DirectoryFault.TheVariants.{Exists, Range, NoRoom, BadName}
-use Rattle.pos_dir.specs.Outlines.{Shape}
 use Rattle.pos_dir.specs.Files.{is_name, has_name, are_distinct, total_size, IsDirectory}
 use Rattle.pos_dir.specs.Changes.{splice, with_file, outcome, and_then, outcome_of_all, IsChange}
 
@@ -251,9 +250,6 @@ goes_on limits files next changes i change total lt at made so_far =
     let step : and_then (outcome limits files (get_or changes i change)) (λ x. outcome_of_all limits x (drop (i + 1) changes)) ≡ outcome_of_all limits next (drop (i + 1) changes) =
     ap (λ x. and_then (outcome limits files x) (λ y. outcome_of_all limits y (drop (i + 1) changes))) (sym at) ∙ ap (λ x. and_then x (λ y. outcome_of_all limits y (drop (i + 1) changes))) made in
     sym (one ∙ step) ∙ so_far
-
-pub same_fault : (x y : DirectoryFault) → ◌≡◌ {A = Result (List Shape) DirectoryFault} (Err x) (Err y) → x ≡ y
-same_fault x y h = cc
 
 -- where a change isn't applicable, the whole isn't
 pub stops : (limits : Limits) (files : List File) (changes : List Change) (i : ℕ) (change : Change) (fault : DirectoryFault) (total : Result (List File) DirectoryFault) → i < length changes → change ≡ get_or changes i change → outcome limits files change ≡ Err fault

@@ -1,8 +1,8 @@
 //! Changes read from the bytes that spell them.
-ghost use Rattle.std.specs.Prelude.{◌≡◌, [], List, Some, None, IsSome, IfSome, MatchOption, MatchResult};
+ghost use Rattle.std.specs.Prelude.{◌≡◌, None, IsSome, IfSome, MatchOption, MatchResult};
 ghost use Rattle.std.specs.Option.{option_map};
 ghost use Rattle.pos_dir.specs.Texts.{change_of};
-ghost use Rattle.pos_dir.specs.Reading.{create_at, delete_at, rename_at, write_at, set_all_at, fields_at, change_at, items_at, group_at};
+ghost use Rattle.pos_dir.specs.Reading.{create_at, delete_at, rename_at, write_at, set_all_at, fields_at, change_at, items_at, group_at, Locates};
 
 use crate::bytes::{Bytes, Name};
 use crate::change::Change;
@@ -166,7 +166,7 @@ fn changes_end(count: u16, bytes: &[u8]) -> Option<&[u8]>
 #[tactic(auto, unfolding(crate::specs::Reading::group_at))]
 pub(crate) fn group_at(bytes: &[u8]) -> Option<(u16, &[u8])>
     ensures { MatchOption result (group_at bytes.now ≡ None)
-        (λ x. (changes : List Change) × (group_at bytes.now ≡ Some changes) × (items_at change_at x.0 x.1.now ≡ Some (changes, []))) }
+        (λ x. Locates change_at (group_at bytes.now) x.0 x.1.now) }
 {
     let (count, rest) = u16_at(bytes)?;
     let end = changes_end(count, rest)?;
@@ -183,7 +183,8 @@ pub(crate) fn own_changes(
     bytes: &[u8],
 ) -> Result<Vec<Change>, DirectoryFault>
     requires { IsSome (items_at change_at count bytes.now) }
-    ensures { MatchResult result (λ changes. IfSome (items_at change_at count bytes.now) (λ x. changes.items ≡ x.0)) (λ fault. fault ≡ DirectoryFault.NoMemory) }
+    ensures { MatchResult result (λ changes. IfSome (items_at change_at count bytes.now) (λ x. changes.items ≡ x.0))
+        (λ fault. fault ≡ DirectoryFault.NoMemory) }
 {
     let mut changes = Vec::with_capacity(alloc, count as usize)?;
     let mut rest = bytes;

@@ -1,9 +1,9 @@
 //! Files read from the bytes that spell them.
-ghost use Rattle.std.specs.Prelude.{◌≡◌, [], List, Some, None, IsSome, IfSome, MatchOption, MatchResult};
+ghost use Rattle.std.specs.Prelude.{◌≡◌, None, IsSome, IfSome, MatchOption, MatchResult};
 ghost use Rattle.std.specs.Option.{option_map};
 ghost use Rattle.pos_dir.specs.Texts.{file_of};
 ghost use Rattle.pos_dir.specs.Files.{has_name, are_distinct};
-ghost use Rattle.pos_dir.specs.Reading.{file_at, items_at, end_within, directory_at};
+ghost use Rattle.pos_dir.specs.Reading.{file_at, items_at, end_within, directory_at, Locates};
 
 use crate::bytes::{Bytes, Name};
 use crate::fault::DirectoryFault;
@@ -90,7 +90,7 @@ fn are_distinct(count: u16, bytes: &[u8]) -> bool
 /// The number of files and the bytes that spell them, where the bytes spell a directory.
 pub(crate) fn body_at(limits: Limits, bytes: &[u8]) -> Option<(u16, &[u8])>
     ensures { MatchOption result (directory_at limits bytes.now ≡ None)
-        (λ x. (files : List File) × (directory_at limits bytes.now ≡ Some files) × (items_at file_at x.0 x.1.now ≡ Some (files, []))) }
+        (λ x. Locates file_at (directory_at limits bytes.now) x.0 x.1.now) }
 {
     let (count, rest) = u16_at(bytes)?;
     if count > limits.files {
@@ -113,7 +113,8 @@ pub(crate) fn own_files(
     bytes: &[u8],
 ) -> Result<Vec<File>, DirectoryFault>
     requires { IsSome (items_at file_at count bytes.now) }
-    ensures { MatchResult result (λ files. IfSome (items_at file_at count bytes.now) (λ x. files.items ≡ x.0)) (λ fault. fault ≡ DirectoryFault.NoMemory) }
+    ensures { MatchResult result (λ files. IfSome (items_at file_at count bytes.now) (λ x. files.items ≡ x.0))
+        (λ fault. fault ≡ DirectoryFault.NoMemory) }
 {
     let mut files = Vec::with_capacity(alloc, count as usize)?;
     let mut rest = bytes;

@@ -112,7 +112,8 @@ impl<'a> Step<'a> {
 
 /// A file of zero bytes.
 fn new_file(alloc: Global, name: &Name, size: u32) -> Result<File, DirectoryFault>
-    ensures { MatchResult result (λ file. file ≡ record { name = name.now; bytes = replicate size 0 }) (λ fault. fault ≡ DirectoryFault.NoMemory) }
+    ensures { MatchResult result (λ file. file ≡ record { name = name.now; bytes = replicate size 0 })
+        (λ fault. fault ≡ DirectoryFault.NoMemory) }
 {
     Ok(File {
         name: copy_of_name(alloc, name)?,
