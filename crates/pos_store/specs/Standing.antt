@@ -24,7 +24,8 @@ IsDamaged (image.Stands body sequence) = ¬ (IsBody LAYOUT_1 body)
 abbrev pub StandsFor : Standing → List ℕ → Type 0
 StandsFor Unformatted bytes = image.stands bytes ≡ image.Unformatted
 StandsFor Damaged bytes = IsDamaged (image.stands bytes)
-StandsFor (Stands files sequence) bytes = IsDirectory LAYOUT_1 files × (image.stands bytes ≡ image.Stands (spelling files) sequence)
+StandsFor (Stands files sequence) bytes =
+    IsDirectory LAYOUT_1 files × (image.stands bytes ≡ image.Stands (spelling files) sequence)
 
 -- it is one of the candidates
 abbrev pub IsOneOf : List Standing → Standing → Type 0

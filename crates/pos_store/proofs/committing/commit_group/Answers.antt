@@ -4,20 +4,20 @@ use Rattle.pos_dir.specs.declared.limits.TheConstants.{LAYOUT_1}
 use Rattle.pos_image.specs.Standing.{log_of}
 use Rattle.pos_store.proofs.Committed.{failed_commits, is_made}
 use Rattle.pos_store.specs.Commits.{IsLast}
-use Rattle.pos_store.specs.Modes.{IsSound}
-use Rattle.pos_store.proofs.committing.committed.Goals as goal
+use Rattle.pos_store.specs.Modes.{SpellsItsFiles}
+use Rattle.pos_store.proofs.committing.commit_group.Goals as goal
 
-pub returns-in-Err-put-clause-commits : goal.returns-in-Err-put-clause-commits
-returns-in-Err-put-clause-commits g c =
-    let put = c.put.ensures in
+pub returns-in-Err-publish_body-clause-commits : goal.returns-in-Err-publish_body-clause-commits
+returns-in-Err-publish_body-clause-commits g c =
+    let put = c.publish_body.ensures in
     let old = c.in-Ready in
-    let sound = subst (IsSound g.D.Disk) old.is c.requires.sound in
-    let made = is_made c.in-Ok.body c.next_body.new.directory c.in-Ok.body.items c.sequence.result (outcome_of_all LAYOUT_1 old.directory c.args.call.1.now) c.in-Ok.ensures.made in
-    rw (old.is, c.into_disk.ensures) (failed_commits g.D.Disk old.images.disk c.put.new.images.disk old.directory c.next_body.new.directory
+    let sound = subst (SpellsItsFiles g.D.Disk) old.is c.requires.sound in
+    let made = is_made c.in-Ok.body c.make_body.new.directory c.in-Ok.body.items c.sequence.result (outcome_of_all LAYOUT_1 old.directory c.args.call.1.now) c.in-Ok.ensures.made in
+    rw (old.is, c.into_disk.ensures) (failed_commits g.D.Disk old.images.disk c.publish_body.new.images.disk old.directory c.make_body.new.directory
     old.images.body c.in-Ok.body.items (log_of (g.D.Disk.state old.images.disk).reading) old.images.sequence c.args.call.1.now
-    (record { before = sound.1; behind = made.2; spelled = sound.2; spelled_next = made.3 })
-    made.1 (subst (λ (n : ℕ). ¬ (IsLast n)) c.sequence.ensures made.0)
+    (record { before = sound.1; behind = made.1.1; spelled = sound.2; spelled_next = made.1.2 })
+    made.0 (subst (λ (n : ℕ). ¬ (IsLast n)) c.sequence.ensures made.1.0)
     put.any_moment
-    (λ h. put.in_doubt h (rw c.in-Err-put.is refl))
-    (λ h. put.device h (rw c.in-Err-put.is refl))
-    put.later put.size put.honest)
+    (λ h. put.in_doubt h (rw c.in-Err-publish_body.is refl))
+    (λ h. put.device h (rw c.in-Err-publish_body.is refl))
+    put.keeps)

@@ -3,19 +3,19 @@ use Rattle.pos_dir.specs.Calls.{IsBody}
 use Rattle.pos_dir.specs.declared.limits.TheConstants.{LAYOUT_1}
 use Rattle.pos_image.specs.Standing as image
 use Rattle.pos_store.proofs.Recovered.{off_recovers, told_finds, told_device, damaged_stands, no_body_stands, malformed_none}
-use Rattle.pos_store.specs.Standing.{StandsFor}
-use Rattle.pos_store.proofs.recovering.recovered.Goals as goal
+use Rattle.pos_store.specs.Recoveries.{DiskStandsFor}
+use Rattle.pos_store.proofs.recovering.recover_files.Goals as goal
 
 pub returns-in-Err-clause-recovers : goal.returns-in-Err-clause-recovers
 returns-in-Err-clause-recovers g c =
     let opened = c.in-Err.ensures in
     rw c.in-Off.is (off_recovers g.D.Disk c.in-Off.disk _ _
-    (told_finds (λ standing. g.D.Disk.honest c.in-Off.disk → StandsFor standing (g.D.Disk.state c.in-Off.disk).reading) c.in-Err.fault c.of_images.result c.of_images.ensures
+    (told_finds (DiskStandsFor g.D.Disk c.in-Off.disk) c.in-Err.fault c.tell_images.result c.tell_images.ensures
     (λ cause h. opened.unformatted h cause) (λ cause h. damaged_stands _ (opened.damaged h cause)) opened.faults)
     opened.any_moment
     (λ h. tt)
-    (λ h is. opened.device h (told_device c.in-Err.fault c.of_images.result c.of_images.ensures is))
-    opened.later opened.size opened.honest)
+    (λ h is. opened.device h (told_device c.in-Err.fault c.tell_images.result c.tell_images.ensures is))
+    (record { size = opened.size; honest = opened.honest; later = opened.later }))
 
 pub returns-in-Ok-decode-clause-recovers : goal.returns-in-Ok-decode-clause-recovers
 returns-in-Ok-decode-clause-recovers g c =
@@ -27,7 +27,7 @@ returns-in-Ok-decode-clause-recovers g c =
     opened.any_moment
     (λ h bytes may. inl (decoded.0, (opened.ready.0.leaves (opened.honest.0 h) bytes may).image ∙ spelled))
     (λ h is. absurd cc)
-    opened.later opened.size opened.honest)
+    (record { size = opened.size; honest = opened.honest; later = opened.later }))
 
 pub returns-in-Err-Malformed-clause-recovers : goal.returns-in-Err-Malformed-clause-recovers
 returns-in-Err-Malformed-clause-recovers g c =
@@ -37,7 +37,7 @@ returns-in-Err-Malformed-clause-recovers g c =
     opened.any_moment
     (λ h. tt)
     (λ h is. absurd cc)
-    opened.later opened.size opened.honest)
+    (record { size = opened.size; honest = opened.honest; later = opened.later }))
 
 pub returns-in-Err-decode-clause-recovers : goal.returns-in-Err-decode-clause-recovers
 returns-in-Err-decode-clause-recovers g c =
@@ -47,4 +47,4 @@ returns-in-Err-decode-clause-recovers g c =
     opened.any_moment
     (λ h. tt)
     (λ h is. absurd cc)
-    opened.later opened.size opened.honest)
+    (record { size = opened.size; honest = opened.honest; later = opened.later }))
