@@ -98,21 +98,25 @@ no_file outlines files i change same le = ap (λ o. with_file o change) (none_pa
 
 -- ---- a Create
 
+-- a name that an outline has is taken
 pub create_taken : (limits : Limits) (outlines : List Outline) (files : List File) (name : List ℕ) (size : ℕ) → AreOutlines outlines files → is_named outlines name ≡ true → outcome limits files (Create name size) ≡ Err Exists
 create_taken limits outlines files name size same taken = cond-true (has_name files name) _ _ (same_name outlines files name same ∙ taken)
 
+-- where there are as many outlines as files may be there is no room
 pub create_many : (limits : Limits) (outlines : List Outline) (files : List File) (name : List ℕ) (size : ℕ) → AreOutlines outlines files → is_named outlines name ≡ false → limits.files ≤ length outlines → outcome limits files (Create name size) ≡ Err NoRoom
 create_many limits outlines files name size same free many =
     let full : nat_lt (length files) limits.files ≡ false = le-ltb (length files) limits.files (omega (arith, same_count outlines files same, many)) in
     cond-false (has_name files name) _ _ (same_name outlines files name same ∙ free)
     ∙ cond-false (nat_lt (length files) limits.files && nat_le (total_size files + size) limits.bytes) _ _ (and_left (nat_lt (length files) limits.files) (nat_le (total_size files + size) limits.bytes) full)
 
+-- where the sizes in sum leave too little there is no room
 pub create_large : (limits : Limits) (outlines : List Outline) (files : List File) (name : List ℕ) (size : ℕ) → AreOutlines outlines files → is_named outlines name ≡ false → limits.bytes < sum_by (λ outline. outline.size) outlines + size → outcome limits files (Create name size) ≡ Err NoRoom
 create_large limits outlines files name size same free large =
     let over : nat_le (total_size files + size) limits.bytes ≡ false = lt-leb (total_size files + size) limits.bytes (omega (arith, same_total outlines files same, large)) in
     cond-false (has_name files name) _ _ (same_name outlines files name same ∙ free)
     ∙ cond-false (nat_lt (length files) limits.files && nat_le (total_size files + size) limits.bytes) _ _ (and_right (nat_lt (length files) limits.files) (nat_le (total_size files + size) limits.bytes) over)
 
+-- else the file is made, and its outline stands behind the others
 pub create_made : (limits : Limits) (outlines : List Outline) (files : List File) (new : Outline) → AreOutlines outlines files → is_named outlines new.name.now ≡ false → length outlines < limits.files → sum_by (λ outline. outline.size) outlines + new.size ≤ limits.bytes
     → Agrees (Ok tt) (outcome limits files (Create new.name.now new.size)) (outlines ++ new ∷ [])
 create_made limits outlines files new same free few small =
@@ -130,6 +134,7 @@ create_made limits outlines files new same free few small =
 
 -- ---- a change of a file
 
+-- a file and its outline are removed
 pub delete_made : (limits : Limits) (outlines : List Outline) (files : List File) (i : ℕ) (o : Outline) → AreOutlines outlines files → slice_get outlines i ≡ Some o → Agrees (Ok tt) (outcome limits files (Delete i)) (remove outlines i)
 delete_made limits outlines files i o same at =
     let found = file_at outlines files i o same at in (
@@ -138,6 +143,7 @@ delete_made limits outlines files i o same at =
       map-remove shape_of outlines i ∙ ap (λ (shapes : List Shape). remove shapes i) same ∙ sym (map-remove shape_of_file files i),
     )
 
+-- a name that an outline has is taken for a rename
 pub rename_taken : (limits : Limits) (outlines : List Outline) (files : List File) (i : ℕ) (o : Outline) (name : List ℕ) → AreOutlines outlines files → slice_get outlines i ≡ Some o → is_named outlines name ≡ true → outcome limits files (Rename i name) ≡ Err Exists
 rename_taken limits outlines files i o name same at taken =
     let found = file_at outlines files i o same at in
@@ -149,6 +155,7 @@ put_shape : (outlines : List Outline) (files : List File) (i : ℕ) (o : Outline
 put_shape outlines files i o file same shape =
     map-set shape_of outlines i o ∙ ap (λ (shapes : List Shape). set shapes i (shape_of o)) same ∙ ap (λ (s : Shape). set (map shape_of_file files) i s) shape ∙ sym (map-set shape_of_file files i file)
 
+-- else the file and its outline have the new name
 pub rename_made : (limits : Limits) (outlines : List Outline) (files : List File) (i : ℕ) (o new : Outline) → AreOutlines outlines files → slice_get outlines i ≡ Some o → new.size ≡ o.size → is_named outlines new.name.now ≡ false
     → Agrees (Ok tt) (outcome limits files (Rename i new.name.now)) (insert (remove outlines i) i new)
 rename_made limits outlines files i o new same at size free =
@@ -168,12 +175,14 @@ same_shapes [] i old new at same = refl
 same_shapes (f ∷ files) zero old new at same = ap (λ s. s ∷ map shape_of_file files) (same ∙ ap shape_of_file (same_file old f (sym at)))
 same_shapes (f ∷ files) (suc i) old new at same = ap (λ ss. shape_of_file f ∷ ss) (same_shapes files i old new at same)
 
+-- a range past the size of the outline is refused
 pub write_past : (limits : Limits) (outlines : List Outline) (files : List File) (i offset : ℕ) (bytes : List ℕ) (o : Outline) → AreOutlines outlines files → slice_get outlines i ≡ Some o → o.size < offset + length bytes → outcome limits files (Write i offset bytes) ≡ Err Range
 write_past limits outlines files i offset bytes o same at past =
     let found = file_at outlines files i o same at in
     ap (λ x. with_file x (λ file. cond (nat_le (offset + length bytes) (length file.bytes)) (Ok (slice_set files i (record file { bytes = splice file.bytes offset bytes }))) (Err Range))) found.1
     ∙ cond-false (nat_le (offset + length bytes) (length found.0.bytes)) _ _ (lt-leb (offset + length bytes) (length found.0.bytes) (omega (arith, ap (λ (s : Shape). s.size) found.2, past)))
 
+-- a range within it is written, and the outline stays
 pub write_made : (limits : Limits) (outlines : List Outline) (files : List File) (i offset : ℕ) (bytes : List ℕ) (o : Outline) → AreOutlines outlines files → slice_get outlines i ≡ Some o → offset + length bytes ≤ o.size
     → Agrees (Ok tt) (outcome limits files (Write i offset bytes)) outlines
 write_made limits outlines files i offset bytes o same at within =
@@ -186,6 +195,7 @@ write_made limits outlines files i offset bytes o same at within =
       same ∙ sym (same_shapes files i found.0 file found.1 (ap (λ (n : ℕ). record { name = found.0.name; size = n }) (length-splice found.0.bytes offset bytes fits))),
     )
 
+-- all bytes are set, and the outline stays
 pub set_all_made : (limits : Limits) (outlines : List Outline) (files : List File) (i value : ℕ) (o : Outline) → AreOutlines outlines files → slice_get outlines i ≡ Some o → Agrees (Ok tt) (outcome limits files (SetAll i value)) outlines
 set_all_made limits outlines files i value o same at =
     let found = file_at outlines files i o same at in

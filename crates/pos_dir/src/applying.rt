@@ -11,7 +11,7 @@ use crate::group::Group;
 use crate::laws::{is_directory, is_group};
 use crate::limits::LAYOUT_1;
 use crate::outlines::check_group;
-use crate::steps::{Step, steps_of};
+use crate::steps::{Step, make_steps};
 use crate::writing::{BODY_LIMIT, put_directory};
 use std::alloc::Global;
 
@@ -60,7 +60,7 @@ fn apply_checked(alloc: Global, files: &mut Vec<File>, group: &Group) -> Result<
     ensures directory { IsDirectory LAYOUT_1 files.new.items }
 {
     is_group(group);
-    let steps = steps_of(alloc, group)?;
+    let steps = make_steps(alloc, group)?;
     files.reserve(LAYOUT_1.files as usize - files.len())?;
     carry_out(files, steps);
     Ok(())

@@ -32,7 +32,7 @@ fn is_named(outlines: &[Outline<'_>], name: &[u8]) -> bool
 }
 
 /// The sizes in sum.
-fn size_in_sum(outlines: &[Outline<'_>]) -> usize
+fn sum_outlines(outlines: &[Outline<'_>]) -> usize
     requires { sum_by (λ outline. outline.size) outlines.now < 2 ^ 32 }
     ensures { result ≡ sum_by (λ outline. outline.size) outlines.now }
 {
@@ -56,7 +56,7 @@ fn check_create<'a>(
     if outlines.len() >= limits.files as usize {
         return Err(DirectoryFault::NoRoom);
     }
-    let room = limits.bytes as usize - size_in_sum(outlines.as_slice());
+    let room = limits.bytes as usize - sum_outlines(outlines.as_slice());
     let size = size as usize;
     if size > room {
         return Err(DirectoryFault::NoRoom);
@@ -160,7 +160,7 @@ fn check<'a>(
 }
 
 /// The outlines of files.
-fn outlines_of(files: &[File]) -> ArrayVec<Outline<'_>, MOST_FILES>
+fn outline_files(files: &[File]) -> ArrayVec<Outline<'_>, MOST_FILES>
     requires { length files.now ≤ LAYOUT_1.files }
     ensures { AreOutlines result.items files.now }
 {
@@ -179,7 +179,7 @@ fn outlines_of(files: &[File]) -> ArrayVec<Outline<'_>, MOST_FILES>
 pub fn check_group<'a>(directory: &'a Directory, group: &'a Group) -> Result<(), DirectoryFault>
     ensures { result_err result ≡ fault_of LAYOUT_1 directory.now group.now }
 {
-    let mut outlines = outlines_of(&directory.files);
+    let mut outlines = outline_files(&directory.files);
     for change in &group.changes {
         check(&mut outlines, LAYOUT_1, change)?;
     }

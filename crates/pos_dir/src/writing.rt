@@ -77,7 +77,7 @@ pub fn encode_group(alloc: Global, group: &Group) -> Result<Vec<u8>, DirectoryFa
         (λ fault. fault ≡ DirectoryFault.NoMemory) }
 {
     let changes = group.changes.as_slice();
-    let mut out = Vec::with_capacity(alloc, COUNT_SIZE + size_of(changes))?;
+    let mut out = Vec::with_capacity(alloc, COUNT_SIZE + measure_changes(changes))?;
     put_u16(&mut out, changes.len() as u16);
     for change in changes {
         put_change(&mut out, change);
@@ -86,20 +86,20 @@ pub fn encode_group(alloc: Global, group: &Group) -> Result<Vec<u8>, DirectoryFa
 }
 
 /// The bytes of the spellings of changes in sum.
-fn size_of(changes: &[Change]) -> usize
+fn measure_changes(changes: &[Change]) -> usize
     requires { IsGroup changes.now }
     ensures size { result ≡ length (flat_map change_spelling changes.now) }
     ensures bound { result ≤ change_limit * group_limit }
 {
     let mut size = 0;
     for change in changes {
-        size += size_of_change(change);
+        size += measure_change(change);
     }
     size
 }
 
 /// The bytes of a change's spelling.
-fn size_of_change(change: &Change) -> usize
+fn measure_change(change: &Change) -> usize
     requires { IsChange change.now }
     ensures size { result ≡ length (change_spelling change.now) }
     ensures bound { result ≤ change_limit }

@@ -37,6 +37,7 @@ same_files files others sequence after sound also same =
     let equal = one_spelling LAYOUT_1 files others layout_1_writable sound also spelled in
     cc
 
+-- bytes stand for one thing at most
 pub one_standing : (bytes : List ℕ) (standing other : Standing) → StandsFor standing bytes → StandsFor other bytes → standing ≡ other
 one_standing bytes Unformatted Unformatted first second = refl
 one_standing bytes Unformatted Damaged first second = absurd (unformatted_alone (image.stands bytes) first second)

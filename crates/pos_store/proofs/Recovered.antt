@@ -19,6 +19,7 @@ use Rattle.pos_store.specs.Faults.{Tells}
 use Rattle.pos_store.specs.declared.fault.StoreFault.{StoreFault}
 use Rattle.pos_store.specs.declared.fault.StoreFault.TheVariants as fault
 
+-- a recovery that only looked at the disk of a store that was off
 pub off_recovers : {D : Type 0} (bound : Ghosts D) (disk : D) (result : Result (Unit {0}) StoreFault) (new : StoreView D)
     → FindsStanding (DiskStandsFor bound disk) result new.state
     → (bound.honest disk → Watches (bound.state disk) (bound.state new.disk))

@@ -18,13 +18,13 @@ returns-then-len-limits c = λ files same.
 pub returns-then-size-room : goal.returns-then-size-room
 returns-then-size-room c = λ files same.
     let free : is_named c.args.outlines.now.items c.args.name.now ≡ false = ap (λ (x : List Outline). is_named x c.args.name.now) (sym c.as_slice.ensures.value) ∙ sym c.is_named.ensures ∙ c.if-is_named.false in
-    let sum = c.size_in_sum.ensures ∙ ap (λ (x : List Outline). sum_by (λ outline. outline.size) x) c.as_slice-2.ensures.value in
+    let sum = c.sum_outlines.ensures ∙ ap (λ (x : List Outline). sum_by (λ outline. outline.size) x) c.as_slice-2.ensures.value in
     create_large c.args.limits c.args.outlines.now.items files c.args.name.now c.args.size same free (omega (arith, sum, c.if-size-room.true, c.requires.total))
 
 pub returns : goal.returns
 returns c = λ files same.
     let free : is_named c.args.outlines.now.items c.args.name.now ≡ false = ap (λ (x : List Outline). is_named x c.args.name.now) (sym c.as_slice.ensures.value) ∙ sym c.is_named.ensures ∙ c.if-is_named.false in
-    let sum = c.size_in_sum.ensures ∙ ap (λ (x : List Outline). sum_by (λ outline. outline.size) x) c.as_slice-2.ensures.value in
+    let sum = c.sum_outlines.ensures ∙ ap (λ (x : List Outline). sum_by (λ outline. outline.size) x) c.as_slice-2.ensures.value in
     let new : Outline = record { name = c.args.name; size = c.args.size } in
     rw c.push.ensures.items
     (create_made c.args.limits c.args.outlines.now.items files new same free (omega (arith, c.len.ensures.value, c.if-len-limits.false)) (omega (arith, sum, c.if-size-room.false, c.requires.total)))

@@ -2,7 +2,7 @@ use Rattle.std.proofs.Common.{◌∙◌, sym, ap}
 use Rattle.pos_dir.specs.Reading.{change_at}
 use Rattle.pos_dir.proofs.Items.{one_more, none_more, no_more}
 use Rattle.pos_dir.proofs.Loops.{rest_of, rest_of_first}
-use Rattle.pos_dir.proofs.changes.changes_end.Goals as goal
+use Rattle.pos_dir.proofs.changes.skip_changes.Goals as goal
 
 pub returns-in_err-_change : goal.returns-in_err-_change
 returns-in_err-_change c =

@@ -3,7 +3,7 @@ use Rattle.pos_dir.specs.Reading.{file_at, items_at, end_within}
 use Rattle.pos_dir.specs.Texts.{file_of}
 use Rattle.pos_dir.proofs.Items.{one_more, none_more, no_more}
 use Rattle.pos_dir.proofs.Loops.{end_step, end_over, end_now}
-use Rattle.pos_dir.proofs.files.files_end.Goals as goal
+use Rattle.pos_dir.proofs.files.skip_files.Goals as goal
 
 pub returns-in_err-file : goal.returns-in_err-file
 returns-in_err-file c =

@@ -6,7 +6,7 @@ use Rattle.pos_dir.specs.Reading.{file_at, items_at}
 use Rattle.pos_dir.proofs.Items.{length_items}
 use Rattle.pos_dir.proofs.Loops.{answered}
 use Rattle.pos_dir.proofs.Directories.{directory_none, directory_is, body_of_many, body_too_large, body_with_more, body_not_distinct, body_found}
-use Rattle.pos_dir.proofs.files.body_at.Goals as goal
+use Rattle.pos_dir.proofs.files.locate_files.Goals as goal
 
 pub returns-in_err-count : goal.returns-in_err-count
 returns-in_err-count c = rw c.from_residual.ensures (directory_none c.args.limits c.args.bytes.now c.in_err-count.ensures)

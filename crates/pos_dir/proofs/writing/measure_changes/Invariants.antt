@@ -1,7 +1,7 @@
 use Rattle.std.proofs.Common.{◌≡◌, ◌≤◌, ◌*◌, length, take}
 use Rattle.std.specs.List.{flat_map}
 use Rattle.pos_dir.specs.Spelling.{change_spelling, change_limit}
-use Rattle.pos_dir.proofs.writing.size_of.Given as goal
+use Rattle.pos_dir.proofs.writing.measure_changes.Given as goal
 
 abbrev pub invariant-loop-change : goal.invariant-loop-change
 invariant-loop-change l = record {

@@ -2,7 +2,7 @@ use Rattle.std.proofs.Common.{◌≡◌, ◌∙◌, sym, []}
 use Rattle.std.proofs.lemmas.Bool.{eqb-true}
 use Rattle.std.proofs.lemmas.List.{nil_from_length}
 use Rattle.pos_dir.proofs.Groups.{group_found}
-use Rattle.pos_dir.proofs.changes.group_at.Goals as goal
+use Rattle.pos_dir.proofs.changes.locate_changes.Goals as goal
 
 pub returns : goal.returns
 returns c =
