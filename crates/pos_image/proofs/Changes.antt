@@ -7,7 +7,8 @@ use Rattle.pos_disk.proofs.Moments.{started, weaker, rest_leaves}
 use Rattle.pos_disk.proofs.Bytes.{length-splice, splice_elsewhere, part-splice, get_or-part}
 use Rattle.pos_disk.specs.declared.device.Disk.{Ghosts}
 use Rattle.pos_disk.specs.Within.{SameBut}
-use Rattle.pos_image.specs.Layout.{start, other, is_open, Stages}
+use Rattle.pos_image.specs.Layout.{start, other, is_open}
+use Rattle.pos_image.specs.Steps.{Stages}
 use Rattle.pos_image.specs.Slots.{IsCurrent, IsPrepared, HasFields}
 use Rattle.pos_image.specs.Standing.{log_of, HasImage, HasNewImage, HasEither}
 use Rattle.pos_image.specs.Images.{View, IsSound, IsReady, next_of, body_or_nothing}
@@ -59,7 +60,7 @@ beside_leaves bound old disk at at_is was is_ready moments =
     (subst (λ (place : ℕ). LeavesOnly (bound.state old.disk) (bound.state disk) (Stages place (bound.state old.disk).reading)) at_is moments)
 
 -- the image that was put into a slot
-pub placed : (bytes body : List ℕ) (slot : Slot) (sequence : ℕ) → length body ≤ 16371 → is_open bytes (start slot) ≡ false → is_open bytes (start slot + 16384) ≡ false → HasFields bytes (start slot) sequence body
+pub placed : (bytes body : List ℕ) (slot : Slot) (sequence : ℕ) → length body ≤ 16371 → is_open bytes (start slot) ≡ false → get_or bytes (start slot + 16384) 0 ≡ 0 → HasFields bytes (start slot) sequence body
     → IsPrepared bytes slot body sequence
 placed bytes body slot sequence short shut no_log fields = record {
   gate = shut;

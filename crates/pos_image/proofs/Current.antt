@@ -1,14 +1,15 @@
 -- The current image, and what changes of the other slot leave of it.
-use Rattle.std.proofs.Common.{◌≡◌, ◌⊎◌, inl, inr, ⊎_elim, ℕ, ◌+◌, ◌≤◌, ◌<◌, List, length, refl, sym, ap, subst, ◌∙◌, arith, true, false, nat_lt, nat_le, nat_eq}
+use Rattle.std.proofs.Common.{◌≡◌, ◌⊎◌, inl, inr, ⊎_elim, ℕ, ◌+◌, ◌≤◌, ◌<◌, List, length, get_or, refl, sym, ap, subst, ◌∙◌, arith, true, false, nat_lt, nat_le, nat_eq}
 use Rattle.std.specs.Int.{w32, w64, from_be_bytes}
 use Rattle.std.proofs.lemmas.Bool.{cases_Bool}
 use Rattle.std.proofs.lemmas.Bool.Decides.{nat_tests}
 use Rattle.pos_disk.specs.State.{InRange, part}
 use Rattle.pos_disk.proofs.Bytes.{same_part}
 use Rattle.pos_disk.specs.Within.{SameBut}
-use Rattle.pos_image.specs.Layout.{start, other, is_open, sequence_at, length_at, body_at, Stages}
+use Rattle.pos_image.specs.Layout.{start, other, is_open, sequence_at, length_at, body_at}
+use Rattle.pos_image.specs.Steps.{Stages}
 use Rattle.pos_image.specs.Slots.{IsCurrent, IsPrepared, IsFound}
-use Rattle.pos_image.specs.Standing.{Stands, stands, image_at}
+use Rattle.pos_image.specs.Standing.{OneImage, image_on, image_at}
 use Rattle.pos_image.specs.declared.slot.Slot.{Slot}
 use Rattle.pos_image.specs.declared.slot.Slot.TheVariants.{First, Second}
 
@@ -111,11 +112,11 @@ published slot old new body next sequence current prepared same opened =
       greater = λ _. subst (λ (s : Slot). sequence_at new (start s) < sequence + 1) (sym (other_other slot)) (omega (arith, kept, was));
     }
 
--- the first gate of its log stays closed
+-- the first gate of its log stays 0
 pub published_log : (slot : Slot) (old new body next : List ℕ) (sequence : ℕ) → IsCurrent old slot body sequence → IsPrepared old (other slot) next (sequence + 1) → SameBut (start (other slot)) 1 old new
-    → is_open new (start (other slot) + 16384) ≡ false
+    → get_or new (start (other slot) + 16384) 0 ≡ 0
 published_log slot old new body next sequence current prepared same =
-    kept_gate old new (start (other slot)) 1 same (start (other slot) + 16384) (λ hit. absurd (omega (arith, hit.1))) ∙ prepared.log
+    same.elsewhere (start (other slot) + 16384) (λ hit. absurd (omega (arith, hit.1))) ∙ prepared.log
 
 pub differ : (a b : ℕ) → a < b → (nat_eq a b ≡ false) × (nat_eq b a ≡ false)
 differ a b less = (grind (arith, nat_tests), grind (arith, nat_tests))
@@ -130,14 +131,14 @@ at_most : (a b : ℕ) → a ≤ b → nat_le a b ≡ true
 at_most a b le = grind (arith, nat_tests)
 
 -- the image in a slot, where it fits
-stands_at : (bytes body : List ℕ) (sequence place : ℕ) → length_at bytes place ≤ 16371 → body_at bytes place ≡ body → sequence_at bytes place ≡ sequence → image_at bytes place ≡ Stands body sequence
+stands_at : (bytes body : List ℕ) (sequence place : ℕ) → length_at bytes place ≤ 16371 → body_at bytes place ≡ body → sequence_at bytes place ≡ sequence → image_at bytes place ≡ OneImage body sequence
 stands_at bytes body sequence place fits body_is sequence_is =
     let yes = at_most (length_at bytes place) 16371 fits in
-    rw yes (λ i. Stands (body_is i) (sequence_is i))
+    rw yes (λ i. OneImage (body_is i) (sequence_is i))
 
 -- the bytes stand for the current image
-pub current_stands : (slot : Slot) (bytes body : List ℕ) (sequence : ℕ) → IsCurrent bytes slot body sequence → stands bytes ≡ Stands body sequence
-unfolding stands
+pub current_stands : (slot : Slot) (bytes body : List ℕ) (sequence : ℕ) → IsCurrent bytes slot body sequence → image_on bytes ≡ OneImage body sequence
+unfolding image_on
 current_stands First bytes body sequence current =
     let long = long_enough (length bytes) 327680 current.whole in
     let here : is_open bytes 0 ≡ true = current.gate in

@@ -6,6 +6,7 @@ mod finding;
 mod formatting;
 mod image;
 mod images;
+mod layout;
 mod reading;
 mod slot;
 mod steps;

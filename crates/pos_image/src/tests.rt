@@ -110,8 +110,8 @@ fn round(alloc: Global, disk: MemDisk, body: &[u8], way: Way) -> Result<MemDisk,
     Ok(images.into_disk())
 }
 
-// Opens a disk after its first round and makes the second one, over a disk that fails once, after `pass` calls. Gives the
-// calls, whether the round was acknowledged, and the disk.
+// Opens a disk after its first round and makes the second one, over a disk that fails once, after `pass` calls. Gives
+// the calls, whether the round was acknowledged, and the disk.
 fn second_round(alloc: Global, pass: u64, way: Way) -> Result<(u64, bool, MemDisk), AllocError> {
     let fuse = FuseDisk::new(disk_with(alloc, SIZE, &ONE_ROUND)?, pass, 1);
     match Images::open(alloc, fuse) {

@@ -11,8 +11,8 @@ returns-in-Ok-clause-found g c honest =
 
 pub returns-in-Ok-clause-ready : goal.returns-in-Ok-clause-ready
 returns-in-Ok-clause-ready g c = (
-  ready g.D.Disk _ (omega (arith, c.find.ensures.size)) (omega arith) (λ honest.
-      let was = c.find.ensures.honest.1 honest in
+  ready g.D.Disk _ (omega (arith, c.find.ensures.keeps.size)) (omega arith) (λ honest.
+      let was = c.find.ensures.keeps.honest.1 honest in
       record {
         at_rest = c.in-Ok.ensures.at_rest was;
         current = subst (λ (b : List ℕ). IsCurrent b c.in-Ok.found.slot c.in-Ok.found.image.body.items c.in-Ok.found.image.sequence) (sym (c.find.ensures.watches was).reading) (c.in-Ok.ensures.found was);
@@ -21,7 +21,9 @@ returns-in-Ok-clause-ready g c = (
   refl,
 )
 
-pub returns-then-len-lt-SIZE-clause-unformatted : goal.returns-then-len-lt-SIZE-clause-unformatted
-returns-then-len-lt-SIZE-clause-unformatted g c honest _ =
-    let whole = g.met.D.Disk.whole c.args.disk honest in
-    short_stands (g.D.Disk.state c.args.disk).reading (omega (arith, whole, c.len.ensures, c.if-len-lt-SIZE.true))
+pub returns-then-len-lt-SIZE-clause-refused : goal.returns-then-len-lt-SIZE-clause-refused
+returns-then-len-lt-SIZE-clause-refused g c honest =
+    let whole = g.met.D.Disk.whole c.args.disk honest in (
+      (λ is. absurd (cc is), λ is. absurd (cc is)),
+      λ _. short_stands (g.D.Disk.state c.args.disk).reading (omega (arith, whole, c.len.ensures, c.if-len-lt-SIZE.true)),
+    )
