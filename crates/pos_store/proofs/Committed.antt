@@ -12,7 +12,7 @@ use Rattle.pos_dir.specs.declared.fault.DirectoryFault.TheVariants as directory
 use Rattle.pos_dir.specs.declared.file.File.{File}
 use Rattle.pos_dir.specs.declared.limits.TheConstants.{LAYOUT_1}
 use Rattle.pos_disk.proofs.Moments.{weaker}
-use Rattle.pos_disk.specs.State.{LeavesOnly, MayLeave, Rises}
+use Rattle.pos_disk.specs.State.{LeavesOnly, CountsNow, Rises}
 use Rattle.pos_disk.specs.Keeps.{KeepsDisk}
 use Rattle.pos_disk.specs.declared.device.Disk.{Ghosts}
 use Rattle.pos_image.specs.Standing as image
@@ -36,26 +36,26 @@ pub either_stands : (files after : List File) (body next log : List ℕ) (sequen
     → outcome ≡ Ok after → (bytes : List ℕ) → HasEither body next sequence log bytes → StandsForOneOf (before_or_after files sequence outcome) bytes
 either_stands files after body next log sequence outcome spells applicable bytes either =
     rw applicable (⊎_elim
-    (λ old. inl (spells.before, old.image ∙ ap (λ (b : List ℕ). image.Stands b sequence) spells.spelled))
-    (λ new. inr (inl (spells.behind, new.image ∙ ap (λ (b : List ℕ). image.Stands b (sequence + 1)) spells.spelled_next)))
+    (λ old. inl (spells.before, old.image ∙ ap (λ (b : List ℕ). image.OneImage b sequence) spells.spelled))
+    (λ new. inr (inl (spells.behind, new.image ∙ ap (λ (b : List ℕ). image.OneImage b (sequence + 1)) spells.spelled_next)))
     either)
 
 -- a commit that met a fault of the disk
 pub failed_commits : {D : Type 0} (bound : Ghosts D) (disk failed : D) (files after : List File) (body next log : List ℕ) (sequence : ℕ) (changes : List Change) → Spells files after body next
     → outcome_of_all LAYOUT_1 files changes ≡ Ok after → (IsLast sequence → ⊥)
     → (bound.honest disk → LeavesOnly (bound.state disk) (bound.state failed) (HasEither body next sequence log))
-    → (bound.honest disk → (bytes : List ℕ) → MayLeave (bound.state failed) bytes → HasEither body next sequence log bytes)
+    → (bound.honest disk → (bytes : List ℕ) → CountsNow (bound.state failed) (bound.state disk).moment bytes)
     → (bound.honest disk → Rises (bound.state disk).failures (bound.state failed).failures)
     → KeepsDisk bound disk failed
     → Commits bound (record { disk = disk; state = Ready files sequence }) changes (Err fault.Device) (record { disk = failed; state = Off })
-failed_commits bound disk failed files after body next log sequence changes spells applicable more any_moment now device keeps =
+failed_commits bound disk failed files after body next log sequence changes spells applicable more any_moment counts device keeps =
     let stands = either_stands files after body next log sequence (outcome_of_all LAYOUT_1 files changes) spells applicable in
     record {
       answer = rw applicable (more, refl);
       unchanged = λ err. inl refl;
       any_moment = λ h. weaker (bound.state disk) (bound.state failed) (HasEither body next sequence log) (StandsForOneOf (before_or_after files sequence (outcome_of_all LAYOUT_1 files changes))) stands (any_moment h);
       now = λ h. tt;
-      in_doubt = λ h is bytes may. stands bytes (now h bytes may);
+      in_doubt = λ h is bytes may. stands bytes ((any_moment h).each bytes (counts h bytes (any_moment h).later may));
       device = λ h is. device h;
       keeps = keeps;
     }

@@ -8,7 +8,7 @@ use Rattle.pos_disk.specs.State.{Watches, Rises}
 use Rattle.pos_disk.specs.Keeps.{KeepsDisk}
 use Rattle.pos_disk.specs.declared.device.Disk.{Ghosts}
 use Rattle.pos_image.specs.Standing as image
-use Rattle.pos_image.specs.Standing.{stands}
+use Rattle.pos_image.specs.Standing.{image_on}
 use Rattle.pos_image.specs.declared.fault.ImageFault.{ImageFault}
 use Rattle.pos_image.specs.declared.fault.ImageFault.TheVariants as images
 use Rattle.pos_store.proofs.Found.{finds_so, recovers_one}
@@ -45,18 +45,19 @@ never_exhausted known = ⊎_elim (λ e. cc) (⊎_elim (λ e. cc) (⊎_elim (λ e
 
 -- what is found where the images weren't opened
 pub told_finds : (P : Standing → Type 0) (cause : ImageFault) (told : StoreFault) → Tells cause told
-    → ((cause ≡ images.Unformatted) ⊎ (cause ≡ images.TooSmall) → P Unformatted)
+    → (cause ≡ images.Unformatted → P Unformatted)
+    → (cause ≡ images.TooSmall → P Unformatted)
     → (cause ≡ images.Damaged → P Damaged)
     → (cause ≡ images.TooSmall) ⊎ ((cause ≡ images.Unformatted) ⊎ ((cause ≡ images.Damaged) ⊎ ((cause ≡ images.Device) ⊎ (cause ≡ images.NoMemory))))
     → FindsStanding P (Err told) Off
-told_finds P images.Unformatted told tells unformatted damaged known = rw tells (unformatted (inl refl), refl)
-told_finds P images.AlreadyFormatted told tells unformatted damaged known = absurd tells
-told_finds P images.Damaged told tells unformatted damaged known = rw tells (damaged refl, refl)
-told_finds P images.TooLarge told tells unformatted damaged known = absurd tells
-told_finds P images.Exhausted told tells unformatted damaged known = absurd (never_exhausted known)
-told_finds P images.Device told tells unformatted damaged known = rw tells refl
-told_finds P images.NoMemory told tells unformatted damaged known = rw tells refl
-told_finds P images.TooSmall told tells unformatted damaged known = rw tells (unformatted (inr refl), refl)
+told_finds P images.Unformatted told tells unformatted small damaged known = rw tells (unformatted refl, refl)
+told_finds P images.AlreadyFormatted told tells unformatted small damaged known = absurd tells
+told_finds P images.Damaged told tells unformatted small damaged known = rw tells (damaged refl, refl)
+told_finds P images.TooLarge told tells unformatted small damaged known = absurd tells
+told_finds P images.Exhausted told tells unformatted small damaged known = absurd (never_exhausted known)
+told_finds P images.Device told tells unformatted small damaged known = rw tells refl
+told_finds P images.NoMemory told tells unformatted small damaged known = rw tells refl
+told_finds P images.TooSmall told tells unformatted small damaged known = rw tells (small refl, refl)
 
 -- the disk's fault is told alone
 pub told_device : (cause : ImageFault) (told : StoreFault) → Tells cause told → IsErrOf {T = Unit {0}} (Err told) fault.Device → cause ≡ images.Device
@@ -70,11 +71,11 @@ told_device images.NoMemory told tells is = cc
 told_device images.TooSmall told tells is = cc
 
 -- a damaged image is damage
-pub damaged_stands : (bytes : List ℕ) → stands bytes ≡ image.Damaged → StandsFor Damaged bytes
+pub damaged_stands : (bytes : List ℕ) → image_on bytes ≡ image.DamagedImage → StandsFor Damaged bytes
 damaged_stands bytes same = rw same tt
 
 -- and so is one whose body spells no directory
-pub no_body_stands : (bytes body : List ℕ) (sequence : ℕ) → stands bytes ≡ image.Stands body sequence → ¬ (IsBody LAYOUT_1 body) → StandsFor Damaged bytes
+pub no_body_stands : (bytes body : List ℕ) (sequence : ℕ) → image_on bytes ≡ image.OneImage body sequence → ¬ (IsBody LAYOUT_1 body) → StandsFor Damaged bytes
 no_body_stands bytes body sequence same none = rw same none
 
 -- malformed bytes spell no directory

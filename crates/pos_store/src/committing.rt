@@ -1,6 +1,6 @@
 // A change of the files, from one whole store to the next.
 ghost use Rattle.std.specs.Prelude.{◌≡◌, ◌≤◌, ◌+◌, Err, IsErr, OnOk, OnErr, MatchResult, List, ℕ, length};
-ghost use Rattle.pos_disk.specs.State.{LeavesOnly, MayLeave, Rises};
+ghost use Rattle.pos_disk.specs.State.{LeavesOnly, Rises};
 ghost use Rattle.pos_disk.specs.Keeps.{KeepsDisk};
 ghost use Rattle.pos_image.specs.Standing.{HasEither, log_of};
 ghost use Rattle.pos_image.specs.Images.{IsReady};
@@ -53,9 +53,6 @@ fn publish_body<D: Disk>(images: &mut Images<D>, body: Vec<u8>) -> Result<(), Im
     ensures published { OnOk result ((images.new.body ≡ body.items) × (images.new.sequence ≡ images.old.sequence + 1)) }
     ensures any_moment { D.honest images.old.disk → LeavesOnly (D.state images.old.disk) (D.state images.new.disk)
         (HasEither images.old.body body.items images.old.sequence (log_of (D.state images.old.disk).reading)) }
-    ensures in_doubt { D.honest images.old.disk → IsErr result
-        → (bytes : List ℕ) → MayLeave (D.state images.new.disk) bytes
-        → HasEither images.old.body body.items images.old.sequence (log_of (D.state images.old.disk).reading) bytes }
     ensures device { D.honest images.old.disk → IsErr result
         → Rises (D.state images.old.disk).failures (D.state images.new.disk).failures }
     ensures keeps { KeepsDisk D.Disk images.old.disk images.new.disk }

@@ -18,6 +18,6 @@ returns-in-Err-publish_body-clause-commits g c =
     (record { before = sound.1; behind = made.1.1; spelled = sound.2; spelled_next = made.1.2 })
     made.0 (subst (λ (n : ℕ). ¬ (IsLast n)) c.sequence.ensures made.1.0)
     put.any_moment
-    (λ h. put.in_doubt h (rw c.in-Err-publish_body.is refl))
+    (λ h bytes. g.met.D.Disk.counts_now c.publish_body.new.images.disk (g.D.Disk.state old.images.disk).moment bytes (put.keeps.honest.0 h))
     (λ h. put.device h (rw c.in-Err-publish_body.is refl))
     put.keeps)

@@ -11,23 +11,23 @@ returns-in-Err-clause-recovers g c =
     let opened = c.in-Err.ensures in
     rw c.in-Off.is (off_recovers g.D.Disk c.in-Off.disk _ _
     (told_finds (DiskStandsFor g.D.Disk c.in-Off.disk) c.in-Err.fault c.tell_images.result c.tell_images.ensures
-    (λ cause h. opened.unformatted h cause) (λ cause h. damaged_stands _ (opened.damaged h cause)) opened.faults)
+    (λ is h. (opened.refused h).0.0 is) (λ is h. (opened.refused h).1 is) (λ is h. damaged_stands _ ((opened.refused h).0.1 is)) opened.faults)
     opened.any_moment
     (λ h. tt)
     (λ h is. opened.device h (told_device c.in-Err.fault c.tell_images.result c.tell_images.ensures is))
-    (record { size = opened.size; honest = opened.honest; later = opened.later }))
+    opened.keeps)
 
 pub returns-in-Ok-decode-clause-recovers : goal.returns-in-Ok-decode-clause-recovers
 returns-in-Ok-decode-clause-recovers g c =
     let opened = c.in-Ok.ensures in
     let decoded = c.in-Ok-decode.ensures in
-    let spelled = ap (λ (body : List ℕ). image.Stands body c.in-Ok.images.sequence) (sym c.body.ensures ∙ decoded.1) in
+    let spelled = ap (λ (body : List ℕ). image.OneImage body c.in-Ok.images.sequence) (sym c.body.ensures ∙ decoded.1) in
     rw c.in-Off.is (off_recovers g.D.Disk c.in-Off.disk _ _
     (λ h. (decoded.0, opened.found h ∙ spelled))
     opened.any_moment
-    (λ h bytes may. inl (decoded.0, (opened.ready.0.leaves (opened.honest.0 h) bytes may).image ∙ spelled))
+    (λ h bytes may. inl (decoded.0, (opened.ready.0.leaves (opened.keeps.honest.0 h) bytes may).image ∙ spelled))
     (λ h is. absurd cc)
-    (record { size = opened.size; honest = opened.honest; later = opened.later }))
+    opened.keeps)
 
 pub returns-in-Err-Malformed-clause-recovers : goal.returns-in-Err-Malformed-clause-recovers
 returns-in-Err-Malformed-clause-recovers g c =
@@ -37,7 +37,7 @@ returns-in-Err-Malformed-clause-recovers g c =
     opened.any_moment
     (λ h. tt)
     (λ h is. absurd cc)
-    (record { size = opened.size; honest = opened.honest; later = opened.later }))
+    opened.keeps)
 
 pub returns-in-Err-decode-clause-recovers : goal.returns-in-Err-decode-clause-recovers
 returns-in-Err-decode-clause-recovers g c =
@@ -47,4 +47,4 @@ returns-in-Err-decode-clause-recovers g c =
     opened.any_moment
     (λ h. tt)
     (λ h is. absurd cc)
-    (record { size = opened.size; honest = opened.honest; later = opened.later }))
+    opened.keeps)
