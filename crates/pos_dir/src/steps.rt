@@ -46,11 +46,11 @@ impl<'a> Model for Step<'a> {
 
     ghost Value = { Change };
 
-    ghost use Rattle.pos_dir.specs.Steps.{change_of, IsReady};
+    ghost use Rattle.pos_dir.specs.Steps.{change_of_work, IsZeroed};
 
-    ghost view = { λ step. change_of step.work };
+    ghost view = { λ step. change_of_work step.work };
 
-    ghost invariant = { λ step. IsReady step.work };
+    ghost invariant = { λ step. IsZeroed step.work };
 }
 
 impl<'a> Step<'a> {
