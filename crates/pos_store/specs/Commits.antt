@@ -28,8 +28,9 @@ IsNextBody sequence files body =
 abbrev pub IsUnmade : ℕ → StoreFault → Type 0
 IsUnmade sequence cause = (cause ≡ fault.NoMemory) ⊎ ((cause ≡ fault.Exhausted) × IsLast sequence)
 
--- what a commit of an applicable group answers: at Ok the files after it with the next sequence, and want of memory changes
--- nothing; else it is Exhausted exactly where the sequence is the last one, and only a fault of the disk turns it off
+-- what a commit of an applicable group answers: at Ok the files after it with the next sequence, and want of memory
+-- changes nothing; else it is Exhausted exactly where the sequence is the last one, and only a fault of the disk turns
+-- it off
 abbrev pub PutsDown : ℕ → List File → StoreState → Result (Unit {0}) StoreFault → StoreState → Type 0
 PutsDown sequence after old (Ok _) new = ¬ (IsLast sequence) × (new ≡ Ready after (sequence + 1))
 PutsDown sequence after old (Err fault.NoMemory) new = new ≡ old

@@ -27,8 +27,8 @@ fn make_body(
 ) -> Result<Vec<u8>, StoreFault>
     ensures made { MatchResult (outcome_of_all LAYOUT_1 directory.old group.now)
         (λ after. MatchResult result
-            (λ body. (directory.new ≡ after) × IsNextBody sequence after body.items)
-            (λ fault. IsUnmade sequence fault))
+        (λ body. (directory.new ≡ after) × IsNextBody sequence after body.items)
+        (λ fault. IsUnmade sequence fault))
         (λ refusal. result ≡ Err (StoreFault.Refused refusal)) }
     ensures unchanged { OnErr result (directory.new ≡ directory.old) }
 {

@@ -10,7 +10,10 @@ use pos_image::Images;
 use std::alloc::Global;
 
 /// Recovers the files of a disk. A store that is ready has them.
-pub fn recover_files<D: Disk>(medium: Medium<D>, alloc: Global) -> (Medium<D>, Result<(), StoreFault>)
+pub fn recover_files<D: Disk>(
+    medium: Medium<D>,
+    alloc: Global,
+) -> (Medium<D>, Result<(), StoreFault>)
     requires sound { SpellsItsFiles D.Disk medium }
     ensures sound { SpellsItsFiles D.Disk result.0 }
     ensures recovers { Recovers D.Disk (view_of medium) result.1 (view_of result.0) }
