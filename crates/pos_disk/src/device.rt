@@ -1,6 +1,6 @@
 // A disk as the layers above see it, honest or not.
 ghost use Rattle.std.specs.Prelude.{◌↔◌, ◌≡◌, ◌≤◌, ◌+◌, List, ℕ, length};
-ghost use Rattle.pos_disk.specs.State.{DiskState, Answer, Reads, Writes, Syncs, CountsNow, OnlyNow};
+ghost use Rattle.pos_disk.specs.State.{DiskState, Answer, MayLeave, Reads, Writes, Syncs};
 
 use thiserror::Error;
 
@@ -64,8 +64,10 @@ pub trait Disk {
     ghost whole: { (disk : Self) → honest disk → length (state disk).reading ≡ size disk };
 
     /// What a crash may leave now is among what a crash since an earlier moment may have left.
-    ghost counts_now: { (disk : Self) (t : ℕ) (bytes : List ℕ) → honest disk → CountsNow (state disk) t bytes };
+    ghost counts_now: { (disk : Self) (t : ℕ) (bytes : List ℕ) → honest disk → t ≤ (state disk).moment
+        → MayLeave (state disk) bytes → (state disk).left_since t bytes };
 
     /// A crash since this very moment leaves what a crash may leave now.
-    ghost only_now: { (disk : Self) (bytes : List ℕ) → honest disk → OnlyNow (state disk) bytes };
+    ghost only_now: { (disk : Self) (bytes : List ℕ) → honest disk → (state disk).left_since (state disk).moment bytes
+        → MayLeave (state disk) bytes };
 }

@@ -36,10 +36,6 @@ pub record IsSound (state : DiskState) {D : Type 0} (images : View D) : Type 0 w
   pub current : IsCurrent state.reading images.slot images.body images.sequence
   pub prepared : MatchOption images.prepared ⊤ (HasPrepared state.reading images)
 
--- the bytes hold the current image, and its log as it is on the disk
-abbrev pub HoldsCurrent : {D : Type 0} → DiskState → View D → List ℕ → Type 0
-HoldsCurrent state images = HasImage images.body images.sequence (log_of state.reading)
-
 -- The disk is large enough and, where it is honest, sound, and a crash now leaves the current image and its log alone.
 -- After a fault of the disk images aren't ready, and can't be used but by `into_disk`.
 pub record IsReady {D : Type 0} (bound : Ghosts D) (images : View D) : Type 0 where
@@ -47,15 +43,7 @@ pub record IsReady {D : Type 0} (bound : Ghosts D) (images : View D) : Type 0 wh
   pub counted : images.sequence < 2 ^ 64
   pub sound : bound.honest images.disk → IsSound (bound.state images.disk) images
   pub leaves : bound.honest images.disk → (c : List ℕ) → MayLeave (bound.state images.disk) c
-      → HoldsCurrent (bound.state images.disk) images c
-
--- The same log lies behind the current image.
-abbrev pub SameLog : DiskState → DiskState → Type 0
-SameLog old new = log_of new.reading ≡ log_of old.reading
-
--- a crash at any moment since old leaves the current image and its log
-abbrev pub CrashHoldsCurrent : {D : Type 0} → View D → DiskState → DiskState → Type 0
-CrashHoldsCurrent images old new = LeavesOnly old new (HoldsCurrent old images)
+      → HasImage images.body images.sequence (log_of (bound.state images.disk).reading) c
 
 -- the disk failed more often than before, or as often as can be counted
 abbrev pub HasFailed : DiskState → DiskState → Type 0
@@ -67,20 +55,22 @@ pub record Prepares {D : Type 0} (bound : Ghosts D) (old : View D) (body : List 
     (result : Result (Unit {0}) ImageFault) (new : View D) : Type 0 where
   pub ready : OnOk result (IsReady bound new)
   pub prepared : OnOk result (new ≡ record old { disk = new.disk; prepared = Some body })
-  pub log : bound.honest old.disk → OnOk result (SameLog (bound.state old.disk) (bound.state new.disk))
+  pub log : bound.honest old.disk
+      → OnOk result (log_of (bound.state new.disk).reading ≡ log_of (bound.state old.disk).reading)
   pub gate : bound.honest old.disk
       → OnOk result (ClosesGate (start (other old.slot)) (bound.state old.disk) (bound.state new.disk))
   -- whatever it answers, nothing but the other slot's gate, fields, body and log gate was written
   pub rest : bound.honest old.disk
       → KeepsBeside (start (other old.slot)) (length body) (bound.state old.disk) (bound.state new.disk)
   -- a crash at any moment of the call leaves the current image and its log
-  pub any_moment : bound.honest old.disk → CrashHoldsCurrent old (bound.state old.disk) (bound.state new.disk)
+  pub any_moment : bound.honest old.disk → LeavesOnly (bound.state old.disk) (bound.state new.disk)
+      (HasImage old.body old.sequence (log_of (bound.state old.disk).reading))
   pub too_large : IsErrOf result fault.TooLarge ↔ (longest < length body)
   pub exhausted : IsErrOf result fault.Exhausted ↔ (length body ≤ longest) × (old.sequence + 1 ≡ 2 ^ 64)
   pub unchanged : IsErr result → IsErrOf result fault.Device ⊎ (new ≡ old)
   pub failed : IsErrOf result fault.Device → new ≡ record old { disk = new.disk }
   pub device : bound.honest old.disk → IsErrOf result fault.Device
-      → HasFailed (bound.state old.disk) (bound.state new.disk)
+      → Rises (bound.state old.disk).failures (bound.state new.disk).failures
   pub keeps : KeepsDisk bound old.disk new.disk
 
 -- the body of the image that is prepared
@@ -98,16 +88,6 @@ published images disk = images_of disk (other images.slot) (next_of images) (ima
 -- the gate of the prepared image was written, and nothing else
 abbrev pub KeepsButGate : {D : Type 0} → View D → DiskState → DiskState → Type 0
 KeepsButGate images old new = Keeps (start (other images.slot)) 1 old new
-
--- a crash at any moment since old leaves the current image and its log, or the new image and no log
-abbrev pub CrashHoldsEither : {D : Type 0} → Ghosts D → View D → View D → Type 0
-CrashHoldsEither bound old new =
-    LeavesOnly (bound.state old.disk) (bound.state new.disk)
-        (HasEither old.body (next_of old) old.sequence (log_of (bound.state old.disk).reading))
-
--- the disk holds the current image, and no log
-abbrev pub HoldsNew : {D : Type 0} → View D → DiskState → Type 0
-HoldsNew images state = HasNewImage images.body images.sequence state.reading
 
 -- the disk after `open`: that of the images, or the one that a refusal hands back
 abbrev pub disk_after : {D : Type 0} → Result (View D) (ImageFault × D) → D
@@ -145,11 +125,10 @@ IsPrepareFault it = (it ≡ fault.TooLarge) ⊎ (it ≡ fault.Exhausted) ⊎ (it
 abbrev pub FailsFor : {D : Type 0} → Ghosts D → View D → View D → ImageFault → Type 0
 FailsFor bound old new it = FailsWithCause (bound.state old.disk) (bound.state new.disk) it
 
--- bytes on which no image is found hold none, or a damaged one
-abbrev pub FindsNoImage : List ℕ → ImageFault → Type 0
-FindsNoImage bytes it =
-    (it ≡ fault.Unformatted → image_on bytes ≡ NoImage) × (it ≡ fault.Damaged → image_on bytes ≡ DamagedImage)
+-- bytes on which no image is found hold none
+abbrev pub FindsNone : List ℕ → ImageFault → Type 0
+FindsNone bytes it = ((it ≡ fault.Unformatted) ⊎ (it ≡ fault.TooSmall)) → image_on bytes ≡ NoImage
 
--- and too few bytes hold none
-abbrev pub OpensNoImage : List ℕ → ImageFault → Type 0
-OpensNoImage bytes it = FindsNoImage bytes it × (it ≡ fault.TooSmall → image_on bytes ≡ NoImage)
+-- or a damaged one
+abbrev pub FindsDamage : List ℕ → ImageFault → Type 0
+FindsDamage bytes it = it ≡ fault.Damaged → image_on bytes ≡ DamagedImage

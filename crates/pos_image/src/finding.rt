@@ -2,7 +2,7 @@
 ghost use Rattle.std.specs.Prelude.{◌≡◌, ◌≤◌, ◌⊎◌, ℕ, List, IfOk, IfErr, OnOk};
 ghost use Rattle.pos_disk.specs.State.{IsAtRest, Watches};
 ghost use Rattle.pos_disk.specs.Keeps.{KeepsDisk};
-ghost use Rattle.pos_image.specs.Images.{FailsWithCause, FindsNoImage, IsFindFault};
+ghost use Rattle.pos_image.specs.Images.{FailsWithCause, FindsNone, FindsDamage, IsFindFault};
 ghost use Rattle.pos_image.specs.Layout.{disk_size, longest};
 ghost use Rattle.pos_image.specs.Slots.{HasHeads, FindsSlot};
 ghost use Rattle.pos_image.specs.Found.{FindsCurrent};
@@ -25,7 +25,8 @@ pub struct Found {
 // The slot of the current image, by the heads of both and the gates of the later layout.
 fn choose(first: Head, second: Head, later: bool) -> Result<(Slot, Head), ImageFault>
     ensures found { (bytes : List ℕ) → HasHeads bytes first second later → IfOk result (FindsSlot bytes) }
-    ensures refused { (bytes : List ℕ) → HasHeads bytes first second later → IfErr result (FindsNoImage bytes) }
+    ensures unformatted { (bytes : List ℕ) → HasHeads bytes first second later → IfErr result (FindsNone bytes) }
+    ensures damaged { (bytes : List ℕ) → HasHeads bytes first second later → IfErr result (FindsDamage bytes) }
     ensures fits { IfOk result (λ found. found.1.length ≤ longest) }
     ensures faults { IfErr result (λ e. (e ≡ ImageFault.Unformatted) ⊎ (e ≡ ImageFault.Damaged)) }
 {
@@ -50,7 +51,8 @@ pub fn find<D: Disk>(alloc: Global, disk: &mut D) -> Result<Found, ImageFault>
     ensures watches { D.honest disk.old → Watches (D.state disk.old) (D.state disk.new) }
     ensures at_rest { D.honest disk.old → OnOk result (IsAtRest (D.state disk.new)) }
     ensures found { D.honest disk.old → IfOk result (FindsCurrent (D.state disk.old).reading) }
-    ensures refused { D.honest disk.old → IfErr result (FindsNoImage (D.state disk.old).reading) }
+    ensures unformatted { D.honest disk.old → IfErr result (FindsNone (D.state disk.old).reading) }
+    ensures damaged { D.honest disk.old → IfErr result (FindsDamage (D.state disk.old).reading) }
     ensures device { D.honest disk.old → IfErr result (FailsWithCause (D.state disk.old) (D.state disk.new)) }
     ensures faults { IfErr result IsFindFault }
 {

@@ -6,8 +6,8 @@ ghost use Rattle.pos_image.specs.Layout.{disk_size};
 ghost use Rattle.pos_image.specs.NewDisk.{AllAreZero, KeepsRest, HasClosedGates, no_files};
 ghost use Rattle.pos_image.specs.Standing.{HasNewImage, is_marked};
 
-use crate::reading::read_gate;
 use crate::layout::{CLOSED, LATER_FIRST, LATER_SECOND, LOG, OPEN, SECOND, SEQUENCE};
+use crate::reading::read_gate;
 use crate::steps::write_through;
 use pos_disk::{Disk, DiskFault};
 

@@ -1,10 +1,10 @@
 // The current image of a disk, and the next one.
 ghost use Rattle.std.specs.Prelude.{◌≡◌, ◌↔◌, ◌<◌, ◌≤◌, ◌+◌, ◌^◌, ◌⊎◌, length, IfOk, IfErr, OnOk, IsErr, IsErrOf, IsSome, Some, None, false};
-ghost use Rattle.pos_disk.specs.State.{IsAtRest, Watches};
+ghost use Rattle.pos_disk.specs.State.{IsAtRest, LeavesOnly, Watches};
 ghost use Rattle.pos_disk.specs.Keeps.{KeepsDisk};
 ghost use Rattle.pos_image.specs.Layout.{disk_size, longest};
 ghost use Rattle.pos_image.specs.NewDisk.{KeepsRest, HasClosedGates, no_files};
-ghost use Rattle.pos_image.specs.Standing.{is_marked, ShowsImage, HasNewImage};
+ghost use Rattle.pos_image.specs.Standing.{is_marked, log_of, HasEither, ShowsImage, HasNewImage};
 ghost use Rattle.pos_image.specs.declared.fault.ImageFault.TheVariants.{NoMemory, Device, TooLarge, TooSmall, Exhausted};
 
 use crate::fault::ImageFault;
@@ -43,9 +43,9 @@ impl<D: Disk> Model for Images<D> {
 }
 
 impl<D: Disk> Images<D> {
-    ghost use Rattle.pos_image.specs.Images.{IsReady, Prepares, IsPrepareFault, IsFormatFault, IsOpenFault, OpensNoImage};
-    ghost use Rattle.pos_image.specs.Images.{RefusesMarked, FailsWithCause, FailsFor, HoldsNew, KeepsButGate, CrashHoldsEither};
-    ghost use Rattle.pos_image.specs.Images.{disk_after, handed_back, published};
+    ghost use Rattle.pos_image.specs.Images.{IsReady, Prepares, IsPrepareFault, IsFormatFault, IsOpenFault, FindsNone, FindsDamage};
+    ghost use Rattle.pos_image.specs.Images.{RefusesMarked, FailsWithCause, FailsFor, KeepsButGate};
+    ghost use Rattle.pos_image.specs.Images.{disk_after, handed_back, next_of, published};
 
     /// Makes the current image of the disk that of no files, body `0000` and sequence 1, and gives it back at rest. It
     /// takes no memory. Nothing is promised of a disk whose formatting was interrupted. docs/DISK.md, "Formatting".
@@ -98,7 +98,8 @@ impl<D: Disk> Images<D> {
         ensures ready { IfOk result (λ images. IsReady D.Disk images × (images.prepared ≡ None)) }
         ensures found { D.honest disk → IfOk result (λ it. ShowsImage it.body it.sequence (D.state disk).reading) }
         ensures too_small { IfErr result (λ e. e.0 ≡ TooSmall ↔ (D.size disk < disk_size)) }
-        ensures refused { D.honest disk → IfErr result (λ e. OpensNoImage (D.state disk).reading e.0) }
+        ensures unformatted { D.honest disk → IfErr result (λ e. FindsNone (D.state disk).reading e.0) }
+        ensures damaged { D.honest disk → IfErr result (λ e. FindsDamage (D.state disk).reading e.0) }
         ensures device { D.honest disk → IfErr result (λ e. FailsWithCause (D.state disk) (D.state e.1) e.0) }
         ensures faults { IfErr result (λ e. IsOpenFault e.0) }
         ensures untouched { IfErr result (λ e. e.0 ≡ TooSmall → e.1 ≡ disk) }
@@ -188,13 +189,15 @@ impl<D: Disk> Images<D> {
         requires prepared { IsSome self.old.prepared }
         ensures ready { OnOk result (IsReady D.Disk self.new) }
         ensures published { OnOk result (self.new ≡ published self.old self.new.disk) }
-        ensures log { D.honest self.old.disk → OnOk result (HoldsNew self.new (D.state self.new.disk)) }
+        ensures log { D.honest self.old.disk → OnOk result
+            (HasNewImage self.new.body self.new.sequence (D.state self.new.disk).reading) }
 
         // Whatever it answers, nothing but the gate of the other slot was written.
         ensures rest { D.honest self.old.disk → KeepsButGate self.old (D.state self.old.disk) (D.state self.new.disk) }
 
         // A crash at any moment of the call leaves the current image and its log, or the new one with a closed log.
-        ensures any_moment { D.honest self.old.disk → CrashHoldsEither D.Disk self.old self.new }
+        ensures any_moment { D.honest self.old.disk → LeavesOnly (D.state self.old.disk) (D.state self.new.disk)
+            (HasEither self.old.body (next_of self.old) self.old.sequence (log_of (D.state self.old.disk).reading)) }
 
         ensures faults { IsErr result → IsErrOf result Device }
         ensures failed { IsErr result → self.new ≡ record self.old { disk = self.new.disk; prepared = None } }

@@ -8,11 +8,14 @@ pub const SECOND: u64 = 32_768;
 
 /// Where the slots of the later layout begin.
 pub const LATER_FIRST: u64 = 65_536;
+
 pub const LATER_SECOND: u64 = 196_608;
 
 /// Where the fields of a slot begin, counted from its gate.
 pub const SEQUENCE: u64 = 1;
+
 pub const LENGTH: u64 = 9;
+
 pub const BODY: u64 = 13;
 
 /// Where the log of a slot begins, with its gate.

@@ -11,6 +11,8 @@ mod reading;
 mod slot;
 mod steps;
 #[cfg(test)]
+mod test_disks;
+#[cfg(test)]
 mod tests;
 
 pub use fault::ImageFault;

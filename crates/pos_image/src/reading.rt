@@ -8,8 +8,8 @@ ghost use Rattle.pos_image.specs.Slots.{HasHead, HeadsAre, body_in};
 ghost use Rattle.pos_image.specs.declared.fault.ImageFault.TheVariants.{Device, NoMemory};
 
 use crate::fault::ImageFault;
-use crate::slot::Slot;
 use crate::layout::{BODY, CLOSED, LATER_FIRST, LATER_SECOND, LENGTH, OPEN, SECOND, SEQUENCE};
+use crate::slot::Slot;
 use pos_disk::{Disk, DiskFault};
 use std::alloc::Global;
 

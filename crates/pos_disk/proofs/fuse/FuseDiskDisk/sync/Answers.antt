@@ -6,16 +6,16 @@ pub returns-then-blown-clause-fuse : goal.returns-then-blown-clause-fuse
 returns-then-blown-clause-fuse g c = search rules
 
 pub returns-then-blown-clause-syncs : goal.returns-then-blown-clause-syncs
-returns-then-blown-clause-syncs g c honest = fuse_syncs g.D.Disk _ _ _ (search rules) honest  (returns-then-blown-clause-fuse g c)
+returns-then-blown-clause-syncs g c honest = fuse_syncs g.D.Disk _ _ _ (search rules) honest (returns-then-blown-clause-fuse g c)
 
 pub returns-then-is_err-clause-fuse : goal.returns-then-is_err-clause-fuse
 returns-then-is_err-clause-fuse g c = search rules
 
 pub returns-then-is_err-clause-syncs : goal.returns-then-is_err-clause-syncs
-returns-then-is_err-clause-syncs g c honest = fuse_syncs g.D.Disk _ _ _ (search rules) honest  (returns-then-is_err-clause-fuse g c)
+returns-then-is_err-clause-syncs g c honest = fuse_syncs g.D.Disk _ _ _ (search rules) honest (returns-then-is_err-clause-fuse g c)
 
 pub returns-else-is_err-clause-fuse : goal.returns-else-is_err-clause-fuse
 returns-else-is_err-clause-fuse g c = search rules
 
 pub returns-else-is_err-clause-syncs : goal.returns-else-is_err-clause-syncs
-returns-else-is_err-clause-syncs g c honest = fuse_syncs g.D.Disk _ _ _ (search rules) honest  (returns-else-is_err-clause-fuse g c)
+returns-else-is_err-clause-syncs g c honest = fuse_syncs g.D.Disk _ _ _ (search rules) honest (returns-else-is_err-clause-fuse g c)

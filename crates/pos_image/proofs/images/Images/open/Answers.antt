@@ -21,9 +21,7 @@ returns-in-Ok-clause-ready g c = (
   refl,
 )
 
-pub returns-then-len-lt-SIZE-clause-refused : goal.returns-then-len-lt-SIZE-clause-refused
-returns-then-len-lt-SIZE-clause-refused g c honest =
-    let whole = g.met.D.Disk.whole c.args.disk honest in (
-      (λ is. absurd (cc is), λ is. absurd (cc is)),
-      λ _. short_stands (g.D.Disk.state c.args.disk).reading (omega (arith, whole, c.len.ensures, c.if-len-lt-SIZE.true)),
-    )
+pub returns-then-len-lt-SIZE-clause-unformatted : goal.returns-then-len-lt-SIZE-clause-unformatted
+returns-then-len-lt-SIZE-clause-unformatted g c honest _ =
+    let whole = g.met.D.Disk.whole c.args.disk honest in
+    short_stands (g.D.Disk.state c.args.disk).reading (omega (arith, whole, c.len.ensures, c.if-len-lt-SIZE.true))

@@ -57,5 +57,5 @@ returns-clause-prepares g c =
       unchanged = search rules;
       failed = search rules;
       device = search rules;
-              keeps = search rules;
+      keeps = search rules;
     }
