@@ -45,19 +45,18 @@ never_exhausted known = ⊎_elim (λ e. cc) (⊎_elim (λ e. cc) (⊎_elim (λ e
 
 -- what is found where the images weren't opened
 pub told_finds : (P : Standing → Type 0) (cause : ImageFault) (told : StoreFault) → Tells cause told
-    → (cause ≡ images.Unformatted → P Unformatted)
-    → (cause ≡ images.TooSmall → P Unformatted)
+    → ((cause ≡ images.Unformatted) ⊎ (cause ≡ images.TooSmall) → P Unformatted)
     → (cause ≡ images.Damaged → P Damaged)
     → (cause ≡ images.TooSmall) ⊎ ((cause ≡ images.Unformatted) ⊎ ((cause ≡ images.Damaged) ⊎ ((cause ≡ images.Device) ⊎ (cause ≡ images.NoMemory))))
     → FindsStanding P (Err told) Off
-told_finds P images.Unformatted told tells unformatted small damaged known = rw tells (unformatted refl, refl)
-told_finds P images.AlreadyFormatted told tells unformatted small damaged known = absurd tells
-told_finds P images.Damaged told tells unformatted small damaged known = rw tells (damaged refl, refl)
-told_finds P images.TooLarge told tells unformatted small damaged known = absurd tells
-told_finds P images.Exhausted told tells unformatted small damaged known = absurd (never_exhausted known)
-told_finds P images.Device told tells unformatted small damaged known = rw tells refl
-told_finds P images.NoMemory told tells unformatted small damaged known = rw tells refl
-told_finds P images.TooSmall told tells unformatted small damaged known = rw tells (small refl, refl)
+told_finds P images.Unformatted told tells unformatted damaged known = rw tells (unformatted (inl refl), refl)
+told_finds P images.AlreadyFormatted told tells unformatted damaged known = absurd tells
+told_finds P images.Damaged told tells unformatted damaged known = rw tells (damaged refl, refl)
+told_finds P images.TooLarge told tells unformatted damaged known = absurd tells
+told_finds P images.Exhausted told tells unformatted damaged known = absurd (never_exhausted known)
+told_finds P images.Device told tells unformatted damaged known = rw tells refl
+told_finds P images.NoMemory told tells unformatted damaged known = rw tells refl
+told_finds P images.TooSmall told tells unformatted damaged known = rw tells (unformatted (inr refl), refl)
 
 -- the disk's fault is told alone
 pub told_device : (cause : ImageFault) (told : StoreFault) → Tells cause told → IsErrOf {T = Unit {0}} (Err told) fault.Device → cause ≡ images.Device

@@ -11,7 +11,7 @@ returns-in-Err-clause-recovers g c =
     let opened = c.in-Err.ensures in
     rw c.in-Off.is (off_recovers g.D.Disk c.in-Off.disk _ _
     (told_finds (DiskStandsFor g.D.Disk c.in-Off.disk) c.in-Err.fault c.tell_images.result c.tell_images.ensures
-    (λ is h. (opened.refused h).0.0 is) (λ is h. (opened.refused h).1 is) (λ is h. damaged_stands _ ((opened.refused h).0.1 is)) opened.faults)
+    (λ is h. opened.unformatted h is) (λ is h. damaged_stands _ (opened.damaged h is)) opened.faults)
     opened.any_moment
     (λ h. tt)
     (λ h is. opened.device h (told_device c.in-Err.fault c.tell_images.result c.tell_images.ensures is))
