@@ -82,10 +82,6 @@ fn each_stop_leaves_the_files_before_or_after(rt: HostRuntime) -> Result<(), Fai
             "at {pass}"
         );
         assert!(rt;
-            leaves_before_or_after(alloc, pass, Fill::New)?,
-            "at {pass}"
-        );
-        assert!(rt;
             leaves_before_or_after(alloc, pass, Fill::Byte(0xA5))?,
             "at {pass}"
         );
