@@ -16,6 +16,7 @@ mod peripheral;
 mod peripheral_box;
 mod plant;
 mod property;
+mod scan;
 mod signs;
 #[cfg(test)]
 mod tests;
@@ -34,4 +35,5 @@ pub use peripheral::Peripheral;
 pub use peripheral_box::{PeripheralBox, Stated};
 pub use plant::{Plant, Snapshot};
 pub use property::Property;
+pub use scan::Scan;
 pub use signs::{PaperLevel, Signs};
