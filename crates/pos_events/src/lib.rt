@@ -4,6 +4,8 @@
 mod delivery;
 mod others;
 mod queue;
+#[cfg(test)]
+mod tests;
 mod told;
 
 pub use delivery::Delivery;

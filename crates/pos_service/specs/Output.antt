@@ -2,14 +2,9 @@
 use Rattle.std.specs.Prelude.{ℕ, ◌+◌, Bool, true, false, List, [], ◌∷◌, ◌++◌, Option, None, drop, slice_get, if◌then◌else◌}
 use Rattle.pos_service.specs.declared.order.Order.{Order}
 
--- a request: its OutputID, and what is asked of the device
-pub record OutputRequest : Type 0 where
-  pub id : ℕ
-  pub order : Order
-
--- the requests, oldest first; whether the first of them has failed; and the OutputID of the next
+-- the requests with their OutputIDs, oldest first; whether the first of them has failed; and the OutputID of the next
 pub record Output : Type 0 where
-  pub requests : List OutputRequest
+  pub requests : List (ℕ × Order)
   pub is_failed : Bool
   pub next : ℕ
 
@@ -24,11 +19,10 @@ no_output next = record { requests = []; is_failed = false; next = next }
 -- with a new request behind the others
 abbrev pub with_request : Order → Output → Output
 with_request order output =
-    let request : OutputRequest = record { id = output.next; order = order } in
-    record output { requests = output.requests ++ request ∷ []; next = output.next + 1 }
+    record output { requests = output.requests ++ (output.next, order) ∷ []; next = output.next + 1 }
 
 -- the request that is to be done now: the first, while it has not failed
-abbrev pub request_to_do : Output → Option OutputRequest
+abbrev pub request_to_do : Output → Option (ℕ × Order)
 request_to_do output = if output.is_failed then None else slice_get output.requests 0
 
 -- the first request is done
