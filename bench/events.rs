@@ -16,6 +16,7 @@ struct Scan {
 struct Queue {
     scans: VecDeque<Scan>,
     statuses: VecDeque<u32>,
+    errors: VecDeque<(u32, u32, u32)>,
     in_error: bool,
 }
 
@@ -58,12 +59,15 @@ fn errors() {
     let mut queue = Queue::default();
     let start = Instant::now();
     for _ in 0..MANY {
-        queue.in_error = black_box(true);
+        queue.errors.push_back(black_box((111, 0, 2)));
+        queue.in_error = true;
+        black_box(&mut queue);
         queue.scans.clear();
         queue.statuses.clear();
-        queue.in_error = black_box(false);
+        queue.errors.clear();
+        queue.in_error = false;
+        black_box(&mut queue);
     }
-    black_box(queue.in_error);
     show("errors and clears", MANY, start);
 }
 
