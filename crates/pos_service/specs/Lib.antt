@@ -1,6 +1,8 @@
 pub mod Codes
 pub mod Peripherals
 pub mod Statuses
+pub mod Events
+pub mod Output
 pub mod Controls
 pub mod Refusals
 pub mod Calls

@@ -18,6 +18,7 @@ mod peripheral;
 mod peripheral_box;
 mod plant;
 mod property;
+mod scan;
 mod signs;
 #[cfg(test)]
 mod tests;
@@ -38,4 +39,5 @@ pub use peripheral::Peripheral;
 pub use peripheral_box::{HasState, PeripheralBox};
 pub use plant::{Plant, Snapshot};
 pub use property::Property;
+pub use scan::Scan;
 pub use signs::{PaperLevel, Signs};
