@@ -8,3 +8,4 @@ pub mod Calls
 pub mod DrawerCalls
 pub mod HardTotals
 pub mod Steps
+pub mod Displays

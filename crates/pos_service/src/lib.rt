@@ -7,6 +7,7 @@ mod bytes;
 mod call;
 mod category;
 mod code;
+pub mod display_text;
 mod event;
 mod input;
 mod kind;
