@@ -1,1 +1,2 @@
 pub mod Drawers
+pub mod Windows
