@@ -1,1 +1,2 @@
 pub mod StripLemmas
+pub mod PieceLemmas

@@ -9,3 +9,4 @@ pub mod DrawerCalls
 pub mod HardTotals
 pub mod Steps
 pub mod Displays
+pub mod Receipts

@@ -17,6 +17,7 @@ mod peripheral;
 mod peripheral_box;
 mod plant;
 mod property;
+pub mod receipt_text;
 mod signs;
 #[cfg(test)]
 mod tests;

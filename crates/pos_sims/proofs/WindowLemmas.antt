@@ -1,16 +1,16 @@
 -- The window of a strip: a row further, and a character more.
-use Rattle.std.proofs.Common.{◌≡◌, ◌≢◌, ◌++◌, ◌∷◌, ◌⊎◌, inl, inr, ℕ, ◌+◌, ◌-◌, ◌*◌, ◌%◌, ◌/◌, ◌<◌, ◌≤◌, List, [], Bool, true, false, cond, ◌&&◌, length, get_or, set, leb, subst, eqb, ap, sym, ◌∙◌, refl, arith}
+use Rattle.std.proofs.Common.{◌≡◌, ◌≢◌, ◌++◌, ◌∷◌, ◌⊎◌, inl, inr, ℕ, ◌+◌, ◌*◌, ◌%◌, ◌/◌, ◌<◌, ◌≤◌, List, [], Bool, true, false, cond, ◌&&◌, length, get_or, set, subst, eqb, ap, sym, ◌∙◌, refl, arith}
 use Rattle.std.specs.Prelude.{Option, Some, None, unwrap_or, nat_lt, if◌then◌else◌}
 use Rattle.std.specs.Option.{option_or, option_map}
 use Rattle.std.proofs.lemmas.Bool.Decides.{nat_tests}
-use Rattle.std.proofs.lemmas.List.{length-set, get_or-set_same, get_or-set_other, get_or_past}
-use Rattle.std.proofs.lemmas.Nat.{div-mul-add, mod-mul-add, mod_below}
+use Rattle.std.proofs.lemmas.List.{get_or-set_same, get_or-set_other, get_or_past}
+use Rattle.std.proofs.lemmas.Nat.{div-mul-add, mod-mul-add}
 use Rattle.std.proofs.Math.Nat.{mul-le-mul_right}
 use Rattle.pos_service.specs.declared.display_text.Attribute.{Attribute}
 use Rattle.pos_service.specs.declared.display_text.DisplayCell.{DisplayCell}
 use Rattle.pos_service.specs.declared.display_text.Place.{Place}
-use Rattle.pos_service.specs.Displays.{Placed, Strip, place_of, right_of, with_run, returned, fed, with_text, blank, cell_at, last_at, shown_at, rows_above}
-use Rattle.pos_service.proofs.StripLemmas.{first_full, first_free, character_text, line_feed_text, return_text}
+use Rattle.pos_service.specs.Displays.{Placed, Strip, right_of, with_run, fed, with_text, blank, cell_at, last_at, shown_at, rows_above}
+use Rattle.pos_service.proofs.StripLemmas.{first_full, first_free, character_text}
 use Rattle.pos_sims.specs.declared.laying.Manner.{Manner}
 use Rattle.pos_sims.specs.Windows.{Follows, IsWithin}
 

@@ -1,6 +1,5 @@
 -- A text on a display's window, as it is laid character by character.
 use Rattle.std.specs.Prelude.{◌≡◌, ℕ, ◌+◌, ◌-◌, ◌*◌, ◌%◌, ◌≤◌, ◌<◌, List, [], length, get_or, nat_lt, nat_le, if◌then◌else◌}
-use Rattle.pos_service.specs.declared.display_text.Attribute.{Attribute}
 use Rattle.pos_service.specs.declared.display_text.DisplayCell.{DisplayCell}
 use Rattle.pos_service.specs.declared.display_text.Place.{Place}
 use Rattle.pos_sims.specs.declared.laying.Manner.{Manner}

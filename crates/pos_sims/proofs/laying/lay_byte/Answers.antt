@@ -1,4 +1,4 @@
-use Rattle.std.proofs.Common.{◌∙◌, ap, sym, subst, arith}
+use Rattle.std.proofs.Common.{◌∙◌, sym, subst}
 use Rattle.pos_service.specs.Displays.{Strip, fed}
 use Rattle.pos_service.proofs.StripLemmas.{line_feed_text}
 use Rattle.pos_sims.specs.Windows.{Follows}

@@ -1,4 +1,3 @@
-use Rattle.std.proofs.Common.{arith}
 use Rattle.pos_sims.proofs.ScrollLemmas.{scrolls_down, scrolls_left, scrolls_right}
 use Rattle.pos_sims.proofs.scrolling.scroll_cells.Goals as goal
 
