@@ -1,71 +1,82 @@
 //! The text of a receipt printer: the pieces that its bytes are read as.
 ghost use Rattle.std.specs.Prelude.{◌≡◌, ◌++◌, ◌∷◌, ◌<◌, ◌≤◌, length, bytes_eq};
 ghost use Rattle.std.specs.List.{list_all};
-ghost use Rattle.pos_service.specs.Receipts.{is_allowed, is_in_range, is_printable_text, pieces, pieces_in, command, cut, line_ends, numbered};
+ghost use Rattle.pos_service.specs.Receipts.{is_printable_byte, is_in_range, is_printable_text, pieces, pieces_in, sequence_pieces, cut_pieces, line_end_pieces, numbered_pieces};
 
 mod number;
 
 use self::number::{count_digits, count_inner, is_upper_byte, number_in};
 
-/// Where the characters of a line stand.
+/// Where the characters of a line stand (escape sequences cA, rA and N).
 #[derive(Clone, Copy, Debug, PartialEq, Eq)]
 pub enum Alignment {
+    /// At the left.
     Left,
+    /// In the centre.
     Center,
+    /// At the right.
     Right,
 }
 
-/// A piece of the data of a request.
+/// A piece of the data of a request (chapter POS Printer, printNormal and its escape sequences).
 #[derive(Clone, Copy, Debug, PartialEq, Eq)]
 pub enum Piece {
     /// A character.
     Character(u8),
     /// The line ends.
     LineEnd,
-    /// The line ends if it has begun.
+    /// A carriage return: the line ends if it has begun.
     Return,
-    /// The paper is cut, 1 to 100 percent.
+    /// The line ends if it has begun, and the paper is cut by 1 to 100 percent.
     Cut(u8),
     /// Characters are bold from here on.
     Bold,
     /// Lines that end from here on stand so.
     Align(Alignment),
-    /// Neither bold nor aligned otherwise than to the left from here on.
+    /// From here on characters aren't bold, and lines that end stand at the left.
     Normal,
-    /// An escape sequence whose number is out of its range.
+    /// An escape sequence whose number is out of its range: the printer doesn't take the data.
     OutOfRange,
 }
 
-/// What stands at the front of some bytes: some pieces, often one.
+/// What stands at the front of some bytes.
 #[derive(Clone, Copy, Debug, PartialEq, Eq)]
 pub enum Token {
+    /// Bytes that are dropped.
     Nothing,
+    /// One piece.
     One(Piece),
+    /// So many line ends.
     LineEnds(u8),
 }
 
 /// A character as it is printed.
 #[derive(Clone, Copy, Debug, PartialEq, Eq)]
 pub struct PrintedCharacter {
+    /// The character, 0x20 to 0x7E.
     pub byte: u8,
+    /// Whether it is bold.
     pub is_bold: bool,
 }
 
-/// What a printer says to a request.
-#[derive(Clone, Copy, Debug, PartialEq, Eq)]
-pub enum Outcome {
-    Done,
-    CoverOpen,
-    PaperEnd,
-}
-
-/// Where a line ends, with its alignment and the number of its characters, or a cut with its percentage, 1 to 100.
+/// What stands on a roll: a line that has ended, with its alignment and the number of its characters, or a cut.
 #[derive(Clone, Copy, Debug, PartialEq, Eq)]
 pub enum Mark {
-    /// A line ends.
+    /// A line of so many characters.
     Line(Alignment, usize),
-    /// The paper is cut.
+    /// A cut of 1 to 100 percent.
     Cut(u8),
+}
+
+/// What comes of a request to a printer.
+#[derive(Clone, Copy, Debug, PartialEq, Eq)]
+pub enum Outcome {
+    /// It is done.
+    Done,
+    /// The cover is open, and nothing was done.
+    CoverOpen,
+    /// The paper has ended or doesn't suffice, and nothing was done.
+    PaperEnd,
 }
 
 fn is(word: &[u8], text: &str) -> bool
@@ -74,9 +85,9 @@ fn is(word: &[u8], text: &str) -> bool
     word == text.as_bytes()
 }
 
-/// A cut of so many percent; a cut of 0 is none.
+/// A cut of so many percent. A cut of 0 is none; above 100 the number is out of range.
 pub fn cut_of(number: u32) -> Token
-    ensures { pieces_in result ≡ cut number }
+    ensures { pieces_in result ≡ cut_pieces number }
 {
     if number == 0 {
         return Token::Nothing;
@@ -87,8 +98,9 @@ pub fn cut_of(number: u32) -> Token
     Token::One(Piece::OutOfRange)
 }
 
+/// So many line ends. Above 255 the number is out of range.
 fn line_ends_of(number: u32) -> Token
-    ensures { pieces_in result ≡ line_ends number }
+    ensures { pieces_in result ≡ line_end_pieces number }
 {
     if number <= 255 {
         return Token::LineEnds(number as u8);
@@ -98,7 +110,7 @@ fn line_ends_of(number: u32) -> Token
 
 /// What digits and letters behind ESC | stand for.
 fn numbered_token(digits: &[u8], letters: &[u8]) -> Token
-    ensures { pieces_in result ≡ numbered digits.now letters.now }
+    ensures { pieces_in result ≡ numbered_pieces digits.now letters.now }
 {
     if is(letters, "P") {
         return cut_of(number_in(digits, 100));
@@ -114,7 +126,7 @@ fn numbered_token(digits: &[u8], letters: &[u8]) -> Token
 
 /// What the bytes behind ESC | stand for, up to the upper-case letter.
 fn command_token(body: &[u8]) -> Token
-    ensures { pieces_in result ≡ command body.now }
+    ensures { pieces_in result ≡ sequence_pieces body.now }
 {
     if is(body, "bC") {
         return Token::One(Piece::Bold);
@@ -148,7 +160,7 @@ fn sequence_token(bytes: &[u8]) -> (Token, &[u8])
     (command_token(body), rest)
 }
 
-/// What stands at the front of some bytes, and the bytes behind it.
+/// What stands at the front of some bytes, of which there is at least one, and the bytes behind it.
 pub fn next_token(bytes: &[u8]) -> (Token, &[u8])
     requires { 0 < length bytes.now }
     ensures pieces { pieces bytes.now ≡ pieces_in result.0 ++ pieces result.1.now }
@@ -168,7 +180,7 @@ pub fn next_token(bytes: &[u8]) -> (Token, &[u8])
 }
 
 fn all_allowed(bytes: &[u8]) -> bool
-    ensures { result ≡ list_all is_allowed bytes.now }
+    ensures { result ≡ list_all is_printable_byte bytes.now }
 {
     bytes.iter().all(|b| *b == 10 || *b == 13 || *b == 27 || (32 <= *b && *b <= 126))
 }
@@ -200,8 +212,9 @@ fn all_in_range(bytes: &[u8]) -> bool
     true
 }
 
-/// Whether a printer takes these bytes as the data of a request.
-pub fn fits(bytes: &[u8]) -> bool
+/// Whether a printer takes these bytes as the data of a request: at most 4,096 bytes, each a line feed, a carriage
+/// return, ESC or 0x20 to 0x7E, and no number of an escape sequence out of its range.
+pub fn is_printable(bytes: &[u8]) -> bool
     ensures { result ≡ is_printable_text bytes.now }
 {
     bytes.len() <= 4096 && all_allowed(bytes) && all_in_range(bytes)

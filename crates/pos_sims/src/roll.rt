@@ -1,5 +1,5 @@
 ghost use Rattle.std.specs.Prelude.{◌≡◌, ◌≤◌, [], false, IfOk, OnErr};
-ghost use Rattle.pos_service.specs.Receipts.{Answers, empty_roll, pieces, cut, items_by, buffer_by};
+ghost use Rattle.pos_service.specs.Receipts.{Prints, empty_roll, pieces, cut_pieces, items_from, buffer_from};
 
 #[cfg(test)]
 mod tests;
@@ -59,7 +59,7 @@ impl Roll {
     /// Prints the data of a request, all of it or nothing: with the cover open CoverOpen, else with no line of paper
     /// left, or fewer than the request needs, PaperEnd. Want of memory changes nothing.
     pub fn print(&mut self, bytes: &[u8]) -> Result<Outcome, NoMemory>
-        ensures outcome { IfOk result (λ outcome. Answers self.old (pieces bytes.now) outcome self.new) }
+        ensures outcome { IfOk result (λ outcome. Prints self.old (pieces bytes.now) outcome self.new) }
         ensures no_memory { OnErr result (self.new ≡ self.old) }
     {
         if self.is_cover_open {
@@ -81,7 +81,7 @@ impl Roll {
     /// Cuts the paper by 0 to 100 percent, a request with that cut alone. Want of memory changes nothing.
     pub fn cut(&mut self, percentage: u8) -> Result<Outcome, NoMemory>
         requires { percentage ≤ 100 }
-        ensures outcome { IfOk result (λ outcome. Answers self.old (cut percentage) outcome self.new) }
+        ensures outcome { IfOk result (λ outcome. Prints self.old (cut_pieces percentage) outcome self.new) }
         ensures no_memory { OnErr result (self.new ≡ self.old) }
     {
         if self.is_cover_open {
@@ -122,13 +122,12 @@ impl Roll {
         self.is_cover_open
     }
 
-    /// The items in two flat lists: where the lines end and the cuts are, and all characters, those of the line buffer
-    /// last.
+    /// What is printed, in two flat lists: the lines and the cuts, and all characters, those of the line buffer last.
     pub fn printed(&self) -> (&[Mark], &[PrintedCharacter])
-        ensures items { items_by result.0.now result.1.now ≡ self.now.items }
-        ensures buffer { buffer_by result.0.now result.1.now ≡ self.now.buffer }
+        ensures items { items_from result.0.now result.1.now ≡ self.now.items }
+        ensures buffer { buffer_from result.0.now result.1.now ≡ self.now.buffer }
     {
-        (self.tape.marks.as_slice(), self.tape.cells.as_slice())
+        (self.tape.marks.as_slice(), self.tape.characters.as_slice())
     }
 
     /// The line buffer: the characters of the line that has begun.
