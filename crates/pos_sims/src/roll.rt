@@ -1,4 +1,5 @@
-ghost use Rattle.std.specs.Prelude.{◌≡◌, ◌≤◌, [], false, IfOk, OnErr};
+ghost use Rattle.std.specs.Prelude.{◌≡◌, ◌≤◌, List, false, None, IfOk, IfSome, OnErr};
+ghost use Rattle.pos_service.specs.declared.receipt_text.Piece.{Piece};
 ghost use Rattle.pos_service.specs.Receipts.{Prints, empty_roll, pieces, cut_pieces, items_from, buffer_from};
 
 #[cfg(test)]
@@ -56,17 +57,28 @@ impl Roll {
         self.left = lines;
     }
 
+    /// What hinders each request: an open cover, or else no line of paper left.
+    fn hindrance(&self) -> Option<Outcome>
+        ensures hindered { (ps : List Piece) → IfSome result (λ outcome. Prints self.now ps outcome self.now) }
+        ensures free { result ≡ None → (self.now.is_cover_open ≡ false) × (1 ≤ self.now.left) }
+    {
+        if self.is_cover_open {
+            return Some(Outcome::CoverOpen);
+        }
+        if self.left == 0 {
+            return Some(Outcome::PaperEnd);
+        }
+        None
+    }
+
     /// Prints the data of a request, all of it or nothing: with the cover open CoverOpen, else with no line of paper
     /// left, or fewer than the request needs, PaperEnd. Want of memory changes nothing.
     pub fn print(&mut self, bytes: &[u8]) -> Result<Outcome, NoMemory>
         ensures outcome { IfOk result (λ outcome. Prints self.old (pieces bytes.now) outcome self.new) }
         ensures no_memory { OnErr result (self.new ≡ self.old) }
     {
-        if self.is_cover_open {
-            return Ok(Outcome::CoverOpen);
-        }
-        if self.left == 0 {
-            return Ok(Outcome::PaperEnd);
+        if let Some(outcome) = self.hindrance() {
+            return Ok(outcome);
         }
         match self.tape.print(bytes, self.left) {
             Ok(used) => {
@@ -84,11 +96,8 @@ impl Roll {
         ensures outcome { IfOk result (λ outcome. Prints self.old (cut_pieces percentage) outcome self.new) }
         ensures no_memory { OnErr result (self.new ≡ self.old) }
     {
-        if self.is_cover_open {
-            return Ok(Outcome::CoverOpen);
-        }
-        if self.left == 0 {
-            return Ok(Outcome::PaperEnd);
+        if let Some(outcome) = self.hindrance() {
+            return Ok(outcome);
         }
         match self.tape.cut_paper(u32::from(percentage), self.left) {
             Ok(used) => {
