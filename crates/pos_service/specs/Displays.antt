@@ -72,12 +72,16 @@ pub record Strip : Type 0 where
 
 -- where character k, from 0, of a run stands that begins at a place
 abbrev pub place_of : ℕ → Place → ℕ → Place
-place_of columns from k = record { row = from.row + (from.column + k) / columns; column = (from.column + k) % columns }
+place_of columns from k = record {
+  row = from.row + (from.column + k) / columns;
+  column = (from.column + k) % columns;
+}
 
 -- the characters of a run that begins at a place, from its character k on
 abbrev pub run_from : ℕ → Place → ℕ → List ℕ → List Placed
 run_from columns from k [] = []
-run_from columns from k (b ∷ run) = record { at = place_of columns from k; character = b } ∷ run_from columns from (k + 1) run
+run_from columns from k (b ∷ run) =
+    record { at = place_of columns from k; character = b } ∷ run_from columns from (k + 1) run
 
 -- one right of a place
 abbrev pub right_of : Place → Place
@@ -120,24 +124,38 @@ rows_above rows place = place.row + 1 - rows
 abbrev pub place_in_window : ℕ → Place → Place
 place_in_window rows place = record { row = place.row - rows_above rows place; column = place.column }
 
+-- the cursor is in the window where the strip's place is
+abbrev pub IsCursorOf : ℕ → Strip → Place → Type 0
+IsCursorOf rows strip place = place ≡ place_in_window rows strip.place
+
+-- wherever the cursor is that of a strip, after these bytes it is that of the strip with the bytes on it
+abbrev pub MovesCursor : ℕ → ℕ → Place → List ℕ → Place → Type 0
+MovesCursor rows columns was bytes now =
+    (strip : Strip) → IsCursorOf rows strip was → IsCursorOf rows (with_text columns [] bytes strip) now
+
 -- the last character that was placed at a row and a column of the strip
 abbrev pub last_at : List Placed → ℕ → ℕ → Option ℕ
 last_at [] row column = None
 last_at (p ∷ placed) row column =
-    option_or (last_at placed row column) (if p.at.row == row && p.at.column == column then Some p.character else None)
+    option_or
+    (last_at placed row column)
+    (if p.at.row == row && p.at.column == column then Some p.character else None)
+
+-- a character with an attribute
+abbrev pub cell_with : Attribute → ℕ → DisplayCell
+cell_with attribute b = record { character = b; attribute = attribute }
 
 -- what stands on the strip: the last character placed there, with the attribute, else the old cell, else a blank
 abbrev pub shown_at : ℕ → Attribute → List DisplayCell → List Placed → ℕ → ℕ → DisplayCell
 shown_at columns attribute old placed row column =
-    unwrap_or
-    (option_map (λ b. let cell : DisplayCell = record { character = b; attribute = attribute } in cell) (last_at placed row column))
-    (cell_at columns old row column)
+    unwrap_or (option_map (cell_with attribute) (last_at placed row column)) (cell_at columns old row column)
 
 -- Cells are the window at the end of the strip: over the old cells stand the characters that were placed.
 abbrev pub IsWindow : ℕ → ℕ → Attribute → List DisplayCell → Strip → List DisplayCell → Type 0
 IsWindow rows columns attribute old strip cells =
     (row column : ℕ) → row < rows → column < columns →
-    cell_at columns cells row column ≡ shown_at columns attribute old strip.placed (row + rows_above rows strip.place) column
+    cell_at columns cells row column
+    ≡ shown_at columns attribute old strip.placed (row + rows_above rows strip.place) column
 
 -- From the old display, a text that begins at a place leaves the new one.
 pub record ShowsText (old : Display) (start : Place) (attribute : Attribute) (bytes : List ℕ) (new : Display) : Type 0 where

@@ -1,7 +1,7 @@
 //! Texts of a line display: their characters and attributes, and where a text leaves the cursor.
 ghost use Rattle.std.specs.Prelude.{◌≡◌, ◌≤◌, ◌<◌, ◌+◌, ◌-◌, ◌∷◌, [], true, min};
 ghost use Rattle.std.specs.List.{list_all};
-ghost use Rattle.pos_service.specs.Displays.{attribute_number_of, direction_number_of, blank, is_display_byte, is_display_text, is_cursor_place, Strip, with_text, text_from, place_in_window};
+ghost use Rattle.pos_service.specs.Displays.{attribute_number_of, direction_number_of, blank, is_display_byte, is_display_text, is_cursor_place, MovesCursor, text_from, place_in_window};
 
 /// How a character is shown (chapter Line Display, the attribute of displayText).
 #[derive(Clone, Copy, Debug, PartialEq, Eq)]
@@ -119,7 +119,7 @@ fn place_after_byte(rows: u32, columns: u32, place: Place, byte: u8) -> Place
     requires some { 1 ≤ columns }
     requires row { place.row < rows }
     requires column { place.column ≤ columns }
-    ensures follows { (strip : Strip) → place ≡ place_in_window rows strip.place → result ≡ place_in_window rows (with_text columns [] (byte ∷ []) strip).place }
+    ensures follows { MovesCursor rows columns place (byte ∷ []) result }
     ensures row { result.row < rows }
     ensures column { result.column ≤ columns }
 {

@@ -9,7 +9,7 @@ use Rattle.std.proofs.Math.Nat.{mul-le-mul_right}
 use Rattle.pos_service.specs.declared.display_text.Attribute.{Attribute}
 use Rattle.pos_service.specs.declared.display_text.DisplayCell.{DisplayCell}
 use Rattle.pos_service.specs.declared.display_text.Place.{Place}
-use Rattle.pos_service.specs.Displays.{Placed, Strip, right_of, with_run, fed, with_text, blank, cell_at, last_at, shown_at, rows_above}
+use Rattle.pos_service.specs.Displays.{Placed, Strip, right_of, with_run, fed, with_text, blank, cell_at, cell_with, last_at, shown_at, rows_above}
 use Rattle.pos_service.proofs.StripLemmas.{first_full, first_free, character_text}
 use Rattle.pos_sims.specs.declared.laying.Manner.{Manner}
 use Rattle.pos_sims.specs.Windows.{Follows, IsWithin}
@@ -118,9 +118,6 @@ strip_at placed place = record { placed = placed; place = place }
 
 run_here : (columns b : ℕ) (strip : Strip) → strip.place.column < columns → with_run columns (b ∷ []) strip ≡ strip_at (strip.placed ++ placed_at strip.place b ∷ []) (right_of strip.place)
 run_here columns b strip lt = ap (λ p. strip_at (strip.placed ++ placed_at p b ∷ []) (right_of p)) (first_free columns strip.place lt)
-
-abbrev cell_with : Attribute → ℕ → DisplayCell
-cell_with attribute b = record { character = b; attribute = attribute }
 
 -- what the strip shows elsewhere stays
 shown_elsewhere : (columns : ℕ) (attribute : Attribute) (old : List DisplayCell) (placed : List Placed) (at : Place) (b row column : ℕ) → (at.row ≢ row) ⊎ (at.column ≢ column) → shown_at columns attribute old (placed ++ placed_at at b ∷ []) row column ≡ shown_at columns attribute old placed row column

@@ -13,7 +13,8 @@ pub record IsWithin (manner : Manner) (cells : List DisplayCell) (place : Place)
   pub column : place.column ≤ manner.columns
 
 -- The cells are the window at the end of the strip, the place is the strip's, and below the window the strip is blank.
-pub record Follows (manner : Manner) (old : List DisplayCell) (strip : Strip) (cells : List DisplayCell) (place : Place) : Type 0 where
+pub record Follows (manner : Manner) (old : List DisplayCell) (strip : Strip) (cells : List DisplayCell) (place : Place) :
+    Type 0 where
   pub window : IsWindow manner.rows manner.columns manner.attribute old strip cells
   pub below : (row column : ℕ) → manner.rows + rows_above manner.rows strip.place ≤ row → column < manner.columns →
       shown_at manner.columns manner.attribute old strip.placed row column ≡ blank
