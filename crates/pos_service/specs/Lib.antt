@@ -1,4 +1,6 @@
 pub mod Codes
+pub mod Displays
+pub mod Receipts
 pub mod Peripherals
 pub mod Statuses
 pub mod Controls
@@ -8,5 +10,3 @@ pub mod Calls
 pub mod DrawerCalls
 pub mod HardTotals
 pub mod Steps
-pub mod Displays
-pub mod Receipts
