@@ -1,4 +1,6 @@
 pub mod Codes
+pub mod Displays
+pub mod Receipts
 pub mod Peripherals
 pub mod Statuses
 pub mod Events

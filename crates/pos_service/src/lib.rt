@@ -7,6 +7,7 @@ mod bytes;
 mod call;
 mod category;
 mod code;
+pub mod display_text;
 mod event;
 mod facts;
 mod finding;
@@ -18,6 +19,7 @@ mod peripheral;
 mod peripheral_box;
 mod plant;
 mod property;
+pub mod receipt_text;
 mod scan;
 mod signs;
 #[cfg(test)]
