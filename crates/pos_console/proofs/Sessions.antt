@@ -98,14 +98,8 @@ pub writes_done : {X : Type 0} (a b : Option (List ℕ)) (s : List ℕ) (r : Res
 writes_done a b s (Ok u) w e = w
 writes_done a b s (Err x) w e = cc
 
--- The lines so far: their steps of the machine, and their text.
-pub record Session (old : Machine) (lines : List (List ℕ)) (text : List ℕ) (names : List (List ℕ × ℕ)) (new : Machine) : Type 0 where
-  pub steps : List (Request × Response)
-  pub run : Run old steps new
-  pub tells : Tells [] lines steps text names
-
 -- a line more
-pub session_more : (old : Machine) (lines : List (List ℕ)) (text : List ℕ) (names : List (List ℕ × ℕ)) (mid : Machine) (line : List ℕ) (said : Option (List ℕ)) (after : List (List ℕ × ℕ)) (new : Machine) → Session old lines text names mid → Carries mid (Becomes names line) said after new → Session old (lines ++ line ∷ []) (text ++ printed said) after new
+pub session_more : (old : Machine) (lines : List (List ℕ)) (text : List ℕ) (names : List (List ℕ × ℕ)) (mid : Machine) (line : List ℕ) (said : Option (List ℕ)) (after : List (List ℕ × ℕ)) (new : Machine) → Transcript old lines text names mid → Carries mid (Becomes names line) said after new → Transcript old (lines ++ line ∷ []) (text ++ printed said) after new
 session_more old lines text names mid line said after new session carried = record {
   steps = session.steps ++ carried.steps;
   run = run_append old session.steps mid carried.steps new session.run carried.run;
@@ -113,12 +107,8 @@ session_more old lines text names mid line said after new session carried = reco
 }
 
 -- no line yet
-pub session_start : (machine : Machine) → Session machine [] [] [] machine
+pub session_start : (machine : Machine) → Transcript machine [] [] [] machine
 session_start machine = record { steps = []; run = refl; tells = (refl, refl, refl) }
-
--- what the lines so far ask is a run, and this is its text
-pub session_transcript : (old : Machine) (lines : List (List ℕ)) (text : List ℕ) (names : List (List ℕ × ℕ)) (new : Machine) → Session old lines text names new → Transcript old lines text new
-session_transcript old lines text names new session = record { steps = session.steps; names = names; run = session.run; tells = session.tells }
 
 -- the same names, written another way
 pub renamed : (old : Machine) (becomes : Outcome → Type 0) (said : Option (List ℕ)) (names after : List (List ℕ × ℕ)) (new : Machine) → after ≡ names → Carries old becomes said names new → Carries old becomes said after new

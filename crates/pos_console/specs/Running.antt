@@ -7,24 +7,34 @@ use Rattle.pos_counter.specs.Machines.{beginning}
 use Rattle.pos_console.specs.declared.run.RunFault.{RunFault}
 use Rattle.pos_console.specs.declared.run.RunFault.TheVariants as fault
 use Rattle.pos_console.specs.Lines.{lines_of}
-use Rattle.pos_console.specs.Transcript.{Transcript}
+use Rattle.pos_console.specs.Transcript.{Transcript, Carries, Becomes, printed}
 
 -- All lines were carried out, and their text is written.
 pub record Finishes (old : Machine) (lines : List (List ℕ)) (before after : Option (List ℕ)) (new : Machine) : Type 0 where
   pub text : List ℕ
-  pub transcript : Transcript old lines text new
+  pub names : List (List ℕ × ℕ)
+  pub transcript : Transcript old lines text names new
   pub written : Appends before after text
 
--- The lines so far were carried out, and a front of their text is written, but not all of it.
+-- A write failed at a line: the earlier lines were carried out and their text is written; the line was carried out too,
+-- and of what it prints a front is written, but not all; no later line was carried out.
 pub record Stops (old : Machine) (lines : List (List ℕ)) (before after : Option (List ℕ)) (new : Machine) : Type 0 where
-  pub done : List (List ℕ)
-  pub left : List (List ℕ)
+  pub earlier : List (List ℕ)
+  pub line : List ℕ
+  pub later : List (List ℕ)
+  pub text : List ℕ
+  pub names : List (List ℕ × ℕ)
+  pub mid : Machine
+  pub said : Option (List ℕ)
+  pub names_after : List (List ℕ × ℕ)
   pub front : List ℕ
   pub back : List ℕ
-  pub split : lines ≡ done ++ left
-  pub transcript : Transcript old done (front ++ back) new
+  pub split : lines ≡ earlier ++ line ∷ later
+  pub transcript : Transcript old earlier text names mid
+  pub carried : Carries mid (Becomes names line) said names_after new
+  pub cut : printed said ≡ front ++ back
   pub unwritten : 0 < length back
-  pub written : Appends before after front
+  pub written : Appends before after (text ++ front)
 
 -- what a run over these bytes leaves, by its result
 abbrev pub Runs : Machine → List ℕ → Option (List ℕ) → Option (List ℕ) → Result (Unit {0}) RunFault → Machine → Type 0

@@ -71,10 +71,10 @@ Tells names [] steps text after = (steps ≡ []) × (text ≡ []) × (after ≡ 
 Tells names (line ∷ lines) steps text after =
     (outcome : Outcome) × (more : List (Request × Response)) × (rest : List ℕ) × Becomes names line outcome × Tells outcome.names lines more rest after × (steps ≡ outcome.steps ++ more) × (text ≡ printed outcome.said ++ rest)
 
--- From one machine to another: what the lines ask is a run of the machine, and this is its text.
-pub record Transcript (old : Machine) (lines : List (List ℕ)) (text : List ℕ) (new : Machine) : Type 0 where
+-- From one machine to another: what the lines ask is a run of the machine, this is its text, and these are the names of
+-- the controls then. No control has a name at first.
+pub record Transcript (old : Machine) (lines : List (List ℕ)) (text : List ℕ) (names : List (List ℕ × ℕ)) (new : Machine) : Type 0 where
   pub steps : List (Request × Response)
-  pub names : List (List ℕ × ℕ)
   pub run : Run old steps new
   pub tells : Tells [] lines steps text names
 

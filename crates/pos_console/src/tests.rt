@@ -1,8 +1,11 @@
 //! Whole scripts over one drawer, with readers and writers that cut and fail.
 ghost use Rattle.std.specs.Prelude.{None};
 
-use crate::run::RunFault;
-use crate::serve;
+use crate::run::{RunFault, run};
+use crate::{closed_drawer, park_all, serve};
+use pos_counter::Counter;
+use pos_service::{Peripheral, Plant, Snapshot};
+use pos_sims::PlainDrawer;
 use std::alloc::{AllocError, Global};
 use std::io;
 use std::io::{Read, Write};
@@ -242,6 +245,52 @@ fn a_failed_write_leaves_a_front(rt: HostRuntime) -> Result<(), Fail> {
                 assert_eq!(rt; result, Ok(()));
             }
         }
+    }
+    Ok(())
+}
+
+/// Runs a script over a closed drawer, with a writer that fails after so many bytes: how the run ended, and whether
+/// the drawer is open then.
+fn drawer_after(
+    alloc: Global,
+    script: &[u8],
+    writes_left: u32,
+) -> Result<(Result<(), RunFault>, Option<bool>), AllocError> {
+    let drawer = Box::new(alloc, PlainDrawer::new())?;
+    let mut boxes = Vec::with_capacity(alloc, 1)?;
+    let drawer: Box<dyn Peripheral> = drawer;
+    boxes.push_reserved(closed_drawer(drawer));
+    let mut counter = match Counter::new(alloc, boxes) {
+        Ok(counter) => counter,
+        Err((_, boxes)) => {
+            park_all(boxes);
+            return Err(AllocError);
+        }
+    };
+    let mut writer = Narrow {
+        taken: Vec::new(alloc),
+        size: 1,
+        writes_left,
+        end: End::Fails,
+    };
+    let mut reader = script;
+    let result = run(alloc, &mut reader, &mut writer, &mut counter);
+    let is_open = match counter.snapshot(b"d1") {
+        Ok(Snapshot(Plant::Drawer(is_open))) => Some(is_open),
+        Err(_) => None,
+    };
+    park_all(counter.shutdown());
+    Ok((result, is_open))
+}
+
+#[test]
+fn no_line_is_carried_out_after_a_failed_write(rt: HostRuntime) -> Result<(), Fail> {
+    for (writes_left, is_open) in [(8, false), (9, true), (11, true), (12, false), (14, false)] {
+        let script = b"new a CashDrawer\nopen a d1\nset a DeviceEnabled true\n\
+            call a openDrawer\ninput d1 closed\ncall a openDrawer\n";
+        let (result, drawer) = drawer_after(rt.alloc(), script, writes_left)?;
+        assert_eq!(rt; result, Err(RunFault::Write));
+        assert_eq!(rt; drawer, Some(is_open));
     }
     Ok(())
 }

@@ -6,28 +6,34 @@ use Rattle.pos_console.specs.Lines.{lines_of}
 use Rattle.pos_console.specs.Names.{names_of}
 use Rattle.pos_console.specs.Text.{said_text}
 use Rattle.pos_console.specs.Transcript.{Transcript, printed}
-use Rattle.pos_console.proofs.Sessions.{Session, session_more, session_start, session_transcript, writes_failed, writes_done, lines_more, no_lines}
+use Rattle.pos_console.proofs.Sessions.{session_more, session_start, writes_failed, writes_done, lines_more, no_lines}
 use Rattle.pos_console.proofs.run.carry_out.Goals as goal
 
 pub loop-rest-init : goal.loop-rest-init
 loop-rest-init g c =
     let counted = machine (boxes_of c.requires.sound) in
-    (c.requires.sound, [], [], refl, subst (λ ns. Session (counted c.args.counter.now) [] [] ns (counted c.args.counter.now)) (sym c.new-names.ensures) (session_start (counted c.args.counter.now)), search rules)
+    (c.requires.sound, [], [], refl, subst (λ ns. Transcript (counted c.args.counter.now) [] [] ns (counted c.args.counter.now)) (sym c.new-names.ensures) (session_start (counted c.args.counter.now)), search rules)
 
 pub returns-then-is_err-clause-runs : goal.returns-then-is_err-clause-runs
 returns-then-is_err-clause-runs g c =
     let counted = machine (boxes_of c.requires.sound) in
     let (sound, done, text, lines, before, written) = c.loop-rest.invariant in
     let (front, back, split, unwritten, more) = writes_failed _ _ _ c.tell_line.result c.tell_line.ensures (sym c.is_err.ensures.value ∙ c.if-is_err.true) in
-    let after = session_more (counted c.args.counter.now) done text (names_of c.loop-rest.names) (counted c.loop-rest.counter) c.next_line.result.0.now (option_map said_text c.speak-said.result) (names_of c.speak-said.new.names) (counted c.speak-said.new.counter) before c.speak-said.ensures.becomes in
-    let whole = session_transcript _ _ _ _ _ after in
     record {
-      done = done ++ c.next_line.result.0.now ∷ [];
-      left = lines_of c.next_line.result.1.now;
-      front = text ++ front;
+      earlier = done;
+      line = c.next_line.result.0.now;
+      later = lines_of c.next_line.result.1.now;
+      text = text;
+      names = names_of c.loop-rest.names;
+      mid = counted c.loop-rest.counter;
+      said = option_map said_text c.speak-said.result;
+      names_after = names_of c.speak-said.new.names;
+      front = front;
       back = back;
-      split = lines_more (lines_of c.args.input.now) done c.loop-rest.rest.now c.next_line.result.0.now c.next_line.result.1.now lines c.next_line.ensures.lines;
-      transcript = subst (λ t. Transcript (counted c.args.counter.now) (done ++ c.next_line.result.0.now ∷ []) t (counted c.speak-said.new.counter)) (ap (λ x. text ++ x) split ∙ sym (append_assoc text front back)) whole;
+      split = lines ∙ ap (λ x. done ++ x) c.next_line.ensures.lines;
+      transcript = before;
+      carried = c.speak-said.ensures.becomes;
+      cut = split;
       unwritten = unwritten;
       written = Appends-trans _ _ _ _ _ written more;
     }
@@ -47,6 +53,7 @@ returns-clause-runs g c =
     let none = no_lines c.loop-rest.rest.now empty in
     record {
       text = text;
-      transcript = subst (λ ls. Transcript (counted c.args.counter.now) ls text (counted c.loop-rest.counter)) (sym (lines ∙ ap (λ x. done ++ x) none ∙ append-nil done)) (session_transcript _ _ _ _ _ before);
+      names = names_of c.loop-rest.names;
+      transcript = subst (λ ls. Transcript (counted c.args.counter.now) ls text (names_of c.loop-rest.names) (counted c.loop-rest.counter)) (sym (lines ∙ ap (λ x. done ++ x) none ∙ append-nil done)) before;
       written = written;
     }
