@@ -1,4 +1,5 @@
 pub mod Lines
+pub mod Arguments
 pub mod Words
 pub mod Commands
 pub mod Names

@@ -6,6 +6,7 @@ ghost use Rattle.std.specs.Prelude.{◌≡◌, false};
 ghost use Rattle.pos_sims.specs.Drawers.{drawer_state};
 ghost use Rattle.pos_console.specs.Running.{Serves};
 
+mod arguments;
 mod command;
 mod lines;
 mod names;
