@@ -1,15 +1,16 @@
 -- What becomes of a line, by the steps of the machine that it asks; and scripts of such lines.
 use Rattle.std.proofs.Common.{◌≡◌, ◌++◌, ◌∷◌, ◌∙◌, [], inl, inr, ℕ, true, false, List, Option, Some, None, sym, ap, subst, refl, append_assoc, append-nil, ◌<◌, length}
-use Rattle.std.specs.Prelude.{MatchOption, codes, Result, Ok, Err, is_err, IsTrue}
+use Rattle.std.specs.Prelude.{◌⊎◌, is_some, MatchOption, codes, Result, Ok, Err, is_err, IsTrue}
 use Rattle.std.specs.Bool.{MatchBool}
 use Rattle.std.specs.Io.KnownBytes.{Appends}
 use Rattle.pos_service.specs.Machine.{Machine}
 use Rattle.pos_service.specs.Steps.{Request, Response, Step, Run}
 use Rattle.pos_console.specs.Lines.{lines_of, is_quiet}
+use Rattle.pos_console.specs.Arguments.{Reading}
 use Rattle.pos_console.specs.Commands.{Asking, asked_by}
 use Rattle.pos_console.specs.Text.{response_text}
 use Rattle.pos_console.specs.Writing.{Writes}
-use Rattle.pos_console.specs.Transcript.{Outcome, Requests, Obeys, Becomes, Carries, Tells, Transcript, request_of, names_after, keeps_name, passed_over, turned_down, responded, printed}
+use Rattle.pos_console.specs.Transcript.{Outcome, Requests, Obeys, ReadBecomes, Becomes, Carries, Tells, Transcript, request_of, names_after, gives_name, passed_over, turned_down, responded, printed}
 
 -- an unknown control, or a name in use
 pub obeys_none : (machine : Machine) (names : List (List ℕ × ℕ)) (asking : Asking) → request_of names asking ≡ None → Carries machine (Obeys names asking) (Some (codes "bad control")) names machine
@@ -20,7 +21,7 @@ obeys_none machine names asking e = record {
 }
 
 -- no memory for the name that a line keeps
-pub obeys_unkept : (machine : Machine) (names : List (List ℕ × ℕ)) (asking : Asking) (request : Request) → request_of names asking ≡ Some request → IsTrue (keeps_name asking) → Carries machine (Obeys names asking) (Some (codes "memory")) names machine
+pub obeys_unkept : (machine : Machine) (names : List (List ℕ × ℕ)) (asking : Asking) (request : Request) → request_of names asking ≡ Some request → IsTrue (gives_name asking) → Carries machine (Obeys names asking) (Some (codes "memory")) names machine
 obeys_unkept machine names asking request e keeps = record {
   steps = [];
   run = refl;
@@ -42,31 +43,52 @@ pub becomes_quiet : (machine : Machine) (names : List (List ℕ × ℕ)) (line :
 becomes_quiet machine names line e = record {
   steps = [];
   run = refl;
-  becomes = subst (λ b. MatchBool b (passed_over names ≡ passed_over names) (MatchOption (asked_by line) (passed_over names ≡ turned_down names (codes "bad line")) (λ asking. Obeys names asking (passed_over names)))) (sym e) refl;
+  becomes = subst (λ b. MatchBool b (passed_over names ≡ passed_over names) (ReadBecomes names (asked_by line) (passed_over names))) (sym e) refl;
 }
 
+-- a value that is there
+some_of : {A : Type 0} (o : Option A) → is_some o ≡ true → (a : A) × (o ≡ Some a)
+some_of None e = cc
+some_of (Some a) e = (a, refl)
+
 -- what becomes of a line that isn't quiet
-becomes_loud : (names : List (List ℕ × ℕ)) (line : List ℕ) (outcome : Outcome) → is_quiet line ≡ false → MatchOption (asked_by line) (outcome ≡ turned_down names (codes "bad line")) (λ asking. Obeys names asking outcome) → Becomes names line outcome
-becomes_loud names line outcome e h = subst (λ b. MatchBool b (outcome ≡ passed_over names) (MatchOption (asked_by line) (outcome ≡ turned_down names (codes "bad line")) (λ asking. Obeys names asking outcome))) (sym e) h
+becomes_loud : (names : List (List ℕ × ℕ)) (line : List ℕ) (outcome : Outcome) → is_quiet line ≡ false → ReadBecomes names (asked_by line) outcome → Becomes names line outcome
+becomes_loud names line outcome e h = subst (λ b. MatchBool b (outcome ≡ passed_over names) (ReadBecomes names (asked_by line) outcome)) (sym e) h
+
+-- what becomes of a line whose shape is right
+read_becomes : (names : List (List ℕ × ℕ)) (reading : Reading Asking) (asking : Asking) (outcome : Outcome) → reading.value ≡ Some asking → (IsTrue reading.is_kept × (outcome ≡ turned_down names (codes "memory"))) ⊎ Obeys names asking outcome → ReadBecomes names reading outcome
+read_becomes names reading asking outcome e h =
+    subst (λ o. MatchOption o (outcome ≡ turned_down names (codes "bad line")) (λ asking. (IsTrue reading.is_kept × (outcome ≡ turned_down names (codes "memory"))) ⊎ Obeys names asking outcome)) (sym e) h
 
 -- a line of a wrong shape
-pub becomes_bad : (machine : Machine) (names : List (List ℕ × ℕ)) (line : List ℕ) → is_quiet line ≡ false → asked_by line ≡ None → Carries machine (Becomes names line) (Some (codes "bad line")) names machine
+pub becomes_bad : (machine : Machine) (names : List (List ℕ × ℕ)) (line : List ℕ) → is_quiet line ≡ false → (asked_by line).value ≡ None → Carries machine (Becomes names line) (Some (codes "bad line")) names machine
 becomes_bad machine names line e f =
     let outcome = turned_down names (codes "bad line") in
     record {
       steps = [];
       run = refl;
-      becomes = becomes_loud names line outcome e (subst (λ o. MatchOption o (outcome ≡ turned_down names (codes "bad line")) (λ asking. Obeys names asking outcome)) (sym f) refl);
+      becomes = becomes_loud names line outcome e (subst (λ o. MatchOption o (outcome ≡ turned_down names (codes "bad line")) (λ asking. (IsTrue (asked_by line).is_kept × (outcome ≡ turned_down names (codes "memory"))) ⊎ Obeys names asking outcome)) (sym f) refl);
+    }
+
+-- a line of which something is kept, for which there was no memory
+pub becomes_unkept : (machine : Machine) (names : List (List ℕ × ℕ)) (line : List ℕ) → is_quiet line ≡ false → is_some (asked_by line).value ≡ true → (asked_by line).is_kept ≡ true → Carries machine (Becomes names line) (Some (codes "memory")) names machine
+becomes_unkept machine names line e f keeps =
+    let outcome = turned_down names (codes "memory") in
+    let (asking, is) = some_of (asked_by line).value f in
+    record {
+      steps = [];
+      run = refl;
+      becomes = becomes_loud names line outcome e (read_becomes names (asked_by line) asking outcome is (inl (keeps, refl)));
     }
 
 -- a line that asks something
-pub becomes_obeyed : (old : Machine) (names : List (List ℕ × ℕ)) (line : List ℕ) (asking : Asking) (said : Option (List ℕ)) (after : List (List ℕ × ℕ)) (new : Machine) → is_quiet line ≡ false → asked_by line ≡ Some asking → Carries old (Obeys names asking) said after new → Carries old (Becomes names line) said after new
+pub becomes_obeyed : (old : Machine) (names : List (List ℕ × ℕ)) (line : List ℕ) (asking : Asking) (said : Option (List ℕ)) (after : List (List ℕ × ℕ)) (new : Machine) → is_quiet line ≡ false → (asked_by line).value ≡ Some asking → Carries old (Obeys names asking) said after new → Carries old (Becomes names line) said after new
 becomes_obeyed old names line asking said after new e f obeys =
     let outcome : Outcome = record { said = said; steps = obeys.steps; names = after } in
     record {
       steps = obeys.steps;
       run = obeys.run;
-      becomes = becomes_loud names line outcome e (subst (λ o. MatchOption o (outcome ≡ turned_down names (codes "bad line")) (λ asking. Obeys names asking outcome)) (sym f) obeys.becomes);
+      becomes = becomes_loud names line outcome e (read_becomes names (asked_by line) asking outcome f (inr obeys.becomes));
     }
 
 -- one run after another

@@ -1,6 +1,7 @@
 pub mod Lines
 pub mod Arguments
 pub mod Words
+pub mod Methods
 pub mod Commands
 pub mod Names
 pub mod Text

@@ -1,10 +1,10 @@
 -- What a script asks of the machine, and what it prints (docs/CONSOLE.md, "Answers").
 use Rattle.std.specs.Prelude.{◌≡◌, ℕ, ◌⊎◌, ◌++◌, ◌∷◌, [], Bool, true, false, List, Option, Some, None, MatchOption, IsTrue, is_some, option_map, codes, if◌then◌else◌}
 use Rattle.std.specs.Bool.{MatchBool}
-use Rattle.pos_service.specs.declared.call.Call.TheVariants as call
 use Rattle.pos_service.specs.Machine.{Machine}
 use Rattle.pos_service.specs.Steps.{Request, Response, Run, NewControl, CallOf, InputTo, Deliver, Snapshot, Made}
 use Rattle.pos_console.specs.Lines.{is_quiet}
+use Rattle.pos_console.specs.Arguments.{Reading}
 use Rattle.pos_console.specs.Commands.{Asking, NewLine, CallLine, InputLine, DeliverLine, ShowLine, asked_by}
 use Rattle.pos_console.specs.Names.{number_named}
 use Rattle.pos_console.specs.Text.{response_text}
@@ -22,11 +22,10 @@ abbrev pub names_after : List (List ℕ × ℕ) → Asking → Response → List
 names_after names (NewLine name category) (Made number) = names ++ (name, number) ∷ []
 names_after names asking response = names
 
--- whether a line keeps a name of its own, for which there may be no memory
-abbrev pub keeps_name : Asking → Bool
-keeps_name (NewLine name category) = true
-keeps_name (CallLine name (call.Open device)) = true
-keeps_name asking = false
+-- whether a line gives a name, for which there may be no memory
+abbrev pub gives_name : Asking → Bool
+gives_name (NewLine name category) = true
+gives_name asking = false
 
 -- What becomes of a line: what it prints, its steps of the machine, and the controls' names after it.
 pub record Outcome : Type 0 where
@@ -46,19 +45,24 @@ turned_down names text = record { said = Some text; steps = []; names = names }
 abbrev pub responded : List (List ℕ × ℕ) → Asking → Request → Response → Outcome
 responded names asking request response = record { said = Some (response_text response); steps = (request, response) ∷ []; names = names_after names asking response }
 
--- a request has one response; or there was no memory for the name that the line keeps
+-- a request has one response; or there was no memory for the name that the line gives
 abbrev pub Requests : List (List ℕ × ℕ) → Asking → Request → Outcome → Type 0
 Requests names asking request outcome =
-    (IsTrue (keeps_name asking) × (outcome ≡ turned_down names (codes "memory"))) ⊎ ((response : Response) × (outcome ≡ responded names asking request response))
+    (IsTrue (gives_name asking) × (outcome ≡ turned_down names (codes "memory"))) ⊎ ((response : Response) × (outcome ≡ responded names asking request response))
 
 -- what becomes of a line that asks this
 abbrev pub Obeys : List (List ℕ × ℕ) → Asking → Outcome → Type 0
 Obeys names asking outcome = MatchOption (request_of names asking) (outcome ≡ turned_down names (codes "bad control")) (λ request. Requests names asking request outcome)
 
+-- what becomes of a line as it was read: there may have been no memory for what is kept of it
+abbrev pub ReadBecomes : List (List ℕ × ℕ) → Reading Asking → Outcome → Type 0
+ReadBecomes names reading outcome =
+    MatchOption reading.value (outcome ≡ turned_down names (codes "bad line"))
+    (λ asking. (IsTrue reading.is_kept × (outcome ≡ turned_down names (codes "memory"))) ⊎ Obeys names asking outcome)
+
 -- what becomes of a line
 abbrev pub Becomes : List (List ℕ × ℕ) → List ℕ → Outcome → Type 0
-Becomes names line outcome =
-    MatchBool (is_quiet line) (outcome ≡ passed_over names) (MatchOption (asked_by line) (outcome ≡ turned_down names (codes "bad line")) (λ asking. Obeys names asking outcome))
+Becomes names line outcome = MatchBool (is_quiet line) (outcome ≡ passed_over names) (ReadBecomes names (asked_by line) outcome)
 
 -- what is printed for a line: nothing, or a line
 abbrev pub printed : Option (List ℕ) → List ℕ

@@ -4,7 +4,9 @@ ghost use Rattle.pos_console.specs.Arguments.{Shape, Reads, word_as, none, one, 
 ghost use Rattle.pos_console.specs.Words.{number_shape, truth_shape, bytes_shape, device_shape, category_shape, property_shape, value_shape, reply_shape};
 
 use crate::lines::next_word;
-use crate::words::{category, decode, is_hex_word, is_name_word, number, property, reply, truth, value};
+use crate::words::{
+    category, decode, is_hex_word, is_name_word, number, property, reply, truth, value,
+};
 use pos_service::{Bytes, Category, ErrorReply, Property, Value};
 use std::alloc::Global;
 use thiserror::Error;
@@ -172,10 +174,7 @@ pub fn read_one<A: Argument>(alloc: Global, words: &[u8]) -> Result<A, LineFault
 }
 
 /// Reads two arguments, the last of the line. All shapes are looked at before memory is asked for.
-pub fn read_two<A: Argument, B: Argument>(
-    alloc: Global,
-    words: &[u8],
-) -> Result<(A, B), LineFault>
+pub fn read_two<A: Argument, B: Argument>(alloc: Global, words: &[u8]) -> Result<(A, B), LineFault>
     ensures { Reads (two A.shape B.shape (words_of words.now)) result }
 {
     let Some((word, rest)) = next_word(words) else {

@@ -9,6 +9,7 @@ ghost use Rattle.pos_console.specs.Running.{Serves};
 mod arguments;
 mod command;
 mod lines;
+mod methods;
 mod names;
 mod run;
 mod said;

@@ -5,12 +5,13 @@ ghost use Rattle.pos_console.specs.Names.{names_of};
 ghost use Rattle.pos_console.specs.Text.{said_text};
 ghost use Rattle.pos_console.specs.Transcript.{Carries, Obeys, Becomes};
 
+use crate::arguments::LineFault;
 use crate::command::{Command, read_command};
 use crate::lines::is_quiet_line;
 use crate::names::Names;
 use crate::said::Said;
 use pos_counter::{ControlFault, Counter, InputFault, SnapshotFault};
-use pos_service::{Bytes, Call, Category, ErrorReply, Input, PeripheralBox, Stated};
+use pos_service::{Call, Category, ErrorReply, Input, PeripheralBox, Stated};
 use std::alloc::Global;
 
 fn new_control(counter: &mut Counter, names: &mut Names, name: &[u8], category: Category) -> Said
@@ -31,29 +32,6 @@ fn new_control(counter: &mut Counter, names: &mut Names, name: &[u8], category: 
         }
         Err(ControlFault::Full) => Said::Full,
         Err(ControlFault::NoMemory) => Said::Memory,
-    }
-}
-
-fn open_control(
-    alloc: Global,
-    counter: &mut Counter,
-    names: &Names,
-    name: &[u8],
-    device: &[u8],
-) -> Said
-    requires sound { Sound ⟦<PeripheralBox as Stated>⟧ counter.old }
-    ensures obeys { Carries (machine ⟦<PeripheralBox as Stated>⟧ counter.old) (Obeys (names_of names.now) (CallLine name.now (Call.Open device.now))) (Some (said_text result)) (names_of names.now) (machine ⟦<PeripheralBox as Stated>⟧ counter.new) }
-    ensures sound { Sound ⟦<PeripheralBox as Stated>⟧ counter.new }
-{
-    let Some(number) = names.find(name) else {
-        return Said::BadControl;
-    };
-    let Ok(device) = Bytes::from_slice(alloc, device) else {
-        return Said::Memory;
-    };
-    match counter.call(number, &Call::Open(device)) {
-        Ok(answer) => Said::Answered(answer),
-        Err(_) => Said::Memory,
     }
 }
 
@@ -106,14 +84,13 @@ fn show_device(counter: &Counter, name: &[u8]) -> Said
     }
 }
 
-fn obey(alloc: Global, counter: &mut Counter, names: &mut Names, command: Command<'_>) -> Said
+fn obey(counter: &mut Counter, names: &mut Names, command: Command<'_>) -> Said
     requires sound { Sound ⟦<PeripheralBox as Stated>⟧ counter.old }
     ensures obeys { Carries (machine ⟦<PeripheralBox as Stated>⟧ counter.old) (Obeys (names_of names.old) (asking command.entry)) (Some (said_text result)) (names_of names.new) (machine ⟦<PeripheralBox as Stated>⟧ counter.new) }
     ensures sound { Sound ⟦<PeripheralBox as Stated>⟧ counter.new }
 {
     match command {
         Command::New(name, category) => new_control(counter, names, name, category),
-        Command::Open(name, device) => open_control(alloc, counter, names, name, device),
         Command::Call(name, call) => call_control(counter, names, name, &call),
         Command::Input(name, input) => input_device(counter, name, &input),
         Command::Deliver(name, reply) => deliver_event(counter, names, name, reply),
@@ -130,8 +107,9 @@ pub fn speak(alloc: Global, counter: &mut Counter, names: &mut Names, line: &[u8
     if is_quiet_line(line) {
         return None;
     }
-    match read_command(line) {
-        Some(command) => Some(obey(alloc, counter, names, command)),
-        None => Some(Said::BadLine),
+    match read_command(alloc, line) {
+        Ok(command) => Some(obey(counter, names, command)),
+        Err(LineFault::WrongShape) => Some(Said::BadLine),
+        Err(LineFault::NoMemory) => Some(Said::Memory),
     }
 }
