@@ -56,6 +56,22 @@ two s t words = first s (one t) words
 abbrev pub three : {A B C : Type 0} → Shape A → Shape B → Shape C → List (List ℕ) → Reading (A × (B × C))
 three s t u words = first s (two t u) words
 
+-- what is made where there are no arguments
+abbrev pub from_none : {R : Type 0} → R → List (List ℕ) → Reading R
+from_none made words = become (λ u. made) (none words)
+
+-- what is made of one argument
+abbrev pub from_one : {A R : Type 0} → Shape A → (A → R) → List (List ℕ) → Reading R
+from_one shape make words = become make (one shape words)
+
+-- what is made of two arguments
+abbrev pub from_two : {A B R : Type 0} → Shape A → Shape B → (A → B → R) → List (List ℕ) → Reading R
+from_two s t make words = become (λ read. make read.0 read.1) (two s t words)
+
+-- what is made of three arguments
+abbrev pub from_three : {A B C R : Type 0} → Shape A → Shape B → Shape C → (A → B → C → R) → List (List ℕ) → Reading R
+from_three s t u make words = become (λ read. make read.0 read.1.0 read.1.1) (three s t u words)
+
 -- the value of a result, if it succeeded
 abbrev pub value_of : {A E : Type 0} → Result A E → Option A
 value_of (Ok value) = Some value

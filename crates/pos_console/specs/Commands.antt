@@ -11,7 +11,7 @@ use Rattle.pos_console.specs.declared.arguments.LineFault.{LineFault}
 use Rattle.pos_console.specs.declared.command.Command.{Command}
 use Rattle.pos_console.specs.declared.command.Command.TheVariants as command
 use Rattle.pos_console.specs.Lines.{words_of, is_well_spelled}
-use Rattle.pos_console.specs.Arguments.{Reading, Reads, misshapen, become, none, one, two}
+use Rattle.pos_console.specs.Arguments.{Reading, Reads, misshapen, become, from_none, from_one, from_two}
 use Rattle.pos_console.specs.Words.{is_name, category_shape, device_shape, property_shape, value_shape, reply_shape}
 use Rattle.pos_console.specs.Methods.{call_of}
 
@@ -42,23 +42,23 @@ ReadsLine reading result = Reads reading (asked result)
 
 -- new CONTROL CATEGORY
 abbrev pub new_line : List ℕ → List (List ℕ) → Reading Asking
-new_line name words = become (λ category. NewLine name category) (one category_shape words)
+new_line name words = from_one category_shape (λ category. NewLine name category) words
 
 -- open CONTROL DEVICE
 abbrev pub open_line : List ℕ → List (List ℕ) → Reading Asking
-open_line name words = become (λ device. CallLine name (call.Open device.name)) (one device_shape words)
+open_line name words = from_one device_shape (λ device. CallLine name (call.Open device.name)) words
 
 -- close CONTROL
 abbrev pub close_line : List ℕ → List (List ℕ) → Reading Asking
-close_line name words = become (λ u. CallLine name call.Close) (none words)
+close_line name words = from_none (CallLine name call.Close) words
 
 -- set CONTROL PROPERTY VALUE
 abbrev pub set_line : List ℕ → List (List ℕ) → Reading Asking
-set_line name words = become (λ set. CallLine name (call.Set set.0 set.1)) (two property_shape value_shape words)
+set_line name words = from_two property_shape value_shape (λ property v. CallLine name (call.Set property v)) words
 
 -- get CONTROL PROPERTY
 abbrev pub get_line : List ℕ → List (List ℕ) → Reading Asking
-get_line name words = become (λ property. CallLine name (call.Get property)) (one property_shape words)
+get_line name words = from_one property_shape (λ property. CallLine name (call.Get property)) words
 
 -- call CONTROL METHOD, and the method's arguments
 abbrev pub call_line : List ℕ → List (List ℕ) → Reading Asking
@@ -68,8 +68,8 @@ call_line name (method ∷ words) = become (λ call. CallLine name call) (call_o
 -- what happens at a device, by its word and the words behind it
 abbrev pub input_of : List ℕ → List (List ℕ) → Reading Input
 input_of word words =
-    if bytes_eq word (codes "open") then become (λ u. input.DrawerMoved true) (none words)
-    else (if bytes_eq word (codes "closed") then become (λ u. input.DrawerMoved false) (none words) else misshapen)
+    if bytes_eq word (codes "open") then from_none (input.DrawerMoved true) words
+    else (if bytes_eq word (codes "closed") then from_none (input.DrawerMoved false) words else misshapen)
 
 -- input DEVICE, and what happens there
 abbrev pub input_line : List ℕ → List (List ℕ) → Reading Asking
@@ -78,12 +78,12 @@ input_line name (word ∷ words) = become (λ input. InputLine name input) (inpu
 
 -- deliver CONTROL, or deliver CONTROL REPLY
 abbrev pub deliver_line : List ℕ → List (List ℕ) → Reading Asking
-deliver_line name [] = become (λ u. DeliverLine name reply.Default) (none [])
-deliver_line name (word ∷ words) = become (λ reply. DeliverLine name reply) (one reply_shape (word ∷ words))
+deliver_line name [] = from_none (DeliverLine name reply.Default) []
+deliver_line name (word ∷ words) = from_one reply_shape (λ reply. DeliverLine name reply) (word ∷ words)
 
 -- show DEVICE
 abbrev pub show_line : List ℕ → List (List ℕ) → Reading Asking
-show_line name words = become (λ u. ShowLine name) (none words)
+show_line name words = from_none (ShowLine name) words
 
 -- a line that asks something of a device, by its verb
 abbrev pub device_line : List ℕ → List ℕ → List (List ℕ) → Reading Asking

@@ -36,40 +36,28 @@ fn read_new<'a>(alloc: Global, name: &'a [u8], words: &[u8]) -> Result<Command<'
 fn read_open<'a>(alloc: Global, name: &'a [u8], words: &[u8]) -> Result<Command<'a>, LineFault>
     ensures { ReadsLine (open_line name.now (words_of words.now)) result }
 {
-    match read_one::<DeviceName>(alloc, words) {
-        Ok(device) => Ok(Command::Call(name, Call::Open(device.name))),
-        Err(fault) => Err(fault),
-    }
+    read_one(alloc, words).map(|device: DeviceName| Command::Call(name, Call::Open(device.name)))
 }
 
 /// `close CONTROL`
 fn read_close<'a>(name: &'a [u8], words: &[u8]) -> Result<Command<'a>, LineFault>
     ensures { ReadsLine (close_line name.now (words_of words.now)) result }
 {
-    match read_none(words) {
-        Ok(()) => Ok(Command::Call(name, Call::Close)),
-        Err(fault) => Err(fault),
-    }
+    read_none(words).map(|_| Command::Call(name, Call::Close))
 }
 
 /// `set CONTROL PROPERTY VALUE`
 fn read_set<'a>(alloc: Global, name: &'a [u8], words: &[u8]) -> Result<Command<'a>, LineFault>
     ensures { ReadsLine (set_line name.now (words_of words.now)) result }
 {
-    match read_two(alloc, words) {
-        Ok((property, value)) => Ok(Command::Call(name, Call::Set(property, value))),
-        Err(fault) => Err(fault),
-    }
+    read_two(alloc, words).map(|(property, value)| Command::Call(name, Call::Set(property, value)))
 }
 
 /// `get CONTROL PROPERTY`
 fn read_get<'a>(alloc: Global, name: &'a [u8], words: &[u8]) -> Result<Command<'a>, LineFault>
     ensures { ReadsLine (get_line name.now (words_of words.now)) result }
 {
-    match read_one(alloc, words) {
-        Ok(property) => Ok(Command::Call(name, Call::Get(property))),
-        Err(fault) => Err(fault),
-    }
+    read_one(alloc, words).map(|property| Command::Call(name, Call::Get(property)))
 }
 
 /// `call CONTROL METHOD`, and the method's arguments
@@ -79,10 +67,7 @@ fn read_method<'a>(alloc: Global, name: &'a [u8], words: &[u8]) -> Result<Comman
     let Some((method, rest)) = next_word(words) else {
         return Err(LineFault::WrongShape);
     };
-    match read_call(alloc, method, rest) {
-        Ok(call) => Ok(Command::Call(name, call)),
-        Err(fault) => Err(fault),
-    }
+    read_call(alloc, method, rest).map(|call| Command::Call(name, call))
 }
 
 /// What happens at a device.
@@ -105,10 +90,7 @@ fn read_input<'a>(name: &'a [u8], words: &[u8]) -> Result<Command<'a>, LineFault
     let Some((word, rest)) = next_word(words) else {
         return Err(LineFault::WrongShape);
     };
-    match read_event(word, rest) {
-        Ok(input) => Ok(Command::Input(name, input)),
-        Err(fault) => Err(fault),
-    }
+    read_event(word, rest).map(|input| Command::Input(name, input))
 }
 
 /// `deliver CONTROL`, or `deliver CONTROL REPLY`
@@ -118,20 +100,14 @@ fn read_deliver<'a>(alloc: Global, name: &'a [u8], words: &[u8]) -> Result<Comma
     if next_word(words).is_none() {
         return Ok(Command::Deliver(name, ErrorReply::Default));
     }
-    match read_one(alloc, words) {
-        Ok(reply) => Ok(Command::Deliver(name, reply)),
-        Err(fault) => Err(fault),
-    }
+    read_one(alloc, words).map(|reply| Command::Deliver(name, reply))
 }
 
 /// `show DEVICE`
 fn read_show<'a>(name: &'a [u8], words: &[u8]) -> Result<Command<'a>, LineFault>
     ensures { ReadsLine (show_line name.now (words_of words.now)) result }
 {
-    match read_none(words) {
-        Ok(()) => Ok(Command::Show(name)),
-        Err(fault) => Err(fault),
-    }
+    read_none(words).map(|_| Command::Show(name))
 }
 
 /// What a line asks of a device, by its verb.
