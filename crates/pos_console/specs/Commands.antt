@@ -12,7 +12,7 @@ use Rattle.pos_console.specs.declared.command.Command.{Command}
 use Rattle.pos_console.specs.declared.command.Command.TheVariants as command
 use Rattle.pos_console.specs.Lines.{words_of, is_well_spelled}
 use Rattle.pos_console.specs.Arguments.{Reading, Reads, misshapen, become, from_none, from_one, from_two}
-use Rattle.pos_console.specs.Words.{is_name, category_shape, device_shape, property_shape, value_shape, reply_shape}
+use Rattle.pos_console.specs.Words.{is_name, category_shape, device_shape, property_shape, value_shape, error_reply_shape}
 use Rattle.pos_console.specs.Methods.{call_of}
 
 -- what a line asks of a control or a device, by its name
@@ -79,7 +79,7 @@ input_line name (word ∷ words) = become (λ input. InputLine name input) (inpu
 -- deliver CONTROL, or deliver CONTROL REPLY
 abbrev pub deliver_line : List ℕ → List (List ℕ) → Reading Asking
 deliver_line name [] = from_none (DeliverLine name reply.Default) []
-deliver_line name (word ∷ words) = from_one reply_shape (λ reply. DeliverLine name reply) (word ∷ words)
+deliver_line name (word ∷ words) = from_one error_reply_shape (λ reply. DeliverLine name reply) (word ∷ words)
 
 -- show DEVICE
 abbrev pub show_line : List ℕ → List (List ℕ) → Reading Asking

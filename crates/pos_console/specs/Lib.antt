@@ -8,3 +8,4 @@ pub mod Text
 pub mod Transcript
 pub mod Writing
 pub mod Running
+pub mod Carried

@@ -7,12 +7,13 @@ use Rattle.pos_counter.specs.Machines.{beginning}
 use Rattle.pos_console.specs.declared.run.RunFault.{RunFault}
 use Rattle.pos_console.specs.declared.run.RunFault.TheVariants as fault
 use Rattle.pos_console.specs.Lines.{lines_of}
-use Rattle.pos_console.specs.Transcript.{Transcript, Carries, Becomes, printed}
+use Rattle.pos_console.specs.Names.{ControlNames}
+use Rattle.pos_console.specs.Transcript.{Transcript, CarriesOut, LineBecomes, printed}
 
 -- All lines were carried out, and their text is written.
 pub record Finishes (old : Machine) (lines : List (List ℕ)) (before after : Option (List ℕ)) (new : Machine) : Type 0 where
   pub text : List ℕ
-  pub names : List (List ℕ × ℕ)
+  pub names : ControlNames
   pub transcript : Transcript old lines text names new
   pub written : Appends before after text
 
@@ -23,25 +24,25 @@ pub record Stops (old : Machine) (lines : List (List ℕ)) (before after : Optio
   pub line : List ℕ
   pub later : List (List ℕ)
   pub text : List ℕ
-  pub names : List (List ℕ × ℕ)
+  pub names : ControlNames
   pub mid : Machine
-  pub said : Option (List ℕ)
-  pub names_after : List (List ℕ × ℕ)
+  pub reply : Option (List ℕ)
+  pub names_after : ControlNames
   pub front : List ℕ
   pub back : List ℕ
   pub split : lines ≡ earlier ++ line ∷ later
   pub transcript : Transcript old earlier text names mid
-  pub carried : Carries mid (Becomes names line) said names_after new
-  pub cut : printed said ≡ front ++ back
+  pub carried : CarriesOut mid (LineBecomes names line) reply names_after new
+  pub cut : printed reply ≡ front ++ back
   pub unwritten : 0 < length back
   pub written : Appends before after (text ++ front)
 
 -- what a run over these bytes leaves, by its result
-abbrev pub Runs : Machine → List ℕ → Option (List ℕ) → Option (List ℕ) → Result (Unit {0}) RunFault → Machine → Type 0
-Runs old bytes before after (Ok u) new = Finishes old (lines_of bytes) before after new
-Runs old bytes before after (Err fault.Read) new = (new ≡ old) × Keeps before after
-Runs old bytes before after (Err fault.Write) new = Stops old (lines_of bytes) before after new
-Runs old bytes before after (Err fault.NoMemory) new = (new ≡ old) × Keeps before after
+abbrev pub ScriptLeaves : Machine → List ℕ → Option (List ℕ) → Option (List ℕ) → Result (Unit {0}) RunFault → Machine → Type 0
+ScriptLeaves old bytes before after (Ok u) new = Finishes old (lines_of bytes) before after new
+ScriptLeaves old bytes before after (Err fault.Read) new = (new ≡ old) × Keeps before after
+ScriptLeaves old bytes before after (Err fault.Write) new = Stops old (lines_of bytes) before after new
+ScriptLeaves old bytes before after (Err fault.NoMemory) new = (new ≡ old) × Keeps before after
 
 -- A run that wasn't stopped while it read has read all bytes that the reader is known to have had left.
 abbrev pub ReadsWhole : Option (List ℕ) → List ℕ → Result (Unit {0}) RunFault → Type 0
@@ -54,7 +55,7 @@ ReadsWhole left bytes (Err fault.NoMemory) = Unit {0}
 pub record RunsScript (old : Machine) (left before after : Option (List ℕ)) (result : Result (Unit {0}) RunFault) (new : Machine) : Type 0 where
   pub input : List ℕ
   pub whole : ReadsWhole left input result
-  pub run : Runs old input before after result new
+  pub run : ScriptLeaves old input before after result new
 
 -- the machine as the program begins: no control, and the closed drawer `d1` in service
 abbrev pub start : Machine

@@ -72,8 +72,8 @@ property_named word =
     else (if bytes_eq word (codes "DrawerOpened") then Some property.DrawerOpened else None)))
 
 -- the reply to an ErrorEvent of this name
-abbrev pub reply_named : List ℕ → Option ErrorReply
-reply_named word =
+abbrev pub error_reply_named : List ℕ → Option ErrorReply
+error_reply_named word =
     if bytes_eq word (codes "retry") then Some reply.Retry
     else (if bytes_eq word (codes "clear") then Some reply.Clear
     else (if bytes_eq word (codes "continue") then Some reply.ContinueInput else None))
@@ -109,8 +109,8 @@ category_shape = plain category_named
 abbrev pub property_shape : Shape Property
 property_shape = plain property_named
 
-abbrev pub reply_shape : Shape ErrorReply
-reply_shape = plain reply_named
+abbrev pub error_reply_shape : Shape ErrorReply
+error_reply_shape = plain error_reply_named
 
 abbrev pub device_shape : Shape DeviceName
 device_shape = kept device_named

@@ -1,11 +1,11 @@
 ghost use Rattle.std.specs.Prelude.{◌≡◌, true, is_some};
 ghost use Rattle.pos_console.specs.Lines.{words_of};
 ghost use Rattle.pos_console.specs.Arguments.{Shape, Reads, word_as, none, one, two, three};
-ghost use Rattle.pos_console.specs.Words.{number_shape, truth_shape, bytes_shape, device_shape, category_shape, property_shape, value_shape, reply_shape};
+ghost use Rattle.pos_console.specs.Words.{number_shape, truth_shape, bytes_shape, device_shape, category_shape, property_shape, value_shape, error_reply_shape};
 
 use crate::lines::next_word;
 use crate::words::{
-    category, decode, is_hex_word, is_name_word, number, property, reply, truth, value,
+    category, decode, is_hex_word, is_name_word, error_reply, number, property, truth, value,
 };
 use pos_service::{Bytes, Category, ErrorReply, Property, Value};
 use std::alloc::Global;
@@ -96,14 +96,14 @@ impl Argument for Property {
 }
 
 impl Argument for ErrorReply {
-    ghost shape = { reply_shape };
+    ghost shape = { error_reply_shape };
 
     fn has_shape(word: &[u8]) -> bool {
-        reply(word).is_some()
+        error_reply(word).is_some()
     }
 
     fn read(_: Global, word: &[u8]) -> Result<Self, LineFault> {
-        reply(word).ok_or(LineFault::WrongShape)
+        error_reply(word).ok_or(LineFault::WrongShape)
     }
 }
 

@@ -1,4 +1,4 @@
-//! Runs a script of requests to the devices of a shop counter: it reads the script from standard input and writes what
+//! ScriptLeaves a script of requests to the devices of a shop counter: it reads the script from standard input and writes what
 //! each line prints to standard output (docs/CONSOLE.md).
 #![tactic(auto)]
 
@@ -11,10 +11,10 @@ mod command;
 mod lines;
 mod methods;
 mod names;
+mod print;
+mod reply;
 mod run;
-mod said;
 mod session;
-mod tell;
 #[cfg(test)]
 mod tests;
 mod words;
@@ -46,7 +46,7 @@ fn closed_drawer(device: Box<dyn Peripheral>) -> PeripheralBox
     PeripheralBox::new(device)
 }
 
-/// Runs a script over a counter of one simulated cash drawer, the device `d1`.
+/// ScriptLeaves a script over a counter of one simulated cash drawer, the device `d1`.
 fn serve<R: Read, W: Write>(alloc: Global, reader: &mut R, writer: &mut W) -> Result<(), RunFault>
     ensures { Serves (R.remaining reader.old) (W.contents writer.old) (W.contents writer.new) result }
 {
@@ -71,7 +71,7 @@ fn serve<R: Read, W: Write>(alloc: Global, reader: &mut R, writer: &mut W) -> Re
     result
 }
 
-/// Runs the script on standard input, and writes what is still held of its text.
+/// ScriptLeaves the script on standard input, and writes what is still held of its text.
 fn serve_streams(rt: HostRuntime) -> Result<(), RunFault> {
     let alloc = rt.alloc();
     let Ok(mut writer) = BufWriter::new(alloc, rt.stdout()) else {

@@ -249,7 +249,7 @@ fn a_failed_write_leaves_a_front(rt: HostRuntime) -> Result<(), Fail> {
     Ok(())
 }
 
-/// Runs a script over a closed drawer, with a writer that fails after so many bytes: how the run ended, and whether
+/// ScriptLeaves a script over a closed drawer, with a writer that fails after so many bytes: how the run ended, and whether
 /// the drawer is open then.
 fn drawer_after(
     alloc: Global,

@@ -1,7 +1,7 @@
 ghost use Rattle.std.specs.Prelude.{◌≡◌, ◌<◌, ◌^◌, true, bytes_eq, is_some, Some, IfSome, IfOk};
 ghost use Rattle.std.specs.List.{list_all};
 ghost use Rattle.hex.specs.Hex.{is_hex_digit};
-ghost use Rattle.pos_console.specs.Words.{number_of_digits, is_digit, is_digits, is_name_byte, is_name, digits_named, number_named, truth_named, bytes_named, value_named, category_named, property_named, reply_named};
+ghost use Rattle.pos_console.specs.Words.{number_of_digits, is_digit, is_digits, is_name_byte, is_name, digits_named, number_named, truth_named, bytes_named, value_named, category_named, property_named, error_reply_named};
 
 use pos_service::{Bytes, Category, ErrorReply, NoMemory, Property, Value};
 use std::alloc::Global;
@@ -136,8 +136,8 @@ pub fn category(word: &[u8]) -> Option<Category>
 }
 
 /// The reply to an ErrorEvent of this name.
-pub fn reply(word: &[u8]) -> Option<ErrorReply>
-    ensures { result ≡ reply_named word.now }
+pub fn error_reply(word: &[u8]) -> Option<ErrorReply>
+    ensures { result ≡ error_reply_named word.now }
 {
     if is(word, "retry") {
         return Some(ErrorReply::Retry);

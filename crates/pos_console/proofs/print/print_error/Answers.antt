@@ -1,7 +1,7 @@
 use Rattle.std.proofs.Common.{◌≡◌, ◌++◌, [], ℕ, List, append_assoc, append-nil, subst, sym}
 use Rattle.std.specs.Prelude.{codes}
 use Rattle.pos_console.specs.Writing.{Writes}
-use Rattle.pos_console.proofs.tell.tell_error.Goals as goal
+use Rattle.pos_console.proofs.print.print_error.Goals as goal
 
 -- the parts of the line one after another
 error_line : (a s b c d n : List ℕ) → (a ++ b ++ s ++ c ++ s ++ d) ++ n ≡ a ++ (b ++ (s ++ (c ++ (s ++ (d ++ (n ++ []))))))

@@ -5,7 +5,7 @@ use Rattle.pos_counter.specs.Counters.{machine, Sound}
 use Rattle.pos_console.specs.Lines.{lines_of}
 use Rattle.pos_console.specs.Names.{names_of}
 use Rattle.pos_console.specs.Transcript.{Transcript}
-use Rattle.pos_console.proofs.run.carry_out.Given as goal
+use Rattle.pos_console.proofs.run.carry_out_lines.Given as goal
 
 abbrev pub invariant-loop-rest : goal.invariant-loop-rest
 invariant-loop-rest g l =

@@ -4,21 +4,21 @@ use Rattle.std.specs.Prelude.{option_map}
 use Rattle.pos_counter.specs.Counters.{machine, boxes_of}
 use Rattle.pos_console.specs.Lines.{lines_of}
 use Rattle.pos_console.specs.Names.{names_of}
-use Rattle.pos_console.specs.Text.{said_text}
+use Rattle.pos_console.specs.Text.{reply_text}
 use Rattle.pos_console.specs.Transcript.{Transcript, printed}
 use Rattle.pos_console.proofs.Sessions.{session_more, session_start, writes_failed, writes_done, lines_more, no_lines}
-use Rattle.pos_console.proofs.run.carry_out.Goals as goal
+use Rattle.pos_console.proofs.run.carry_out_lines.Goals as goal
 
 pub loop-rest-init : goal.loop-rest-init
 loop-rest-init g c =
     let counted = machine (boxes_of c.requires.sound) in
     (c.requires.sound, [], [], refl, subst (λ ns. Transcript (counted c.args.counter.now) [] [] ns (counted c.args.counter.now)) (sym c.new-names.ensures) (session_start (counted c.args.counter.now)), search rules)
 
-pub returns-then-is_err-clause-runs : goal.returns-then-is_err-clause-runs
-returns-then-is_err-clause-runs g c =
+pub returns-then-is_err-clause-lines : goal.returns-then-is_err-clause-lines
+returns-then-is_err-clause-lines g c =
     let counted = machine (boxes_of c.requires.sound) in
     let (sound, done, text, lines, before, written) = c.loop-rest.invariant in
-    let (front, back, split, unwritten, more) = writes_failed _ _ _ c.tell_line.result c.tell_line.ensures (sym c.is_err.ensures.value ∙ c.if-is_err.true) in
+    let (front, back, split, unwritten, more) = writes_failed _ _ _ c.print_line.result c.print_line.ensures (sym c.is_err.ensures.value ∙ c.if-is_err.true) in
     record {
       earlier = done;
       line = c.next_line.result.0.now;
@@ -26,13 +26,13 @@ returns-then-is_err-clause-runs g c =
       text = text;
       names = names_of c.loop-rest.names;
       mid = counted c.loop-rest.counter;
-      said = option_map said_text c.speak-said.result;
-      names_after = names_of c.speak-said.new.names;
+      reply = option_map reply_text c.carry_out_line-reply.result;
+      names_after = names_of c.carry_out_line-reply.new.names;
       front = front;
       back = back;
       split = lines ∙ ap (λ x. done ++ x) c.next_line.ensures.lines;
       transcript = before;
-      carried = c.speak-said.ensures.becomes;
+      carried = c.carry_out_line-reply.ensures.becomes;
       cut = split;
       unwritten = unwritten;
       written = Appends-trans _ _ _ _ _ written more;
@@ -42,11 +42,11 @@ pub loop-rest-preserved : goal.loop-rest-preserved
 loop-rest-preserved g c =
     let counted = machine (boxes_of c.requires.sound) in
     let (sound, done, text, lines, before, written) = c.loop-rest.invariant in
-    let more = writes_done _ _ _ c.tell_line.result c.tell_line.ensures (sym c.is_err.ensures.value ∙ c.if-is_err.false) in
-    (c.speak-said.ensures.sound, done ++ c.next_line.result.0.now ∷ [], text ++ printed (option_map said_text c.speak-said.result), lines_more (lines_of c.args.input.now) done c.loop-rest.rest.now c.next_line.result.0.now c.next_line.result.1.now lines c.next_line.ensures.lines, session_more (counted c.args.counter.now) done text (names_of c.loop-rest.names) (counted c.loop-rest.counter) c.next_line.result.0.now (option_map said_text c.speak-said.result) (names_of c.speak-said.new.names) (counted c.speak-said.new.counter) before c.speak-said.ensures.becomes, Appends-trans _ _ _ _ _ written more)
+    let more = writes_done _ _ _ c.print_line.result c.print_line.ensures (sym c.is_err.ensures.value ∙ c.if-is_err.false) in
+    (c.carry_out_line-reply.ensures.sound, done ++ c.next_line.result.0.now ∷ [], text ++ printed (option_map reply_text c.carry_out_line-reply.result), lines_more (lines_of c.args.input.now) done c.loop-rest.rest.now c.next_line.result.0.now c.next_line.result.1.now lines c.next_line.ensures.lines, session_more (counted c.args.counter.now) done text (names_of c.loop-rest.names) (counted c.loop-rest.counter) c.next_line.result.0.now (option_map reply_text c.carry_out_line-reply.result) (names_of c.carry_out_line-reply.new.names) (counted c.carry_out_line-reply.new.counter) before c.carry_out_line-reply.ensures.becomes, Appends-trans _ _ _ _ _ written more)
 
-pub returns-clause-runs : goal.returns-clause-runs
-returns-clause-runs g c =
+pub returns-clause-lines : goal.returns-clause-lines
+returns-clause-lines g c =
     let counted = machine (boxes_of c.requires.sound) in
     let (sound, done, text, lines, before, written) = c.loop-rest.invariant in
     let empty : length c.loop-rest.rest.now ≡ 0 = search rules in

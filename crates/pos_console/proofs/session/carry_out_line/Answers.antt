@@ -2,7 +2,7 @@ use Rattle.std.proofs.Common.{sym, ◌∙◌}
 use Rattle.pos_counter.specs.Counters.{machine, boxes_of}
 use Rattle.pos_console.specs.Names.{names_of}
 use Rattle.pos_console.proofs.Sessions.{becomes_unkept}
-use Rattle.pos_console.proofs.session.speak.Goals as goal
+use Rattle.pos_console.proofs.session.carry_out_line.Goals as goal
 
 pub returns-in-Err-NoMemory-clause-becomes : goal.returns-in-Err-NoMemory-clause-becomes
 returns-in-Err-NoMemory-clause-becomes g c =

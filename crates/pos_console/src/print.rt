@@ -1,9 +1,9 @@
 ghost use Rattle.std.specs.Prelude.{◌≡◌, ◌++◌, ◌∷◌, [], codes, flat_map};
 ghost use Rattle.std.specs.Fmt.{signed_decimal};
 ghost use Rattle.pos_console.specs.Writing.{Writes};
-ghost use Rattle.pos_console.specs.Text.{answer_text, hex_text, event_text, delivered_text, plant_text, said_text};
+ghost use Rattle.pos_console.specs.Text.{answer_text, hex_text, event_text, delivered_text, plant_text, reply_text};
 
-use crate::said::Said;
+use crate::reply::Reply;
 use crate::write::{WriteFault, write_bytes, write_hex};
 use itoa::Buffer;
 use pos_service::{Answer, Code, Event, Locus, Plant, Snapshot, Value};
@@ -19,7 +19,8 @@ fn write_parts<W: Write>(writer: &mut W, parts: &[&str]) -> Result<(), WriteFaul
     Ok(())
 }
 
-fn tell_bytes<W: Write>(writer: &mut W, bytes: &[u8]) -> Result<(), WriteFault>
+/// Writes `ok` and bytes.
+fn print_bytes<W: Write>(writer: &mut W, bytes: &[u8]) -> Result<(), WriteFault>
     ensures { Writes (W.contents writer.old) (W.contents writer.new) (codes "ok " ++ hex_text bytes.now ++ 10 ∷ []) result }
 {
     if bytes.is_empty() {
@@ -30,7 +31,8 @@ fn tell_bytes<W: Write>(writer: &mut W, bytes: &[u8]) -> Result<(), WriteFault>
     write_parts(writer, &["\n"])
 }
 
-fn tell_pair<W: Write>(writer: &mut W, first: i128, second: i128) -> Result<(), WriteFault>
+/// Writes `ok` and two numbers.
+fn print_pair<W: Write>(writer: &mut W, first: i128, second: i128) -> Result<(), WriteFault>
     ensures { Writes (W.contents writer.old) (W.contents writer.new) (codes "ok " ++ (signed_decimal first ++ (codes " " ++ (signed_decimal second ++ 10 ∷ [])))) result }
 {
     let mut first_buffer = Buffer::new();
@@ -40,7 +42,8 @@ fn tell_pair<W: Write>(writer: &mut W, first: i128, second: i128) -> Result<(), 
     write_parts(writer, &["ok ", first, " ", second, "\n"])
 }
 
-fn tell_value<W: Write>(writer: &mut W, value: Value) -> Result<(), WriteFault>
+/// Writes `ok` and a value.
+fn print_value<W: Write>(writer: &mut W, value: Value) -> Result<(), WriteFault>
     ensures { Writes (W.contents writer.old) (W.contents writer.new) (answer_text (Answer.Done value) ++ 10 ∷ []) result }
 {
     match value {
@@ -51,12 +54,13 @@ fn tell_value<W: Write>(writer: &mut W, value: Value) -> Result<(), WriteFault>
             let mut buffer = Buffer::new();
             write_parts(writer, &["ok ", buffer.format(number), "\n"])
         }
-        Value::Pair(first, second) => tell_pair(writer, first, second),
-        Value::Bytes(bytes) => tell_bytes(writer, bytes.as_slice()),
+        Value::Pair(first, second) => print_pair(writer, first, second),
+        Value::Bytes(bytes) => print_bytes(writer, bytes.as_slice()),
     }
 }
 
-fn tell_refusal<W: Write>(writer: &mut W, code: Code, extended: u32) -> Result<(), WriteFault>
+/// Writes `err` and a result code, and the extended code behind E_EXTENDED.
+fn print_refusal<W: Write>(writer: &mut W, code: Code, extended: u32) -> Result<(), WriteFault>
     ensures { Writes (W.contents writer.old) (W.contents writer.new) (answer_text (Answer.Refused code extended) ++ 10 ∷ []) result }
 {
     let mut buffer = Buffer::new();
@@ -71,16 +75,18 @@ fn tell_refusal<W: Write>(writer: &mut W, code: Code, extended: u32) -> Result<(
     }
 }
 
-fn tell_answer<W: Write>(writer: &mut W, answer: Answer) -> Result<(), WriteFault>
+/// Writes what a call is answered.
+fn print_answer<W: Write>(writer: &mut W, answer: Answer) -> Result<(), WriteFault>
     ensures { Writes (W.contents writer.old) (W.contents writer.new) (answer_text answer ++ 10 ∷ []) result }
 {
     match answer {
-        Answer::Done(value) => tell_value(writer, value),
-        Answer::Refused(code, extended) => tell_refusal(writer, code, extended),
+        Answer::Done(value) => print_value(writer, value),
+        Answer::Refused(code, extended) => print_refusal(writer, code, extended),
     }
 }
 
-fn tell_error<W: Write>(
+/// Writes an ErrorEvent.
+fn print_error<W: Write>(
     writer: &mut W,
     code: Code,
     extended: u32,
@@ -100,7 +106,8 @@ fn tell_error<W: Write>(
     )
 }
 
-fn tell_event<W: Write>(writer: &mut W, event: Event) -> Result<(), WriteFault>
+/// Writes an event that is delivered.
+fn print_event<W: Write>(writer: &mut W, event: Event) -> Result<(), WriteFault>
     ensures { Writes (W.contents writer.old) (W.contents writer.new) (event_text event ++ 10 ∷ []) result }
 {
     match event {
@@ -112,7 +119,7 @@ fn tell_event<W: Write>(writer: &mut W, event: Event) -> Result<(), WriteFault>
             )
         }
         Event::Data => write_parts(writer, &["event DataEvent 0\n"]),
-        Event::Error(code, extended, locus) => tell_error(writer, code, extended, locus),
+        Event::Error(code, extended, locus) => print_error(writer, code, extended, locus),
         Event::OutputComplete(id) => {
             let mut buffer = Buffer::new();
             write_parts(
@@ -123,16 +130,18 @@ fn tell_event<W: Write>(writer: &mut W, event: Event) -> Result<(), WriteFault>
     }
 }
 
-fn tell_delivered<W: Write>(writer: &mut W, event: Option<Event>) -> Result<(), WriteFault>
+/// Writes the event that was delivered, or that there was none.
+fn print_delivered<W: Write>(writer: &mut W, event: Option<Event>) -> Result<(), WriteFault>
     ensures { Writes (W.contents writer.old) (W.contents writer.new) (delivered_text event ++ 10 ∷ []) result }
 {
     match event {
-        Some(event) => tell_event(writer, event),
+        Some(event) => print_event(writer, event),
         None => write_parts(writer, &["none\n"]),
     }
 }
 
-fn tell_plant<W: Write>(writer: &mut W, snapshot: Snapshot) -> Result<(), WriteFault>
+/// Writes what a device is physically.
+fn print_plant<W: Write>(writer: &mut W, snapshot: Snapshot) -> Result<(), WriteFault>
     ensures { Writes (W.contents writer.old) (W.contents writer.new) (plant_text snapshot.0 ++ 10 ∷ []) result }
 {
     match snapshot.0 {
@@ -141,20 +150,20 @@ fn tell_plant<W: Write>(writer: &mut W, snapshot: Snapshot) -> Result<(), WriteF
     }
 }
 
-/// Writes what is said of a line, as a line of its own. It takes no memory.
-pub fn tell<W: Write>(writer: &mut W, said: Said) -> Result<(), WriteFault>
-    ensures { Writes (W.contents writer.old) (W.contents writer.new) (said_text said ++ 10 ∷ []) result }
+/// Writes the reply to a line, as a line of its own. It takes no memory.
+pub fn print_reply<W: Write>(writer: &mut W, reply: Reply) -> Result<(), WriteFault>
+    ensures { Writes (W.contents writer.old) (W.contents writer.new) (reply_text reply ++ 10 ∷ []) result }
 {
-    match said {
-        Said::BadLine => write_parts(writer, &["bad line\n"]),
-        Said::BadControl => write_parts(writer, &["bad control\n"]),
-        Said::BadDevice => write_parts(writer, &["bad device\n"]),
-        Said::BadInput => write_parts(writer, &["bad input\n"]),
-        Said::Memory => write_parts(writer, &["memory\n"]),
-        Said::Full => write_parts(writer, &["refused Full\n"]),
-        Said::Ok => write_parts(writer, &["ok\n"]),
-        Said::Answered(answer) => tell_answer(writer, answer),
-        Said::Delivered(event) => tell_delivered(writer, event),
-        Said::Shown(snapshot) => tell_plant(writer, snapshot),
+    match reply {
+        Reply::BadLine => write_parts(writer, &["bad line\n"]),
+        Reply::BadControl => write_parts(writer, &["bad control\n"]),
+        Reply::BadDevice => write_parts(writer, &["bad device\n"]),
+        Reply::BadInput => write_parts(writer, &["bad input\n"]),
+        Reply::Memory => write_parts(writer, &["memory\n"]),
+        Reply::Full => write_parts(writer, &["refused Full\n"]),
+        Reply::Ok => write_parts(writer, &["ok\n"]),
+        Reply::Answered(answer) => print_answer(writer, answer),
+        Reply::Delivered(event) => print_delivered(writer, event),
+        Reply::Shown(snapshot) => print_plant(writer, snapshot),
     }
 }

@@ -1,8 +1,8 @@
 use pos_service::{Answer, Event, Snapshot};
 
-/// What is said of a line.
+/// The reply to a line.
 #[derive(Debug, Drop)]
-pub enum Said {
+pub enum Reply {
     /// Its shape is wrong.
     BadLine,
     /// The name of the control is in use, or unknown.

@@ -4,7 +4,7 @@ use Rattle.std.proofs.lemmas.Result.{err_from_is_err_and}
 use Rattle.hex.specs.Hex.{encode_lower}
 use Rattle.pos_console.specs.Text.{hex_text}
 use Rattle.pos_console.proofs.WriteLemmas.{longer, failed_behind, behind}
-use Rattle.pos_console.proofs.tell.tell_bytes.Goals as goal
+use Rattle.pos_console.proofs.print.print_bytes.Goals as goal
 
 -- where there are bytes their text is their hex
 some_bytes : (bytes : List ℕ) → false ≡ nat_eq (length bytes) 0 → hex_text bytes ≡ encode_lower bytes

@@ -1,7 +1,7 @@
 use Rattle.std.proofs.lemmas.Result.{err_from_is_err_and}
 use Rattle.std.proofs.KnownBytes.{Appends-trans}
 use Rattle.pos_console.proofs.WriteLemmas.{longer, cut_at}
-use Rattle.pos_console.proofs.tell.write_parts.Goals as goal
+use Rattle.pos_console.proofs.print.write_parts.Goals as goal
 
 pub returns-in_err-write_bytes : goal.returns-in_err-write_bytes
 returns-in_err-write_bytes g c =

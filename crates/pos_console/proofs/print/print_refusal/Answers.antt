@@ -1,7 +1,7 @@
 use Rattle.std.proofs.Common.{◌≡◌, ◌++◌, [], ℕ, List, append_assoc, append-nil, subst, sym}
 use Rattle.std.specs.Prelude.{codes}
 use Rattle.pos_console.specs.Writing.{Writes}
-use Rattle.pos_console.proofs.tell.tell_refusal.Goals as goal
+use Rattle.pos_console.proofs.print.print_refusal.Goals as goal
 
 -- the parts of the line one after another
 refusal_line : (a b s c n : List ℕ) → (a ++ b ++ (s ++ c)) ++ n ≡ a ++ (b ++ (s ++ (c ++ (n ++ []))))
