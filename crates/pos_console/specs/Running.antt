@@ -61,7 +61,39 @@ pub record RunsScript (old : Machine) (left before after : Option (List ℕ)) (r
 abbrev pub start : Machine
 start = beginning (drawer_state false false ∷ [])
 
--- What the program does with a script: a run from where it begins.
-pub record Serves (left before after : Option (List ℕ)) (result : Result (Unit {0}) RunFault) : Type 0 where
+-- What a run over the program's counter leaves of a writer.
+pub record RunsOverDrawer (left before after : Option (List ℕ)) (result : Result (Unit {0}) RunFault) : Type 0 where
   pub end : Machine
   pub run : RunsScript start left before after result end
+
+-- A front of the lines was carried out, and a front of their text is written.
+pub record ReachesFront (old : Machine) (lines : List (List ℕ)) (before after : Option (List ℕ)) : Type 0 where
+  pub done : List (List ℕ)
+  pub later : List (List ℕ)
+  pub front : List ℕ
+  pub back : List ℕ
+  pub names : ControlNames
+  pub end : Machine
+  pub split : lines ≡ done ++ later
+  pub transcript : Transcript old done (front ++ back) names end
+  pub written : Appends before after front
+
+-- what the program leaves of its writer, with what that holds back, for a script of these bytes
+abbrev pub ServeLeaves : List ℕ → Option (List ℕ) → Option (List ℕ) → Result (Unit {0}) RunFault → Type 0
+ServeLeaves bytes before after (Ok u) = (end : Machine) × Finishes start (lines_of bytes) before after end
+ServeLeaves bytes before after (Err fault.Read) = Keeps before after
+ServeLeaves bytes before after (Err fault.Write) = ReachesFront start (lines_of bytes) before after
+ServeLeaves bytes before after (Err fault.NoMemory) = Keeps before after
+
+-- What the program does with a script: a run from where it begins.
+pub record Serves (left before after : Option (List ℕ)) (result : Result (Unit {0}) RunFault) : Type 0 where
+  pub input : List ℕ
+  pub whole : ReadsWhole left input result
+  pub leaves : ServeLeaves input before after result
+
+-- the status that the program ends with
+abbrev pub status : Result (Unit {0}) RunFault → ℕ
+status (Ok u) = 0
+status (Err fault.Read) = 5
+status (Err fault.Write) = 5
+status (Err fault.NoMemory) = 6

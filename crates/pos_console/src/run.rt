@@ -1,4 +1,5 @@
-ghost use Rattle.std.specs.Prelude.{◌≡◌, ◌≢◌, IfOk, IfErr, IfSome, option_map};
+ghost use Rattle.std.specs.Prelude.{◌≡◌, option_map};
+ghost use Rattle.pos_console.specs.declared.run.RunFault.TheVariants as run_fault;
 ghost use Rattle.pos_counter.specs.Counters.{machine, Sound};
 ghost use Rattle.pos_console.specs.Running.{RunsScript};
 ghost use Rattle.pos_console.specs.Carried.{CarriesOutLines};
@@ -8,12 +9,13 @@ ghost use Rattle.pos_console.specs.Writing.{Writes};
 
 use crate::lines::next_line;
 use crate::names::Names;
+use crate::read::{ReadFault, read_input};
 use crate::reply::Reply;
 use crate::session::carry_out_line;
 use crate::print::print_reply;
 use crate::write::WriteFault;
 use pos_counter::Counter;
-use pos_service::{PeripheralBox, Stated};
+use pos_service::{NoMemory, PeripheralBox, Stated};
 use std::alloc::Global;
 use std::io::{Read, Write};
 use thiserror::Error;
@@ -32,28 +34,20 @@ pub enum RunFault {
     NoMemory,
 }
 
-/// How often is read for the whole input, at most.
-const MOST_READS: u64 = 1_073_741_824;
+impl From<ReadFault> for RunFault {
+    ghost from_gives = { λ _ fault. fault ≡ run_fault.Read };
 
-/// Reads all there is. A read that fails, an interrupted one too, is a fault, and so is an input that doesn't end.
-fn read_input<R: Read>(alloc: Global, reader: &mut R) -> Result<Vec<u8>, RunFault>
-    ensures input { IfOk result (λ input. IfSome (R.remaining reader.old) (λ bytes. bytes ≡ input.items)) }
-    ensures fault { IfErr result (λ fault. fault ≢ RunFault.Write) }
-{
-    let mut input = Vec::new(alloc);
-    let mut buffer = [0u8; 65_536];
-    for _ in 0..MOST_READS {
-        match reader.read(&mut buffer) {
-            Ok(0) => return Ok(input),
-            Ok(count) => {
-                if input.extend_from_slice(&buffer[..count]).is_err() {
-                    return Err(RunFault::NoMemory);
-                }
-            }
-            Err(_) => return Err(RunFault::Read),
-        }
+    fn from(_: ReadFault) -> RunFault {
+        RunFault::Read
     }
-    Err(RunFault::Read)
+}
+
+impl From<NoMemory> for RunFault {
+    ghost from_gives = { λ _ fault. fault ≡ run_fault.NoMemory };
+
+    fn from(_: NoMemory) -> RunFault {
+        RunFault::NoMemory
+    }
 }
 
 /// Writes the reply to a line, if there is one.
@@ -66,7 +60,7 @@ fn print_line<W: Write>(writer: &mut W, reply: Option<Reply>) -> Result<(), Writ
     }
 }
 
-/// CarriesOut out the lines of a script.
+/// Carries out the lines of a script.
 fn carry_out_lines<W: Write>(
     alloc: Global,
     input: &[u8],
@@ -105,12 +99,9 @@ pub fn run<R: Read, W: Write>(
         (W.contents writer.old) (W.contents writer.new) result (machine ⟦<PeripheralBox as Stated>⟧ counter.new) }
     ensures sound { Sound ⟦<PeripheralBox as Stated>⟧ counter.new }
 {
-    let input = match read_input(alloc, reader) {
-        Ok(input) => input,
-        Err(fault) => return Err(fault),
-    };
+    let input = read_input(alloc, reader)?;
     match carry_out_lines(alloc, input.as_slice(), writer, counter) {
         Ok(()) => Ok(()),
-        Err(_) => Err(RunFault::Write),
+        Err(WriteFault) => Err(RunFault::Write),
     }
 }
