@@ -3,7 +3,7 @@ use Rattle.std.proofs.Common.{◌≡◌, ◌++◌, ◌∷◌, ◌∙◌, [], ℕ
 use Rattle.std.specs.Prelude.{Result, Ok, Err}
 use Rattle.std.specs.Io.KnownBytes.{Keeps}
 use Rattle.std.proofs.KnownBytes.{Appends-kept}
-use Rattle.pos_service.specs.Machine.{Machine}
+use Rattle.pos_counter.specs.Machine.{Machine}
 use Rattle.pos_console.specs.declared.run.RunFault.{RunFault}
 use Rattle.pos_console.specs.declared.run.RunFault.TheVariants as fault
 use Rattle.pos_console.specs.Lines.{lines_of}

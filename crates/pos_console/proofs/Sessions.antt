@@ -3,8 +3,8 @@ use Rattle.std.proofs.Common.{◌≡◌, ◌++◌, ◌∷◌, ◌∙◌, [], inl
 use Rattle.std.specs.Prelude.{◌⊎◌, is_some, MatchOption, codes, Result, Ok, Err, is_err, IsTrue}
 use Rattle.std.specs.Bool.{MatchBool}
 use Rattle.std.specs.Io.KnownBytes.{Appends}
-use Rattle.pos_service.specs.Machine.{Machine}
-use Rattle.pos_service.specs.Steps.{Request, Response, Step, Run}
+use Rattle.pos_counter.specs.Machine.{Machine}
+use Rattle.pos_counter.specs.Steps.{Request, Response, Step, Run}
 use Rattle.pos_console.specs.Lines.{lines_of, is_quiet}
 use Rattle.pos_console.specs.Arguments.{Reading}
 use Rattle.pos_console.specs.Commands.{Asking, asked_by}

@@ -1,7 +1,7 @@
 -- What the program does to a counter as it carries out lines (docs/CONSOLE.md, "Answers").
 use Rattle.std.specs.Prelude.{ℕ, List, Option, Some, Result, option_map, MatchResult}
 use Rattle.pos_service.specs.declared.peripheral_box.PeripheralBox.{PeripheralBox}
-use Rattle.pos_service.specs.declared.peripheral_box.Stated.{Ghosts}
+use Rattle.pos_service.specs.declared.peripheral_box.HasState.{Ghosts}
 use Rattle.pos_counter.specs.declared.counter.Counter.{Counter}
 use Rattle.pos_counter.specs.Counters.{machine}
 use Rattle.pos_console.specs.declared.names.Names.{Names}

@@ -1,9 +1,9 @@
 -- What a run of a script leaves (docs/CONSOLE.md, "The program").
 use Rattle.std.specs.Prelude.{◌≡◌, ◌++◌, ◌<◌, ◌∷◌, [], ℕ, false, length, List, Option, Result, Ok, Err, IfSome}
 use Rattle.std.specs.Io.KnownBytes.{Appends, Keeps}
-use Rattle.pos_service.specs.Machine.{Machine}
+use Rattle.pos_counter.specs.Machine.{Machine}
 use Rattle.pos_sims.specs.Drawers.{drawer_state}
-use Rattle.pos_counter.specs.Machines.{beginning}
+use Rattle.pos_counter.specs.Parts.{beginning}
 use Rattle.pos_console.specs.declared.run.RunFault.{RunFault}
 use Rattle.pos_console.specs.declared.run.RunFault.TheVariants as fault
 use Rattle.pos_console.specs.Lines.{lines_of}

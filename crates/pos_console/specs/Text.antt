@@ -13,7 +13,7 @@ use Rattle.pos_service.specs.declared.event.Event.TheVariants as event
 use Rattle.pos_service.specs.declared.plant.Plant.{Plant}
 use Rattle.pos_service.specs.declared.plant.Plant.TheVariants as plant
 use Rattle.pos_service.specs.Codes.{number_of, locus_number_of}
-use Rattle.pos_service.specs.Steps.{Response, Made, Full, Answered, TakenIn, NoDevice, WrongInput, Delivered, Shown, OutOfMemory}
+use Rattle.pos_counter.specs.Steps.{Response, Made, Full, Answered, TakenIn, NoDevice, WrongInput, Delivered, Shown, OutOfMemory}
 use Rattle.pos_console.specs.declared.reply.Reply.{Reply}
 use Rattle.pos_console.specs.declared.reply.Reply.TheVariants as reply
 

@@ -1,8 +1,8 @@
 -- What a script asks of the machine, and what it prints (docs/CONSOLE.md, "Answers").
 use Rattle.std.specs.Prelude.{◌≡◌, ℕ, ◌⊎◌, ◌++◌, ◌∷◌, [], Bool, true, false, List, Option, Some, None, MatchOption, IsTrue, is_some, option_map, codes, if◌then◌else◌}
 use Rattle.std.specs.Bool.{MatchBool}
-use Rattle.pos_service.specs.Machine.{Machine}
-use Rattle.pos_service.specs.Steps.{Request, Response, Run, NewControl, CallOf, InputTo, Deliver, Snapshot, Made}
+use Rattle.pos_counter.specs.Machine.{Machine}
+use Rattle.pos_counter.specs.Steps.{Request, Response, Run, NewControl, CallOf, InputTo, Deliver, Snapshot, Made}
 use Rattle.pos_console.specs.Lines.{is_quiet}
 use Rattle.pos_console.specs.Arguments.{Reading}
 use Rattle.pos_console.specs.Commands.{Asking, NewLine, CallLine, InputLine, DeliverLine, ShowLine, asked_by}

@@ -23,7 +23,7 @@ mod words;
 mod write;
 
 use pos_counter::Counter;
-use pos_service::{Peripheral, PeripheralBox, Stated};
+use pos_service::{Peripheral, PeripheralBox, HasState};
 use pos_sims::PlainDrawer;
 use run::{RunFault, run};
 use std::alloc::Global;
@@ -43,7 +43,7 @@ fn park_all(mut boxes: Vec<PeripheralBox>)
 /// The box of a closed drawer that is in service.
 fn closed_drawer(device: Box<dyn Peripheral>) -> PeripheralBox
     requires { state device ≡ drawer_state false false }
-    ensures { ⟦<PeripheralBox as Stated>⟧.state result ≡ drawer_state false false }
+    ensures { ⟦<PeripheralBox as HasState>⟧.state result ≡ drawer_state false false }
 {
     PeripheralBox::new(device)
 }

@@ -1,6 +1,6 @@
 ghost use Rattle.std.specs.Prelude.{◌≡◌, option_map};
 ghost use Rattle.pos_console.specs.declared.run.RunFault.TheVariants as run_fault;
-ghost use Rattle.pos_counter.specs.Counters.{machine, Sound};
+ghost use Rattle.pos_counter.specs.Counters.{machine, IsCounterSound};
 ghost use Rattle.pos_console.specs.Running.{RunsScript};
 ghost use Rattle.pos_console.specs.Carried.{CarriesOutLines};
 ghost use Rattle.pos_console.specs.Transcript.{printed};
@@ -15,7 +15,7 @@ use crate::session::carry_out_line;
 use crate::print::print_reply;
 use crate::write::WriteFault;
 use pos_counter::Counter;
-use pos_service::{NoMemory, PeripheralBox, Stated};
+use pos_service::{NoMemory, PeripheralBox, HasState};
 use std::alloc::Global;
 use std::io::{Read, Write};
 use thiserror::Error;
@@ -67,10 +67,10 @@ fn carry_out_lines<W: Write>(
     writer: &mut W,
     counter: &mut Counter,
 ) -> Result<(), WriteFault>
-    requires sound { Sound ⟦<PeripheralBox as Stated>⟧ counter.old }
-    ensures lines { CarriesOutLines ⟦<PeripheralBox as Stated>⟧ counter.old input.now
+    requires sound { IsCounterSound ⟦<PeripheralBox as HasState>⟧ counter.old }
+    ensures lines { CarriesOutLines ⟦<PeripheralBox as HasState>⟧ counter.old input.now
         (W.contents writer.old) (W.contents writer.new) result counter.new }
-    ensures sound { Sound ⟦<PeripheralBox as Stated>⟧ counter.new }
+    ensures sound { IsCounterSound ⟦<PeripheralBox as HasState>⟧ counter.new }
 {
     let mut names = Names::new(alloc);
     let mut rest = input;
@@ -94,10 +94,10 @@ pub fn run<R: Read, W: Write>(
     writer: &mut W,
     counter: &mut Counter,
 ) -> Result<(), RunFault>
-    requires sound { Sound ⟦<PeripheralBox as Stated>⟧ counter.old }
-    ensures script { RunsScript (machine ⟦<PeripheralBox as Stated>⟧ counter.old) (R.remaining reader.old)
-        (W.contents writer.old) (W.contents writer.new) result (machine ⟦<PeripheralBox as Stated>⟧ counter.new) }
-    ensures sound { Sound ⟦<PeripheralBox as Stated>⟧ counter.new }
+    requires sound { IsCounterSound ⟦<PeripheralBox as HasState>⟧ counter.old }
+    ensures script { RunsScript (machine ⟦<PeripheralBox as HasState>⟧ counter.old) (R.remaining reader.old)
+        (W.contents writer.old) (W.contents writer.new) result (machine ⟦<PeripheralBox as HasState>⟧ counter.new) }
+    ensures sound { IsCounterSound ⟦<PeripheralBox as HasState>⟧ counter.new }
 {
     let input = read_input(alloc, reader)?;
     match carry_out_lines(alloc, input.as_slice(), writer, counter) {

@@ -1,4 +1,4 @@
-ghost use Rattle.pos_counter.specs.Counters.{Sound};
+ghost use Rattle.pos_counter.specs.Counters.{IsCounterSound};
 ghost use Rattle.pos_console.specs.Commands.{NewLine, CallLine, InputLine, DeliverLine, ShowLine, asking};
 ghost use Rattle.pos_console.specs.Carried.{CarriesOutAsking, CarriesOutAtDevice, CarriesOutLine};
 
@@ -8,15 +8,15 @@ use crate::lines::is_quiet_line;
 use crate::names::Names;
 use crate::reply::Reply;
 use pos_counter::{ControlFault, Counter, InputFault, SnapshotFault};
-use pos_service::{Call, Category, ErrorReply, Input, PeripheralBox, Stated};
+use pos_service::{Call, Category, ErrorReply, Input, PeripheralBox, HasState};
 use std::alloc::Global;
 
 /// A new control, under a name that no control has.
 fn new_control(counter: &mut Counter, names: &mut Names, name: &[u8], category: Category) -> Reply
-    requires sound { Sound ⟦<PeripheralBox as Stated>⟧ counter.old }
-    ensures asks { CarriesOutAsking ⟦<PeripheralBox as Stated>⟧ counter.old names.old
+    requires sound { IsCounterSound ⟦<PeripheralBox as HasState>⟧ counter.old }
+    ensures asks { CarriesOutAsking ⟦<PeripheralBox as HasState>⟧ counter.old names.old
         (NewLine name.now category) result names.new counter.new }
-    ensures sound { Sound ⟦<PeripheralBox as Stated>⟧ counter.new }
+    ensures sound { IsCounterSound ⟦<PeripheralBox as HasState>⟧ counter.new }
 {
     if names.find(name).is_some() {
         return Reply::BadControl;
@@ -36,10 +36,10 @@ fn new_control(counter: &mut Counter, names: &mut Names, name: &[u8], category: 
 
 /// A call on the control of a name.
 fn call_control(counter: &mut Counter, names: &Names, name: &[u8], call: &Call) -> Reply
-    requires sound { Sound ⟦<PeripheralBox as Stated>⟧ counter.old }
-    ensures asks { CarriesOutAsking ⟦<PeripheralBox as Stated>⟧ counter.old names.now
+    requires sound { IsCounterSound ⟦<PeripheralBox as HasState>⟧ counter.old }
+    ensures asks { CarriesOutAsking ⟦<PeripheralBox as HasState>⟧ counter.old names.now
         (CallLine name.now call.now) result names.now counter.new }
-    ensures sound { Sound ⟦<PeripheralBox as Stated>⟧ counter.new }
+    ensures sound { IsCounterSound ⟦<PeripheralBox as HasState>⟧ counter.new }
 {
     let Some(number) = names.find(name) else {
         return Reply::BadControl;
@@ -52,10 +52,10 @@ fn call_control(counter: &mut Counter, names: &Names, name: &[u8], call: &Call) 
 
 /// The delivery of an event to the control of a name.
 fn deliver_event(counter: &mut Counter, names: &Names, name: &[u8], reply: ErrorReply) -> Reply
-    requires sound { Sound ⟦<PeripheralBox as Stated>⟧ counter.old }
-    ensures asks { CarriesOutAsking ⟦<PeripheralBox as Stated>⟧ counter.old names.now
+    requires sound { IsCounterSound ⟦<PeripheralBox as HasState>⟧ counter.old }
+    ensures asks { CarriesOutAsking ⟦<PeripheralBox as HasState>⟧ counter.old names.now
         (DeliverLine name.now reply) result names.now counter.new }
-    ensures sound { Sound ⟦<PeripheralBox as Stated>⟧ counter.new }
+    ensures sound { IsCounterSound ⟦<PeripheralBox as HasState>⟧ counter.new }
 {
     match names.find(name) {
         Some(number) => Reply::Delivered(counter.deliver(number, reply)),
@@ -65,9 +65,9 @@ fn deliver_event(counter: &mut Counter, names: &Names, name: &[u8], reply: Error
 
 /// What happens at a device.
 fn input_device(counter: &mut Counter, name: &[u8], input: &Input) -> Reply
-    requires sound { Sound ⟦<PeripheralBox as Stated>⟧ counter.old }
-    ensures asks { CarriesOutAtDevice ⟦<PeripheralBox as Stated>⟧ counter.old (InputLine name.now input.now) result counter.new }
-    ensures sound { Sound ⟦<PeripheralBox as Stated>⟧ counter.new }
+    requires sound { IsCounterSound ⟦<PeripheralBox as HasState>⟧ counter.old }
+    ensures asks { CarriesOutAtDevice ⟦<PeripheralBox as HasState>⟧ counter.old (InputLine name.now input.now) result counter.new }
+    ensures sound { IsCounterSound ⟦<PeripheralBox as HasState>⟧ counter.new }
 {
     match counter.input(name, input) {
         Ok(()) => Reply::Ok,
@@ -79,8 +79,8 @@ fn input_device(counter: &mut Counter, name: &[u8], input: &Input) -> Reply
 
 /// What a device is physically.
 fn show_device(counter: &Counter, name: &[u8]) -> Reply
-    requires sound { Sound ⟦<PeripheralBox as Stated>⟧ counter.now }
-    ensures { CarriesOutAtDevice ⟦<PeripheralBox as Stated>⟧ counter.now (ShowLine name.now) result counter.now }
+    requires sound { IsCounterSound ⟦<PeripheralBox as HasState>⟧ counter.now }
+    ensures { CarriesOutAtDevice ⟦<PeripheralBox as HasState>⟧ counter.now (ShowLine name.now) result counter.now }
 {
     match counter.snapshot(name) {
         Ok(snapshot) => Reply::Shown(snapshot),
@@ -91,10 +91,10 @@ fn show_device(counter: &Counter, name: &[u8]) -> Reply
 
 /// Carries out what a line asks, and replies to it.
 fn carry_out_command(counter: &mut Counter, names: &mut Names, command: Command<'_>) -> Reply
-    requires sound { Sound ⟦<PeripheralBox as Stated>⟧ counter.old }
-    ensures asks { CarriesOutAsking ⟦<PeripheralBox as Stated>⟧ counter.old names.old
+    requires sound { IsCounterSound ⟦<PeripheralBox as HasState>⟧ counter.old }
+    ensures asks { CarriesOutAsking ⟦<PeripheralBox as HasState>⟧ counter.old names.old
         (asking command.entry) result names.new counter.new }
-    ensures sound { Sound ⟦<PeripheralBox as Stated>⟧ counter.new }
+    ensures sound { IsCounterSound ⟦<PeripheralBox as HasState>⟧ counter.new }
 {
     match command {
         Command::New(name, category) => new_control(counter, names, name, category),
@@ -107,9 +107,9 @@ fn carry_out_command(counter: &mut Counter, names: &mut Names, command: Command<
 
 /// CarriesOut out a line, and says what it prints, if it prints anything.
 pub fn carry_out_line(alloc: Global, counter: &mut Counter, names: &mut Names, line: &[u8]) -> Option<Reply>
-    requires sound { Sound ⟦<PeripheralBox as Stated>⟧ counter.old }
-    ensures becomes { CarriesOutLine ⟦<PeripheralBox as Stated>⟧ counter.old names.old line.now result names.new counter.new }
-    ensures sound { Sound ⟦<PeripheralBox as Stated>⟧ counter.new }
+    requires sound { IsCounterSound ⟦<PeripheralBox as HasState>⟧ counter.old }
+    ensures becomes { CarriesOutLine ⟦<PeripheralBox as HasState>⟧ counter.old names.old line.now result names.new counter.new }
+    ensures sound { IsCounterSound ⟦<PeripheralBox as HasState>⟧ counter.new }
 {
     if is_quiet_line(line) {
         return None;

@@ -1,6 +1,6 @@
 use Rattle.std.proofs.Common.{◌≡◌, ◌∙◌, ◌∷◌, ◌++◌, [], false, ap, subst}
 use Rattle.pos_sims.specs.Drawers.{drawer_state}
-use Rattle.pos_counter.specs.Machines.{beginning}
+use Rattle.pos_counter.specs.Parts.{beginning}
 use Rattle.pos_counter.specs.Counters.{machine, states_of, boxes_of}
 use Rattle.pos_console.specs.Running.{RunsScript}
 use Rattle.pos_console.proofs.run_over_drawer.Goals as goal

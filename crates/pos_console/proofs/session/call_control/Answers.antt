@@ -1,6 +1,6 @@
 use Rattle.std.proofs.Common.{sym, ap}
 use Rattle.std.specs.Prelude.{option_map}
-use Rattle.pos_service.specs.Steps.{CallOf, Answered, OutOfMemory}
+use Rattle.pos_counter.specs.Steps.{CallOf, Answered, OutOfMemory}
 use Rattle.pos_counter.specs.Counters.{machine, boxes_of}
 use Rattle.pos_console.specs.Commands.{CallLine}
 use Rattle.pos_console.specs.Names.{names_of}

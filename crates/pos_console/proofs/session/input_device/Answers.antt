@@ -1,5 +1,5 @@
 use Rattle.std.proofs.Common.{refl}
-use Rattle.pos_service.specs.Steps.{InputTo, TakenIn, NoDevice, WrongInput, OutOfMemory}
+use Rattle.pos_counter.specs.Steps.{InputTo, TakenIn, NoDevice, WrongInput, OutOfMemory}
 use Rattle.pos_counter.specs.Counters.{machine, boxes_of}
 use Rattle.pos_console.specs.Commands.{InputLine}
 use Rattle.pos_console.proofs.Sessions.{asks_request}

@@ -1,6 +1,6 @@
 use Rattle.std.proofs.Common.{◌∙◌, ◌++◌, ◌∷◌, [], Some, None, sym, ap, cond}
 use Rattle.std.specs.Prelude.{is_some}
-use Rattle.pos_service.specs.Steps.{NewControl, Made, Full}
+use Rattle.pos_counter.specs.Steps.{NewControl, Made, Full}
 use Rattle.pos_counter.specs.Counters.{machine, boxes_of}
 use Rattle.pos_console.specs.Commands.{NewLine}
 use Rattle.pos_console.specs.Names.{names_of}
