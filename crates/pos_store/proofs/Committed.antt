@@ -31,8 +31,8 @@ pub either_stands : (files after : List File) (body next log : List ℕ) (sequen
     → outcome ≡ Ok after → (bytes : List ℕ) → HasEither body next sequence log bytes → StandsForOneOf (before_or_after files sequence outcome) bytes
 either_stands files after body next log sequence outcome spells applicable bytes either =
     rw applicable (⊎_elim
-    (λ old. inl (spells.before, old.image ∙ ap (λ (b : List ℕ). image.Stands b sequence) spells.spelled))
-    (λ new. inr (inl (spells.behind, new.image ∙ ap (λ (b : List ℕ). image.Stands b (sequence + 1)) spells.spelled_next)))
+    (λ old. inl (spells.before, old.image ∙ ap (λ (b : List ℕ). image.OneImage b sequence) spells.spelled))
+    (λ new. inr (inl (spells.behind, new.image ∙ ap (λ (b : List ℕ). image.OneImage b (sequence + 1)) spells.spelled_next)))
     either)
 
 -- a commit that met a fault of the disk

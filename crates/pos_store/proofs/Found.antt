@@ -15,22 +15,22 @@ use Rattle.pos_store.specs.declared.fault.StoreFault.{StoreFault}
 use Rattle.pos_store.specs.declared.fault.StoreFault.TheVariants as fault
 
 -- a disk without an image isn't damaged
-unformatted_alone : (standing : image.Standing) → standing ≡ image.Unformatted → IsDamaged standing → ⊥
-unformatted_alone image.Unformatted same damaged = damaged
-unformatted_alone image.Damaged same damaged = cc
-unformatted_alone (image.Stands body sequence) same damaged = cc
+unformatted_alone : (standing : image.ImageStanding) → standing ≡ image.NoImage → IsDamaged standing → ⊥
+unformatted_alone image.NoImage same damaged = damaged
+unformatted_alone image.DamagedImage same damaged = cc
+unformatted_alone (image.OneImage body sequence) same damaged = cc
 
 -- nor is one whose image's body spells files
-files_alone : (standing : image.Standing) (files : List File) (sequence : ℕ) → IsDirectory LAYOUT_1 files → standing ≡ image.Stands (spelling files) sequence → IsDamaged standing → ⊥
+files_alone : (standing : image.ImageStanding) (files : List File) (sequence : ℕ) → IsDirectory LAYOUT_1 files → standing ≡ image.OneImage (spelling files) sequence → IsDamaged standing → ⊥
 files_alone standing files sequence sound same damaged = subst IsDamaged same damaged (files, sound, refl)
 
 -- and neither has an image
-unformatted_no_files : {body : List ℕ} {sequence : ℕ} → image.Unformatted ≡ image.Stands body sequence → ⊥
+unformatted_no_files : {body : List ℕ} {sequence : ℕ} → image.NoImage ≡ image.OneImage body sequence → ⊥
 unformatted_no_files same = cc
 
 -- the same image spells the same files
 same_files : (files others : List File) (sequence after : ℕ) → IsDirectory LAYOUT_1 files → IsDirectory LAYOUT_1 others
-    → image.Stands (spelling files) sequence ≡ image.Stands (spelling others) after → Stands files sequence ≡ Stands others after
+    → image.OneImage (spelling files) sequence ≡ image.OneImage (spelling others) after → Stands files sequence ≡ Stands others after
 same_files files others sequence after sound also same =
     let spelled : spelling files ≡ spelling others = cc in
     let numbered : sequence ≡ after = cc in
@@ -39,13 +39,13 @@ same_files files others sequence after sound also same =
 
 pub one_standing : (bytes : List ℕ) (standing other : Standing) → StandsFor standing bytes → StandsFor other bytes → standing ≡ other
 one_standing bytes Unformatted Unformatted first second = refl
-one_standing bytes Unformatted Damaged first second = absurd (unformatted_alone (image.stands bytes) first second)
+one_standing bytes Unformatted Damaged first second = absurd (unformatted_alone (image.image_on bytes) first second)
 one_standing bytes Unformatted (Stands files sequence) first second = absurd (unformatted_no_files (sym first ∙ second.1))
-one_standing bytes Damaged Unformatted first second = absurd (unformatted_alone (image.stands bytes) second first)
+one_standing bytes Damaged Unformatted first second = absurd (unformatted_alone (image.image_on bytes) second first)
 one_standing bytes Damaged Damaged first second = refl
-one_standing bytes Damaged (Stands files sequence) first second = absurd (files_alone (image.stands bytes) files sequence second.0 second.1 first)
+one_standing bytes Damaged (Stands files sequence) first second = absurd (files_alone (image.image_on bytes) files sequence second.0 second.1 first)
 one_standing bytes (Stands files sequence) Unformatted first second = absurd (unformatted_no_files (sym second ∙ first.1))
-one_standing bytes (Stands files sequence) Damaged first second = absurd (files_alone (image.stands bytes) files sequence first.0 first.1 second)
+one_standing bytes (Stands files sequence) Damaged first second = absurd (files_alone (image.image_on bytes) files sequence first.0 first.1 second)
 one_standing bytes (Stands files sequence) (Stands others after) first second = same_files files others sequence after first.0 second.0 (sym first.1 ∙ second.1)
 
 -- what the bytes stand for is one of the candidates

@@ -7,7 +7,7 @@ use Rattle.pos_dir.specs.declared.limits.TheConstants.{LAYOUT_1}
 use Rattle.pos_disk.specs.State.{Watches, Rises}
 use Rattle.pos_disk.specs.declared.device.Disk.{Ghosts}
 use Rattle.pos_image.specs.Standing as image
-use Rattle.pos_image.specs.Standing.{stands}
+use Rattle.pos_image.specs.Standing.{image_on}
 use Rattle.pos_image.specs.declared.fault.ImageFault.{ImageFault}
 use Rattle.pos_image.specs.declared.fault.ImageFault.TheVariants as images
 use Rattle.pos_store.proofs.Found.{finds_so, recovers_one}
@@ -71,11 +71,11 @@ told_device images.NoMemory told tells is = cc
 told_device images.TooSmall told tells is = cc
 
 -- a damaged image is damage
-pub damaged_stands : (bytes : List ℕ) → stands bytes ≡ image.Damaged → StandsFor Damaged bytes
+pub damaged_stands : (bytes : List ℕ) → image_on bytes ≡ image.DamagedImage → StandsFor Damaged bytes
 damaged_stands bytes same = rw same tt
 
 -- and so is one whose body spells no directory
-pub no_body_stands : (bytes body : List ℕ) (sequence : ℕ) → stands bytes ≡ image.Stands body sequence → ¬ (IsBody LAYOUT_1 body) → StandsFor Damaged bytes
+pub no_body_stands : (bytes body : List ℕ) (sequence : ℕ) → image_on bytes ≡ image.OneImage body sequence → ¬ (IsBody LAYOUT_1 body) → StandsFor Damaged bytes
 no_body_stands bytes body sequence same none = rw same none
 
 -- malformed bytes spell no directory

@@ -15,19 +15,19 @@ returns-in-Err-clause-recovers g c =
     opened.any_moment
     (λ h. tt)
     (λ h is. opened.device h (told_device c.in-Err.fault c.of_images.result c.of_images.ensures is))
-    opened.later opened.size opened.honest)
+    opened.keeps.later opened.keeps.size opened.keeps.honest)
 
 pub returns-in-Ok-decode-clause-recovers : goal.returns-in-Ok-decode-clause-recovers
 returns-in-Ok-decode-clause-recovers g c =
     let opened = c.in-Ok.ensures in
     let decoded = c.in-Ok-decode.ensures in
-    let spelled = ap (λ (body : List ℕ). image.Stands body c.in-Ok.images.sequence) (sym c.body.ensures ∙ decoded.1) in
+    let spelled = ap (λ (body : List ℕ). image.OneImage body c.in-Ok.images.sequence) (sym c.body.ensures ∙ decoded.1) in
     rw c.in-Off.is (off_recovers g.D.Disk c.in-Off.disk _ _
     (λ h. (decoded.0, opened.found h ∙ spelled))
     opened.any_moment
-    (λ h bytes may. inl (decoded.0, (opened.ready.0.leaves (opened.honest.0 h) bytes may).image ∙ spelled))
+    (λ h bytes may. inl (decoded.0, (opened.ready.0.leaves (opened.keeps.honest.0 h) bytes may).image ∙ spelled))
     (λ h is. absurd cc)
-    opened.later opened.size opened.honest)
+    opened.keeps.later opened.keeps.size opened.keeps.honest)
 
 pub returns-in-Err-Malformed-clause-recovers : goal.returns-in-Err-Malformed-clause-recovers
 returns-in-Err-Malformed-clause-recovers g c =
@@ -37,7 +37,7 @@ returns-in-Err-Malformed-clause-recovers g c =
     opened.any_moment
     (λ h. tt)
     (λ h is. absurd cc)
-    opened.later opened.size opened.honest)
+    opened.keeps.later opened.keeps.size opened.keeps.honest)
 
 pub returns-in-Err-decode-clause-recovers : goal.returns-in-Err-decode-clause-recovers
 returns-in-Err-decode-clause-recovers g c =
@@ -47,4 +47,4 @@ returns-in-Err-decode-clause-recovers g c =
     opened.any_moment
     (λ h. tt)
     (λ h is. absurd cc)
-    opened.later opened.size opened.honest)
+    opened.keeps.later opened.keeps.size opened.keeps.honest)
