@@ -24,7 +24,8 @@ IsDamaged (image.OneImage body sequence) = ¬ (IsBody LAYOUT_1 body)
 abbrev pub StandsFor : Standing → List ℕ → Type 0
 StandsFor Unformatted bytes = image.image_on bytes ≡ image.NoImage
 StandsFor Damaged bytes = IsDamaged (image.image_on bytes)
-StandsFor (Stands files sequence) bytes = IsDirectory LAYOUT_1 files × (image.image_on bytes ≡ image.OneImage (spelling files) sequence)
+StandsFor (Stands files sequence) bytes =
+    IsDirectory LAYOUT_1 files × (image.image_on bytes ≡ image.OneImage (spelling files) sequence)
 
 -- it is one of the candidates
 abbrev pub IsOneOf : List Standing → Standing → Type 0
