@@ -23,7 +23,7 @@ mod words;
 mod write;
 
 use pos_counter::Counter;
-use pos_service::{Peripheral, PeripheralBox, HasState};
+use pos_service::{HasState, Peripheral, PeripheralBox};
 use pos_sims::PlainDrawer;
 use run::{RunFault, run};
 use std::alloc::Global;

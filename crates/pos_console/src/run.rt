@@ -9,13 +9,13 @@ ghost use Rattle.pos_console.specs.Writing.{Writes};
 
 use crate::lines::next_line;
 use crate::names::Names;
+use crate::print::print_reply;
 use crate::read::{ReadFault, read_input};
 use crate::reply::Reply;
 use crate::session::carry_out_line;
-use crate::print::print_reply;
 use crate::write::WriteFault;
 use pos_counter::Counter;
-use pos_service::{NoMemory, PeripheralBox, HasState};
+use pos_service::{HasState, NoMemory, PeripheralBox};
 use std::alloc::Global;
 use std::io::{Read, Write};
 use thiserror::Error;

@@ -8,7 +8,7 @@ use crate::lines::is_quiet_line;
 use crate::names::Names;
 use crate::reply::Reply;
 use pos_counter::{ControlFault, Counter, InputFault, SnapshotFault};
-use pos_service::{Call, Category, ErrorReply, Input, PeripheralBox, HasState};
+use pos_service::{Call, Category, ErrorReply, HasState, Input, PeripheralBox};
 use std::alloc::Global;
 
 /// A new control, under a name that no control has.
@@ -106,7 +106,12 @@ fn carry_out_command(counter: &mut Counter, names: &mut Names, command: Command<
 }
 
 /// CarriesOut out a line, and says what it prints, if it prints anything.
-pub fn carry_out_line(alloc: Global, counter: &mut Counter, names: &mut Names, line: &[u8]) -> Option<Reply>
+pub fn carry_out_line(
+    alloc: Global,
+    counter: &mut Counter,
+    names: &mut Names,
+    line: &[u8],
+) -> Option<Reply>
     requires sound { IsCounterSound ⟦<PeripheralBox as HasState>⟧ counter.old }
     ensures becomes { CarriesOutLine ⟦<PeripheralBox as HasState>⟧ counter.old names.old line.now result names.new counter.new }
     ensures sound { IsCounterSound ⟦<PeripheralBox as HasState>⟧ counter.new }

@@ -224,10 +224,7 @@ fn the_input_may_come_byte_by_byte(rt: HostRuntime) -> Result<(), Fail> {
 
 #[test]
 fn the_text_is_written_on(rt: HostRuntime) -> Result<(), Fail> {
-    for (end, want) in [
-        (End::Fails, Ok(())),
-        (End::HoldsBack, Err(RunFault::Write)),
-    ] {
+    for (end, want) in [(End::Fails, Ok(())), (End::HoldsBack, Err(RunFault::Write))] {
         let narrow = Narrow {
             taken: Vec::new(rt.alloc()),
             size: 1,

@@ -14,10 +14,10 @@ pub controls_serve : (hs gs : List Held) (es : List Entry) (ss : List Peripheral
 controls_serve hs gs es ss q r sound step = record {
   step = step;
   sound = record {
-      machine = step_sound (machine_of hs es ss) (machine_of gs es ss) q r step sound.machine;
-      unparked = sound.unparked;
-      attached = sound.attached;
-    };
+    machine = step_sound (machine_of hs es ss) (machine_of gs es ss) q r step sound.machine;
+    unparked = sound.unparked;
+    attached = sound.attached;
+  };
 }
 
 -- where a peripheral that stays in service has changed too
@@ -25,8 +25,8 @@ pub station_serves : {P : Type 0} (state : P → PeripheralState) (hs gs : List 
 station_serves state hs gs es ps place p q r sound unparked step = record {
   step = step;
   sound = record {
-      machine = step_sound (machine_of hs es (map state ps)) (machine_of gs es (map state (set ps place p))) q r step sound.machine;
-      unparked = unparked_set state ps place p unparked sound.unparked;
-      attached = omega (arith, length-map (set ps place p) state, length-set ps place p, length-map ps state, sound.attached);
-    };
+    machine = step_sound (machine_of hs es (map state ps)) (machine_of gs es (map state (set ps place p))) q r step sound.machine;
+    unparked = unparked_set state ps place p unparked sound.unparked;
+    attached = omega (arith, length-map (set ps place p) state, length-set ps place p, length-map ps state, sound.attached);
+  };
 }

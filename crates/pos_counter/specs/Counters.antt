@@ -37,7 +37,8 @@ abbrev pub Stays : {X : Type 0} {O : X → Type 0} → Ghosts (PeripheralBox X O
 Stays boxes old new = machine boxes new ≡ machine boxes old
 
 -- What is true of every counter: its parts are sound.
-pub record IsCounterSound {X : Type 0} {O : X → Type 0} (boxes : Ghosts (PeripheralBox X O)) (counter : Counter X O) : Type 0 where
+pub record IsCounterSound {X : Type 0} {O : X → Type 0} (boxes : Ghosts (PeripheralBox X O)) (counter : Counter X O)
+    : Type 0 where
   pub parts : ArePartsSound counter.desk counter.entries.items (states_of boxes counter.boxes.items)
 
 -- the boxes of a counter that is sound

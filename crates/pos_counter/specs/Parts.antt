@@ -49,7 +49,8 @@ pub record HandsOver (machine : Machine) (states : List PeripheralState) : Type 
   pub stations : map station_of states ≡ filter_map (λ device. device.station) machine.devices
   pub parked : All (λ state. state.is_parked ≡ true) states
 
--- What is true of the parts of every counter: their machine is sound, and each peripheral has a device and is in service.
+-- What is true of the parts of every counter: their machine is sound, and each peripheral has a device and is in
+-- service.
 pub record ArePartsSound (helds : List Held) (entries : List Entry) (states : List PeripheralState) : Type 0 where
   pub machine : IsSound (machine_of helds entries states)
   pub unparked : AllUnparked states
@@ -57,6 +58,6 @@ pub record ArePartsSound (helds : List Held) (entries : List Entry) (states : Li
 
 -- From some parts of a counter to others, the request gets this response, and the parts are sound again.
 pub record Serves (helds : List Held) (entries : List Entry) (states : List PeripheralState) (request : Request)
-  (response : Response) (new_helds : List Held) (new_states : List PeripheralState) : Type 0 where
+    (response : Response) (new_helds : List Held) (new_states : List PeripheralState) : Type 0 where
   pub step : Step (machine_of helds entries states) request response (machine_of new_helds entries new_states)
   pub sound : ArePartsSound new_helds entries new_states

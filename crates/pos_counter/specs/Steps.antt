@@ -86,18 +86,22 @@ refusals machine number control own =
 -- What each call does where nothing refuses it.
 abbrev pub Does : Machine → ℕ → Control → Call → Answer → Machine → Type 0
 Does old number control (call.Open name) result new =
-    (result ≡ answer.Done value.Empty) × (new ≡ with_control old number (opened control (place_found (found_under old control.category name))))
-Does old number control call.Close result new = (result ≡ answer.Done value.Empty) × (new ≡ with_control old number (closed control))
+    (result ≡ answer.Done value.Empty)
+    × (new ≡ with_control old number (opened control (place_found (found_under old control.category name))))
+Does old number control call.Close result new =
+    (result ≡ answer.Done value.Empty) × (new ≡ with_control old number (closed control))
 Does old number control (call.Set property v) result new =
     (result ≡ answer.Done value.Empty) × (new ≡ with_control old number (after_set control property v))
 Does old number control (call.Get property) result new =
-    (result ≡ answer.Done (property_of control (signs_in (station_in (device_at old.devices control.device))) property)) × (new ≡ old)
+    (result ≡ answer.Done (property_of control (signs_in (station_in (device_at old.devices control.device))) property))
+    × (new ≡ old)
 Does old number control own result new =
     OnStation old control.device (λ place. CategoryDoes control.category own place result) new
 
 -- A call on a control: by its table of refusals, and then by what it does.
 abbrev pub Called : Machine → ℕ → Control → Call → Answer → Machine → Type 0
-Called old number control call result new = Decided (refusals old number control call) result (new ≡ old) (Does old number control call result new)
+Called old number control call result new =
+    Decided (refusals old number control call) result (new ≡ old) (Does old number control call result new)
 
 -- A call may find no memory only where it takes some and nothing refuses it before.
 abbrev pub Wants : Machine → ℕ → Control → Call → Machine → Type 0
@@ -121,7 +125,8 @@ Step old (NewControl category) OutOfMemory new = (length old.controls < most_con
 Step old (CallOf number call) (Answered result) new =
     MatchOption (slice_get old.controls number) ((result ≡ answer.Refused code.Illegal 0) × (new ≡ old))
     (λ control. Called old number control call result new)
-Step old (CallOf number call) OutOfMemory new = MatchOption (slice_get old.controls number) ⊥ (λ control. Wants old number control call new)
+Step old (CallOf number call) OutOfMemory new =
+    MatchOption (slice_get old.controls number) ⊥ (λ control. Wants old number control call new)
 Step old (InputTo name input) TakenIn new = OnStation old (place_of old.devices name) (TakesIn input) new
 Step old (InputTo name input) NoDevice new = (station_named old name ≡ None) × (new ≡ old)
 Step old (InputTo name input) WrongInput new = FindsFit (station_named old name) input false × (new ≡ old)
@@ -131,7 +136,8 @@ Step old (Deliver number reply) (Delivered event) new =
     MatchOption (slice_get old.controls number) ((event ≡ None) × (new ≡ old))
     (λ control. (event ≡ deliverable control) × (new ≡ with_control old number (delivered control)))
 Step old (Snapshot name) (Shown plant) new =
-    IfSome (station_named old name) (λ station. station.plant ≡ plant) × (is_some (station_named old name) ≡ true) × (new ≡ old)
+    IfSome (station_named old name) (λ station. station.plant ≡ plant)
+    × (is_some (station_named old name) ≡ true) × (new ≡ old)
 Step old (Snapshot name) NoDevice new = (station_named old name ≡ None) × (new ≡ old)
 Step old (Snapshot name) OutOfMemory new = (is_some (station_named old name) ≡ true) × (new ≡ old)
 -- no other response is given
@@ -152,7 +158,8 @@ IsServed category device = (serves category device.kind ≡ true) × IsTrue (is_
 
 -- The device of an open control is there, and the control's category serves it.
 abbrev pub HasItsDevice : List Device → Control → Type 0
-HasItsDevice devices control = IfSome control.device (λ place. MatchOption (slice_get devices place) ⊥ (IsServed control.category))
+HasItsDevice devices control =
+    IfSome control.device (λ place. MatchOption (slice_get devices place) ⊥ (IsServed control.category))
 
 -- What is true of every machine that a counter stands for.
 pub record IsSound (machine : Machine) : Type 0 where

@@ -22,7 +22,8 @@ pub(crate) fn open<P: HasState>(
     requires in_range { number < length controls.old }
     requires sound { ArePartsSound controls.old entries.now (map P.state peripherals.now) }
     ensures { let states = map P.state peripherals.now in
-        Serves controls.old entries.now states (CallOf number (call.Open name.now)) (Answered result) controls.new states }
+        Serves controls.old entries.now states (CallOf number (call.Open name.now)) (Answered result)
+        controls.new states }
 {
     let control = &mut controls[number];
     let found = find_for(control.category(), entries, peripherals, name);
@@ -47,7 +48,8 @@ pub(crate) fn set(
 ) -> Answer
     requires { number < length controls.old }
     ensures { (entries : List OneEntry) (states : List PeripheralState) → ArePartsSound controls.old entries states
-        → Serves controls.old entries states (CallOf number (call.Set property value.now)) (Answered result) controls.new states }
+        → Serves controls.old entries states (CallOf number (call.Set property value.now)) (Answered result)
+        controls.new states }
 {
     controls[number].set(property, value)
 }
@@ -63,7 +65,8 @@ pub(crate) fn get<P: HasState>(
     requires in_range { number < length controls.now }
     requires sound { ArePartsSound controls.now entries.now (map P.state peripherals.now) }
     ensures { let states = map P.state peripherals.now in
-        Serves controls.now entries.now states (CallOf number (call.Get property)) (Answered result) controls.now states }
+        Serves controls.now entries.now states (CallOf number (call.Get property)) (Answered result)
+        controls.now states }
 {
     let control = &controls[number];
     control.get(property, signs_at(peripherals, control.device()))

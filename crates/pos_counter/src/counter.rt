@@ -65,7 +65,8 @@ impl Counter {
     /// that applies, else what the call gives. Want of memory changes nothing.
     pub fn call(&mut self, number: usize, call: &Call) -> Result<Answer, NoMemory>
         requires sound { IsCounterSound ⟦<PeripheralBox as HasState>⟧ self.old }
-        ensures step { IsStep ⟦<PeripheralBox as HasState>⟧ self.old (CallOf number call.now) (answered result) self.new }
+        ensures step { IsStep ⟦<PeripheralBox as HasState>⟧ self.old (CallOf number call.now) (answered result)
+            self.new }
         ensures sound { IsCounterSound ⟦<PeripheralBox as HasState>⟧ self.new }
     {
         device_calls::call(
@@ -83,7 +84,8 @@ impl Counter {
     /// peripheral of its kind has no such input. Want of memory changes nothing.
     pub fn input(&mut self, device: &[u8], input: &Input) -> Result<(), InputFault>
         requires sound { IsCounterSound ⟦<PeripheralBox as HasState>⟧ self.old }
-        ensures step { IsStep ⟦<PeripheralBox as HasState>⟧ self.old (InputTo device.now input.now) (taken_in result) self.new }
+        ensures step { IsStep ⟦<PeripheralBox as HasState>⟧ self.old (InputTo device.now input.now) (taken_in result)
+            self.new }
         ensures sound { IsCounterSound ⟦<PeripheralBox as HasState>⟧ self.new }
     {
         device_calls::input(
@@ -99,7 +101,8 @@ impl Counter {
     /// It is None where there is none, or no control of this number.
     pub fn deliver(&mut self, number: usize, reply: ErrorReply) -> Option<Event>
         requires sound { IsCounterSound ⟦<PeripheralBox as HasState>⟧ self.old }
-        ensures step { IsStep ⟦<PeripheralBox as HasState>⟧ self.old (Deliver number reply) (Delivered result) self.new }
+        ensures step { IsStep ⟦<PeripheralBox as HasState>⟧ self.old (Deliver number reply) (Delivered result)
+            self.new }
         ensures sound { IsCounterSound ⟦<PeripheralBox as HasState>⟧ self.new }
     {
         self.desk.deliver(number, reply)
@@ -120,7 +123,8 @@ impl Counter {
     /// Want of memory for the list of answers changes nothing. A request that finds no memory is answered so.
     pub fn perform(&mut self, requests: &[Request]) -> Result<Vec<Response>, NoMemory>
         requires sound { IsCounterSound ⟦<PeripheralBox as HasState>⟧ self.old }
-        ensures run { IfOk result (λ responses. IsRun ⟦<PeripheralBox as HasState>⟧ self.old (steps_of requests.now responses.items) self.new) }
+        ensures run { IfOk result (λ responses.
+            IsRun ⟦<PeripheralBox as HasState>⟧ self.old (steps_of requests.now responses.items) self.new) }
         ensures whole { IfOk result (λ responses. length responses.items ≡ length requests.now) }
         ensures unchanged { OnErr result (Stays ⟦<PeripheralBox as HasState>⟧ self.old self.new) }
         ensures sound { IsCounterSound ⟦<PeripheralBox as HasState>⟧ self.new }
@@ -136,7 +140,8 @@ impl Counter {
     /// Carries out a request.
     fn carry_out(&mut self, request: &Request) -> Response
         requires sound { IsCounterSound ⟦<PeripheralBox as HasState>⟧ self.old }
-        ensures step { IsStep ⟦<PeripheralBox as HasState>⟧ self.old (request_of request.now) (response_of result) self.new }
+        ensures step { IsStep ⟦<PeripheralBox as HasState>⟧ self.old (request_of request.now) (response_of result)
+            self.new }
         ensures sound { IsCounterSound ⟦<PeripheralBox as HasState>⟧ self.new }
     {
         match request {
@@ -154,7 +159,8 @@ impl Counter {
     /// takes no memory.
     pub fn shutdown(self) -> Vec<PeripheralBox>
         requires sound { IsCounterSound ⟦<PeripheralBox as HasState>⟧ self }
-        ensures { HandsOver (machine ⟦<PeripheralBox as HasState>⟧ self) (states_of ⟦<PeripheralBox as HasState>⟧ result.items) }
+        ensures { HandsOver (machine ⟦<PeripheralBox as HasState>⟧ self)
+            (states_of ⟦<PeripheralBox as HasState>⟧ result.items) }
     {
         let Counter {
             desk: _,
@@ -168,7 +174,8 @@ impl Counter {
 /// Takes each peripheral out of service.
 fn park_all(mut boxes: Vec<PeripheralBox>) -> Vec<PeripheralBox>
     requires { Unit {0} }
-    ensures { states_of ⟦<PeripheralBox as HasState>⟧ result.items ≡ map parked (states_of ⟦<PeripheralBox as HasState>⟧ boxes.items) }
+    ensures { states_of ⟦<PeripheralBox as HasState>⟧ result.items
+        ≡ map parked (states_of ⟦<PeripheralBox as HasState>⟧ boxes.items) }
 {
     for place in 0..boxes.len() {
         boxes[place].park();

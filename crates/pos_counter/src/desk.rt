@@ -47,7 +47,8 @@ impl Desk {
 
     /// A new control of a category: its number.
     pub(crate) fn control(&mut self, category: Category) -> Result<usize, ControlFault>
-        ensures { (devices : List Device) → Step (over self.old devices) (NewControl category) (made result) (over self.new devices) }
+        ensures { (devices : List Device)
+            → Step (over self.old devices) (NewControl category) (made result) (over self.new devices) }
     {
         let number = self.controls.len();
         if number >= MOST_CONTROLS {
@@ -61,7 +62,8 @@ impl Desk {
 
     /// Takes the event that may be delivered to a control. A control that isn't there has none.
     pub(crate) fn deliver(&mut self, number: usize, reply: ErrorReply) -> Option<Event>
-        ensures { (devices : List Device) → Step (over self.old devices) (Deliver number reply) (Delivered result) (over self.new devices) }
+        ensures { (devices : List Device)
+            → Step (over self.old devices) (Deliver number reply) (Delivered result) (over self.new devices) }
     {
         if number >= self.controls.len() {
             return None;

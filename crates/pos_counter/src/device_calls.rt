@@ -25,7 +25,8 @@ pub(crate) fn call(
 ) -> Result<Answer, NoMemory>
     requires { ArePartsSound controls.old entries.now (map ⟦<PeripheralBox as HasState>⟧.state boxes.old) }
     ensures { let state = ⟦<PeripheralBox as HasState>⟧.state in
-        Serves controls.old entries.now (map state boxes.old) (CallOf number call.now) (answered result) controls.new (map state boxes.new) }
+        Serves controls.old entries.now (map state boxes.old) (CallOf number call.now) (answered result)
+        controls.new (map state boxes.new) }
 {
     if number >= controls.len() {
         return Ok(Answer::Refused(Code::Illegal, 0));
@@ -51,7 +52,8 @@ fn call_category(
     requires own { is_common call.now ≡ false }
     requires sound { ArePartsSound controls.old entries.now (map ⟦<PeripheralBox as HasState>⟧.state boxes.old) }
     ensures { let state = ⟦<PeripheralBox as HasState>⟧.state in
-        Serves controls.old entries.now (map state boxes.old) (CallOf number call.now) (answered result) controls.new (map state boxes.new) }
+        Serves controls.old entries.now (map state boxes.old) (CallOf number call.now) (answered result)
+        controls.new (map state boxes.new) }
 {
     let Some(place) = controls[number].device() else {
         return Ok(Answer::Refused(Code::Closed, 0));
@@ -71,7 +73,8 @@ pub(crate) fn input(
 ) -> Result<(), InputFault>
     requires { ArePartsSound controls.old entries.now (map ⟦<PeripheralBox as HasState>⟧.state boxes.old) }
     ensures { let state = ⟦<PeripheralBox as HasState>⟧.state in
-        Serves controls.old entries.now (map state boxes.old) (InputTo name.now input.now) (taken_in result) controls.new (map state boxes.new) }
+        Serves controls.old entries.now (map state boxes.old) (InputTo name.now input.now) (taken_in result)
+        controls.new (map state boxes.new) }
 {
     let Some(place) = find(entries, name) else {
         return Err(InputFault::NoDevice);
