@@ -22,8 +22,8 @@ stopped_front old lines before after new stops = record {
   end = new;
   split = stops.split ∙ sym (append_assoc stops.earlier (stops.line ∷ []) stops.later);
   transcript = subst (λ t. Transcript old (stops.earlier ++ stops.line ∷ []) t stops.names_after new)
-    (ap (λ x. stops.text ++ x) stops.cut ∙ sym (append_assoc stops.text stops.front stops.back))
-    (session_more old stops.earlier stops.text stops.names stops.mid stops.line stops.reply stops.names_after new stops.transcript stops.carried);
+      (ap (λ x. stops.text ++ x) stops.cut ∙ sym (append_assoc stops.text stops.front stops.back))
+      (session_more old stops.earlier stops.text stops.names stops.mid stops.line stops.reply stops.names_after new stops.transcript stops.carried);
   written = stops.written;
 }
 

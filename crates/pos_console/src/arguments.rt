@@ -5,7 +5,7 @@ ghost use Rattle.pos_console.specs.Words.{number_shape, truth_shape, bytes_shape
 
 use crate::lines::next_word;
 use crate::words::{
-    category, decode, is_hex_word, is_name_word, error_reply, number, property, truth, value,
+    category, decode, error_reply, is_hex_word, is_name_word, number, property, truth, value,
 };
 use pos_service::{Bytes, Category, ErrorReply, Property, Value};
 use std::alloc::Global;

@@ -66,7 +66,8 @@ fn deliver_event(counter: &mut Counter, names: &Names, name: &[u8], reply: Error
 /// What happens at a device.
 fn input_device(counter: &mut Counter, name: &[u8], input: &Input) -> Reply
     requires sound { Sound ⟦<PeripheralBox as Stated>⟧ counter.old }
-    ensures asks { CarriesOutAtDevice ⟦<PeripheralBox as Stated>⟧ counter.old (InputLine name.now input.now) result counter.new }
+    ensures asks { CarriesOutAtDevice ⟦<PeripheralBox as Stated>⟧ counter.old
+        (InputLine name.now input.now) result counter.new }
     ensures sound { Sound ⟦<PeripheralBox as Stated>⟧ counter.new }
 {
     match counter.input(name, input) {
@@ -106,9 +107,15 @@ fn carry_out_command(counter: &mut Counter, names: &mut Names, command: Command<
 }
 
 /// CarriesOut out a line, and says what it prints, if it prints anything.
-pub fn carry_out_line(alloc: Global, counter: &mut Counter, names: &mut Names, line: &[u8]) -> Option<Reply>
+pub fn carry_out_line(
+    alloc: Global,
+    counter: &mut Counter,
+    names: &mut Names,
+    line: &[u8],
+) -> Option<Reply>
     requires sound { Sound ⟦<PeripheralBox as Stated>⟧ counter.old }
-    ensures becomes { CarriesOutLine ⟦<PeripheralBox as Stated>⟧ counter.old names.old line.now result names.new counter.new }
+    ensures becomes { CarriesOutLine ⟦<PeripheralBox as Stated>⟧ counter.old names.old
+        line.now result names.new counter.new }
     ensures sound { Sound ⟦<PeripheralBox as Stated>⟧ counter.new }
 {
     if is_quiet_line(line) {
