@@ -69,7 +69,8 @@ abbrev pub from_two : {A B R : Type 0} → Shape A → Shape B → (A → B → 
 from_two s t make words = become (λ read. make read.0 read.1) (two s t words)
 
 -- what is made of three arguments
-abbrev pub from_three : {A B C R : Type 0} → Shape A → Shape B → Shape C → (A → B → C → R) → List (List ℕ) → Reading R
+abbrev pub from_three : {A B C R : Type 0} → Shape A → Shape B → Shape C → (A → B → C → R)
+    → List (List ℕ) → Reading R
 from_three s t u make words = become (λ read. make read.0 read.1.0 read.1.1) (three s t u words)
 
 -- the value of a result, if it succeeded
@@ -77,8 +78,8 @@ abbrev pub value_of : {A E : Type 0} → Result A E → Option A
 value_of (Ok value) = Some value
 value_of (Err e) = None
 
--- what reading answers: what the words stand for, or that their shape is wrong. Where the shape is right and a part is kept,
--- there may be no memory.
+-- what reading answers: what the words stand for, or that their shape is wrong. Where the shape is right and a part is
+-- kept, there may be no memory.
 abbrev pub Reads : {A : Type 0} → Reading A → Result A LineFault → Type 0
 Reads reading (Ok value) = reading.value ≡ Some value
 Reads reading (Err fault.WrongShape) = reading.value ≡ None

@@ -14,22 +14,29 @@ use Rattle.pos_console.specs.Transcript.{CarriesOut, AskingBecomes, LineBecomes}
 use Rattle.pos_console.specs.Running.{Finishes, Stops}
 
 -- what a line asks is carried out on a counter, with these names of its controls before and after, and replied to
-abbrev pub CarriesOutAsking : {X : Type 0} {O : X → Type 0} → Ghosts (PeripheralBox X O) → Counter X O → Names → Asking → Reply → Names → Counter X O → Type 0
+abbrev pub CarriesOutAsking : {X : Type 0} {O : X → Type 0} → Ghosts (PeripheralBox X O) → Counter X O
+    → Names → Asking → Reply → Names → Counter X O → Type 0
 CarriesOutAsking boxes old names asking reply after new =
-    CarriesOut (machine boxes old) (AskingBecomes (names_of names) asking) (Some (reply_text reply)) (names_of after) (machine boxes new)
+    CarriesOut (machine boxes old) (AskingBecomes (names_of names) asking)
+    (Some (reply_text reply)) (names_of after) (machine boxes new)
 
 -- what a line asks of a device is carried out, whatever the names of the controls are
-abbrev pub CarriesOutAtDevice : {X : Type 0} {O : X → Type 0} → Ghosts (PeripheralBox X O) → Counter X O → Asking → Reply → Counter X O → Type 0
+abbrev pub CarriesOutAtDevice : {X : Type 0} {O : X → Type 0} → Ghosts (PeripheralBox X O) → Counter X O
+    → Asking → Reply → Counter X O → Type 0
 CarriesOutAtDevice boxes old asking reply new =
-    (names : ControlNames) → CarriesOut (machine boxes old) (AskingBecomes names asking) (Some (reply_text reply)) names (machine boxes new)
+    (names : ControlNames)
+    → CarriesOut (machine boxes old) (AskingBecomes names asking) (Some (reply_text reply)) names (machine boxes new)
 
 -- a line is carried out, and replied to if it isn't quiet
-abbrev pub CarriesOutLine : {X : Type 0} {O : X → Type 0} → Ghosts (PeripheralBox X O) → Counter X O → Names → List ℕ → Option Reply → Names → Counter X O → Type 0
+abbrev pub CarriesOutLine : {X : Type 0} {O : X → Type 0} → Ghosts (PeripheralBox X O) → Counter X O
+    → Names → List ℕ → Option Reply → Names → Counter X O → Type 0
 CarriesOutLine boxes old names line reply after new =
-    CarriesOut (machine boxes old) (LineBecomes (names_of names) line) (option_map reply_text reply) (names_of after) (machine boxes new)
+    CarriesOut (machine boxes old) (LineBecomes (names_of names) line)
+    (option_map reply_text reply) (names_of after) (machine boxes new)
 
 -- the lines of a script are carried out, all of them or as far as they can be written
-abbrev pub CarriesOutLines : {X : Type 0} {O : X → Type 0} {E : Type 0} → Ghosts (PeripheralBox X O) → Counter X O → List ℕ → Option (List ℕ) → Option (List ℕ) → Result (Unit {0}) E → Counter X O → Type 0
+abbrev pub CarriesOutLines : {X : Type 0} {O : X → Type 0} {E : Type 0} → Ghosts (PeripheralBox X O) → Counter X O
+    → List ℕ → Option (List ℕ) → Option (List ℕ) → Result (Unit {0}) E → Counter X O → Type 0
 CarriesOutLines boxes old input before after result new =
     MatchResult result
     (λ u. Finishes (machine boxes old) (lines_of input) before after (machine boxes new))

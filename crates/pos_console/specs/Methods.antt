@@ -9,10 +9,11 @@ pub record Method : Type 0 where
   pub word : List ℕ
   pub call : List (List ℕ) → Reading Call
 
+-- a row of the table of methods
 abbrev pub method : List ℕ → (List (List ℕ) → Reading Call) → Method
 method word call = record { word = word; call = call }
 
--- the methods of a cash drawer
+-- the methods: those of a cash drawer
 abbrev pub methods : List Method
 methods =
     method (codes "openDrawer") (from_none call.OpenDrawer) ∷ []
@@ -20,7 +21,8 @@ methods =
 -- the call of the first method with a word
 abbrev pub call_in : List Method → List ℕ → List (List ℕ) → Reading Call
 call_in [] word words = misshapen
-call_in (method ∷ methods) word words = if bytes_eq word method.word then method.call words else call_in methods word words
+call_in (method ∷ methods) word words =
+    if bytes_eq word method.word then method.call words else call_in methods word words
 
 -- the call of a method, whatever its control is
 abbrev pub call_of : List ℕ → List (List ℕ) → Reading Call

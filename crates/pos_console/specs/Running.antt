@@ -11,7 +11,8 @@ use Rattle.pos_console.specs.Names.{ControlNames}
 use Rattle.pos_console.specs.Transcript.{Transcript, CarriesOut, LineBecomes, printed}
 
 -- All lines were carried out, and their text is written.
-pub record Finishes (old : Machine) (lines : List (List ℕ)) (before after : Option (List ℕ)) (new : Machine) : Type 0 where
+pub record Finishes (old : Machine) (lines : List (List ℕ)) (before after : Option (List ℕ))
+    (new : Machine) : Type 0 where
   pub text : List ℕ
   pub names : ControlNames
   pub transcript : Transcript old lines text names new
@@ -38,7 +39,8 @@ pub record Stops (old : Machine) (lines : List (List ℕ)) (before after : Optio
   pub written : Appends before after (text ++ front)
 
 -- what a run over these bytes leaves, by its result
-abbrev pub ScriptLeaves : Machine → List ℕ → Option (List ℕ) → Option (List ℕ) → Result (Unit {0}) RunFault → Machine → Type 0
+abbrev pub ScriptLeaves : Machine → List ℕ → Option (List ℕ) → Option (List ℕ) → Result (Unit {0}) RunFault
+    → Machine → Type 0
 ScriptLeaves old bytes before after (Ok u) new = Finishes old (lines_of bytes) before after new
 ScriptLeaves old bytes before after (Err fault.Read) new = (new ≡ old) × Keeps before after
 ScriptLeaves old bytes before after (Err fault.Write) new = Stops old (lines_of bytes) before after new
@@ -52,7 +54,8 @@ ReadsWhole left bytes (Err fault.Write) = IfSome left (λ known. known ≡ bytes
 ReadsWhole left bytes (Err fault.NoMemory) = Unit {0}
 
 -- What a run leaves of a machine and a writer, by the bytes that the reader had left.
-pub record RunsScript (old : Machine) (left before after : Option (List ℕ)) (result : Result (Unit {0}) RunFault) (new : Machine) : Type 0 where
+pub record RunsScript (old : Machine) (left before after : Option (List ℕ))
+    (result : Result (Unit {0}) RunFault) (new : Machine) : Type 0 where
   pub input : List ℕ
   pub whole : ReadsWhole left input result
   pub run : ScriptLeaves old input before after result new

@@ -49,7 +49,9 @@ answer_text (answer.Refused code extended) = codes "err " ++ decimal (number_of 
 abbrev pub event_text : Event → List ℕ
 event_text (event.StatusUpdate n) = codes "event StatusUpdateEvent " ++ decimal n
 event_text event.Data = codes "event DataEvent 0"
-event_text (event.Error code extended locus) = codes "event ErrorEvent " ++ decimal (number_of code) ++ codes " " ++ decimal extended ++ codes " " ++ decimal (locus_number_of locus)
+event_text (event.Error code extended locus) =
+    codes "event ErrorEvent " ++ decimal (number_of code) ++ codes " " ++ decimal extended ++ codes " "
+    ++ decimal (locus_number_of locus)
 event_text (event.OutputComplete id) = codes "event OutputCompleteEvent " ++ decimal id
 
 -- the event that was delivered, if there was one

@@ -11,7 +11,8 @@ use Rattle.pos_console.specs.Text.{response_text}
 
 -- what a line asks of the machine, unless its control's name is in use or unknown
 abbrev pub request_of : ControlNames → Asking → Option Request
-request_of names (NewLine name category) = if is_some (number_named names name) then None else Some (NewControl category)
+request_of names (NewLine name category) =
+    if is_some (number_named names name) then None else Some (NewControl category)
 request_of names (CallLine name call) = option_map (λ number. CallOf number call) (number_named names name)
 request_of names (InputLine device input) = Some (InputTo device input)
 request_of names (DeliverLine name reply) = option_map (λ number. Deliver number reply) (number_named names name)
@@ -65,7 +66,8 @@ AskingBecomes names asking outcome =
 abbrev pub ReadingBecomes : ControlNames → Reading Asking → Outcome → Type 0
 ReadingBecomes names reading outcome =
     MatchOption reading.value (outcome ≡ turned_down names (codes "bad line"))
-    (λ asking. (IsTrue reading.is_kept × (outcome ≡ turned_down names (codes "memory"))) ⊎ AskingBecomes names asking outcome)
+    (λ asking. (IsTrue reading.is_kept × (outcome ≡ turned_down names (codes "memory")))
+    ⊎ AskingBecomes names asking outcome)
 
 -- what becomes of a line
 abbrev pub LineBecomes : ControlNames → List ℕ → Outcome → Type 0
@@ -87,13 +89,15 @@ LinesPrint names (line ∷ lines) steps text after =
 
 -- From one machine to another: what the lines ask is a run of the machine, this is its text, and these are the names of
 -- the controls then. No control has a name at first.
-pub record Transcript (old : Machine) (lines : List (List ℕ)) (text : List ℕ) (names : ControlNames) (new : Machine) : Type 0 where
+pub record Transcript (old : Machine) (lines : List (List ℕ)) (text : List ℕ) (names : ControlNames)
+    (new : Machine) : Type 0 where
   pub steps : List (Request × Response)
   pub run : Run old steps new
   pub prints : LinesPrint [] lines steps text names
 
 -- What a part of the program does to the machine, so that this becomes of a line.
-pub record CarriesOut (old : Machine) (Becomes : Outcome → Type 0) (reply : Option (List ℕ)) (names : ControlNames) (new : Machine) : Type 0 where
+pub record CarriesOut (old : Machine) (Becomes : Outcome → Type 0) (reply : Option (List ℕ)) (names : ControlNames)
+    (new : Machine) : Type 0 where
   pub steps : List (Request × Response)
   pub run : Run old steps new
   pub becomes : Becomes (record { reply = reply; steps = steps; names = names })

@@ -41,7 +41,8 @@ digits_named word = if is_digits word then Some (number_of_digits word) else Non
 -- the number of 1 to 18 digits, with or without a minus before them
 abbrev pub number_named : List ℕ → Option ℤ
 number_named [] = None
-number_named (b ∷ bs) = if b == 45 then option_map (λ n. neg_ℤ (pos n)) (digits_named bs) else option_map pos (digits_named (b ∷ bs))
+number_named (b ∷ bs) =
+    if b == 45 then option_map (λ n. neg_ℤ (pos n)) (digits_named bs) else option_map pos (digits_named (b ∷ bs))
 
 -- the truth value of a word
 abbrev pub truth_named : List ℕ → Option Bool
@@ -57,7 +58,8 @@ bytes_named word = if bytes_eq word (codes "-") then Some [] else value_of (deco
 abbrev pub value_named : List ℕ → Option Value
 value_named word =
     if bytes_eq word (codes "true") then Some (value.Truth true)
-    else (if bytes_eq word (codes "false") then Some (value.Truth false) else option_map value.Number (number_named word))
+    else (if bytes_eq word (codes "false") then Some (value.Truth false)
+    else option_map value.Number (number_named word))
 
 -- the category of this name
 abbrev pub category_named : List ℕ → Option Category

@@ -172,8 +172,8 @@ fn read_words(alloc: Global, line: &[u8]) -> Result<Command<'_>, LineFault>
     read_verb_line(alloc, verb, name, rest)
 }
 
-/// What a line that prints something asks. It is refused where its shape is wrong, before memory is asked for, and where
-/// there is no memory for what a call keeps of it.
+/// What a line that prints something asks. It is refused where its shape is wrong, before memory is asked for, and
+/// where there is no memory for what a call keeps of it.
 pub fn read_command(alloc: Global, line: &[u8]) -> Result<Command<'_>, LineFault>
     ensures { ReadsLine (asked_by line.now) result }
 {

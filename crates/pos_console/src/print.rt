@@ -21,7 +21,8 @@ fn write_parts<W: Write>(writer: &mut W, parts: &[&str]) -> Result<(), WriteFaul
 
 /// Writes `ok` and bytes.
 fn print_bytes<W: Write>(writer: &mut W, bytes: &[u8]) -> Result<(), WriteFault>
-    ensures { Writes (W.contents writer.old) (W.contents writer.new) (codes "ok " ++ hex_text bytes.now ++ 10 ∷ []) result }
+    ensures { Writes (W.contents writer.old) (W.contents writer.new)
+        (codes "ok " ++ hex_text bytes.now ++ 10 ∷ []) result }
 {
     if bytes.is_empty() {
         return write_parts(writer, &["ok -\n"]);
@@ -33,7 +34,8 @@ fn print_bytes<W: Write>(writer: &mut W, bytes: &[u8]) -> Result<(), WriteFault>
 
 /// Writes `ok` and two numbers.
 fn print_pair<W: Write>(writer: &mut W, first: i128, second: i128) -> Result<(), WriteFault>
-    ensures { Writes (W.contents writer.old) (W.contents writer.new) (codes "ok " ++ (signed_decimal first ++ (codes " " ++ (signed_decimal second ++ 10 ∷ [])))) result }
+    ensures { Writes (W.contents writer.old) (W.contents writer.new)
+        (codes "ok " ++ (signed_decimal first ++ (codes " " ++ (signed_decimal second ++ 10 ∷ [])))) result }
 {
     let mut first_buffer = Buffer::new();
     let mut second_buffer = Buffer::new();
@@ -44,7 +46,8 @@ fn print_pair<W: Write>(writer: &mut W, first: i128, second: i128) -> Result<(),
 
 /// Writes `ok` and a value.
 fn print_value<W: Write>(writer: &mut W, value: Value) -> Result<(), WriteFault>
-    ensures { Writes (W.contents writer.old) (W.contents writer.new) (answer_text (Answer.Done value) ++ 10 ∷ []) result }
+    ensures { Writes (W.contents writer.old) (W.contents writer.new)
+        (answer_text (Answer.Done value) ++ 10 ∷ []) result }
 {
     match value {
         Value::Empty => write_parts(writer, &["ok\n"]),
@@ -61,7 +64,8 @@ fn print_value<W: Write>(writer: &mut W, value: Value) -> Result<(), WriteFault>
 
 /// Writes `err` and a result code, and the extended code behind E_EXTENDED.
 fn print_refusal<W: Write>(writer: &mut W, code: Code, extended: u32) -> Result<(), WriteFault>
-    ensures { Writes (W.contents writer.old) (W.contents writer.new) (answer_text (Answer.Refused code extended) ++ 10 ∷ []) result }
+    ensures { Writes (W.contents writer.old) (W.contents writer.new)
+        (answer_text (Answer.Refused code extended) ++ 10 ∷ []) result }
 {
     let mut buffer = Buffer::new();
     let number = buffer.format(code.number());
@@ -92,7 +96,8 @@ fn print_error<W: Write>(
     extended: u32,
     locus: Locus,
 ) -> Result<(), WriteFault>
-    ensures { Writes (W.contents writer.old) (W.contents writer.new) (event_text (Event.Error code extended locus) ++ 10 ∷ []) result }
+    ensures { Writes (W.contents writer.old) (W.contents writer.new)
+        (event_text (Event.Error code extended locus) ++ 10 ∷ []) result }
 {
     let mut code_buffer = Buffer::new();
     let mut extended_buffer = Buffer::new();

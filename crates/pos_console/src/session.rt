@@ -66,7 +66,8 @@ fn deliver_event(counter: &mut Counter, names: &Names, name: &[u8], reply: Error
 /// What happens at a device.
 fn input_device(counter: &mut Counter, name: &[u8], input: &Input) -> Reply
     requires sound { IsCounterSound ⟦<PeripheralBox as HasState>⟧ counter.old }
-    ensures asks { CarriesOutAtDevice ⟦<PeripheralBox as HasState>⟧ counter.old (InputLine name.now input.now) result counter.new }
+    ensures asks { CarriesOutAtDevice ⟦<PeripheralBox as HasState>⟧ counter.old
+        (InputLine name.now input.now) result counter.new }
     ensures sound { IsCounterSound ⟦<PeripheralBox as HasState>⟧ counter.new }
 {
     match counter.input(name, input) {
@@ -113,7 +114,8 @@ pub fn carry_out_line(
     line: &[u8],
 ) -> Option<Reply>
     requires sound { IsCounterSound ⟦<PeripheralBox as HasState>⟧ counter.old }
-    ensures becomes { CarriesOutLine ⟦<PeripheralBox as HasState>⟧ counter.old names.old line.now result names.new counter.new }
+    ensures becomes { CarriesOutLine ⟦<PeripheralBox as HasState>⟧ counter.old names.old
+        line.now result names.new counter.new }
     ensures sound { IsCounterSound ⟦<PeripheralBox as HasState>⟧ counter.new }
 {
     if is_quiet_line(line) {

@@ -266,7 +266,7 @@ fn faults_have_texts(rt: HostRuntime) -> Result<(), Fail> {
 fn arguments_are_read_by_their_shapes(rt: HostRuntime) -> Result<(), Fail> {
     let alloc = rt.alloc();
     let (bytes, (number, truth)) = read_three::<Bytes, i128, bool>(alloc, b" 4aFf  -20 false ")?;
-    assert_eq!(rt; bytes.as_slice(), &[0x4a, 0xff]);
+    assert_eq!(rt; bytes.as_slice(), b"\x4a\xff".as_slice());
     assert_eq!(rt; number, -20);
     assert_eq!(rt; truth, false);
     let (none, largest) = read_two::<Bytes, i128>(alloc, b"- 999999999999999999")?;
