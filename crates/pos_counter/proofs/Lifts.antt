@@ -18,14 +18,17 @@ use Rattle.pos_counter.specs.Totals.{TotalsPart}
 abbrev with_controls : List Control → List Device → TotalsPart → Machine
 with_controls controls devices part = record { controls = controls; devices = devices; totals = part }
 
+-- a match was of none, or of some
 pub match_cases : {A : Type 0} (o : Option A) (P : Type 0) (R : A → Type 0) → MatchOption o P R → ((o ≡ None) × P) ⊎ ((a : A) × (o ≡ Some a) × R a)
 match_cases None P R h = inl (refl, h)
 match_cases (Some a) P R h = inr (a, refl, h)
 
+-- a match holds still where both its sides are weakened
 pub match_weaker : {A : Type 0} (o : Option A) (P Q : Type 0) (R S : A → Type 0) → (P → Q) → ((a : A) → R a → S a) → MatchOption o P R → MatchOption o Q S
 match_weaker None P Q R S f g h = f h
 match_weaker (Some a) P Q R S f g h = g a h
 
+-- a match at what is some
 pub match_at_some : {A : Type 0} (o : Option A) (a : A) (P : Type 0) (R : A → Type 0) → o ≡ Some a → R a → MatchOption o P R
 match_at_some o a P R e r = subst (λ x. MatchOption x P R) (sym e) r
 
@@ -33,9 +36,11 @@ match_at_some o a P R e r = subst (λ x. MatchOption x P R) (sym e) r
 pub match_by : {A : Type 0} (o u : Option A) (P : Type 0) (R : A → Type 0) → o ≡ u → MatchOption u P R → MatchOption o P R
 match_by o u P R e h = subst (λ x. MatchOption x P R) (sym e) h
 
+-- a match at what is none
 pub match_at_none : {A : Type 0} (o : Option A) (P : Type 0) (R : A → Type 0) → o ≡ None → P → MatchOption o P R
 match_at_none o P R e p = subst (λ x. MatchOption x P R) (sym e) p
 
+-- the control with a number that is given, as the machine sees it
 pub control_at : (hs : List Held) (n : ℕ) (d : Held) → n < length hs → slice_get (controls_of hs) n ≡ Some (get_or hs n d).control
 control_at hs n d lt = slice_get-map (λ (h : Held). h.control) hs n ∙ ap (option_map (λ (h : Held). h.control)) (slice_get-get_or hs n d lt)
 

@@ -38,7 +38,7 @@ entry_within (e ∷ es) zero lt = (e, refl)
 entry_within (e ∷ es) (suc i) lt = entry_within es i (omega arith)
 
 -- what a list of peripherals is at a place
-pub state_at : {P : Type 0} (state : P → PeripheralState) (ps : List P) (place : ℕ) (p : P) → slice_get ps place ≡ Some p → slice_get (map state ps) place ≡ Some (state p)
+state_at : {P : Type 0} (state : P → PeripheralState) (ps : List P) (place : ℕ) (p : P) → slice_get ps place ≡ Some p → slice_get (map state ps) place ≡ Some (state p)
 state_at state ps place p at = slice_get-map state ps place ∙ ap (option_map state) at
 
 -- the station of a device that a name finds
@@ -90,6 +90,7 @@ unparked_at state ps place p at all =
     let there = state_at state ps place p at in
     subst (λ (s : PeripheralState). s.is_parked ≡ false) (get_or_from_slice_get (map state ps) place (state p) (state p) there) (All-get_or (λ (s : PeripheralState). s.is_parked ≡ false) (map state ps) place (state p) (slice_get_within (map state ps) place (state p) there) all)
 
+-- all stay in service where one is changed for one in service
 pub unparked_set : {P : Type 0} (state : P → PeripheralState) (ps : List P) (place : ℕ) (q : P) → (state q).is_parked ≡ false → AllUnparked (map state ps) → AllUnparked (map state (set ps place q))
 unparked_set state ps place q unparked all = subst AllUnparked (sym (map-set state ps place q)) (All-set (λ (s : PeripheralState). s.is_parked ≡ false) (map state ps) place (state q) unparked all)
 
