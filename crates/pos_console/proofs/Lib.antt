@@ -3,3 +3,4 @@ pub mod NameLemmas
 pub mod WriteLemmas
 pub mod Sessions
 pub mod Serving
+pub mod Starting

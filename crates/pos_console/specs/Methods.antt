@@ -2,7 +2,8 @@
 use Rattle.std.specs.Prelude.{ℕ, List, [], ◌∷◌, bytes_eq, codes, if◌then◌else◌}
 use Rattle.pos_service.specs.declared.call.Call.{Call}
 use Rattle.pos_service.specs.declared.call.Call.TheVariants as call
-use Rattle.pos_console.specs.Arguments.{Reading, misshapen, from_none}
+use Rattle.pos_console.specs.Arguments.{Reading, misshapen, from_none, from_one, from_two, from_three}
+use Rattle.pos_console.specs.Words.{bytes_shape, number_shape, truth_shape}
 
 -- A method: its word, and its call by the words behind it.
 pub record Method : Type 0 where
@@ -13,10 +14,21 @@ pub record Method : Type 0 where
 abbrev pub method : List ℕ → (List (List ℕ) → Reading Call) → Method
 method word call = record { word = word; call = call }
 
--- the methods: those of a cash drawer
+-- the methods of Hard Totals
+abbrev pub totals_methods : List Method
+totals_methods =
+    method (codes "create") (from_three bytes_shape number_shape truth_shape call.Create)
+    ∷ method (codes "delete") (from_one bytes_shape call.Delete)
+    ∷ method (codes "find") (from_one bytes_shape call.Find)
+    ∷ method (codes "findByIndex") (from_one number_shape call.FindByIndex)
+    ∷ method (codes "read") (from_three number_shape number_shape number_shape call.Read)
+    ∷ method (codes "write") (from_three number_shape number_shape bytes_shape call.Write)
+    ∷ method (codes "setAll") (from_two number_shape number_shape call.SetAll)
+    ∷ method (codes "rename") (from_two number_shape bytes_shape call.Rename) ∷ []
+
+-- the methods: that of a cash drawer, and those of Hard Totals
 abbrev pub methods : List Method
-methods =
-    method (codes "openDrawer") (from_none call.OpenDrawer) ∷ []
+methods = method (codes "openDrawer") (from_none call.OpenDrawer) ∷ totals_methods
 
 -- the call of the first method with a word
 abbrev pub call_in : List Method → List ℕ → List (List ℕ) → Reading Call

@@ -3,48 +3,57 @@ use Rattle.std.specs.Prelude.{◌≡◌, ◌++◌, ◌<◌, ◌∷◌, [], ℕ, 
 use Rattle.std.specs.Io.KnownBytes.{Appends, Keeps}
 use Rattle.pos_counter.specs.Machine.{Machine}
 use Rattle.pos_sims.specs.Drawers.{drawer_state}
-use Rattle.pos_counter.specs.Parts.{beginning}
+use Rattle.pos_disk.specs.Memory.{Memory, state_of}
+use Rattle.pos_disk.specs.State.{IsAtRest}
+use Rattle.pos_image.specs.NewDisk.{no_files}
+use Rattle.pos_image.specs.Standing.{HasNewImage}
+use Rattle.pos_service.specs.HardTotals.{Off}
+use Rattle.pos_store.specs.Standing.{Stands}
+use Rattle.pos_counter.specs.Parts.{machine_of}
+use Rattle.pos_counter.specs.Profile.{profile}
+use Rattle.pos_counter.specs.Steps.{Run}
 use Rattle.pos_console.specs.declared.run.RunFault.{RunFault}
 use Rattle.pos_console.specs.declared.run.RunFault.TheVariants as fault
 use Rattle.pos_console.specs.Lines.{lines_of}
 use Rattle.pos_console.specs.Names.{ControlNames}
-use Rattle.pos_console.specs.Transcript.{Transcript, CarriesOut, LineBecomes, printed}
+use Rattle.pos_console.specs.Transcript.{Leads, Transcript, CarriesOut, LineBecomes, printed}
 
 -- All lines were carried out, and their text is written.
-pub record Finishes (old : Machine) (lines : List (List ℕ)) (before after : Option (List ℕ))
-    (new : Machine) : Type 0 where
+pub record Finishes {C : Type 0} (Runs : Leads C) (old : C) (lines : List (List ℕ)) (before after : Option (List ℕ))
+    (new : C) : Type 0 where
   pub text : List ℕ
   pub names : ControlNames
-  pub transcript : Transcript old lines text names new
+  pub transcript : Transcript Runs old lines text names new
   pub written : Appends before after text
 
 -- A write failed at a line: the earlier lines were carried out and their text is written; the line was carried out too,
 -- and of what it prints a front is written, but not all; no later line was carried out.
-pub record Stops (old : Machine) (lines : List (List ℕ)) (before after : Option (List ℕ)) (new : Machine) : Type 0 where
+pub record Stops {C : Type 0} (Runs : Leads C) (old : C) (lines : List (List ℕ)) (before after : Option (List ℕ))
+    (new : C) : Type 0 where
   pub earlier : List (List ℕ)
   pub line : List ℕ
   pub later : List (List ℕ)
   pub text : List ℕ
   pub names : ControlNames
-  pub mid : Machine
+  pub mid : C
   pub reply : Option (List ℕ)
   pub names_after : ControlNames
   pub front : List ℕ
   pub back : List ℕ
   pub split : lines ≡ earlier ++ line ∷ later
-  pub transcript : Transcript old earlier text names mid
-  pub carried : CarriesOut mid (LineBecomes names line) reply names_after new
+  pub transcript : Transcript Runs old earlier text names mid
+  pub carried : CarriesOut Runs mid (LineBecomes names line) reply names_after new
   pub cut : printed reply ≡ front ++ back
   pub unwritten : 0 < length back
   pub written : Appends before after (text ++ front)
 
 -- what a run over these bytes leaves, by its result
-abbrev pub ScriptLeaves : Machine → List ℕ → Option (List ℕ) → Option (List ℕ) → Result (Unit {0}) RunFault
-    → Machine → Type 0
-ScriptLeaves old bytes before after (Ok u) new = Finishes old (lines_of bytes) before after new
-ScriptLeaves old bytes before after (Err fault.Read) new = (new ≡ old) × Keeps before after
-ScriptLeaves old bytes before after (Err fault.Write) new = Stops old (lines_of bytes) before after new
-ScriptLeaves old bytes before after (Err fault.NoMemory) new = (new ≡ old) × Keeps before after
+abbrev pub ScriptLeaves : {C : Type 0} → Leads C → C → List ℕ → Option (List ℕ) → Option (List ℕ)
+    → Result (Unit {0}) RunFault → C → Type 0
+ScriptLeaves Runs old bytes before after (Ok u) new = Finishes Runs old (lines_of bytes) before after new
+ScriptLeaves Runs old bytes before after (Err fault.Read) new = (new ≡ old) × Keeps before after
+ScriptLeaves Runs old bytes before after (Err fault.Write) new = Stops Runs old (lines_of bytes) before after new
+ScriptLeaves Runs old bytes before after (Err fault.NoMemory) new = (new ≡ old) × Keeps before after
 
 -- A run that wasn't stopped while it read has read all bytes that the reader is known to have had left.
 abbrev pub ReadsWhole : Option (List ℕ) → List ℕ → Result (Unit {0}) RunFault → Type 0
@@ -53,21 +62,31 @@ ReadsWhole left bytes (Err fault.Read) = Unit {0}
 ReadsWhole left bytes (Err fault.Write) = IfSome left (λ known. known ≡ bytes)
 ReadsWhole left bytes (Err fault.NoMemory) = Unit {0}
 
--- What a run leaves of a machine and a writer, by the bytes that the reader had left.
-pub record RunsScript (old : Machine) (left before after : Option (List ℕ))
-    (result : Result (Unit {0}) RunFault) (new : Machine) : Type 0 where
+-- What a run leaves of a state and a writer, by the bytes that the reader had left.
+pub record RunsScript {C : Type 0} (Runs : Leads C) (old : C) (left before after : Option (List ℕ))
+    (result : Result (Unit {0}) RunFault) (new : C) : Type 0 where
   pub input : List ℕ
   pub whole : ReadsWhole left input result
-  pub run : ScriptLeaves old input before after result new
+  pub run : ScriptLeaves Runs old input before after result new
 
--- the machine as the program begins: no control, and the closed drawer `d1` in service
+-- the machine as the program begins: no control, the closed drawer `d1` in service, and the totals off over a disk that was
+-- formatted
 abbrev pub start : Machine
-start = beginning (drawer_state false false ∷ [])
+start = machine_of [] profile (drawer_state false false ∷ []) (record {
+  totals = record { mode = Off; next = 1 };
+  left = Stands [] 1 ∷ [];
+  failures = 0;
+})
+
+-- A disk in memory that was formatted: at rest, with no files and sequence 1.
+pub record IsNewDisk (disk : Memory) : Type 0 where
+  pub at_rest : IsAtRest (state_of disk)
+  pub image : HasNewImage no_files 1 (state_of disk).reading
 
 -- What a run over the program's counter leaves of a writer.
-pub record RunsOverDrawer (left before after : Option (List ℕ)) (result : Result (Unit {0}) RunFault) : Type 0 where
+pub record RunsFromStart (left before after : Option (List ℕ)) (result : Result (Unit {0}) RunFault) : Type 0 where
   pub end : Machine
-  pub run : RunsScript start left before after result end
+  pub run : RunsScript Run start left before after result end
 
 -- A front of the lines was carried out, and a front of their text is written.
 pub record ReachesFront (old : Machine) (lines : List (List ℕ)) (before after : Option (List ℕ)) : Type 0 where
@@ -78,12 +97,12 @@ pub record ReachesFront (old : Machine) (lines : List (List ℕ)) (before after 
   pub names : ControlNames
   pub end : Machine
   pub split : lines ≡ done ++ later
-  pub transcript : Transcript old done (front ++ back) names end
+  pub transcript : Transcript Run old done (front ++ back) names end
   pub written : Appends before after front
 
 -- what the program leaves of its writer, with what that holds back, for a script of these bytes
 abbrev pub ServeLeaves : List ℕ → Option (List ℕ) → Option (List ℕ) → Result (Unit {0}) RunFault → Type 0
-ServeLeaves bytes before after (Ok u) = (end : Machine) × Finishes start (lines_of bytes) before after end
+ServeLeaves bytes before after (Ok u) = (end : Machine) × Finishes Run start (lines_of bytes) before after end
 ServeLeaves bytes before after (Err fault.Read) = Keeps before after
 ServeLeaves bytes before after (Err fault.Write) = ReachesFront start (lines_of bytes) before after
 ServeLeaves bytes before after (Err fault.NoMemory) = Keeps before after

@@ -87,17 +87,21 @@ LinesPrint names (line ∷ lines) steps text after =
     × LineBecomes names line outcome × LinesPrint outcome.names lines more rest after
     × (steps ≡ outcome.steps ++ more) × (text ≡ printed outcome.reply ++ rest)
 
--- From one machine to another: what the lines ask is a run of the machine, this is its text, and these are the names of
--- the controls then. No control has a name at first.
-pub record Transcript (old : Machine) (lines : List (List ℕ)) (text : List ℕ) (names : ControlNames)
-    (new : Machine) : Type 0 where
+-- what requests with their responses lead to: from one state to another
+abbrev pub Leads : Type 0 → Type 1
+Leads C = C → List (Request × Response) → C → Type 0
+
+-- From one state to another: what the lines ask is a run, this is its text, and these are the names of the controls then. No
+-- control has a name at first.
+pub record Transcript {C : Type 0} (Runs : Leads C) (old : C) (lines : List (List ℕ)) (text : List ℕ) (names : ControlNames)
+    (new : C) : Type 0 where
   pub steps : List (Request × Response)
-  pub run : Run old steps new
+  pub run : Runs old steps new
   pub prints : LinesPrint [] lines steps text names
 
--- What a part of the program does to the machine, so that this becomes of a line.
-pub record CarriesOut (old : Machine) (Becomes : Outcome → Type 0) (reply : Option (List ℕ)) (names : ControlNames)
-    (new : Machine) : Type 0 where
+-- What a part of the program does to a state, so that this becomes of a line.
+pub record CarriesOut {C : Type 0} (Runs : Leads C) (old : C) (Becomes : Outcome → Type 0) (reply : Option (List ℕ))
+    (names : ControlNames) (new : C) : Type 0 where
   pub steps : List (Request × Response)
-  pub run : Run old steps new
+  pub run : Runs old steps new
   pub becomes : Becomes (record { reply = reply; steps = steps; names = names })

@@ -5,10 +5,11 @@
 ghost use Rattle.std.specs.Prelude.{◌≡◌, false, [], OnOk};
 ghost use Rattle.std.specs.Io.Buffered.{writer_buffer, writer_contents};
 ghost use Rattle.pos_sims.specs.Drawers.{drawer_state};
-ghost use Rattle.pos_console.specs.Running.{RunsOverDrawer, Serves, status};
+ghost use Rattle.pos_console.specs.Running.{RunsFromStart, Serves, status};
 
 mod arguments;
 mod command;
+mod disk;
 mod lines;
 mod methods;
 mod names;
@@ -22,7 +23,8 @@ mod tests;
 mod words;
 mod write;
 
-use pos_counter::Counter;
+use disk::format_disk;
+use pos_counter::{Counter, Ended};
 use pos_service::{HasState, Peripheral, PeripheralBox};
 use pos_sims::PlainDrawer;
 use run::{RunFault, run};
@@ -48,13 +50,14 @@ fn closed_drawer(device: Box<dyn Peripheral>) -> PeripheralBox
     PeripheralBox::new(device)
 }
 
-/// Runs a script over a counter of one simulated cash drawer, the device `d1`.
-fn run_over_drawer<R: Read, W: Write>(
+/// Runs a script over a counter of one simulated cash drawer, the device `d1`, and of Hard Totals, the device `t1`, on a disk
+/// in memory.
+fn run_over_devices<R: Read, W: Write>(
     alloc: Global,
     reader: &mut R,
     writer: &mut W,
 ) -> Result<(), RunFault>
-    ensures { RunsOverDrawer (R.remaining reader.old) (W.contents writer.old) (W.contents writer.new) result }
+    ensures { RunsFromStart (R.remaining reader.old) (W.contents writer.old) (W.contents writer.new) result }
 {
     let Ok(drawer) = Box::new(alloc, PlainDrawer::new()) else {
         return Err(RunFault::NoMemory);
@@ -62,21 +65,26 @@ fn run_over_drawer<R: Read, W: Write>(
     let Ok(mut boxes) = Vec::with_capacity(alloc, 1) else {
         return Err(RunFault::NoMemory);
     };
+    let Ok(disk) = format_disk(alloc) else {
+        boxes.destroy_empty();
+        return Err(RunFault::NoMemory);
+    };
     let drawer: Box<dyn Peripheral> = drawer;
     boxes.push_reserved(closed_drawer(drawer));
-    let mut counter = match Counter::new(alloc, boxes) {
+    let mut counter = match Counter::new(alloc, boxes, disk) {
         Ok(counter) => counter,
-        Err((_, boxes)) => {
+        Err((_, boxes, _)) => {
             park_all(boxes);
             return Err(RunFault::NoMemory);
         }
     };
     let result = run(alloc, reader, writer, &mut counter);
-    park_all(counter.shutdown());
+    let Ended { disk: _, boxes } = counter.shutdown();
+    park_all(boxes);
     result
 }
 
-/// Runs a script over a counter of one simulated cash drawer, and writes what the writer holds back of its text.
+/// Runs a script over a counter of simulated devices, and writes what the writer holds back of its text.
 fn serve<R: Read, W: Write + Drop>(
     alloc: Global,
     reader: &mut R,
@@ -86,7 +94,7 @@ fn serve<R: Read, W: Write + Drop>(
         (writer_contents W.contents writer.new) result }
     ensures flushed { OnOk result (writer_buffer writer.new ≡ []) }
 {
-    match run_over_drawer(alloc, reader, writer) {
+    match run_over_devices(alloc, reader, writer) {
         Ok(()) => match writer.flush() {
             Ok(()) => Ok(()),
             Err(_) => Err(RunFault::Write),

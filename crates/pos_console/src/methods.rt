@@ -1,18 +1,55 @@
 ghost use Rattle.pos_console.specs.Lines.{words_of};
 ghost use Rattle.pos_console.specs.Arguments.{Reads};
-ghost use Rattle.pos_console.specs.Methods.{call_of};
+ghost use Rattle.pos_console.specs.Methods.{call_in, call_of, totals_methods};
 
-use crate::arguments::{LineFault, read_none};
+use crate::arguments::{LineFault, read_none, read_one, read_three, read_two};
 use crate::words::is;
 use pos_service::Call;
 use std::alloc::Global;
 
 /// The call of a method, by its word and the words behind it, whatever its control is.
-pub fn read_call(_: Global, method: &[u8], words: &[u8]) -> Result<Call, LineFault>
+pub fn read_call(alloc: Global, method: &[u8], words: &[u8]) -> Result<Call, LineFault>
     ensures { Reads (call_of method.now (words_of words.now)) result }
 {
     if is(method, "openDrawer") {
         return read_none(words).map(|_| Call::OpenDrawer);
+    }
+    read_totals_call(alloc, method, words)
+}
+
+/// The call of a method of Hard Totals.
+fn read_totals_call(alloc: Global, method: &[u8], words: &[u8]) -> Result<Call, LineFault>
+    ensures { Reads (call_in totals_methods method.now (words_of words.now)) result }
+{
+    if is(method, "create") {
+        return read_three(alloc, words).map(|(name, (size, detection))| Call::Create(
+            name, size, detection,
+        ));
+    }
+    if is(method, "delete") {
+        return read_one(alloc, words).map(Call::Delete);
+    }
+    if is(method, "find") {
+        return read_one(alloc, words).map(Call::Find);
+    }
+    if is(method, "findByIndex") {
+        return read_one(alloc, words).map(Call::FindByIndex);
+    }
+    if is(method, "read") {
+        return read_three(alloc, words).map(|(handle, (offset, count))| Call::Read(
+            handle, offset, count,
+        ));
+    }
+    if is(method, "write") {
+        return read_three(alloc, words).map(|(handle, (offset, bytes))| Call::Write(
+            handle, offset, bytes,
+        ));
+    }
+    if is(method, "setAll") {
+        return read_two(alloc, words).map(|(handle, value)| Call::SetAll(handle, value));
+    }
+    if is(method, "rename") {
+        return read_two(alloc, words).map(|(handle, name)| Call::Rename(handle, name));
     }
     Err(LineFault::WrongShape)
 }

@@ -1,6 +1,6 @@
 ghost use Rattle.std.specs.Prelude.{◌≡◌, option_map};
 ghost use Rattle.pos_console.specs.declared.run.RunFault.TheVariants as run_fault;
-ghost use Rattle.pos_counter.specs.Counters.{machine, IsCounterSound};
+ghost use Rattle.pos_counter.specs.Counters.{IsRun, IsCounterSound};
 ghost use Rattle.pos_console.specs.Running.{RunsScript};
 ghost use Rattle.pos_console.specs.Carried.{CarriesOutLines};
 ghost use Rattle.pos_console.specs.Transcript.{printed};
@@ -15,6 +15,7 @@ use crate::reply::Reply;
 use crate::session::carry_out_line;
 use crate::write::WriteFault;
 use pos_counter::Counter;
+use pos_disk::Disk;
 use pos_service::{HasState, NoMemory, PeripheralBox};
 use std::alloc::Global;
 use std::io::{Read, Write};
@@ -61,14 +62,14 @@ fn print_line<W: Write>(writer: &mut W, reply: Option<Reply>) -> Result<(), Writ
 }
 
 /// Carries out the lines of a script.
-fn carry_out_lines<W: Write>(
+fn carry_out_lines<W: Write, D: Disk>(
     alloc: Global,
     input: &[u8],
     writer: &mut W,
-    counter: &mut Counter,
+    counter: &mut Counter<D>,
 ) -> Result<(), WriteFault>
     requires sound { IsCounterSound ⟦<PeripheralBox as HasState>⟧ counter.old }
-    ensures lines { CarriesOutLines ⟦<PeripheralBox as HasState>⟧ counter.old input.now
+    ensures lines { CarriesOutLines D.Disk ⟦<PeripheralBox as HasState>⟧ counter.old input.now
         (W.contents writer.old) (W.contents writer.new) result counter.new }
     ensures sound { IsCounterSound ⟦<PeripheralBox as HasState>⟧ counter.new }
 {
@@ -90,15 +91,15 @@ fn carry_out_lines<W: Write>(
 /// At a fault of the reader, or want of memory for the input, no line was carried out and nothing is written. At a fault
 /// of the writer the earlier lines were carried out and their text is written; the line at which it came was carried out
 /// too, and no later one.
-pub fn run<R: Read, W: Write>(
+pub fn run<R: Read, W: Write, D: Disk>(
     alloc: Global,
     reader: &mut R,
     writer: &mut W,
-    counter: &mut Counter,
+    counter: &mut Counter<D>,
 ) -> Result<(), RunFault>
     requires sound { IsCounterSound ⟦<PeripheralBox as HasState>⟧ counter.old }
-    ensures script { RunsScript (machine ⟦<PeripheralBox as HasState>⟧ counter.old) (R.remaining reader.old)
-        (W.contents writer.old) (W.contents writer.new) result (machine ⟦<PeripheralBox as HasState>⟧ counter.new) }
+    ensures script { RunsScript (IsRun D.Disk ⟦<PeripheralBox as HasState>⟧) counter.old (R.remaining reader.old)
+        (W.contents writer.old) (W.contents writer.new) result counter.new }
     ensures sound { IsCounterSound ⟦<PeripheralBox as HasState>⟧ counter.new }
 {
     let input = read_input(alloc, reader)?;

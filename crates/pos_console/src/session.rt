@@ -8,13 +8,19 @@ use crate::lines::is_quiet_line;
 use crate::names::Names;
 use crate::reply::Reply;
 use pos_counter::{ControlFault, Counter, InputFault, SnapshotFault};
+use pos_disk::Disk;
 use pos_service::{Call, Category, ErrorReply, HasState, Input, PeripheralBox};
 use std::alloc::Global;
 
 /// A new control, under a name that no control has.
-fn new_control(counter: &mut Counter, names: &mut Names, name: &[u8], category: Category) -> Reply
+fn new_control<D: Disk>(
+    counter: &mut Counter<D>,
+    names: &mut Names,
+    name: &[u8],
+    category: Category,
+) -> Reply
     requires sound { IsCounterSound ⟦<PeripheralBox as HasState>⟧ counter.old }
-    ensures asks { CarriesOutAsking ⟦<PeripheralBox as HasState>⟧ counter.old names.old
+    ensures asks { CarriesOutAsking D.Disk ⟦<PeripheralBox as HasState>⟧ counter.old names.old
         (NewLine name.now category) result names.new counter.new }
     ensures sound { IsCounterSound ⟦<PeripheralBox as HasState>⟧ counter.new }
 {
@@ -35,9 +41,9 @@ fn new_control(counter: &mut Counter, names: &mut Names, name: &[u8], category: 
 }
 
 /// A call on the control of a name.
-fn call_control(counter: &mut Counter, names: &Names, name: &[u8], call: &Call) -> Reply
+fn call_control<D: Disk>(counter: &mut Counter<D>, names: &Names, name: &[u8], call: &Call) -> Reply
     requires sound { IsCounterSound ⟦<PeripheralBox as HasState>⟧ counter.old }
-    ensures asks { CarriesOutAsking ⟦<PeripheralBox as HasState>⟧ counter.old names.now
+    ensures asks { CarriesOutAsking D.Disk ⟦<PeripheralBox as HasState>⟧ counter.old names.now
         (CallLine name.now call.now) result names.now counter.new }
     ensures sound { IsCounterSound ⟦<PeripheralBox as HasState>⟧ counter.new }
 {
@@ -51,9 +57,14 @@ fn call_control(counter: &mut Counter, names: &Names, name: &[u8], call: &Call) 
 }
 
 /// The delivery of an event to the control of a name.
-fn deliver_event(counter: &mut Counter, names: &Names, name: &[u8], reply: ErrorReply) -> Reply
+fn deliver_event<D: Disk>(
+    counter: &mut Counter<D>,
+    names: &Names,
+    name: &[u8],
+    reply: ErrorReply,
+) -> Reply
     requires sound { IsCounterSound ⟦<PeripheralBox as HasState>⟧ counter.old }
-    ensures asks { CarriesOutAsking ⟦<PeripheralBox as HasState>⟧ counter.old names.now
+    ensures asks { CarriesOutAsking D.Disk ⟦<PeripheralBox as HasState>⟧ counter.old names.now
         (DeliverLine name.now reply) result names.now counter.new }
     ensures sound { IsCounterSound ⟦<PeripheralBox as HasState>⟧ counter.new }
 {
@@ -64,9 +75,9 @@ fn deliver_event(counter: &mut Counter, names: &Names, name: &[u8], reply: Error
 }
 
 /// What happens at a device.
-fn input_device(counter: &mut Counter, name: &[u8], input: &Input) -> Reply
+fn input_device<D: Disk>(counter: &mut Counter<D>, name: &[u8], input: &Input) -> Reply
     requires sound { IsCounterSound ⟦<PeripheralBox as HasState>⟧ counter.old }
-    ensures asks { CarriesOutAtDevice ⟦<PeripheralBox as HasState>⟧ counter.old
+    ensures asks { CarriesOutAtDevice D.Disk ⟦<PeripheralBox as HasState>⟧ counter.old
         (InputLine name.now input.now) result counter.new }
     ensures sound { IsCounterSound ⟦<PeripheralBox as HasState>⟧ counter.new }
 {
@@ -79,9 +90,9 @@ fn input_device(counter: &mut Counter, name: &[u8], input: &Input) -> Reply
 }
 
 /// What a device is physically.
-fn show_device(counter: &Counter, name: &[u8]) -> Reply
+fn show_device<D: Disk>(counter: &Counter<D>, name: &[u8]) -> Reply
     requires sound { IsCounterSound ⟦<PeripheralBox as HasState>⟧ counter.now }
-    ensures { CarriesOutAtDevice ⟦<PeripheralBox as HasState>⟧ counter.now (ShowLine name.now) result counter.now }
+    ensures { CarriesOutAtDevice D.Disk ⟦<PeripheralBox as HasState>⟧ counter.now (ShowLine name.now) result counter.now }
 {
     match counter.snapshot(name) {
         Ok(snapshot) => Reply::Shown(snapshot),
@@ -91,9 +102,13 @@ fn show_device(counter: &Counter, name: &[u8]) -> Reply
 }
 
 /// Carries out what a line asks, and replies to it.
-fn carry_out_command(counter: &mut Counter, names: &mut Names, command: Command<'_>) -> Reply
+fn carry_out_command<D: Disk>(
+    counter: &mut Counter<D>,
+    names: &mut Names,
+    command: Command<'_>,
+) -> Reply
     requires sound { IsCounterSound ⟦<PeripheralBox as HasState>⟧ counter.old }
-    ensures asks { CarriesOutAsking ⟦<PeripheralBox as HasState>⟧ counter.old names.old
+    ensures asks { CarriesOutAsking D.Disk ⟦<PeripheralBox as HasState>⟧ counter.old names.old
         (asking command.entry) result names.new counter.new }
     ensures sound { IsCounterSound ⟦<PeripheralBox as HasState>⟧ counter.new }
 {
@@ -106,15 +121,15 @@ fn carry_out_command(counter: &mut Counter, names: &mut Names, command: Command<
     }
 }
 
-/// CarriesOut out a line, and says what it prints, if it prints anything.
-pub fn carry_out_line(
+/// Carries out a line, and says what it prints, if it prints anything.
+pub fn carry_out_line<D: Disk>(
     alloc: Global,
-    counter: &mut Counter,
+    counter: &mut Counter<D>,
     names: &mut Names,
     line: &[u8],
 ) -> Option<Reply>
     requires sound { IsCounterSound ⟦<PeripheralBox as HasState>⟧ counter.old }
-    ensures becomes { CarriesOutLine ⟦<PeripheralBox as HasState>⟧ counter.old names.old
+    ensures becomes { CarriesOutLine D.Disk ⟦<PeripheralBox as HasState>⟧ counter.old names.old
         line.now result names.new counter.new }
     ensures sound { IsCounterSound ⟦<PeripheralBox as HasState>⟧ counter.new }
 {

@@ -1,7 +1,7 @@
 ghost use Rattle.std.specs.Prelude.{◌≡◌, ◌<◌, ◌^◌, true, bytes_eq, is_some, Some, IfSome, IfOk};
 ghost use Rattle.std.specs.List.{list_all};
 ghost use Rattle.hex.specs.Hex.{is_hex_digit};
-ghost use Rattle.pos_console.specs.Words.{number_of_digits, is_digit, is_digits, is_name_byte, is_name, digits_named, number_named, truth_named, bytes_named, value_named, category_named, property_named, error_reply_named};
+ghost use Rattle.pos_console.specs.Words.{number_of_digits, is_digit, is_digits, is_name_byte, is_name, digits_named, number_named, truth_named, bytes_named, value_named, category_named, property_named, totals_property_named, error_reply_named};
 
 use pos_service::{Bytes, Category, ErrorReply, NoMemory, Property, Value};
 use std::alloc::Global;
@@ -132,6 +132,9 @@ pub fn category(word: &[u8]) -> Option<Category>
     if is(word, "CashDrawer") {
         return Some(Category::CashDrawer);
     }
+    if is(word, "HardTotals") {
+        return Some(Category::HardTotals);
+    }
     None
 }
 
@@ -182,6 +185,31 @@ pub fn property(word: &[u8]) -> Option<Property>
     }
     if is(word, "DrawerOpened") {
         return Some(Property::DrawerOpened);
+    }
+    totals_property(word)
+}
+
+/// The property of Hard Totals of this name.
+fn totals_property(word: &[u8]) -> Option<Property>
+    ensures { result ≡ totals_property_named word.now }
+{
+    if is(word, "TotalsSize") {
+        return Some(Property::TotalsSize);
+    }
+    if is(word, "FreeData") {
+        return Some(Property::FreeData);
+    }
+    if is(word, "NumberOfFiles") {
+        return Some(Property::NumberOfFiles);
+    }
+    if is(word, "CapTransactions") {
+        return Some(Property::CapTransactions);
+    }
+    if is(word, "CapSingleFile") {
+        return Some(Property::CapSingleFile);
+    }
+    if is(word, "CapErrorDetection") {
+        return Some(Property::CapErrorDetection);
     }
     None
 }
