@@ -14,17 +14,21 @@ pub record Method : Type 0 where
 abbrev pub method : List ℕ → (List (List ℕ) → Reading Call) → Method
 method word call = record { word = word; call = call }
 
+-- the methods of Hard Totals on a file by its handle
+abbrev pub handle_methods : List Method
+handle_methods =
+    method (codes "read") (from_three number_shape number_shape number_shape call.Read)
+    ∷ method (codes "write") (from_three number_shape number_shape bytes_shape call.Write)
+    ∷ method (codes "setAll") (from_two number_shape number_shape call.SetAll)
+    ∷ method (codes "rename") (from_two number_shape bytes_shape call.Rename) ∷ []
+
 -- the methods of Hard Totals
 abbrev pub totals_methods : List Method
 totals_methods =
     method (codes "create") (from_three bytes_shape number_shape truth_shape call.Create)
     ∷ method (codes "delete") (from_one bytes_shape call.Delete)
     ∷ method (codes "find") (from_one bytes_shape call.Find)
-    ∷ method (codes "findByIndex") (from_one number_shape call.FindByIndex)
-    ∷ method (codes "read") (from_three number_shape number_shape number_shape call.Read)
-    ∷ method (codes "write") (from_three number_shape number_shape bytes_shape call.Write)
-    ∷ method (codes "setAll") (from_two number_shape number_shape call.SetAll)
-    ∷ method (codes "rename") (from_two number_shape bytes_shape call.Rename) ∷ []
+    ∷ method (codes "findByIndex") (from_one number_shape call.FindByIndex) ∷ handle_methods
 
 -- the methods: that of a cash drawer, and those of Hard Totals
 abbrev pub methods : List Method

@@ -1,6 +1,6 @@
 ghost use Rattle.pos_console.specs.Lines.{words_of};
 ghost use Rattle.pos_console.specs.Arguments.{Reads};
-ghost use Rattle.pos_console.specs.Methods.{call_in, call_of, totals_methods};
+ghost use Rattle.pos_console.specs.Methods.{call_in, call_of, handle_methods, totals_methods};
 
 use crate::arguments::{LineFault, read_none, read_one, read_three, read_two};
 use crate::words::is;
@@ -35,6 +35,13 @@ fn read_totals_call(alloc: Global, method: &[u8], words: &[u8]) -> Result<Call, 
     if is(method, "findByIndex") {
         return read_one(alloc, words).map(Call::FindByIndex);
     }
+    read_handle_call(alloc, method, words)
+}
+
+/// The call of a method of Hard Totals on a file by its handle.
+fn read_handle_call(alloc: Global, method: &[u8], words: &[u8]) -> Result<Call, LineFault>
+    ensures { Reads (call_in handle_methods method.now (words_of words.now)) result }
+{
     if is(method, "read") {
         return read_three(alloc, words).map(|(handle, (offset, count))| Call::Read(
             handle, offset, count,

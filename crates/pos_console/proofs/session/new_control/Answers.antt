@@ -1,11 +1,11 @@
-use Rattle.std.proofs.Common.{◌∙◌, ◌++◌, ◌∷◌, [], Some, None, sym, ap, cond}
+use Rattle.std.proofs.Common.{◌∙◌, ◌++◌, ◌∷◌, [], Some, None, sym, ap, cond, refl}
 use Rattle.std.specs.Prelude.{is_some}
-use Rattle.pos_counter.specs.Steps.{NewControl, Made, Full}
+use Rattle.pos_counter.specs.Steps.{NewControl, Made, Full, OutOfMemory}
 use Rattle.pos_counter.specs.Counters.{IsRun, boxes_of}
-use Rattle.pos_counter.proofs.Runs.{one_beside}
+use Rattle.pos_counter.proofs.Runs.{no_run, one_beside}
 use Rattle.pos_console.specs.Commands.{NewLine}
 use Rattle.pos_console.specs.Names.{names_of}
-use Rattle.pos_console.proofs.Sessions.{asks_request, renamed}
+use Rattle.pos_console.proofs.Sessions.{asks_none, asks_request, asks_unkept, renamed}
 use Rattle.pos_console.proofs.session.new_control.Goals as goal
 
 pub returns-in-Ok-control-clause-asks : goal.returns-in-Ok-control-clause-asks
@@ -26,3 +26,26 @@ returns-in-Err-Full-clause-asks g c =
     let unknown = sym (ap is_some c.find.ensures) ∙ (sym c.is_some.ensures ∙ c.if-is_some.false) in
     renamed (IsRun g.D.Disk boxes) _ _ _ _ _ _ c.in-Ok.ensures.names
     (asks_request (IsRun g.D.Disk boxes) old names (NewLine c.args.name.now c.args.category) (NewControl c.args.category) Full c.control.new.self (ap (λ b. cond b None (Some (NewControl c.args.category))) unknown) (one_beside g.D.Disk boxes old c.control.new.self (NewControl c.args.category) Full (λ bytes honest since. g.met.D.Disk.only_now c.args.counter.now.totals.disk bytes honest since) (rw c.in-Err-Full.field-0-is at c.in-Err-Full.ensures.step)))
+
+pub returns-then-is_some-clause-asks : goal.returns-then-is_some-clause-asks
+returns-then-is_some-clause-asks g c =
+    let boxes = boxes_of c.requires.sound in
+    let old = c.args.counter.now in
+    let known = sym (ap is_some c.find.ensures) ∙ (sym c.is_some.ensures ∙ c.if-is_some.true) in
+    asks_none (IsRun g.D.Disk boxes) old (names_of c.args.names.now) (NewLine c.args.name.now c.args.category) (ap (λ b. cond b None (Some (NewControl c.args.category))) known) (no_run g.D.Disk boxes old (λ bytes honest since. g.met.D.Disk.only_now old.totals.disk bytes honest since))
+
+pub returns-in_default-clause-asks : goal.returns-in_default-clause-asks
+returns-in_default-clause-asks g c =
+    let boxes = boxes_of c.requires.sound in
+    let old = c.args.counter.now in
+    let unknown = sym (ap is_some c.find.ensures) ∙ (sym c.is_some.ensures ∙ c.if-is_some.false) in
+    renamed (IsRun g.D.Disk boxes) _ _ _ _ _ _ c.make_room.ensures.names
+    (asks_unkept (IsRun g.D.Disk boxes) old (names_of c.args.names.now) (NewLine c.args.name.now c.args.category) (NewControl c.args.category) (ap (λ b. cond b None (Some (NewControl c.args.category))) unknown) refl (no_run g.D.Disk boxes old (λ bytes honest since. g.met.D.Disk.only_now old.totals.disk bytes honest since)))
+
+pub returns-clause-asks : goal.returns-clause-asks
+returns-clause-asks g c =
+    let boxes = boxes_of c.requires.sound in
+    let old = c.args.counter.now in
+    let unknown = sym (ap is_some c.find.ensures) ∙ (sym c.is_some.ensures ∙ c.if-is_some.false) in
+    renamed (IsRun g.D.Disk boxes) _ _ _ _ _ _ c.in-Ok.ensures.names
+    (asks_request (IsRun g.D.Disk boxes) old (names_of c.args.names.now) (NewLine c.args.name.now c.args.category) (NewControl c.args.category) OutOfMemory c.control.new.self (ap (λ b. cond b None (Some (NewControl c.args.category))) unknown) (one_beside g.D.Disk boxes old c.control.new.self (NewControl c.args.category) OutOfMemory (λ bytes honest since. g.met.D.Disk.only_now old.totals.disk bytes honest since) (rw c.in-Err-NoMemory.field-0-is at c.in-Err-NoMemory.ensures.step)))
