@@ -53,6 +53,13 @@ impl Control {
         self.category
     }
 
+    /// Whether the device is in operation for it.
+    pub fn is_enabled(&self) -> bool
+        ensures { result ≡ self.now.control.enabled }
+    {
+        self.is_enabled
+    }
+
     /// The place in the profile of the device that it has open.
     pub fn device(&self) -> Option<usize>
         ensures { result ≡ self.now.control.device }

@@ -1,6 +1,6 @@
 use crate::{Control, Need, hear_all, room_all};
 use pos_service::{
-    Answer, Category, Code, ErrorReply, Event, Finding, PaperLevel, Property, Signs, Value,
+    Answer, Category, Code, ErrorReply, Event, Facts, Finding, PaperLevel, Property, Signs, Value,
 };
 use std::test::Fail;
 
@@ -13,9 +13,18 @@ fn drawer_signs(is_open: bool) -> Signs {
     }
 }
 
+/// What is known of a drawer.
+fn drawer_facts(is_open: bool) -> Facts {
+    Facts {
+        signs: drawer_signs(is_open),
+        totals_size: 8192,
+        files: None,
+    }
+}
+
 #[test]
 fn a_control_is_opened_and_enabled_and_closed(rt: HostRuntime) {
-    let signs = drawer_signs(true);
+    let facts = drawer_facts(true);
     let mut a = Control::new(rt.alloc(), Category::CashDrawer);
     assert!(rt; matches!(a.open(Finding::At(3)), Answer::Done(Value::Empty)));
     assert_eq!(rt; a.place(), 3);
@@ -23,7 +32,7 @@ fn a_control_is_opened_and_enabled_and_closed(rt: HostRuntime) {
     a.set(Property::DeviceEnabled, &Value::Truth(true));
     assert!(rt; a.listens(3) && !a.listens(2));
     assert_eq!(rt; a.check(Need { is_enabled: true }), Ok(()));
-    let opened = a.get(Property::DrawerOpened, signs);
+    let opened = a.get(Property::DrawerOpened, &facts);
     assert!(rt; matches!(opened, Answer::Done(Value::Truth(true))));
     assert!(rt; matches!(a.close(), Answer::Done(Value::Empty)));
     assert_eq!(rt; a.device(), None);

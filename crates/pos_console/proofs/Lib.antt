@@ -2,3 +2,4 @@ pub mod Pieces
 pub mod NameLemmas
 pub mod WriteLemmas
 pub mod Sessions
+pub mod Serving

@@ -1,8 +1,11 @@
 pub mod Lines
+pub mod Arguments
 pub mod Words
+pub mod Methods
 pub mod Commands
 pub mod Names
 pub mod Text
 pub mod Transcript
 pub mod Writing
 pub mod Running
+pub mod Carried

@@ -1,37 +1,50 @@
 -- What a run of a script leaves (docs/CONSOLE.md, "The program").
 use Rattle.std.specs.Prelude.{◌≡◌, ◌++◌, ◌<◌, ◌∷◌, [], ℕ, false, length, List, Option, Result, Ok, Err, IfSome}
 use Rattle.std.specs.Io.KnownBytes.{Appends, Keeps}
-use Rattle.pos_service.specs.Machine.{Machine}
+use Rattle.pos_counter.specs.Machine.{Machine}
 use Rattle.pos_sims.specs.Drawers.{drawer_state}
-use Rattle.pos_counter.specs.Machines.{beginning}
+use Rattle.pos_counter.specs.Parts.{beginning}
 use Rattle.pos_console.specs.declared.run.RunFault.{RunFault}
 use Rattle.pos_console.specs.declared.run.RunFault.TheVariants as fault
 use Rattle.pos_console.specs.Lines.{lines_of}
-use Rattle.pos_console.specs.Transcript.{Transcript}
+use Rattle.pos_console.specs.Names.{ControlNames}
+use Rattle.pos_console.specs.Transcript.{Transcript, CarriesOut, LineBecomes, printed}
 
 -- All lines were carried out, and their text is written.
-pub record Finishes (old : Machine) (lines : List (List ℕ)) (before after : Option (List ℕ)) (new : Machine) : Type 0 where
+pub record Finishes (old : Machine) (lines : List (List ℕ)) (before after : Option (List ℕ))
+    (new : Machine) : Type 0 where
   pub text : List ℕ
-  pub transcript : Transcript old lines text new
+  pub names : ControlNames
+  pub transcript : Transcript old lines text names new
   pub written : Appends before after text
 
--- The lines so far were carried out, and a front of their text is written, but not all of it.
+-- A write failed at a line: the earlier lines were carried out and their text is written; the line was carried out too,
+-- and of what it prints a front is written, but not all; no later line was carried out.
 pub record Stops (old : Machine) (lines : List (List ℕ)) (before after : Option (List ℕ)) (new : Machine) : Type 0 where
-  pub done : List (List ℕ)
-  pub left : List (List ℕ)
+  pub earlier : List (List ℕ)
+  pub line : List ℕ
+  pub later : List (List ℕ)
+  pub text : List ℕ
+  pub names : ControlNames
+  pub mid : Machine
+  pub reply : Option (List ℕ)
+  pub names_after : ControlNames
   pub front : List ℕ
   pub back : List ℕ
-  pub split : lines ≡ done ++ left
-  pub transcript : Transcript old done (front ++ back) new
+  pub split : lines ≡ earlier ++ line ∷ later
+  pub transcript : Transcript old earlier text names mid
+  pub carried : CarriesOut mid (LineBecomes names line) reply names_after new
+  pub cut : printed reply ≡ front ++ back
   pub unwritten : 0 < length back
-  pub written : Appends before after front
+  pub written : Appends before after (text ++ front)
 
 -- what a run over these bytes leaves, by its result
-abbrev pub Runs : Machine → List ℕ → Option (List ℕ) → Option (List ℕ) → Result (Unit {0}) RunFault → Machine → Type 0
-Runs old bytes before after (Ok u) new = Finishes old (lines_of bytes) before after new
-Runs old bytes before after (Err fault.Read) new = (new ≡ old) × Keeps before after
-Runs old bytes before after (Err fault.Write) new = Stops old (lines_of bytes) before after new
-Runs old bytes before after (Err fault.NoMemory) new = (new ≡ old) × Keeps before after
+abbrev pub ScriptLeaves : Machine → List ℕ → Option (List ℕ) → Option (List ℕ) → Result (Unit {0}) RunFault
+    → Machine → Type 0
+ScriptLeaves old bytes before after (Ok u) new = Finishes old (lines_of bytes) before after new
+ScriptLeaves old bytes before after (Err fault.Read) new = (new ≡ old) × Keeps before after
+ScriptLeaves old bytes before after (Err fault.Write) new = Stops old (lines_of bytes) before after new
+ScriptLeaves old bytes before after (Err fault.NoMemory) new = (new ≡ old) × Keeps before after
 
 -- A run that wasn't stopped while it read has read all bytes that the reader is known to have had left.
 abbrev pub ReadsWhole : Option (List ℕ) → List ℕ → Result (Unit {0}) RunFault → Type 0
@@ -41,16 +54,49 @@ ReadsWhole left bytes (Err fault.Write) = IfSome left (λ known. known ≡ bytes
 ReadsWhole left bytes (Err fault.NoMemory) = Unit {0}
 
 -- What a run leaves of a machine and a writer, by the bytes that the reader had left.
-pub record RunsScript (old : Machine) (left before after : Option (List ℕ)) (result : Result (Unit {0}) RunFault) (new : Machine) : Type 0 where
+pub record RunsScript (old : Machine) (left before after : Option (List ℕ))
+    (result : Result (Unit {0}) RunFault) (new : Machine) : Type 0 where
   pub input : List ℕ
   pub whole : ReadsWhole left input result
-  pub run : Runs old input before after result new
+  pub run : ScriptLeaves old input before after result new
 
 -- the machine as the program begins: no control, and the closed drawer `d1` in service
 abbrev pub start : Machine
 start = beginning (drawer_state false false ∷ [])
 
--- What the program does with a script: a run from where it begins.
-pub record Serves (left before after : Option (List ℕ)) (result : Result (Unit {0}) RunFault) : Type 0 where
+-- What a run over the program's counter leaves of a writer.
+pub record RunsOverDrawer (left before after : Option (List ℕ)) (result : Result (Unit {0}) RunFault) : Type 0 where
   pub end : Machine
   pub run : RunsScript start left before after result end
+
+-- A front of the lines was carried out, and a front of their text is written.
+pub record ReachesFront (old : Machine) (lines : List (List ℕ)) (before after : Option (List ℕ)) : Type 0 where
+  pub done : List (List ℕ)
+  pub later : List (List ℕ)
+  pub front : List ℕ
+  pub back : List ℕ
+  pub names : ControlNames
+  pub end : Machine
+  pub split : lines ≡ done ++ later
+  pub transcript : Transcript old done (front ++ back) names end
+  pub written : Appends before after front
+
+-- what the program leaves of its writer, with what that holds back, for a script of these bytes
+abbrev pub ServeLeaves : List ℕ → Option (List ℕ) → Option (List ℕ) → Result (Unit {0}) RunFault → Type 0
+ServeLeaves bytes before after (Ok u) = (end : Machine) × Finishes start (lines_of bytes) before after end
+ServeLeaves bytes before after (Err fault.Read) = Keeps before after
+ServeLeaves bytes before after (Err fault.Write) = ReachesFront start (lines_of bytes) before after
+ServeLeaves bytes before after (Err fault.NoMemory) = Keeps before after
+
+-- What the program does with a script: a run from where it begins.
+pub record Serves (left before after : Option (List ℕ)) (result : Result (Unit {0}) RunFault) : Type 0 where
+  pub input : List ℕ
+  pub whole : ReadsWhole left input result
+  pub leaves : ServeLeaves input before after result
+
+-- the status that the program ends with
+abbrev pub status : Result (Unit {0}) RunFault → ℕ
+status (Ok u) = 0
+status (Err fault.Read) = 5
+status (Err fault.Write) = 5
+status (Err fault.NoMemory) = 6

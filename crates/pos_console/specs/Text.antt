@@ -13,9 +13,9 @@ use Rattle.pos_service.specs.declared.event.Event.TheVariants as event
 use Rattle.pos_service.specs.declared.plant.Plant.{Plant}
 use Rattle.pos_service.specs.declared.plant.Plant.TheVariants as plant
 use Rattle.pos_service.specs.Codes.{number_of, locus_number_of}
-use Rattle.pos_service.specs.Steps.{Response, Made, Full, Answered, TakenIn, NoDevice, WrongInput, Delivered, Shown, OutOfMemory}
-use Rattle.pos_console.specs.declared.said.Said.{Said}
-use Rattle.pos_console.specs.declared.said.Said.TheVariants as said
+use Rattle.pos_counter.specs.Steps.{Response, Made, Full, Answered, TakenIn, NoDevice, WrongInput, Delivered, Shown, OutOfMemory}
+use Rattle.pos_console.specs.declared.reply.Reply.{Reply}
+use Rattle.pos_console.specs.declared.reply.Reply.TheVariants as reply
 
 -- a truth value
 abbrev pub truth_text : Bool → List ℕ
@@ -49,7 +49,9 @@ answer_text (answer.Refused code extended) = codes "err " ++ decimal (number_of 
 abbrev pub event_text : Event → List ℕ
 event_text (event.StatusUpdate n) = codes "event StatusUpdateEvent " ++ decimal n
 event_text event.Data = codes "event DataEvent 0"
-event_text (event.Error code extended locus) = codes "event ErrorEvent " ++ decimal (number_of code) ++ codes " " ++ decimal extended ++ codes " " ++ decimal (locus_number_of locus)
+event_text (event.Error code extended locus) =
+    codes "event ErrorEvent " ++ decimal (number_of code) ++ codes " " ++ decimal extended ++ codes " "
+    ++ decimal (locus_number_of locus)
 event_text (event.OutputComplete id) = codes "event OutputCompleteEvent " ++ decimal id
 
 -- the event that was delivered, if there was one
@@ -75,14 +77,14 @@ response_text (Shown plant) = plant_text plant
 response_text OutOfMemory = codes "memory"
 
 -- what the program says of a line
-abbrev pub said_text : Said → List ℕ
-said_text said.BadLine = codes "bad line"
-said_text said.BadControl = codes "bad control"
-said_text said.BadDevice = codes "bad device"
-said_text said.BadInput = codes "bad input"
-said_text said.Memory = codes "memory"
-said_text said.Full = codes "refused Full"
-said_text said.Ok = codes "ok"
-said_text (said.Answered answer) = answer_text answer
-said_text (said.Delivered event) = delivered_text event
-said_text (said.Shown snapshot) = plant_text snapshot.0
+abbrev pub reply_text : Reply → List ℕ
+reply_text reply.BadLine = codes "bad line"
+reply_text reply.BadControl = codes "bad control"
+reply_text reply.BadDevice = codes "bad device"
+reply_text reply.BadInput = codes "bad input"
+reply_text reply.Memory = codes "memory"
+reply_text reply.Full = codes "refused Full"
+reply_text reply.Ok = codes "ok"
+reply_text (reply.Answered answer) = answer_text answer
+reply_text (reply.Delivered event) = delivered_text event
+reply_text (reply.Shown snapshot) = plant_text snapshot.0

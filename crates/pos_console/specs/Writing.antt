@@ -5,4 +5,5 @@ use Rattle.std.specs.Io.KnownBytes.{Appends}
 -- all of a text where it succeeds, else a front of it and not all
 abbrev pub Writes : {E : Type 0} → Option (List ℕ) → Option (List ℕ) → List ℕ → Result (Unit {0}) E → Type 0
 Writes old new text (Ok u) = Appends old new text
-Writes old new text (Err e) = (front : List ℕ) × (back : List ℕ) × (text ≡ front ++ back) × (0 < length back) × Appends old new front
+Writes old new text (Err e) =
+    (front : List ℕ) × (back : List ℕ) × (text ≡ front ++ back) × (0 < length back) × Appends old new front

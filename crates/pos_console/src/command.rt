@@ -1,19 +1,21 @@
-ghost use Rattle.std.specs.Prelude.{◌≡◌, option_map};
+ghost use Rattle.std.specs.Prelude.{◌≡◌};
 ghost use Rattle.pos_console.specs.Lines.{words_of};
-ghost use Rattle.pos_console.specs.Commands.{asking, asking_of, asked_by, two_words, three_words, four_words, new_line, open_line, get_line, call_line, input_line, deliver_line};
+ghost use Rattle.pos_console.specs.Arguments.{Reads};
+ghost use Rattle.pos_console.specs.Commands.{ReadsLine, asked_by, asking_of, verb_line, device_line, new_line, open_line, close_line, set_line, get_line, call_line, input_of, input_line, deliver_line, show_line};
 
+use crate::arguments::{DeviceName, LineFault, read_none, read_one, read_two};
 use crate::lines::{is_well_spelled_line, next_word};
-use crate::words::{is, is_name_word, property, value};
+use crate::methods::read_call;
+use crate::words::{is, is_name_word};
 use pos_service::{Call, Category, ErrorReply, Input};
+use std::alloc::Global;
 
 /// What a line of a script asks. The names are those of the line.
 #[derive(Debug, Drop)]
 pub enum Command<'a> {
     /// A control of a category, under a name.
     New(&'a [u8], Category),
-    /// `open` on a control, with the name of a device.
-    Open(&'a [u8], &'a [u8]),
-    /// Another call on a control.
+    /// A call on a control.
     Call(&'a [u8], Call),
     /// What happens at a device.
     Input(&'a [u8], Input),
@@ -23,147 +25,160 @@ pub enum Command<'a> {
     Show(&'a [u8]),
 }
 
-fn with_two<'a>(verb: &[u8], name: &'a [u8]) -> Option<Command<'a>>
-    ensures { option_map asking result ≡ two_words verb.now name.now }
+/// `new CONTROL CATEGORY`
+fn read_new<'a>(alloc: Global, name: &'a [u8], words: &[u8]) -> Result<Command<'a>, LineFault>
+    ensures { ReadsLine (new_line name.now (words_of words.now)) result }
 {
-    if is(verb, "close") {
-        return Some(Command::Call(name, Call::Close));
-    }
-    if is(verb, "deliver") {
-        return Some(Command::Deliver(name, ErrorReply::Default));
-    }
-    if is(verb, "show") {
-        return Some(Command::Show(name));
-    }
-    None
+    read_one(alloc, words).map(|category| Command::New(name, category))
 }
 
-fn new_control<'a>(name: &'a [u8], word: &[u8]) -> Option<Command<'a>>
-    ensures { option_map asking result ≡ new_line name.now word.now }
+/// `open CONTROL DEVICE`
+fn read_open<'a>(alloc: Global, name: &'a [u8], words: &[u8]) -> Result<Command<'a>, LineFault>
+    ensures { ReadsLine (open_line name.now (words_of words.now)) result }
 {
-    if is(word, "CashDrawer") {
-        return Some(Command::New(name, Category::CashDrawer));
-    }
-    None
+    read_one(alloc, words).map(|device: DeviceName| Command::Call(name, Call::Open(device.name)))
 }
 
-fn open_device<'a>(name: &'a [u8], word: &'a [u8]) -> Option<Command<'a>>
-    ensures { option_map asking result ≡ open_line name.now word.now }
+/// `close CONTROL`
+fn read_close<'a>(name: &'a [u8], words: &[u8]) -> Result<Command<'a>, LineFault>
+    ensures { ReadsLine (close_line name.now (words_of words.now)) result }
 {
-    if is_name_word(word) {
-        return Some(Command::Open(name, word));
-    }
-    None
+    read_none(words).map(|_| Command::Call(name, Call::Close))
 }
 
-fn get_property<'a>(name: &'a [u8], word: &[u8]) -> Option<Command<'a>>
-    ensures { option_map asking result ≡ get_line name.now word.now }
+/// `set CONTROL PROPERTY VALUE`
+fn read_set<'a>(alloc: Global, name: &'a [u8], words: &[u8]) -> Result<Command<'a>, LineFault>
+    ensures { ReadsLine (set_line name.now (words_of words.now)) result }
 {
-    match property(word) {
-        Some(property) => Some(Command::Call(name, Call::Get(property))),
-        None => None,
-    }
+    read_two(alloc, words).map(|(property, value)| Command::Call(name, Call::Set(property, value)))
 }
 
-fn call_method<'a>(name: &'a [u8], word: &[u8]) -> Option<Command<'a>>
-    ensures { option_map asking result ≡ call_line name.now word.now }
+/// `get CONTROL PROPERTY`
+fn read_get<'a>(alloc: Global, name: &'a [u8], words: &[u8]) -> Result<Command<'a>, LineFault>
+    ensures { ReadsLine (get_line name.now (words_of words.now)) result }
 {
-    if is(word, "openDrawer") {
-        return Some(Command::Call(name, Call::OpenDrawer));
-    }
-    None
+    read_one(alloc, words).map(|property| Command::Call(name, Call::Get(property)))
 }
 
-fn move_drawer<'a>(name: &'a [u8], word: &[u8]) -> Option<Command<'a>>
-    ensures { option_map asking result ≡ input_line name.now word.now }
+/// `call CONTROL METHOD`, and the method's arguments
+fn read_method<'a>(alloc: Global, name: &'a [u8], words: &[u8]) -> Result<Command<'a>, LineFault>
+    ensures { ReadsLine (call_line name.now (words_of words.now)) result }
+{
+    let Some((method, rest)) = next_word(words) else {
+        return Err(LineFault::WrongShape);
+    };
+    read_call(alloc, method, rest).map(|call| Command::Call(name, call))
+}
+
+/// What happens at a device.
+fn read_event(word: &[u8], words: &[u8]) -> Result<Input, LineFault>
+    ensures { Reads (input_of word.now (words_of words.now)) result }
 {
     if is(word, "open") {
-        return Some(Command::Input(name, Input::DrawerMoved(true)));
+        return read_none(words).map(|_| Input::DrawerMoved(true));
     }
     if is(word, "closed") {
-        return Some(Command::Input(name, Input::DrawerMoved(false)));
+        return read_none(words).map(|_| Input::DrawerMoved(false));
     }
-    None
+    Err(LineFault::WrongShape)
 }
 
-fn deliver_with<'a>(name: &'a [u8], word: &[u8]) -> Option<Command<'a>>
-    ensures { option_map asking result ≡ deliver_line name.now word.now }
+/// `input DEVICE`, and what happens there
+fn read_input<'a>(name: &'a [u8], words: &[u8]) -> Result<Command<'a>, LineFault>
+    ensures { ReadsLine (input_line name.now (words_of words.now)) result }
 {
-    if is(word, "retry") {
-        return Some(Command::Deliver(name, ErrorReply::Retry));
-    }
-    if is(word, "clear") {
-        return Some(Command::Deliver(name, ErrorReply::Clear));
-    }
-    if is(word, "continue") {
-        return Some(Command::Deliver(name, ErrorReply::ContinueInput));
-    }
-    None
+    let Some((word, rest)) = next_word(words) else {
+        return Err(LineFault::WrongShape);
+    };
+    read_event(word, rest).map(|input| Command::Input(name, input))
 }
 
-fn with_three<'a>(verb: &[u8], name: &'a [u8], word: &'a [u8]) -> Option<Command<'a>>
-    ensures { option_map asking result ≡ three_words verb.now name.now word.now }
+/// `deliver CONTROL`, or `deliver CONTROL REPLY`
+fn read_deliver<'a>(alloc: Global, name: &'a [u8], words: &[u8]) -> Result<Command<'a>, LineFault>
+    ensures { ReadsLine (deliver_line name.now (words_of words.now)) result }
+{
+    if next_word(words).is_none() {
+        return Ok(Command::Deliver(name, ErrorReply::Default));
+    }
+    read_one(alloc, words).map(|reply| Command::Deliver(name, reply))
+}
+
+/// `show DEVICE`
+fn read_show<'a>(name: &'a [u8], words: &[u8]) -> Result<Command<'a>, LineFault>
+    ensures { ReadsLine (show_line name.now (words_of words.now)) result }
+{
+    read_none(words).map(|_| Command::Show(name))
+}
+
+/// What a line asks of a device, by its verb.
+fn read_device_line<'a>(verb: &[u8], name: &'a [u8], words: &[u8]) -> Result<Command<'a>, LineFault>
+    ensures { ReadsLine (device_line verb.now name.now (words_of words.now)) result }
+{
+    if is(verb, "input") {
+        return read_input(name, words);
+    }
+    if is(verb, "show") {
+        return read_show(name, words);
+    }
+    Err(LineFault::WrongShape)
+}
+
+/// What a line asks of a control or a device, by its verb.
+fn read_verb_line<'a>(
+    alloc: Global,
+    verb: &[u8],
+    name: &'a [u8],
+    words: &[u8],
+) -> Result<Command<'a>, LineFault>
+    ensures { ReadsLine (verb_line verb.now name.now (words_of words.now)) result }
 {
     if is(verb, "new") {
-        return new_control(name, word);
+        return read_new(alloc, name, words);
     }
     if is(verb, "open") {
-        return open_device(name, word);
+        return read_open(alloc, name, words);
+    }
+    if is(verb, "close") {
+        return read_close(name, words);
+    }
+    if is(verb, "set") {
+        return read_set(alloc, name, words);
     }
     if is(verb, "get") {
-        return get_property(name, word);
+        return read_get(alloc, name, words);
     }
     if is(verb, "call") {
-        return call_method(name, word);
-    }
-    if is(verb, "input") {
-        return move_drawer(name, word);
+        return read_method(alloc, name, words);
     }
     if is(verb, "deliver") {
-        return deliver_with(name, word);
+        return read_deliver(alloc, name, words);
     }
-    None
-}
-
-fn with_four<'a>(verb: &[u8], name: &'a [u8], word: &[u8], last: &[u8]) -> Option<Command<'a>>
-    ensures { option_map asking result ≡ four_words verb.now name.now word.now last.now }
-{
-    if !is(verb, "set") {
-        return None;
-    }
-    match (property(word), value(last)) {
-        (Some(property), Some(value)) => Some(Command::Call(name, Call::Set(property, value))),
-        _ => None,
-    }
+    read_device_line(verb, name, words)
 }
 
 /// What the words of a line ask.
-fn read_words(line: &[u8]) -> Option<Command<'_>>
-    ensures { option_map asking result ≡ asking_of (words_of line.now) }
+fn read_words(alloc: Global, line: &[u8]) -> Result<Command<'_>, LineFault>
+    ensures { ReadsLine (asking_of (words_of line.now)) result }
 {
-    let (verb, rest) = next_word(line)?;
-    let (name, rest) = next_word(rest)?;
+    let Some((verb, rest)) = next_word(line) else {
+        return Err(LineFault::WrongShape);
+    };
+    let Some((name, rest)) = next_word(rest) else {
+        return Err(LineFault::WrongShape);
+    };
     if !is_name_word(name) {
-        return None;
+        return Err(LineFault::WrongShape);
     }
-    let Some((third, rest)) = next_word(rest) else {
-        return with_two(verb, name);
-    };
-    let Some((fourth, rest)) = next_word(rest) else {
-        return with_three(verb, name, third);
-    };
-    if next_word(rest).is_some() {
-        return None;
-    }
-    with_four(verb, name, third, fourth)
+    read_verb_line(alloc, verb, name, rest)
 }
 
-/// What a line that prints something asks, or nothing where its shape is wrong.
-pub fn read_command(line: &[u8]) -> Option<Command<'_>>
-    ensures { option_map asking result ≡ asked_by line.now }
+/// What a line that prints something asks. It is refused where its shape is wrong, before memory is asked for, and
+/// where there is no memory for what a call keeps of it.
+pub fn read_command(alloc: Global, line: &[u8]) -> Result<Command<'_>, LineFault>
+    ensures { ReadsLine (asked_by line.now) result }
 {
     if !is_well_spelled_line(line) {
-        return None;
+        return Err(LineFault::WrongShape);
     }
-    read_words(line)
+    read_words(alloc, line)
 }

@@ -4,7 +4,8 @@ ghost use Rattle.pos_console.specs.Lines.{pieces, words_of, lines_of, without_cr
 
 /// The front of a text up to a byte, and what follows that byte, if it is there.
 fn cut(text: &[u8], at: u8) -> (&[u8], Option<&[u8]>)
-    ensures pieces { MatchOption result.1 (pieces at text.now ≡ result.0.now ∷ []) (λ rest. pieces at text.now ≡ result.0.now ∷ pieces at rest.now) }
+    ensures pieces { MatchOption result.1 (pieces at text.now ≡ result.0.now ∷ [])
+        (λ rest. pieces at text.now ≡ result.0.now ∷ pieces at rest.now) }
     ensures shorter { IfSome result.1 (λ rest. length rest.now < length text.now) }
     ensures whole { IfNone result.1 (result.0.now ≡ text.now) }
 {
@@ -18,7 +19,8 @@ fn cut(text: &[u8], at: u8) -> (&[u8], Option<&[u8]>)
 
 /// The first word of a line, and the rest of the line; nothing where there is no word.
 pub fn next_word(line: &[u8]) -> Option<(&[u8], &[u8])>
-    ensures { MatchOption result (words_of line.now ≡ []) (λ found. words_of line.now ≡ found.0.now ∷ words_of found.1.now) }
+    ensures { MatchOption result (words_of line.now ≡ [])
+        (λ found. words_of line.now ≡ found.0.now ∷ words_of found.1.now) }
 {
     let mut left = line;
     loop {

@@ -2,24 +2,28 @@
 //! each line prints to standard output (docs/CONSOLE.md).
 #![tactic(auto)]
 
-ghost use Rattle.std.specs.Prelude.{◌≡◌, false};
+ghost use Rattle.std.specs.Prelude.{◌≡◌, false, [], OnOk};
+ghost use Rattle.std.specs.Io.Buffered.{writer_buffer, writer_contents};
 ghost use Rattle.pos_sims.specs.Drawers.{drawer_state};
-ghost use Rattle.pos_console.specs.Running.{Serves};
+ghost use Rattle.pos_console.specs.Running.{RunsOverDrawer, Serves, status};
 
+mod arguments;
 mod command;
 mod lines;
+mod methods;
 mod names;
+mod print;
+mod read;
+mod reply;
 mod run;
-mod said;
 mod session;
-mod tell;
 #[cfg(test)]
 mod tests;
 mod words;
 mod write;
 
 use pos_counter::Counter;
-use pos_service::{Peripheral, PeripheralBox, Stated};
+use pos_service::{HasState, Peripheral, PeripheralBox};
 use pos_sims::PlainDrawer;
 use run::{RunFault, run};
 use std::alloc::Global;
@@ -39,20 +43,23 @@ fn park_all(mut boxes: Vec<PeripheralBox>)
 /// The box of a closed drawer that is in service.
 fn closed_drawer(device: Box<dyn Peripheral>) -> PeripheralBox
     requires { state device ≡ drawer_state false false }
-    ensures { ⟦<PeripheralBox as Stated>⟧.state result ≡ drawer_state false false }
+    ensures { ⟦<PeripheralBox as HasState>⟧.state result ≡ drawer_state false false }
 {
     PeripheralBox::new(device)
 }
 
 /// Runs a script over a counter of one simulated cash drawer, the device `d1`.
-fn serve<R: Read, W: Write>(alloc: Global, reader: &mut R, writer: &mut W) -> Result<(), RunFault>
-    ensures { Serves (R.remaining reader.old) (W.contents writer.old) (W.contents writer.new) result }
+fn run_over_drawer<R: Read, W: Write>(
+    alloc: Global,
+    reader: &mut R,
+    writer: &mut W,
+) -> Result<(), RunFault>
+    ensures { RunsOverDrawer (R.remaining reader.old) (W.contents writer.old) (W.contents writer.new) result }
 {
-    let Ok(mut boxes) = Vec::with_capacity(alloc, 1) else {
+    let Ok(drawer) = Box::new(alloc, PlainDrawer::new()) else {
         return Err(RunFault::NoMemory);
     };
-    let Ok(drawer) = Box::new(alloc, PlainDrawer::new()) else {
-        boxes.destroy_empty();
+    let Ok(mut boxes) = Vec::with_capacity(alloc, 1) else {
         return Err(RunFault::NoMemory);
     };
     let drawer: Box<dyn Peripheral> = drawer;
@@ -69,24 +76,50 @@ fn serve<R: Read, W: Write>(alloc: Global, reader: &mut R, writer: &mut W) -> Re
     result
 }
 
-/// Runs the script on standard input, and writes what is still held of its text.
-fn serve_streams(rt: HostRuntime) -> Result<(), RunFault> {
+/// Runs a script over a counter of one simulated cash drawer, and writes what the writer holds back of its text.
+fn serve<R: Read, W: Write + Drop>(
+    alloc: Global,
+    reader: &mut R,
+    writer: &mut BufWriter<W>,
+) -> Result<(), RunFault>
+    ensures script { Serves (R.remaining reader.old) (writer_contents W.contents writer.old)
+        (writer_contents W.contents writer.new) result }
+    ensures flushed { OnOk result (writer_buffer writer.new ≡ []) }
+{
+    match run_over_drawer(alloc, reader, writer) {
+        Ok(()) => match writer.flush() {
+            Ok(()) => Ok(()),
+            Err(_) => Err(RunFault::Write),
+        },
+        Err(fault) => Err(fault),
+    }
+}
+
+/// Runs the script on standard input, and writes its text to standard output.
+fn serve_streams(rt: &HostRuntime) -> Result<(), RunFault> {
     let alloc = rt.alloc();
     let Ok(mut writer) = BufWriter::new(alloc, rt.stdout()) else {
         return Err(RunFault::NoMemory);
     };
-    let result = serve(alloc, &mut rt.stdin(), &mut writer);
-    let flushed = writer.flush();
-    if result.is_ok() && flushed.is_err() {
-        return Err(RunFault::Write);
-    }
-    result
+    serve(alloc, &mut rt.stdin(), &mut writer)
 }
 
-fn main(rt: HostRuntime) -> ExitCode {
-    match serve_streams(rt) {
-        Ok(()) => ExitCode::from(0),
-        Err(RunFault::Read) | Err(RunFault::Write) => ExitCode::from(5),
-        Err(RunFault::NoMemory) => ExitCode::from(6),
+/// The status that the program ends with (docs/CONSOLE.md, "The program").
+fn status_of(outcome: Result<(), RunFault>) -> u8
+    ensures { result ≡ status outcome }
+{
+    match outcome {
+        Ok(()) => 0,
+        Err(RunFault::Read) | Err(RunFault::Write) => 5,
+        Err(RunFault::NoMemory) => 6,
     }
+}
+
+/// Ends with a status, and tells a fault in one line on standard error, if that can be written.
+fn main(rt: HostRuntime) -> ExitCode {
+    let outcome = serve_streams(&rt);
+    if let Err(fault) = outcome {
+        let _ = eprintln!(rt; "pos_console: {fault}");
+    }
+    ExitCode::from(status_of(outcome))
 }

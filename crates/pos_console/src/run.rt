@@ -1,19 +1,21 @@
-ghost use Rattle.std.specs.Prelude.{◌≡◌, ◌≢◌, IfOk, IfErr, IfSome, MatchResult, option_map};
-ghost use Rattle.pos_counter.specs.Counters.{machine, Sound};
-ghost use Rattle.pos_console.specs.Running.{Finishes, Stops, RunsScript};
-ghost use Rattle.pos_console.specs.Lines.{lines_of};
+ghost use Rattle.std.specs.Prelude.{◌≡◌, option_map};
+ghost use Rattle.pos_console.specs.declared.run.RunFault.TheVariants as run_fault;
+ghost use Rattle.pos_counter.specs.Counters.{machine, IsCounterSound};
+ghost use Rattle.pos_console.specs.Running.{RunsScript};
+ghost use Rattle.pos_console.specs.Carried.{CarriesOutLines};
 ghost use Rattle.pos_console.specs.Transcript.{printed};
-ghost use Rattle.pos_console.specs.Text.{said_text};
+ghost use Rattle.pos_console.specs.Text.{reply_text};
 ghost use Rattle.pos_console.specs.Writing.{Writes};
 
 use crate::lines::next_line;
 use crate::names::Names;
-use crate::said::Said;
-use crate::session::speak;
-use crate::tell::tell;
+use crate::print::print_reply;
+use crate::read::{ReadFault, read_input};
+use crate::reply::Reply;
+use crate::session::carry_out_line;
 use crate::write::WriteFault;
 use pos_counter::Counter;
-use pos_service::{PeripheralBox, Stated};
+use pos_service::{HasState, NoMemory, PeripheralBox};
 use std::alloc::Global;
 use std::io::{Read, Write};
 use thiserror::Error;
@@ -32,56 +34,50 @@ pub enum RunFault {
     NoMemory,
 }
 
-/// How often is read for the whole input, at most.
-const MOST_READS: u64 = 1_073_741_824;
+impl From<ReadFault> for RunFault {
+    ghost from_gives = { λ _ fault. fault ≡ run_fault.Read };
 
-/// Reads all there is. A read that fails, an interrupted one too, is a fault, and so is an input that doesn't end.
-fn read_input<R: Read>(alloc: Global, reader: &mut R) -> Result<Vec<u8>, RunFault>
-    ensures input { IfOk result (λ input. IfSome (R.remaining reader.old) (λ bytes. bytes ≡ input.items)) }
-    ensures fault { IfErr result (λ fault. fault ≢ RunFault.Write) }
-{
-    let mut input = Vec::new(alloc);
-    let mut buffer = [0u8; 65_536];
-    for _ in 0..MOST_READS {
-        match reader.read(&mut buffer) {
-            Ok(0) => return Ok(input),
-            Ok(count) => {
-                if input.extend_from_slice(&buffer[..count]).is_err() {
-                    return Err(RunFault::NoMemory);
-                }
-            }
-            Err(_) => return Err(RunFault::Read),
-        }
+    fn from(_: ReadFault) -> RunFault {
+        RunFault::Read
     }
-    Err(RunFault::Read)
 }
 
-fn tell_line<W: Write>(writer: &mut W, said: Option<Said>) -> Result<(), WriteFault>
-    ensures { Writes (W.contents writer.old) (W.contents writer.new) (printed (option_map said_text said)) result }
+impl From<NoMemory> for RunFault {
+    ghost from_gives = { λ _ fault. fault ≡ run_fault.NoMemory };
+
+    fn from(_: NoMemory) -> RunFault {
+        RunFault::NoMemory
+    }
+}
+
+/// Writes the reply to a line, if there is one.
+fn print_line<W: Write>(writer: &mut W, reply: Option<Reply>) -> Result<(), WriteFault>
+    ensures { Writes (W.contents writer.old) (W.contents writer.new) (printed (option_map reply_text reply)) result }
 {
-    match said {
-        Some(said) => tell(writer, said),
+    match reply {
+        Some(reply) => print_reply(writer, reply),
         None => Ok(()),
     }
 }
 
 /// Carries out the lines of a script.
-fn carry_out<W: Write>(
+fn carry_out_lines<W: Write>(
     alloc: Global,
     input: &[u8],
     writer: &mut W,
     counter: &mut Counter,
 ) -> Result<(), WriteFault>
-    requires sound { Sound ⟦<PeripheralBox as Stated>⟧ counter.old }
-    ensures runs { MatchResult result (λ _. Finishes (machine ⟦<PeripheralBox as Stated>⟧ counter.old) (lines_of input.now) (W.contents writer.old) (W.contents writer.new) (machine ⟦<PeripheralBox as Stated>⟧ counter.new)) (λ _. Stops (machine ⟦<PeripheralBox as Stated>⟧ counter.old) (lines_of input.now) (W.contents writer.old) (W.contents writer.new) (machine ⟦<PeripheralBox as Stated>⟧ counter.new)) }
-    ensures sound { Sound ⟦<PeripheralBox as Stated>⟧ counter.new }
+    requires sound { IsCounterSound ⟦<PeripheralBox as HasState>⟧ counter.old }
+    ensures lines { CarriesOutLines ⟦<PeripheralBox as HasState>⟧ counter.old input.now
+        (W.contents writer.old) (W.contents writer.new) result counter.new }
+    ensures sound { IsCounterSound ⟦<PeripheralBox as HasState>⟧ counter.new }
 {
     let mut names = Names::new(alloc);
     let mut rest = input;
     while !rest.is_empty() {
         let (line, after) = next_line(rest);
-        let said = speak(alloc, counter, &mut names, line);
-        if tell_line(writer, said).is_err() {
+        let reply = carry_out_line(alloc, counter, &mut names, line);
+        if print_line(writer, reply).is_err() {
             return Err(WriteFault);
         }
         rest = after;
@@ -89,25 +85,25 @@ fn carry_out<W: Write>(
     Ok(())
 }
 
-/// Reads a script whole, carries out its lines in order, and writes what each prints (docs/CONSOLE.md). At a fault of the
-/// reader, or want of memory for the input, no line was carried out and nothing is written; at a fault of the writer the
-/// lines before were carried out, and the one too whose text wasn't written whole.
+/// Reads a script whole, carries out its lines in order, and writes what each prints (docs/CONSOLE.md).
+///
+/// At a fault of the reader, or want of memory for the input, no line was carried out and nothing is written. At a fault
+/// of the writer the earlier lines were carried out and their text is written; the line at which it came was carried out
+/// too, and no later one.
 pub fn run<R: Read, W: Write>(
     alloc: Global,
     reader: &mut R,
     writer: &mut W,
     counter: &mut Counter,
 ) -> Result<(), RunFault>
-    requires sound { Sound ⟦<PeripheralBox as Stated>⟧ counter.old }
-    ensures script { RunsScript (machine ⟦<PeripheralBox as Stated>⟧ counter.old) (R.remaining reader.old) (W.contents writer.old) (W.contents writer.new) result (machine ⟦<PeripheralBox as Stated>⟧ counter.new) }
-    ensures sound { Sound ⟦<PeripheralBox as Stated>⟧ counter.new }
+    requires sound { IsCounterSound ⟦<PeripheralBox as HasState>⟧ counter.old }
+    ensures script { RunsScript (machine ⟦<PeripheralBox as HasState>⟧ counter.old) (R.remaining reader.old)
+        (W.contents writer.old) (W.contents writer.new) result (machine ⟦<PeripheralBox as HasState>⟧ counter.new) }
+    ensures sound { IsCounterSound ⟦<PeripheralBox as HasState>⟧ counter.new }
 {
-    let input = match read_input(alloc, reader) {
-        Ok(input) => input,
-        Err(fault) => return Err(fault),
-    };
-    match carry_out(alloc, input.as_slice(), writer, counter) {
+    let input = read_input(alloc, reader)?;
+    match carry_out_lines(alloc, input.as_slice(), writer, counter) {
         Ok(()) => Ok(()),
-        Err(_) => Err(RunFault::Write),
+        Err(WriteFault) => Err(RunFault::Write),
     }
 }

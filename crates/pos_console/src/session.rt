@@ -1,119 +1,104 @@
-ghost use Rattle.std.specs.Prelude.{◌≡◌, ℕ, List, Some, None, option_map};
-ghost use Rattle.pos_counter.specs.Counters.{machine, Sound};
+ghost use Rattle.pos_counter.specs.Counters.{IsCounterSound};
 ghost use Rattle.pos_console.specs.Commands.{NewLine, CallLine, InputLine, DeliverLine, ShowLine, asking};
-ghost use Rattle.pos_console.specs.Names.{names_of};
-ghost use Rattle.pos_console.specs.Text.{said_text};
-ghost use Rattle.pos_console.specs.Transcript.{Carries, Obeys, Becomes};
+ghost use Rattle.pos_console.specs.Carried.{CarriesOutAsking, CarriesOutAtDevice, CarriesOutLine};
 
+use crate::arguments::LineFault;
 use crate::command::{Command, read_command};
 use crate::lines::is_quiet_line;
 use crate::names::Names;
-use crate::said::Said;
+use crate::reply::Reply;
 use pos_counter::{ControlFault, Counter, InputFault, SnapshotFault};
-use pos_service::{Bytes, Call, Category, ErrorReply, Input, PeripheralBox, Stated};
+use pos_service::{Call, Category, ErrorReply, HasState, Input, PeripheralBox};
 use std::alloc::Global;
 
-fn new_control(counter: &mut Counter, names: &mut Names, name: &[u8], category: Category) -> Said
-    requires sound { Sound ⟦<PeripheralBox as Stated>⟧ counter.old }
-    ensures obeys { Carries (machine ⟦<PeripheralBox as Stated>⟧ counter.old) (Obeys (names_of names.old) (NewLine name.now category)) (Some (said_text result)) (names_of names.new) (machine ⟦<PeripheralBox as Stated>⟧ counter.new) }
-    ensures sound { Sound ⟦<PeripheralBox as Stated>⟧ counter.new }
+/// A new control, under a name that no control has.
+fn new_control(counter: &mut Counter, names: &mut Names, name: &[u8], category: Category) -> Reply
+    requires sound { IsCounterSound ⟦<PeripheralBox as HasState>⟧ counter.old }
+    ensures asks { CarriesOutAsking ⟦<PeripheralBox as HasState>⟧ counter.old names.old
+        (NewLine name.now category) result names.new counter.new }
+    ensures sound { IsCounterSound ⟦<PeripheralBox as HasState>⟧ counter.new }
 {
     if names.find(name).is_some() {
-        return Said::BadControl;
+        return Reply::BadControl;
     }
     let Ok(copy) = names.make_room(name) else {
-        return Said::Memory;
+        return Reply::Memory;
     };
     match counter.control(category) {
         Ok(number) => {
             names.add(copy, number);
-            Said::Ok
+            Reply::Ok
         }
-        Err(ControlFault::Full) => Said::Full,
-        Err(ControlFault::NoMemory) => Said::Memory,
+        Err(ControlFault::Full) => Reply::Full,
+        Err(ControlFault::NoMemory) => Reply::Memory,
     }
 }
 
-fn open_control(
-    alloc: Global,
-    counter: &mut Counter,
-    names: &Names,
-    name: &[u8],
-    device: &[u8],
-) -> Said
-    requires sound { Sound ⟦<PeripheralBox as Stated>⟧ counter.old }
-    ensures obeys { Carries (machine ⟦<PeripheralBox as Stated>⟧ counter.old) (Obeys (names_of names.now) (CallLine name.now (Call.Open device.now))) (Some (said_text result)) (names_of names.now) (machine ⟦<PeripheralBox as Stated>⟧ counter.new) }
-    ensures sound { Sound ⟦<PeripheralBox as Stated>⟧ counter.new }
+/// A call on the control of a name.
+fn call_control(counter: &mut Counter, names: &Names, name: &[u8], call: &Call) -> Reply
+    requires sound { IsCounterSound ⟦<PeripheralBox as HasState>⟧ counter.old }
+    ensures asks { CarriesOutAsking ⟦<PeripheralBox as HasState>⟧ counter.old names.now
+        (CallLine name.now call.now) result names.now counter.new }
+    ensures sound { IsCounterSound ⟦<PeripheralBox as HasState>⟧ counter.new }
 {
     let Some(number) = names.find(name) else {
-        return Said::BadControl;
-    };
-    let Ok(device) = Bytes::from_slice(alloc, device) else {
-        return Said::Memory;
-    };
-    match counter.call(number, &Call::Open(device)) {
-        Ok(answer) => Said::Answered(answer),
-        Err(_) => Said::Memory,
-    }
-}
-
-fn call_control(counter: &mut Counter, names: &Names, name: &[u8], call: &Call) -> Said
-    requires sound { Sound ⟦<PeripheralBox as Stated>⟧ counter.old }
-    ensures obeys { Carries (machine ⟦<PeripheralBox as Stated>⟧ counter.old) (Obeys (names_of names.now) (CallLine name.now call.now)) (Some (said_text result)) (names_of names.now) (machine ⟦<PeripheralBox as Stated>⟧ counter.new) }
-    ensures sound { Sound ⟦<PeripheralBox as Stated>⟧ counter.new }
-{
-    let Some(number) = names.find(name) else {
-        return Said::BadControl;
+        return Reply::BadControl;
     };
     match counter.call(number, call) {
-        Ok(answer) => Said::Answered(answer),
-        Err(_) => Said::Memory,
+        Ok(answer) => Reply::Answered(answer),
+        Err(_) => Reply::Memory,
     }
 }
 
-fn deliver_event(counter: &mut Counter, names: &Names, name: &[u8], reply: ErrorReply) -> Said
-    requires sound { Sound ⟦<PeripheralBox as Stated>⟧ counter.old }
-    ensures obeys { Carries (machine ⟦<PeripheralBox as Stated>⟧ counter.old) (Obeys (names_of names.now) (DeliverLine name.now reply)) (Some (said_text result)) (names_of names.now) (machine ⟦<PeripheralBox as Stated>⟧ counter.new) }
-    ensures sound { Sound ⟦<PeripheralBox as Stated>⟧ counter.new }
+/// The delivery of an event to the control of a name.
+fn deliver_event(counter: &mut Counter, names: &Names, name: &[u8], reply: ErrorReply) -> Reply
+    requires sound { IsCounterSound ⟦<PeripheralBox as HasState>⟧ counter.old }
+    ensures asks { CarriesOutAsking ⟦<PeripheralBox as HasState>⟧ counter.old names.now
+        (DeliverLine name.now reply) result names.now counter.new }
+    ensures sound { IsCounterSound ⟦<PeripheralBox as HasState>⟧ counter.new }
 {
     match names.find(name) {
-        Some(number) => Said::Delivered(counter.deliver(number, reply)),
-        None => Said::BadControl,
+        Some(number) => Reply::Delivered(counter.deliver(number, reply)),
+        None => Reply::BadControl,
     }
 }
 
-fn input_device(counter: &mut Counter, name: &[u8], input: &Input) -> Said
-    requires sound { Sound ⟦<PeripheralBox as Stated>⟧ counter.old }
-    ensures obeys { (names : List (List ℕ × ℕ)) → Carries (machine ⟦<PeripheralBox as Stated>⟧ counter.old) (Obeys names (InputLine name.now input.now)) (Some (said_text result)) names (machine ⟦<PeripheralBox as Stated>⟧ counter.new) }
-    ensures sound { Sound ⟦<PeripheralBox as Stated>⟧ counter.new }
+/// What happens at a device.
+fn input_device(counter: &mut Counter, name: &[u8], input: &Input) -> Reply
+    requires sound { IsCounterSound ⟦<PeripheralBox as HasState>⟧ counter.old }
+    ensures asks { CarriesOutAtDevice ⟦<PeripheralBox as HasState>⟧ counter.old
+        (InputLine name.now input.now) result counter.new }
+    ensures sound { IsCounterSound ⟦<PeripheralBox as HasState>⟧ counter.new }
 {
     match counter.input(name, input) {
-        Ok(()) => Said::Ok,
-        Err(InputFault::NoDevice) => Said::BadDevice,
-        Err(InputFault::WrongInput) => Said::BadInput,
-        Err(InputFault::NoMemory) => Said::Memory,
+        Ok(()) => Reply::Ok,
+        Err(InputFault::NoDevice) => Reply::BadDevice,
+        Err(InputFault::WrongInput) => Reply::BadInput,
+        Err(InputFault::NoMemory) => Reply::Memory,
     }
 }
 
-fn show_device(counter: &Counter, name: &[u8]) -> Said
-    requires sound { Sound ⟦<PeripheralBox as Stated>⟧ counter.now }
-    ensures { (names : List (List ℕ × ℕ)) → Carries (machine ⟦<PeripheralBox as Stated>⟧ counter.now) (Obeys names (ShowLine name.now)) (Some (said_text result)) names (machine ⟦<PeripheralBox as Stated>⟧ counter.now) }
+/// What a device is physically.
+fn show_device(counter: &Counter, name: &[u8]) -> Reply
+    requires sound { IsCounterSound ⟦<PeripheralBox as HasState>⟧ counter.now }
+    ensures { CarriesOutAtDevice ⟦<PeripheralBox as HasState>⟧ counter.now (ShowLine name.now) result counter.now }
 {
     match counter.snapshot(name) {
-        Ok(snapshot) => Said::Shown(snapshot),
-        Err(SnapshotFault::NoDevice) => Said::BadDevice,
-        Err(SnapshotFault::NoMemory) => Said::Memory,
+        Ok(snapshot) => Reply::Shown(snapshot),
+        Err(SnapshotFault::NoDevice) => Reply::BadDevice,
+        Err(SnapshotFault::NoMemory) => Reply::Memory,
     }
 }
 
-fn obey(alloc: Global, counter: &mut Counter, names: &mut Names, command: Command<'_>) -> Said
-    requires sound { Sound ⟦<PeripheralBox as Stated>⟧ counter.old }
-    ensures obeys { Carries (machine ⟦<PeripheralBox as Stated>⟧ counter.old) (Obeys (names_of names.old) (asking command.entry)) (Some (said_text result)) (names_of names.new) (machine ⟦<PeripheralBox as Stated>⟧ counter.new) }
-    ensures sound { Sound ⟦<PeripheralBox as Stated>⟧ counter.new }
+/// Carries out what a line asks, and replies to it.
+fn carry_out_command(counter: &mut Counter, names: &mut Names, command: Command<'_>) -> Reply
+    requires sound { IsCounterSound ⟦<PeripheralBox as HasState>⟧ counter.old }
+    ensures asks { CarriesOutAsking ⟦<PeripheralBox as HasState>⟧ counter.old names.old
+        (asking command.entry) result names.new counter.new }
+    ensures sound { IsCounterSound ⟦<PeripheralBox as HasState>⟧ counter.new }
 {
     match command {
         Command::New(name, category) => new_control(counter, names, name, category),
-        Command::Open(name, device) => open_control(alloc, counter, names, name, device),
         Command::Call(name, call) => call_control(counter, names, name, &call),
         Command::Input(name, input) => input_device(counter, name, &input),
         Command::Deliver(name, reply) => deliver_event(counter, names, name, reply),
@@ -121,17 +106,24 @@ fn obey(alloc: Global, counter: &mut Counter, names: &mut Names, command: Comman
     }
 }
 
-/// Carries out a line, and says what it prints, if it prints anything.
-pub fn speak(alloc: Global, counter: &mut Counter, names: &mut Names, line: &[u8]) -> Option<Said>
-    requires sound { Sound ⟦<PeripheralBox as Stated>⟧ counter.old }
-    ensures becomes { Carries (machine ⟦<PeripheralBox as Stated>⟧ counter.old) (Becomes (names_of names.old) line.now) (option_map said_text result) (names_of names.new) (machine ⟦<PeripheralBox as Stated>⟧ counter.new) }
-    ensures sound { Sound ⟦<PeripheralBox as Stated>⟧ counter.new }
+/// CarriesOut out a line, and says what it prints, if it prints anything.
+pub fn carry_out_line(
+    alloc: Global,
+    counter: &mut Counter,
+    names: &mut Names,
+    line: &[u8],
+) -> Option<Reply>
+    requires sound { IsCounterSound ⟦<PeripheralBox as HasState>⟧ counter.old }
+    ensures becomes { CarriesOutLine ⟦<PeripheralBox as HasState>⟧ counter.old names.old
+        line.now result names.new counter.new }
+    ensures sound { IsCounterSound ⟦<PeripheralBox as HasState>⟧ counter.new }
 {
     if is_quiet_line(line) {
         return None;
     }
-    match read_command(line) {
-        Some(command) => Some(obey(alloc, counter, names, command)),
-        None => Some(Said::BadLine),
+    match read_command(alloc, line) {
+        Ok(command) => Some(carry_out_command(counter, names, command)),
+        Err(LineFault::WrongShape) => Some(Reply::BadLine),
+        Err(LineFault::NoMemory) => Some(Reply::Memory),
     }
 }

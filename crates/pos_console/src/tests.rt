@@ -1,11 +1,15 @@
 //! Whole scripts over one drawer, with readers and writers that cut and fail.
 ghost use Rattle.std.specs.Prelude.{None};
 
-use crate::run::RunFault;
-use crate::serve;
+use crate::arguments::{LineFault, read_three, read_two};
+use crate::run::{RunFault, run};
+use crate::{closed_drawer, park_all, run_over_drawer, serve};
+use pos_counter::Counter;
+use pos_service::{Bytes, Peripheral, Plant, Snapshot};
+use pos_sims::PlainDrawer;
 use std::alloc::{AllocError, Global};
 use std::io;
-use std::io::{Read, Write};
+use std::io::{BufWriter, Read, Write};
 use std::test::Fail;
 
 /// A reader that gives at most `size` bytes a read, and fails after so many reads.
@@ -36,11 +40,12 @@ impl Read for Pieces<'_> {
     }
 }
 
-/// What a writer does once it has taken its writes.
+/// What a writer does once it has taken its writes: it fails, it takes nothing, or it takes no more and can't write on.
 #[derive(Clone, Copy)]
 enum End {
     Fails,
     TakesNothing,
+    HoldsBack,
 }
 
 /// A writer that takes at most `size` bytes a write, so many times, and then none any more.
@@ -58,8 +63,8 @@ impl Write for Narrow {
     fn write(&mut self, buf: &[u8]) -> io::Result<usize> {
         if self.writes_left == 0 {
             return match self.end {
-                End::Fails => Err(io::Error::from(io::ErrorKind::Interrupted)),
                 End::TakesNothing => Ok(0),
+                _ => Err(io::Error::from(io::ErrorKind::Interrupted)),
             };
         }
         self.writes_left -= 1;
@@ -69,14 +74,17 @@ impl Write for Narrow {
     }
 
     fn flush(&mut self) -> io::Result<()> {
-        Ok(())
+        match self.end {
+            End::HoldsBack => Err(io::Error::from(io::ErrorKind::Other)),
+            _ => Ok(()),
+        }
     }
 }
 
 fn text_of(alloc: Global, script: &[u8]) -> Result<Vec<u8>, RunFault> {
     let mut text = Vec::new(alloc);
     let mut reader = script;
-    serve(alloc, &mut reader, &mut text)?;
+    run_over_drawer(alloc, &mut reader, &mut text)?;
     Ok(text)
 }
 
@@ -194,8 +202,87 @@ fn the_cut_of_the_input_does_not_matter(rt: HostRuntime) -> Result<(), Fail> {
             reads_left: 1000,
         };
         let mut text = Vec::new(rt.alloc());
-        serve(rt.alloc(), &mut reader, &mut text)?;
+        run_over_drawer(rt.alloc(), &mut reader, &mut text)?;
         assert_eq!(rt; text.as_slice(), STATES_TEXT);
+    }
+    Ok(())
+}
+
+#[test]
+fn the_input_may_come_byte_by_byte(rt: HostRuntime) -> Result<(), Fail> {
+    let script = padded(rt.alloc(), b"show d1", 2_100, b"\n")?;
+    let mut reader = Pieces {
+        bytes: script.as_slice(),
+        size: 1,
+        reads_left: 2_102,
+    };
+    let mut text = Vec::new(rt.alloc());
+    run_over_drawer(rt.alloc(), &mut reader, &mut text)?;
+    assert_eq!(rt; text.as_slice(), b"ok closed\n".as_slice());
+    Ok(())
+}
+
+#[test]
+fn the_text_is_written_on(rt: HostRuntime) -> Result<(), Fail> {
+    for (end, want) in [(End::Fails, Ok(())), (End::HoldsBack, Err(RunFault::Write))] {
+        let narrow = Narrow {
+            taken: Vec::new(rt.alloc()),
+            size: 1,
+            writes_left: 60,
+            end,
+        };
+        let mut writer = BufWriter::new(rt.alloc(), narrow)?;
+        let mut reader = FIRST;
+        let result = serve(rt.alloc(), &mut reader, &mut writer);
+        assert_eq!(rt; result, want);
+        assert_eq!(rt; writer.get_ref().taken.as_slice(), FIRST_TEXT);
+    }
+    Ok(())
+}
+
+#[test]
+fn faults_have_texts(rt: HostRuntime) -> Result<(), Fail> {
+    let rows = [
+        (RunFault::Read, "the script can't be read"),
+        (RunFault::Write, "the answers can't be written"),
+        (RunFault::NoMemory, "no memory"),
+    ];
+    for (fault, want) in rows {
+        let text = format!(in rt.alloc(); "{fault}")?;
+        assert_eq!(rt; text.as_str(), want);
+    }
+    let rows = [
+        (LineFault::WrongShape, "the line has a wrong shape"),
+        (LineFault::NoMemory, "no memory for the line"),
+    ];
+    for (fault, want) in rows {
+        let text = format!(in rt.alloc(); "{fault}")?;
+        assert_eq!(rt; text.as_str(), want);
+    }
+    Ok(())
+}
+
+#[test]
+fn arguments_are_read_by_their_shapes(rt: HostRuntime) -> Result<(), Fail> {
+    let alloc = rt.alloc();
+    let (bytes, (number, truth)) = read_three::<Bytes, i128, bool>(alloc, b" 4aFf  -20 false ")?;
+    assert_eq!(rt; bytes.as_slice(), b"\x4a\xff".as_slice());
+    assert_eq!(rt; number, -20);
+    assert_eq!(rt; truth, false);
+    let (none, largest) = read_two::<Bytes, i128>(alloc, b"- 999999999999999999")?;
+    assert_eq!(rt; none.as_slice(), b"".as_slice());
+    assert_eq!(rt; largest, 999_999_999_999_999_999);
+    let rows = [
+        b"4 1 true".as_slice(),
+        b"4g 1 true".as_slice(),
+        b"41 1".as_slice(),
+        b"41 1 true x".as_slice(),
+        b"41 - true".as_slice(),
+        b"- 1 True".as_slice(),
+    ];
+    for words in rows {
+        let fault = read_three::<Bytes, i128, bool>(alloc, words).err();
+        assert_eq!(rt; fault, Some(LineFault::WrongShape));
     }
     Ok(())
 }
@@ -210,7 +297,7 @@ fn a_failed_read_writes_nothing(rt: HostRuntime) -> Result<(), Fail> {
             reads_left,
         };
         let mut text = Vec::new(rt.alloc());
-        let result = serve(rt.alloc(), &mut reader, &mut text);
+        let result = run_over_drawer(rt.alloc(), &mut reader, &mut text);
         if (reads_left as usize) < reads {
             assert_eq!(rt; result, Err(RunFault::Read));
             assert_eq!(rt; text.len(), 0);
@@ -233,7 +320,7 @@ fn a_failed_write_leaves_a_front(rt: HostRuntime) -> Result<(), Fail> {
                 end,
             };
             let mut reader = FIRST;
-            let result = serve(rt.alloc(), &mut reader, &mut writer);
+            let result = run_over_drawer(rt.alloc(), &mut reader, &mut writer);
             let taken = (writes_left as usize).min(FIRST_TEXT.len());
             assert_eq!(rt; writer.taken.as_slice(), &FIRST_TEXT[..taken]);
             if taken < FIRST_TEXT.len() {
@@ -242,6 +329,52 @@ fn a_failed_write_leaves_a_front(rt: HostRuntime) -> Result<(), Fail> {
                 assert_eq!(rt; result, Ok(()));
             }
         }
+    }
+    Ok(())
+}
+
+/// Runs a script over a closed drawer, with a writer that fails after so many bytes: how the run ended, and whether
+/// the drawer is open then.
+fn drawer_after(
+    alloc: Global,
+    script: &[u8],
+    writes_left: u32,
+) -> Result<(Result<(), RunFault>, Option<bool>), AllocError> {
+    let drawer = Box::new(alloc, PlainDrawer::new())?;
+    let mut boxes = Vec::with_capacity(alloc, 1)?;
+    let drawer: Box<dyn Peripheral> = drawer;
+    boxes.push_reserved(closed_drawer(drawer));
+    let mut counter = match Counter::new(alloc, boxes) {
+        Ok(counter) => counter,
+        Err((_, boxes)) => {
+            park_all(boxes);
+            return Err(AllocError);
+        }
+    };
+    let mut writer = Narrow {
+        taken: Vec::new(alloc),
+        size: 1,
+        writes_left,
+        end: End::Fails,
+    };
+    let mut reader = script;
+    let result = run(alloc, &mut reader, &mut writer, &mut counter);
+    let is_open = match counter.snapshot(b"d1") {
+        Ok(Snapshot(Plant::Drawer(is_open))) => Some(is_open),
+        Err(_) => None,
+    };
+    park_all(counter.shutdown());
+    Ok((result, is_open))
+}
+
+#[test]
+fn no_line_is_carried_out_after_a_failed_write(rt: HostRuntime) -> Result<(), Fail> {
+    for (writes_left, is_open) in [(8, false), (9, true), (11, true), (12, false), (14, false)] {
+        let script = b"new a CashDrawer\nopen a d1\nset a DeviceEnabled true\n\
+            call a openDrawer\ninput d1 closed\ncall a openDrawer\n";
+        let (result, drawer) = drawer_after(rt.alloc(), script, writes_left)?;
+        assert_eq!(rt; result, Err(RunFault::Write));
+        assert_eq!(rt; drawer, Some(is_open));
     }
     Ok(())
 }

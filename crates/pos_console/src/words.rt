@@ -1,8 +1,10 @@
-ghost use Rattle.std.specs.Prelude.{◌≡◌, ◌<◌, ◌^◌, true, bytes_eq, IfSome};
+ghost use Rattle.std.specs.Prelude.{◌≡◌, ◌<◌, ◌^◌, true, bytes_eq, is_some, Some, IfSome, IfOk};
 ghost use Rattle.std.specs.List.{list_all};
-ghost use Rattle.pos_console.specs.Words.{number_of_digits, is_digit, is_digits, is_name_byte, is_name, digits_named, number_named, value_named, property_named};
+ghost use Rattle.hex.specs.Hex.{is_hex_digit};
+ghost use Rattle.pos_console.specs.Words.{number_of_digits, is_digit, is_digits, is_name_byte, is_name, digits_named, number_named, truth_named, bytes_named, value_named, category_named, property_named, error_reply_named};
 
-use pos_service::{Property, Value};
+use pos_service::{Bytes, Category, ErrorReply, NoMemory, Property, Value};
+use std::alloc::Global;
 
 /// Whether a word is this text.
 pub fn is(word: &[u8], text: &str) -> bool
@@ -81,6 +83,72 @@ pub fn number(word: &[u8]) -> Option<i128>
             None => None,
         },
     }
+}
+
+/// The truth value of a word: `true` or `false`.
+pub fn truth(word: &[u8]) -> Option<bool>
+    ensures { result ≡ truth_named word.now }
+{
+    if is(word, "true") {
+        return Some(true);
+    }
+    if is(word, "false") {
+        return Some(false);
+    }
+    None
+}
+
+fn all_hex_digits(word: &[u8]) -> bool
+    ensures { result ≡ list_all is_hex_digit word.now }
+{
+    word.iter().all(|b| b.is_ascii_hexdigit())
+}
+
+/// Whether a word writes bytes: a hyphen for none, or two hex digits of either case for each.
+pub fn is_hex_word(word: &[u8]) -> bool
+    ensures { result ≡ is_some (bytes_named word.now) }
+{
+    is(word, "-") || (word.len() % 2 == 0 && all_hex_digits(word))
+}
+
+/// The bytes that a word writes. Want of memory is the only refusal.
+pub fn decode(alloc: Global, word: &[u8]) -> Result<Bytes, NoMemory>
+    requires { is_some (bytes_named word.now) ≡ true }
+    ensures { IfOk result (λ bytes. bytes_named word.now ≡ Some bytes) }
+{
+    if is(word, "-") {
+        return Ok(Bytes::new(Vec::new(alloc)));
+    }
+    match hex::decode(alloc, word) {
+        Ok(bytes) => Ok(Bytes::new(bytes)),
+        Err(_) => Err(NoMemory),
+    }
+}
+
+/// The category of this name.
+pub fn category(word: &[u8]) -> Option<Category>
+    ensures { result ≡ category_named word.now }
+{
+    if is(word, "CashDrawer") {
+        return Some(Category::CashDrawer);
+    }
+    None
+}
+
+/// The reply to an ErrorEvent of this name.
+pub fn error_reply(word: &[u8]) -> Option<ErrorReply>
+    ensures { result ≡ error_reply_named word.now }
+{
+    if is(word, "retry") {
+        return Some(ErrorReply::Retry);
+    }
+    if is(word, "clear") {
+        return Some(ErrorReply::Clear);
+    }
+    if is(word, "continue") {
+        return Some(ErrorReply::ContinueInput);
+    }
+    None
 }
 
 /// The value of a word: `true`, `false` or a number.

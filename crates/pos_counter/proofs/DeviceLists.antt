@@ -1,7 +1,6 @@
 -- A machine's devices by the parts of a counter.
-use Rattle.std.proofs.Common.{◌≡◌, ◌∷◌, [], ℕ, ◌<◌, ◌≤◌, zero, suc, List, Option, Some, None, length, set, get_or, ap, ◌∙◌, refl, arith}
+use Rattle.std.proofs.Common.{◌≡◌, ◌∷◌, [], ℕ, ◌<◌, ◌≤◌, zero, suc, List, Option, Some, None, length, set, ap, ◌∙◌, refl, arith}
 use Rattle.std.specs.Prelude.{Bool, cond, ◌||◌, is_none, is_some, slice_get, option_map}
-use Rattle.std.proofs.lemmas.Option.{slice_get-get_or}
 use Rattle.pos_service.specs.declared.category.Category.{Category}
 use Rattle.pos_service.specs.declared.finding.Finding.TheVariants as finding
 use Rattle.pos_service.specs.Calls.{serves}
@@ -40,10 +39,6 @@ devices_set (x ∷ es) (y ∷ ss) zero e s at lt =
     let same : x ≡ e = cc in
     ap (λ k. device_of k (Some (station_of s)) ∷ devices_of es ss) same
 devices_set (x ∷ es) (y ∷ ss) (suc i) e s at lt = ap (λ ds. device_of x (Some (station_of y)) ∷ ds) (devices_set es ss i e s at (omega arith))
-
--- a place of a profile has a device, of the profile's kind there
-pub device_within : (es : List Entry) (ss : List PeripheralState) (i : ℕ) (d : Entry) → i < length es → slice_get (devices_of es ss) i ≡ Some (device_of (get_or es i d) (option_map station_of (slice_get ss i)))
-device_within es ss i d lt = device_there es ss i ∙ ap (option_map (λ e. device_of e (option_map station_of (slice_get ss i)))) (slice_get-get_or es i d lt)
 
 -- a peripheral that is to the machine as it was changes no device
 pub devices_same : (es : List Entry) (ss : List PeripheralState) (i : ℕ) (s t : PeripheralState) → slice_get ss i ≡ Some s → station_of t ≡ station_of s → devices_of es (set ss i t) ≡ devices_of es ss

@@ -6,3 +6,6 @@ pub mod Stations
 pub mod Runs
 pub mod Parking
 pub mod Serving
+pub mod FileCalls
+pub mod TotalsSteps
+pub mod Recovering

@@ -12,15 +12,23 @@ use Rattle.pos_service.specs.Refusals.{Row, Decided, first_refusal}
 use Rattle.pos_counter.specs.Steps.{Step, Deliver, Delivered}
 use Rattle.pos_common.specs.Held.{Held, controls_of}
 use Rattle.pos_counter.specs.Parts.{over}
+use Rattle.pos_counter.specs.Totals.{TotalsPart}
 
+-- the machine of some controls, devices and totals
+abbrev with_controls : List Control → List Device → TotalsPart → Machine
+with_controls controls devices part = record { controls = controls; devices = devices; totals = part }
+
+-- a match was of none, or of some
 pub match_cases : {A : Type 0} (o : Option A) (P : Type 0) (R : A → Type 0) → MatchOption o P R → ((o ≡ None) × P) ⊎ ((a : A) × (o ≡ Some a) × R a)
 match_cases None P R h = inl (refl, h)
 match_cases (Some a) P R h = inr (a, refl, h)
 
+-- a match holds still where both its sides are weakened
 pub match_weaker : {A : Type 0} (o : Option A) (P Q : Type 0) (R S : A → Type 0) → (P → Q) → ((a : A) → R a → S a) → MatchOption o P R → MatchOption o Q S
 match_weaker None P Q R S f g h = f h
 match_weaker (Some a) P Q R S f g h = g a h
 
+-- a match at what is some
 pub match_at_some : {A : Type 0} (o : Option A) (a : A) (P : Type 0) (R : A → Type 0) → o ≡ Some a → R a → MatchOption o P R
 match_at_some o a P R e r = subst (λ x. MatchOption x P R) (sym e) r
 
@@ -28,23 +36,29 @@ match_at_some o a P R e r = subst (λ x. MatchOption x P R) (sym e) r
 pub match_by : {A : Type 0} (o u : Option A) (P : Type 0) (R : A → Type 0) → o ≡ u → MatchOption u P R → MatchOption o P R
 match_by o u P R e h = subst (λ x. MatchOption x P R) (sym e) h
 
+-- a match at what is none
 pub match_at_none : {A : Type 0} (o : Option A) (P : Type 0) (R : A → Type 0) → o ≡ None → P → MatchOption o P R
 match_at_none o P R e p = subst (λ x. MatchOption x P R) (sym e) p
 
+-- the control with a number that is given, as the machine sees it
 pub control_at : (hs : List Held) (n : ℕ) (d : Held) → n < length hs → slice_get (controls_of hs) n ≡ Some (get_or hs n d).control
 control_at hs n d lt = slice_get-map (λ (h : Held). h.control) hs n ∙ ap (option_map (λ (h : Held). h.control)) (slice_get-get_or hs n d lt)
 
+-- the machine with other controls
+over_same : (cs ds : List Control) (devices : List Device) (part : TotalsPart) → cs ≡ ds → with_controls cs devices part ≡ with_controls ds devices part
+over_same cs ds devices part e = ap (λ (c : List Control). with_controls c devices part) e
+
 -- a call that is decided on one control is decided on the machine
-pub decided_at : (hs : List Held) (ds : List Device) (n : ℕ) (g h : Held) (rows : List Row) (r : Answer) (Done : Type 0) (c : Control) → h ≡ get_or hs n h → Decided rows r (g ≡ h) (Done × (g.control ≡ c)) → Decided rows r (over (set hs n g) ds ≡ over hs ds) (Done × (over (set hs n g) ds ≡ with_control (over hs ds) n c))
-decided_at hs ds n g h rows r Done c e x = record {
+pub decided_at : (hs : List Held) (ds : List Device) (part : TotalsPart) (n : ℕ) (g h : Held) (rows : List Row) (r : Answer) (Done : Type 0) (c : Control) → h ≡ get_or hs n h → Decided rows r (g ≡ h) (Done × (g.control ≡ c)) → Decided rows r (over (set hs n g) ds part ≡ over hs ds part) (Done × (over (set hs n g) ds part ≡ with_control (over hs ds part) n c))
+decided_at hs ds part n g h rows r Done c e x = record {
   outcome = match_weaker (first_refusal rows) _ _ _ _
-      (λ y. (y.0, ap (λ (cs : List Control). let m : Machine = record { controls = cs; devices = ds } in m) (map-set (λ (k : Held). k.control) hs n g ∙ ap (set (controls_of hs) n) y.1)))
-      (λ refusal y. (y.0, ap (λ (ks : List Held). over ks ds) (ap (set hs n) (y.1 ∙ e) ∙ set-get_or hs n h)))
+      (λ y. (y.0, over_same _ _ ds part (map-set (λ (k : Held). k.control) hs n g ∙ ap (set (controls_of hs) n) y.1)))
+      (λ refusal y. (y.0, ap (λ (ks : List Held). over ks ds part) (ap (set hs n) (y.1 ∙ e) ∙ set-get_or hs n h)))
       x.outcome;
 }
 
 -- a delivery to a control is a step
-pub deliver_step : (hs : List Held) (ds : List Device) (n : ℕ) (reply : ErrorReply) (event : Option Event) (g h : Held) → n < length hs → h ≡ get_or hs n h → event ≡ deliverable h.control → g.control ≡ delivered h.control → Step (over hs ds) (Deliver n reply) (Delivered event) (over (set hs n g) ds)
-deliver_step hs ds n reply event g h lt is first rest =
+pub deliver_step : (hs : List Held) (ds : List Device) (part : TotalsPart) (n : ℕ) (reply : ErrorReply) (event : Option Event) (g h : Held) → n < length hs → h ≡ get_or hs n h → event ≡ deliverable h.control → g.control ≡ delivered h.control → Step (over hs ds part) (Deliver n reply) (Delivered event) (over (set hs n g) ds part)
+deliver_step hs ds part n reply event g h lt is first rest =
     match_at_some _ h.control _ _ (control_at hs n h lt ∙ ap (λ (k : Held). Some k.control) (sym is))
-    (first, ap (λ (cs : List Control). let m : Machine = record { controls = cs; devices = ds } in m) (map-set (λ (k : Held). k.control) hs n g ∙ ap (set (controls_of hs) n) rest))
+    (first, over_same _ _ ds part (map-set (λ (k : Held). k.control) hs n g ∙ ap (set (controls_of hs) n) rest))

@@ -17,6 +17,7 @@ parked_more state ps olds i p q lt same front is parks =
     map-set state ps i q ∙ ap (set (map state ps) i) parks
     ∙ map_over_more parked olds (map state ps) i (state p) lt front (ap state is ∙ sym (get_or-map state ps i p (state p) (omega arith)))
 
+-- once the place is behind the last, all are out of service
 pub parked_whole : (states olds : List PeripheralState) (i : ℕ) → length olds ≤ i → states ≡ map parked (take i olds) ++ drop i olds → states ≡ map parked olds
 parked_whole states olds i le front = front ∙ ap (λ xs. map parked xs ++ drop i olds) (take_all i olds le) ∙ ap (λ xs. map parked olds ++ xs) (drop_all i olds le) ∙ append-nil (map parked olds)
 
@@ -27,5 +28,6 @@ stations_stay [] (s ∷ ss) same = absurd (omega arith)
 stations_stay (e ∷ es) [] same = stations_stay es [] (omega arith)
 stations_stay (e ∷ es) (s ∷ ss) same = ap (λ (xs : List Station). station_of s ∷ xs) (stations_stay es ss (omega arith))
 
+-- what was taken out of service is out of service
 pub all_parked : (ss : List PeripheralState) → All (λ (s : PeripheralState). s.is_parked ≡ true) (map parked ss)
 all_parked ss = All-map (λ (s : PeripheralState). s.is_parked ≡ true) parked ss (λ k d lt. refl)

@@ -17,6 +17,7 @@ place_vacant i name [] ss = refl
 place_vacant i name (e ∷ es) [] = ap (cond (bytes_eq e.name name) (Some i)) (place_vacant (i + 1) name es [])
 place_vacant i name (e ∷ es) (s ∷ ss) = ap (cond (bytes_eq e.name name) (Some i)) (place_vacant (i + 1) name es ss)
 
+-- behind the last device no device has the name
 pub place_end : (es : List Entry) (name : List ℕ) (i : ℕ) → length es ≤ i → place_from i name (drop i (map vacant es)) ≡ None
 place_end es name i le = ap (place_from i name) (drop_all i (map vacant es) (omega (arith, length-map es vacant)))
 

@@ -1,5 +1,6 @@
 -- Every step keeps the machine sound.
 use Rattle.std.proofs.Common.{◌≡◌, ℕ, ◌∷◌, inl, inr, zero, suc, List, [], Option, Some, None, Bool, true, false, cond, set, ap, sym, ◌∙◌, subst, refl}
+use Rattle.std.specs.Bool.{MatchBool}
 use Rattle.std.specs.Prelude.{MatchOption, IfSome, IsTrue, All, ◌++◌, ◌||◌, slice_get, is_some, is_none}
 use Rattle.std.proofs.lemmas.List.Elements.{All-push, All-set, All-weaker, All-map, All-get_or}
 use Rattle.std.proofs.lemmas.Option.{slice_get_within, get_or_from_slice_get}
@@ -8,16 +9,19 @@ use Rattle.pos_service.specs.declared.category.Category.TheVariants as category
 use Rattle.pos_service.specs.declared.answer.Answer.{Answer}
 use Rattle.pos_service.specs.declared.event.Event.{Event}
 use Rattle.pos_service.specs.declared.finding.Finding.TheVariants as finding
+use Rattle.pos_service.specs.declared.answer.Value.{Value}
 use Rattle.pos_service.specs.declared.input.Input.{Input}
+use Rattle.pos_service.specs.declared.property.Property.{Property}
 use Rattle.pos_service.specs.declared.call.Call.{Call}
 use Rattle.pos_service.specs.declared.call.Call.TheVariants as call
 use Rattle.pos_service.specs.Controls.{Control, new_control, closed, delivered, heard, listens, all_heard}
 use Rattle.pos_service.specs.Refusals.{Row, Decided, first_refusal}
-use Rattle.pos_service.specs.Calls.{serves, place_found, after_set, get_rows}
+use Rattle.pos_service.specs.Calls.{serves, place_found, after_set, set_rows, get_rows}
 use Rattle.pos_service.specs.Stations.{Station, Effect, TakesIn}
-use Rattle.pos_service.specs.DrawerCalls.{DrawerOpens}
+use Rattle.pos_service.specs.DrawerCalls.{DrawerOpens, DrawerDoes}
 use Rattle.pos_counter.specs.Machine.{Device, Machine, device_at, place_of, found_at, with_control}
-use Rattle.pos_counter.specs.Steps.{Request, NewControl, CallOf, InputTo, Deliver, Snapshot, Response, Made, Full, Answered, TakenIn, NoDevice, WrongInput, Delivered, Shown, OutOfMemory, OnStation, Step, Called, CategoryDoes, refusals, IsSound, IsServed, HasItsKind, HasItsDevice}
+use Rattle.pos_counter.specs.Steps.{Request, NewControl, CallOf, InputTo, Deliver, Snapshot, Response, Made, Full, Answered, TakenIn, NoDevice, WrongInput, Delivered, Shown, OutOfMemory, OnStation, Step, Called, Stays, Sets, SetsByRecovery, CategoryDoes, facts_of, refusals, IsSound, IsServed, HasItsKind, HasItsDevice}
+use Rattle.pos_counter.specs.Totals.{recovers}
 use Rattle.pos_counter.proofs.Lifts.{match_cases}
 
 -- the device is there, and the category serves it
@@ -39,7 +43,8 @@ pub seated : (m : Machine) (n : ℕ) (c : Control) → IsSound m → slice_get m
 seated m n c s e =
     subst (HasItsDevice m.devices) (get_or_from_slice_get m.controls n c c e) (All-get_or (HasItsDevice m.devices) m.controls n c (slice_get_within m.controls n c e) s.places)
 
-with_control_sound : (m : Machine) (n : ℕ) (c : Control) → HasItsDevice m.devices c → IsSound m → IsSound (with_control m n c)
+-- a control with its device in the place of another
+pub with_control_sound : (m : Machine) (n : ℕ) (c : Control) → HasItsDevice m.devices c → IsSound m → IsSound (with_control m n c)
 with_control_sound m n c h s = record {
   kinds = s.kinds;
   places = All-set (HasItsDevice m.devices) m.controls n c h s.places;
@@ -137,21 +142,46 @@ takes_keeps input place old before new after h = record {
   seats = λ ds all. subst (All (HasItsDevice ds)) (sym h.events) (all_heard_keep ds place _ old all);
 }
 
--- what a category's call does keeps them
-does_keeps : (category : Category) (asked : Call) (r : Answer) (place : ℕ) (old : List Control) (before : Station) (new : List Control) (after : Station) → CategoryDoes category asked place r old before new after → Keeps before old after new
-does_keeps category.CashDrawer call.OpenDrawer r place old before new after h = opens_keeps r place old before new after h
-does_keeps category.CashDrawer asked r place old before new after h = absurd h
+drawer_keeps : (asked : Call) (r : Answer) (place : ℕ) (old : List Control) (before : Station) (new : List Control) (after : Station) → DrawerDoes asked place r old before new after → Keeps before old after new
+drawer_keeps call.OpenDrawer r place old before new after h = opens_keeps r place old before new after h
+drawer_keeps asked r place old before new after h = absurd h
+
+-- totals that have changed leave all else as it was
+other_totals : (m m' : Machine) → m' ≡ record m { totals = m'.totals } → IsSound m → IsSound m'
+other_totals m m' e s = subst IsSound (sym e) (record { kinds = s.kinds; places = s.places })
+
+-- what a category's call does keeps the machine sound
+category_sound : (k : Category) (m m' : Machine) (n : ℕ) (c : Control) (own : Call) (r : Answer) → CategoryDoes k m n c own r m' → IsSound m → IsSound m'
+category_sound category.CashDrawer m m' n c own r h s = on_station_sound m m' c.device _ (λ place. drawer_keeps own r place) h s
+category_sound category.HardTotals m m' n c own r h s = other_totals m m' h.1 s
+
+-- a control with a property set has its device
+set_sound : (m m' : Machine) (n : ℕ) (c : Control) (p : Property) (v : Value) (r : Answer) (b : Bool) → slice_get m.controls n ≡ Some c → MatchBool b (SetsByRecovery m n c p v r m') (Sets m n c p v r m') → IsSound m → IsSound m'
+set_sound m m' n c p v r false e h s = same_machine _ m' h.1 (with_control_sound m n (after_set c p v) (seated m n c s e) s)
+set_sound m m' n c p v r true e (inl h) s =
+    let there = with_control_sound m n (after_set c p v) (seated m n c s e) s in
+    same_machine _ m' h.2 (record { kinds = there.kinds; places = there.places })
+set_sound m m' n c p v r true e (inr h) s = other_totals m m' h.1 s
 
 called_sound : (m m' : Machine) (n : ℕ) (c : Control) (q : Call) (r : Answer) → slice_get m.controls n ≡ Some c → Called m n c q r m' → IsSound m → IsSound m'
 called_sound m m' n c (call.Open name) r e h s = decided_sound _ r m m' n _ _ (λ none. found_seat m.devices c.category (place_of m.devices name)) h s
 called_sound m m' n c call.Close r e h s = decided_sound _ r m m' n (closed c) _ (λ none. tt) h s
-called_sound m m' n c (call.Set p v) r e h s = decided_sound _ r m m' n (after_set c p v) _ (λ none. seated m n c s e) h s
-called_sound m m' n c (call.Get p) r e h s = elim (match_cases (first_refusal (get_rows c p)) _ _ h.outcome) [ inl x ↦ same_machine m m' x.1.1 s | inr x ↦ same_machine m m' x.2.1 s ]
-called_sound m m' n c own r e h s =
-    elim (match_cases (first_refusal (refusals m n c own)) _ _ h.outcome) [
-      | inl x ↦ on_station_sound m m' c.device _ (λ place. does_keeps c.category own r place) x.1 s
+called_sound m m' n c (call.Set p v) r e h s =
+    elim (match_cases (first_refusal (set_rows c p v)) _ _ h.outcome) [
+      | inl x ↦ set_sound m m' n c p v r (recovers m.totals c p v) e x.1 s
       | inr x ↦ same_machine m m' x.2.1 s
     ]
+called_sound m m' n c (call.Get p) r e h s = elim (match_cases (first_refusal (get_rows c (facts_of m c) p)) _ _ h.outcome) [ inl x ↦ same_machine m m' x.1.1 s | inr x ↦ same_machine m m' x.2.1 s ]
+called_sound m m' n c own r e h s =
+    elim (match_cases (first_refusal (refusals m n c own)) _ _ h.outcome) [
+      | inl x ↦ category_sound c.category m m' n c own r x.1 s
+      | inr x ↦ same_machine m m' x.2.1 s
+    ]
+
+-- want of memory leaves the machine as it was, the count of the disk's failures aside
+stays_sound : (m m' : Machine) (c : Control) (q : Call) → Stays m c q m' → IsSound m → IsSound m'
+stays_sound m m' c (call.Set p v) h s = other_totals m m' h.1 s
+stays_sound m m' c other h s = same_machine m m' h s
 
 -- every step from a sound machine leads to a sound one
 pub step_sound : (m m' : Machine) (q : Request) (r : Response) → Step m q r m' → IsSound m → IsSound m'
@@ -164,7 +194,7 @@ step_sound m m' (NewControl category) Full h s = same_machine m m' h.1 s
 step_sound m m' (NewControl category) OutOfMemory h s = same_machine m m' h.1 s
 step_sound m m' (CallOf n q) (Answered r) h s =
     elim (match_cases (slice_get m.controls n) _ _ h) [ inl x ↦ same_machine m m' x.1.1 s | inr x ↦ called_sound m m' n x.0 q r x.1 x.2 s ]
-step_sound m m' (CallOf n q) OutOfMemory h s = elim (match_cases (slice_get m.controls n) _ _ h) [ inl x ↦ absurd x.1 | inr x ↦ same_machine m m' x.2.2 s ]
+step_sound m m' (CallOf n q) OutOfMemory h s = elim (match_cases (slice_get m.controls n) _ _ h) [ inl x ↦ absurd x.1 | inr x ↦ stays_sound m m' x.0 q x.2.2 s ]
 step_sound m m' (InputTo name input) TakenIn h s = on_station_sound m m' _ _ (takes_keeps input) h s
 step_sound m m' (InputTo name input) NoDevice h s = same_machine m m' h.1 s
 step_sound m m' (InputTo name input) WrongInput h s = same_machine m m' h.1 s

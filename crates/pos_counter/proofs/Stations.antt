@@ -17,6 +17,7 @@ use Rattle.pos_service.specs.declared.kind.Kind.TheVariants as kind
 use Rattle.pos_service.specs.declared.memory.NoMemory.{NoMemory}
 use Rattle.pos_service.specs.Calls.{serves, is_common, own_rows, takes_memory as own_takes_memory}
 use Rattle.pos_service.specs.Controls.{Control}
+use Rattle.pos_service.specs.DrawerCalls.{drawer_rows, DrawerDoes}
 use Rattle.pos_service.specs.Peripherals.{PeripheralState, input_fits}
 use Rattle.pos_service.specs.Refusals.{Row, Decided, first_refusal, when}
 use Rattle.pos_service.specs.Stations.{Station, Effect, station_of, CalledAt, CalledBy, IsOpen}
@@ -25,7 +26,8 @@ use Rattle.pos_counter.specs.declared.entry.Entry.{Entry}
 use Rattle.pos_counter.specs.Machine.{Device, Machine, station_in, station_named, device_at, place_of}
 use Rattle.pos_counter.specs.Parts.{over, machine_of, devices_of, device_of, AllUnparked}
 use Rattle.pos_counter.specs.Responses.{answered}
-use Rattle.pos_counter.specs.Steps.{OnStation, Step, CallOf, Answered, Called, Wants, Does, CategoryDoes, category_rows, refusals, takes_memory, FindsFit, IsSound, IsServed, HasItsKind}
+use Rattle.pos_counter.specs.Steps.{OnStation, Step, CallOf, Answered, Called, Wants, Does, CategoryDoes, Stays, category_rows, refusals, takes_memory, FindsFit, IsSound, IsServed, HasItsKind}
+use Rattle.pos_counter.specs.Totals.{TotalsPart}
 use Rattle.pos_counter.proofs.DeviceLists.{device_there, devices_set, devices_same, station_there}
 use Rattle.pos_counter.proofs.Lifts.{match_cases, match_at_some, match_by, match_weaker}
 use Rattle.pos_counter.proofs.Sound.{seated, Served}
@@ -36,19 +38,19 @@ entry_within (e ∷ es) zero lt = (e, refl)
 entry_within (e ∷ es) (suc i) lt = entry_within es i (omega arith)
 
 -- what a list of peripherals is at a place
-pub state_at : {P : Type 0} (state : P → PeripheralState) (ps : List P) (place : ℕ) (p : P) → slice_get ps place ≡ Some p → slice_get (map state ps) place ≡ Some (state p)
+state_at : {P : Type 0} (state : P → PeripheralState) (ps : List P) (place : ℕ) (p : P) → slice_get ps place ≡ Some p → slice_get (map state ps) place ≡ Some (state p)
 state_at state ps place p at = slice_get-map state ps place ∙ ap (option_map state) at
 
 -- the station of a device that a name finds
-pub named_there : {P : Type 0} (state : P → PeripheralState) (hs : List Held) (es : List Entry) (ps : List P) (name : List ℕ) (place : ℕ) (p : P) → length (map state ps) ≤ length es → Some place ≡ place_of (devices_of es (map state ps)) name → slice_get ps place ≡ Some p → station_named (machine_of hs es (map state ps)) name ≡ Some (station_of (state p))
-named_there state hs es ps name place p whole finds at =
+pub named_there : {P : Type 0} (state : P → PeripheralState) (hs : List Held) (es : List Entry) (ps : List P) (part : TotalsPart) (name : List ℕ) (place : ℕ) (p : P) → length (map state ps) ≤ length es → Some place ≡ place_of (devices_of es (map state ps)) name → slice_get ps place ≡ Some p → station_named (machine_of hs es (map state ps) part) name ≡ Some (station_of (state p))
+named_there state hs es ps part name place p whole finds at =
     ap (λ o. station_in (device_at (devices_of es (map state ps)) o)) (sym finds)
     ∙ station_there es (map state ps) (Some place) whole
     ∙ ap (option_map station_of) (state_at state ps place p at)
 
 -- behind the last peripheral nothing stands at the device that a name finds
-pub nothing_named : (hs : List Held) (es : List Entry) (ss : List PeripheralState) (name : List ℕ) (place : ℕ) → length ss ≤ length es → Some place ≡ place_of (devices_of es ss) name → length ss ≤ place → station_named (machine_of hs es ss) name ≡ None
-nothing_named hs es ss name place whole finds beyond =
+pub nothing_named : (hs : List Held) (es : List Entry) (ss : List PeripheralState) (part : TotalsPart) (name : List ℕ) (place : ℕ) → length ss ≤ length es → Some place ≡ place_of (devices_of es ss) name → length ss ≤ place → station_named (machine_of hs es ss part) name ≡ None
+nothing_named hs es ss part name place whole finds beyond =
     ap (λ o. station_in (device_at (devices_of es ss) o)) (sym finds)
     ∙ station_there es ss (Some place) whole
     ∙ ap (option_map station_of) (behind ss place beyond)
@@ -60,8 +62,8 @@ nothing_named hs es ss name place whole finds beyond =
     behind (s ∷ ss) (suc i) le = behind ss i (omega arith)
 
 -- what is done with the peripheral at a place is done at the device's station
-pub on_station : {P : Type 0} (state : P → PeripheralState) (hs gs : List Held) (es : List Entry) (ps : List P) (place : ℕ) (p q : P) (o : Option ℕ) (Does : ℕ → Effect) → length (map state ps) ≤ length es → slice_get ps place ≡ Some p → o ≡ Some place → Does place (controls_of hs) (station_of (state p)) (controls_of gs) (station_of (state q)) → OnStation (machine_of hs es (map state ps)) o Does (machine_of gs es (map state (set ps place q)))
-on_station state hs gs es ps place p q o Does whole at is does =
+pub on_station : {P : Type 0} (state : P → PeripheralState) (hs gs : List Held) (es : List Entry) (ps : List P) (part : TotalsPart) (place : ℕ) (p q : P) (o : Option ℕ) (Does : ℕ → Effect) → length (map state ps) ≤ length es → slice_get ps place ≡ Some p → o ≡ Some place → Does place (controls_of hs) (station_of (state p)) (controls_of gs) (station_of (state q)) → OnStation (machine_of hs es (map state ps) part) o Does (machine_of gs es (map state (set ps place q)) part)
+on_station state hs gs es ps part place p q o Does whole at is does =
     let within : place < length (map state ps) = slice_get_within (map state ps) place (state p) (state_at state ps place p at) in
     let entry = entry_within es place (omega arith) in record {
       place = place;
@@ -73,14 +75,14 @@ on_station state hs gs es ps place p q o Does whole at is does =
       is_device = device_there es (map state ps) place ∙ ap (option_map (λ e. device_of e (option_map station_of (slice_get (map state ps) place)))) entry.1 ∙ ap (λ s. Some (device_of entry.0 (option_map station_of s))) (state_at state ps place p at);
       is_attached = refl;
       does = does;
-      machine = ap (over gs) (ap (devices_of es) (map-set state ps place q) ∙ devices_set es (map state ps) place entry.0 (state q) entry.1 within);
+      machine = ap (λ ds. over gs ds part) (ap (devices_of es) (map-set state ps place q) ∙ devices_set es (map state ps) place entry.0 (state q) entry.1 within);
     }
 
 -- a peripheral that did nothing leaves the machine as it was
-pub unchanged : {P : Type 0} (state : P → PeripheralState) (hs gs : List Held) (es : List Entry) (ps : List P) (place : ℕ) (p q : P) → slice_get ps place ≡ Some p → controls_of gs ≡ controls_of hs → station_of (state q) ≡ station_of (state p) → machine_of gs es (map state (set ps place q)) ≡ machine_of hs es (map state ps)
-unchanged state hs gs es ps place p q at controls station =
-    ap (λ (cs : List Control). let m : Machine = record { controls = cs; devices = devices_of es (map state (set ps place q)) } in m) controls
-    ∙ ap (over hs) (ap (devices_of es) (map-set state ps place q) ∙ devices_same es (map state ps) place (state p) (state q) (state_at state ps place p at) station)
+pub unchanged : {P : Type 0} (state : P → PeripheralState) (hs gs : List Held) (es : List Entry) (ps : List P) (part : TotalsPart) (place : ℕ) (p q : P) → slice_get ps place ≡ Some p → controls_of gs ≡ controls_of hs → station_of (state q) ≡ station_of (state p) → machine_of gs es (map state (set ps place q)) part ≡ machine_of hs es (map state ps) part
+unchanged state hs gs es ps part place p q at controls station =
+    ap (λ (cs : List Control). let m : Machine = record { controls = cs; devices = devices_of es (map state (set ps place q)); totals = part } in m) controls
+    ∙ ap (λ ds. over hs ds part) (ap (devices_of es) (map-set state ps place q) ∙ devices_same es (map state ps) place (state p) (state q) (state_at state ps place p at) station)
 
 -- all peripherals are in service, so the one at a place is
 pub unparked_at : {P : Type 0} (state : P → PeripheralState) (ps : List P) (place : ℕ) (p : P) → slice_get ps place ≡ Some p → AllUnparked (map state ps) → (state p).is_parked ≡ false
@@ -88,6 +90,7 @@ unparked_at state ps place p at all =
     let there = state_at state ps place p at in
     subst (λ (s : PeripheralState). s.is_parked ≡ false) (get_or_from_slice_get (map state ps) place (state p) (state p) there) (All-get_or (λ (s : PeripheralState). s.is_parked ≡ false) (map state ps) place (state p) (slice_get_within (map state ps) place (state p) there) all)
 
+-- all stay in service where one is changed for one in service
 pub unparked_set : {P : Type 0} (state : P → PeripheralState) (ps : List P) (place : ℕ) (q : P) → (state q).is_parked ≡ false → AllUnparked (map state ps) → AllUnparked (map state (set ps place q))
 unparked_set state ps place q unparked all = subst AllUnparked (sym (map-set state ps place q)) (All-set (λ (s : PeripheralState). s.is_parked ≡ false) (map state ps) place (state q) unparked all)
 
@@ -97,10 +100,10 @@ pub record ServedAt {P : Type 0} (state : P → PeripheralState) (ps : List P) (
   pub is_served : (d : P) → serves category (Some (state (get_or ps place d)).kind) ≡ true
 
 -- an open control's device has a peripheral, where its category serves no device without one
-pub served_there : {P : Type 0} (state : P → PeripheralState) (hs : List Held) (es : List Entry) (ps : List P) (n : ℕ) (c : Control) (place : ℕ) → IsSound (machine_of hs es (map state ps)) → length (map state ps) ≤ length es → slice_get (controls_of hs) n ≡ Some c → c.device ≡ Some place → serves c.category None ≡ false → ServedAt state ps c.category place
-served_there {P = P} state hs es ps n c place sound whole at is peripheral =
+pub served_there : {P : Type 0} (state : P → PeripheralState) (hs : List Held) (es : List Entry) (ps : List P) (part : TotalsPart) (n : ℕ) (c : Control) (place : ℕ) → IsSound (machine_of hs es (map state ps) part) → length (map state ps) ≤ length es → slice_get (controls_of hs) n ≡ Some c → c.device ≡ Some place → serves c.category None ≡ false → ServedAt state ps c.category place
+served_there {P = P} state hs es ps part n c place sound whole at is peripheral =
     let ds = devices_of es (map state ps) in
-    let seat = subst (λ (o : Option ℕ). IfSome o (λ k. Served c.category (slice_get ds k))) is (seated (machine_of hs es (map state ps)) n c sound at) in
+    let seat = subst (λ (o : Option ℕ). IfSome o (λ k. Served c.category (slice_get ds k))) is (seated (machine_of hs es (map state ps) part) n c sound at) in
     elim (match_cases (slice_get ds place) _ _ seat) [
       | inl x ↦ absurd x.1
       | inr x ↦ by_peripheral x.0 x.1 x.2.0 x.2.1 (slice_get ps place) refl
@@ -126,10 +129,10 @@ served_there {P = P} state hs es ps n c place sound whole at is peripheral =
         }
 
 -- a name finds a device whose peripheral has an input, or hasn't
-pub finds_fit : {P : Type 0} (state : P → PeripheralState) (hs : List Held) (es : List Entry) (ps : List P) (name : List ℕ) (place : ℕ) (p : P) (input : Input) (fits : Bool) → length (map state ps) ≤ length es → Some place ≡ place_of (devices_of es (map state ps)) name → slice_get ps place ≡ Some p → input_fits (state p).kind input ≡ fits → FindsFit (station_named (machine_of hs es (map state ps)) name) input fits
-finds_fit state hs es ps name place p input fits whole finds at fit = record {
+pub finds_fit : {P : Type 0} (state : P → PeripheralState) (hs : List Held) (es : List Entry) (ps : List P) (part : TotalsPart) (name : List ℕ) (place : ℕ) (p : P) (input : Input) (fits : Bool) → length (map state ps) ≤ length es → Some place ≡ place_of (devices_of es (map state ps)) name → slice_get ps place ≡ Some p → input_fits (state p).kind input ≡ fits → FindsFit (station_named (machine_of hs es (map state ps) part) name) input fits
+finds_fit state hs es ps part name place p input fits whole finds at fit = record {
   before = station_of (state p);
-  is_attached = named_there state hs es ps name place p whole finds at;
+  is_attached = named_there state hs es ps part name place p whole finds at;
   fit = fit;
 }
 
@@ -144,26 +147,33 @@ drawer_kind c k is h = of_drawer k (subst (λ (j : Category). serves j (Some k) 
     of_drawer (kind.Printer chars near) h = cc
 
 -- what a call of a category's own is answered first, and what it does
-own_refusals : (m : Machine) (n : ℕ) (c : Control) (asked : Call) → is_common asked ≡ false → refusals m n c asked ≡ when (is_none c.device) code.Closed ∷ own_rows c asked (category_rows c.category c asked)
+own_refusals : (m : Machine) (n : ℕ) (c : Control) (asked : Call) → is_common asked ≡ false → refusals m n c asked ≡ when (is_none c.device) code.Closed ∷ own_rows c asked (category_rows c.category m n c asked)
 own_refusals m n c (call.Open name) own = cc
 own_refusals m n c call.Close own = cc
 own_refusals m n c (call.Set p v) own = cc
 own_refusals m n c (call.Get p) own = cc
 own_refusals m n c asked own = refl
 
-own_does : (m : Machine) (n : ℕ) (c : Control) (asked : Call) (r : Answer) (m' : Machine) → is_common asked ≡ false → OnStation m c.device (λ place. CategoryDoes c.category asked place r) m' → Does m n c asked r m'
+pub own_does : (m : Machine) (n : ℕ) (c : Control) (asked : Call) (r : Answer) (m' : Machine) → is_common asked ≡ false → CategoryDoes c.category m n c asked r m' → Does m n c asked r m'
 own_does m n c (call.Open name) r m' own h = cc
 own_does m n c call.Close r m' own h = cc
 own_does m n c (call.Set p v) r m' own h = cc
 own_does m n c (call.Get p) r m' own h = cc
 own_does m n c asked r m' own h = h
 
-own_takes : (m : Machine) (c : Control) (asked : Call) → is_common asked ≡ false → IsTrue (own_takes_memory asked) → IsTrue (takes_memory m c asked)
+pub own_takes : (m : Machine) (c : Control) (asked : Call) → is_common asked ≡ false → IsTrue (own_takes_memory asked) → IsTrue (takes_memory m c asked)
 own_takes m c (call.Open name) own h = refl
 own_takes m c call.Close own h = cc
 own_takes m c (call.Set p v) own h = cc
 own_takes m c (call.Get p) own h = cc
 own_takes m c asked own h = h
+
+pub own_stays : (m m' : Machine) (c : Control) (asked : Call) → is_common asked ≡ false → m' ≡ m → Stays m c asked m'
+own_stays m m' c (call.Open name) own h = h
+own_stays m m' c call.Close own h = h
+own_stays m m' c (call.Set p v) own h = cc
+own_stays m m' c (call.Get p) own h = h
+own_stays m m' c asked own h = h
 
 -- a call that is the first that is asked of an open control
 pub is_open_there : (cs : List Control) (n : ℕ) (c : Control) (k : Category) (place : ℕ) → slice_get cs n ≡ Some c → c.category ≡ k → c.device ≡ Some place → IsOpen k cs n
@@ -174,7 +184,7 @@ pub closed_step : (m : Machine) (n : ℕ) (c : Control) (asked : Call) → is_co
 closed_step m n c asked own at closed =
     match_at_some _ c _ _ at (record {
       outcome = match_at_some (first_refusal (refusals m n c asked)) (answer.Refused code.Closed 0) _ _
-          (ap first_refusal (own_refusals m n c asked own) ∙ ap (λ (o : Option ℕ). first_refusal (when (is_none o) code.Closed ∷ own_rows c asked (category_rows c.category c asked))) closed)
+          (ap first_refusal (own_refusals m n c asked own) ∙ ap (λ (o : Option ℕ). first_refusal (when (is_none o) code.Closed ∷ own_rows c asked (category_rows c.category m n c asked))) closed)
           (refl, refl);
     })
 
@@ -184,38 +194,43 @@ called_there o c place Q at device h =
     subst (λ (d : Option ℕ). IfSome d (Q c)) device (subst (λ (u : Option Control). MatchOption u ⊥ (λ control. IfSome control.device (Q control))) at h)
 
 -- the refusals of a call of a category's own on an open control
-open_refusals : (m : Machine) (n : ℕ) (c : Control) (asked : Call) (place : ℕ) → is_common asked ≡ false → c.device ≡ Some place → first_refusal (refusals m n c asked) ≡ first_refusal (own_rows c asked (category_rows c.category c asked))
-open_refusals m n c asked place own device =
+pub open_refusals : (m : Machine) (n : ℕ) (c : Control) (k : Category) (asked : Call) → is_common asked ≡ false → c.category ≡ k → IsTrue (is_some c.device) → first_refusal (refusals m n c asked) ≡ first_refusal (own_rows c asked (category_rows k m n c asked))
+open_refusals m n c k asked own is device =
     ap first_refusal (own_refusals m n c asked own)
-    ∙ ap (λ (o : Option ℕ). first_refusal (when (is_none o) code.Closed ∷ own_rows c asked (category_rows c.category c asked))) device
+    ∙ ap (λ j. first_refusal (when (is_none c.device) code.Closed ∷ own_rows c asked (category_rows j m n c asked))) is
+    ∙ ap (λ b. first_refusal (when b code.Closed ∷ own_rows c asked (category_rows k m n c asked))) (is_there c.device device)
+  where
+    is_there : (o : Option ℕ) → IsTrue (is_some o) → is_none o ≡ false
+    is_there None h = cc
+    is_there (Some i) h = refl
 
--- a call of a category's own on an open control is a step
-pub own_step : {P : Type 0} (state : P → PeripheralState) (hs gs : List Held) (es : List Entry) (ps : List P) (n place : ℕ) (p q : P) (c : Control) (k : Category) (asked : Call) (r : Result Answer NoMemory)
-    → is_common asked ≡ false → slice_get (controls_of hs) n ≡ Some c → c.category ≡ k → c.device ≡ Some place → length (map state ps) ≤ length es → slice_get ps place ≡ Some p
-    → CalledBy (category_rows k) (CategoryDoes k) n asked r (controls_of hs) (station_of (state p)) (controls_of gs) (station_of (state q))
-    → Step (machine_of hs es (map state ps)) (CallOf n asked) (answered r) (machine_of gs es (map state (set ps place q)))
-own_step state hs gs es ps n place p q c k asked r own at is device whole there called =
-    let Q : Category → Control → ℕ → Type 0 = λ j control place. CalledAt asked (own_rows control asked (category_rows j control asked)) (CategoryDoes j asked place) r (controls_of hs) (station_of (state p)) (controls_of gs) (station_of (state q)) in
-    by_outcome r (subst (λ j. Q j c place) (sym is) (called_there _ c place (Q k) at device called))
+-- a call of a drawer's own on an open control is a step
+pub drawer_step : {P : Type 0} (state : P → PeripheralState) (hs gs : List Held) (es : List Entry) (ps : List P) (part : TotalsPart) (n place : ℕ) (p q : P) (c : Control) (asked : Call) (r : Result Answer NoMemory)
+    → is_common asked ≡ false → slice_get (controls_of hs) n ≡ Some c → c.category ≡ category.CashDrawer → c.device ≡ Some place → length (map state ps) ≤ length es → slice_get ps place ≡ Some p
+    → CalledBy drawer_rows DrawerDoes n asked r (controls_of hs) (station_of (state p)) (controls_of gs) (station_of (state q))
+    → Step (machine_of hs es (map state ps) part) (CallOf n asked) (answered r) (machine_of gs es (map state (set ps place q)) part)
+drawer_step state hs gs es ps part n place p q c asked r own at is device whole there called =
+    let Q : Control → ℕ → Type 0 = λ control place. CalledAt asked (own_rows control asked (drawer_rows control asked)) (DrawerDoes asked place) r (controls_of hs) (station_of (state p)) (controls_of gs) (station_of (state q)) in
+    by_outcome r (called_there _ c place Q at device called)
   where
     m : Machine
-    m = machine_of hs es (map state ps)
+    m = machine_of hs es (map state ps) part
 
     m' : Machine
-    m' = machine_of gs es (map state (set ps place q))
+    m' = machine_of gs es (map state (set ps place q)) part
 
-    by_outcome : (o : Result Answer NoMemory) → CalledAt asked (own_rows c asked (category_rows c.category c asked)) (CategoryDoes c.category asked place) o (controls_of hs) (station_of (state p)) (controls_of gs) (station_of (state q)) → Step m (CallOf n asked) (answered o) m'
+    by_outcome : (o : Result Answer NoMemory) → CalledAt asked (own_rows c asked (drawer_rows c asked)) (DrawerDoes asked place) o (controls_of hs) (station_of (state p)) (controls_of gs) (station_of (state q)) → Step m (CallOf n asked) (answered o) m'
     by_outcome (Ok result) h =
         match_at_some _ c _ _ at (record {
-          outcome = match_by _ _ _ _ (open_refusals m n c asked place own device) (
-              match_weaker (first_refusal (own_rows c asked (category_rows c.category c asked))) _ _ _ _
-              (λ does. own_does m n c asked result m' own (on_station state hs gs es ps place p q c.device _ whole there device does))
-              (λ refusal y. (y.0, unchanged state hs gs es ps place p q there y.1.controls y.1.station))
+          outcome = match_by _ _ _ _ (open_refusals m n c category.CashDrawer asked own is (ap is_some device)) (
+              match_weaker (first_refusal (own_rows c asked (drawer_rows c asked))) _ _ _ _
+              (λ does. own_does m n c asked result m' own (subst (λ k. CategoryDoes k m n c asked result m') (sym is) (on_station state hs gs es ps part place p q c.device _ whole there device does)))
+              (λ refusal y. (y.0, unchanged state hs gs es ps part place p q there y.1.controls y.1.station))
               h.outcome);
         })
     by_outcome (Err want) h =
         match_at_some _ c _ _ at (
           own_takes m c asked own h.0,
-          open_refusals m n c asked place own device ∙ h.1,
-          unchanged state hs gs es ps place p q there h.2.controls h.2.station,
+          open_refusals m n c category.CashDrawer asked own is (ap is_some device) ∙ h.1,
+          own_stays m m' c asked own (unchanged state hs gs es ps part place p q there h.2.controls h.2.station),
         )

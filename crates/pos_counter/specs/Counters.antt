@@ -1,46 +1,81 @@
--- The machine that a counter over boxes stands for.
-use Rattle.std.specs.Prelude.{◌≡◌, List, map}
+-- The machine that a counter over boxes and a disk stands for.
+use Rattle.std.specs.Prelude.{◌≡◌, ◌⊎◌, ◌≤◌, ℕ, List, [], ◌∷◌, map}
+use Rattle.pos_disk.specs.State.{LeavesOnly}
+use Rattle.pos_disk.specs.declared.device.Disk.{Ghosts as DiskGhosts}
 use Rattle.pos_service.specs.declared.peripheral_box.PeripheralBox.{PeripheralBox}
 use Rattle.pos_service.specs.declared.peripheral_box.HasState.{Ghosts}
+use Rattle.pos_service.specs.HardTotals.{Off}
 use Rattle.pos_service.specs.Peripherals.{PeripheralState}
+use Rattle.pos_store.specs.Standing.{Standing, StandsForOneOf}
+use Rattle.pos_totals.specs.Views.{KeepsDisk}
 use Rattle.pos_counter.specs.declared.counter.Counter.{Counter}
 use Rattle.pos_counter.specs.Machine.{Machine}
-use Rattle.pos_counter.specs.Parts.{machine_of, beginning, ArePartsSound}
+use Rattle.pos_counter.specs.Parts.{machine_of, part_of, ArePartsSound, Leaves, Stepped}
+use Rattle.pos_counter.specs.Profile.{profile}
 use Rattle.pos_counter.specs.Steps.{Request, Response, Step, Run}
+use Rattle.pos_counter.specs.Totals.{TotalsPart}
 
 -- what the boxed peripherals are, in order
 abbrev pub states_of : {X : Type 0} {O : X → Type 0}
     → Ghosts (PeripheralBox X O) → List (PeripheralBox X O) → List PeripheralState
 states_of boxes list = map boxes.state list
 
--- the machine that a counter stands for
-abbrev pub machine : {X : Type 0} {O : X → Type 0} → Ghosts (PeripheralBox X O) → Counter X O → Machine
-machine boxes counter = machine_of counter.desk counter.entries.items (states_of boxes counter.boxes.items)
+-- the machine that a counter stands for, by what its totals are
+abbrev pub machine : {D X : Type 0} {O : X → Type 0} → Ghosts (PeripheralBox X O) → Counter D X O → TotalsPart → Machine
+machine boxes counter part = machine_of counter.desk counter.entries.items (states_of boxes counter.boxes.items) part
 
--- a counter as it begins over these boxed peripherals: no control, and the built devices
-abbrev pub Begins : {X : Type 0} {O : X → Type 0}
-    → Ghosts (PeripheralBox X O) → List (PeripheralBox X O) → Counter X O → Type 0
-Begins boxes list counter = machine boxes counter ≡ beginning (states_of boxes list)
+-- A counter as it begins over these boxed peripherals and a disk: no control, the built devices, and totals that are off.
+pub record Begins {D X : Type 0} {O : X → Type 0} (boxes : Ghosts (PeripheralBox X O)) (list : List (PeripheralBox X O)) (disk : D)
+  (counter : Counter D X O) : Type 0 where
+  pub machine : (part : TotalsPart) → machine boxes counter part ≡ machine_of [] profile (states_of boxes list) part
+  pub totals : counter.totals ≡ record { disk = disk; totals = record { mode = Off; next = 1 } }
 
--- from the machine of an old counter to that of a new one, a step: the request gets this response
-abbrev pub IsStep : {X : Type 0} {O : X → Type 0}
-    → Ghosts (PeripheralBox X O) → Counter X O → Request → Response → Counter X O → Type 0
-IsStep boxes old request response new = Step (machine boxes old) request response (machine boxes new)
+-- From an old counter to a new one, a step in which the totals have no part: the request gets this response.
+pub record IsStepBeside {D X : Type 0} {O : X → Type 0} (boxes : Ghosts (PeripheralBox X O)) (old : Counter D X O)
+  (request : Request) (response : Response) (new : Counter D X O) : Type 0 where
+  pub step : (part : TotalsPart) → Step (machine boxes old part) request response (machine boxes new part)
+  pub totals : new.totals ≡ old.totals
 
--- from the machine of an old counter to that of a new one, a run
-abbrev pub IsRun : {X : Type 0} {O : X → Type 0}
-    → Ghosts (PeripheralBox X O) → Counter X O → List (Request × Response) → Counter X O → Type 0
-IsRun boxes old steps new = Run (machine boxes old) steps (machine boxes new)
+-- From an old counter to a new one, a step, for all that the disk may leave before it: the request gets this response.
+pub record IsStep {D X : Type 0} {O : X → Type 0} (bound : DiskGhosts D) (boxes : Ghosts (PeripheralBox X O))
+  (old : Counter D X O) (request : Request) (response : Response) (new : Counter D X O) : Type 0 where
+  pub steps : (left : List Standing) → Leaves bound old.totals left
+      → Stepped bound left (machine boxes old) old.totals request response (machine boxes new) new.totals
+  pub kept : KeepsDisk bound old.totals.disk new.totals.disk
 
--- the machine is the same
-abbrev pub Stays : {X : Type 0} {O : X → Type 0} → Ghosts (PeripheralBox X O) → Counter X O → Counter X O → Type 0
-Stays boxes old new = machine boxes new ≡ machine boxes old
+-- the bytes stand for what a crash leaves before a run, between two of its steps, or after it
+abbrev pub IsLeftDuring : (old : Machine) (steps : List (Request × Response)) (new : Machine) → Run old steps new → List ℕ → Type 0
+IsLeftDuring old [] new run bytes = StandsForOneOf old.totals.left bytes
+IsLeftDuring old (step ∷ steps) new run bytes =
+    StandsForOneOf old.totals.left bytes ⊎ IsLeftDuring run.0 steps new run.2 bytes
+
+-- A run, by what the disk may leave before it: a crash at any moment leaves what may be left before or after one of its steps,
+-- and a crash now what may be left after the last.
+pub record RunsFrom {D X : Type 0} {O : X → Type 0} (bound : DiskGhosts D) (boxes : Ghosts (PeripheralBox X O))
+  (left : List Standing) (old : Counter D X O) (steps : List (Request × Response)) (new : Counter D X O) : Type 0 where
+  pub after : List Standing
+  pub leaves : Leaves bound new.totals after
+  pub run : Run (machine boxes old (part_of bound old.totals left)) steps (machine boxes new (part_of bound new.totals after))
+  pub any_moment : LeavesOnly (bound.state old.totals.disk) (bound.state new.totals.disk)
+      (IsLeftDuring (machine boxes old (part_of bound old.totals left)) steps
+      (machine boxes new (part_of bound new.totals after)) run)
+
+-- from an old counter to a new one, a run, for all that the disk may leave before it
+abbrev pub IsRun : {D X : Type 0} {O : X → Type 0} → DiskGhosts D → Ghosts (PeripheralBox X O)
+    → Counter D X O → List (Request × Response) → Counter D X O → Type 0
+IsRun bound boxes old steps new =
+    (left : List Standing) → Leaves bound old.totals left → RunsFrom bound boxes left old steps new
+
+-- The machine is the same, and the totals and their disk are.
+pub record Stays {D X : Type 0} {O : X → Type 0} (boxes : Ghosts (PeripheralBox X O)) (old new : Counter D X O) : Type 0 where
+  pub machine : (part : TotalsPart) → machine boxes new part ≡ machine boxes old part
+  pub totals : new.totals ≡ old.totals
 
 -- What is true of every counter: its parts are sound.
-pub record IsCounterSound {X : Type 0} {O : X → Type 0} (boxes : Ghosts (PeripheralBox X O)) (counter : Counter X O) : Type 0 where
+pub record IsCounterSound {D X : Type 0} {O : X → Type 0} (boxes : Ghosts (PeripheralBox X O)) (counter : Counter D X O) : Type 0 where
   pub parts : ArePartsSound counter.desk counter.entries.items (states_of boxes counter.boxes.items)
 
 -- the boxes of a counter that is sound
-abbrev pub boxes_of : {X : Type 0} {O : X → Type 0} {boxes : Ghosts (PeripheralBox X O)} {counter : Counter X O}
+abbrev pub boxes_of : {D X : Type 0} {O : X → Type 0} {boxes : Ghosts (PeripheralBox X O)} {counter : Counter D X O}
     → IsCounterSound boxes counter → Ghosts (PeripheralBox X O)
 boxes_of {boxes = boxes} sound = boxes

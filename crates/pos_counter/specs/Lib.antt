@@ -1,3 +1,4 @@
+pub mod Totals
 pub mod Machine
 pub mod Steps
 pub mod Profile

@@ -7,6 +7,7 @@ use Rattle.pos_service.specs.declared.kind.Kind.{Kind}
 use Rattle.pos_service.specs.Calls.{serves}
 use Rattle.pos_service.specs.Controls.{Control}
 use Rattle.pos_service.specs.Stations.{Station}
+use Rattle.pos_counter.specs.Totals.{TotalsPart}
 
 -- a device of the profile: of a kind, and without a station where no peripheral is attached
 pub record Device : Type 0 where
@@ -17,11 +18,13 @@ pub record Device : Type 0 where
 pub record Machine : Type 0 where
   pub controls : List Control
   pub devices : List Device
+  pub totals : TotalsPart
 
 -- the place, from this one on, of the first device with a name
 abbrev pub place_from : ℕ → List ℕ → List Device → Option ℕ
 place_from place name [] = None
-place_from place name (device ∷ devices) = if bytes_eq device.name name then Some place else place_from (place + 1) name devices
+place_from place name (device ∷ devices) =
+    if bytes_eq device.name name then Some place else place_from (place + 1) name devices
 
 abbrev pub place_of : List Device → List ℕ → Option ℕ
 place_of devices name = place_from 0 name devices
@@ -43,7 +46,8 @@ abbrev pub found_at : Category → Option ℕ → Option Device → Finding
 found_at category None device = finding.NotThere
 found_at category (Some place) None = finding.NotThere
 found_at category (Some place) (Some device) =
-    if serves category device.kind then (if is_none device.kind || is_some device.station then finding.At place else finding.Vacant)
+    if serves category device.kind
+    then (if is_none device.kind || is_some device.station then finding.At place else finding.Vacant)
     else finding.NotThere
 
 -- what a control of a category finds under a name

@@ -1,13 +1,24 @@
 -- The machine that a counter's parts stand for.
-use Rattle.std.specs.Prelude.{◌≡◌, ◌≤◌, ℕ, true, false, List, [], ◌∷◌, Option, Some, None, All, length, map, option_map, slice_get}
+use Rattle.std.specs.Prelude.{◌≡◌, ◌≤◌, ◌⊎◌, ◌&&◌, not, ℕ, true, false, List, [], ◌∷◌, Option, Some, None, MatchOption, Result, All, length, map, option_map, slice_get}
 use Rattle.std.specs.List.{filter_map}
+use Rattle.pos_service.specs.declared.answer.Answer.{Answer}
+use Rattle.pos_service.specs.declared.call.Call.{Call}
+use Rattle.pos_service.specs.declared.facts.Facts.{Facts}
+use Rattle.pos_service.specs.declared.memory.NoMemory.{NoMemory}
+use Rattle.pos_service.specs.HardTotals.{Mode, layout_1, is_ready}
 use Rattle.pos_service.specs.Peripherals.{PeripheralState}
-use Rattle.pos_service.specs.Stations.{Station, station_of}
+use Rattle.pos_service.specs.Stations.{Station, station_of, signs_in}
 use Rattle.pos_common.specs.Held.{Held, controls_of}
+use Rattle.pos_disk.specs.State.{LeavesOnly}
+use Rattle.pos_disk.specs.declared.device.Disk.{Ghosts}
+use Rattle.pos_store.specs.Standing.{Standing, LeavesOneOf, StandsForOneOf}
+use Rattle.pos_totals.specs.Views.{TotalsView, KeepsDisk}
 use Rattle.pos_counter.specs.Machine.{Device, Machine}
 use Rattle.pos_counter.specs.Steps.{Request, Response, Step, IsSound}
+use Rattle.pos_service.specs.declared.answer.Value.{Value}
+use Rattle.pos_service.specs.declared.property.Property.{Property}
+use Rattle.pos_counter.specs.Totals.{TotalsPart, settled, file_facts, FilesCalled, asks_recovery}
 use Rattle.pos_counter.specs.declared.entry.Entry.{Entry}
-use Rattle.pos_counter.specs.Profile.{profile}
 
 -- a device of the profile, and what stands at it
 abbrev pub device_of : Entry → Option Station → Device
@@ -19,22 +30,26 @@ devices_of [] states = []
 devices_of (entry ∷ entries) [] = device_of entry None ∷ devices_of entries []
 devices_of (entry ∷ entries) (state ∷ states) = device_of entry (Some (station_of state)) ∷ devices_of entries states
 
--- the machine of these controls over any devices
-abbrev pub over : List Held → List Device → Machine
-over helds devices = record { controls = controls_of helds; devices = devices }
+-- the machine of these controls over any devices and totals
+abbrev pub over : List Held → List Device → TotalsPart → Machine
+over helds devices part = record { controls = controls_of helds; devices = devices; totals = part }
 
--- the machine of these controls and devices
-abbrev pub machine_of : List Held → List Entry → List PeripheralState → Machine
-machine_of helds entries states = over helds (devices_of entries states)
-
--- the machine as it begins: no control, and the built devices with these peripherals
-abbrev pub beginning : List PeripheralState → Machine
-beginning states = machine_of [] profile states
+-- the machine of these controls, devices and totals
+abbrev pub machine_of : List Held → List Entry → List PeripheralState → TotalsPart → Machine
+machine_of helds entries states part = over helds (devices_of entries states) part
 
 -- what stands at a place
 abbrev pub standing_at : List PeripheralState → Option ℕ → Option Station
 standing_at states None = None
 standing_at states (Some place) = option_map station_of (slice_get states place)
+
+-- what is known of the device at a place, as properties tell it
+abbrev pub facts_at : List PeripheralState → Option ℕ → Mode → Facts
+facts_at states place mode = record {
+  signs = signs_in (standing_at states place);
+  totals_size = layout_1.bytes;
+  files = file_facts mode;
+}
 
 -- no peripheral is out of service
 abbrev pub AllUnparked : List PeripheralState → Type 0
@@ -51,12 +66,65 @@ pub record HandsOver (machine : Machine) (states : List PeripheralState) : Type 
 
 -- What is true of the parts of every counter: their machine is sound, and each peripheral has a device and is in service.
 pub record ArePartsSound (helds : List Held) (entries : List Entry) (states : List PeripheralState) : Type 0 where
-  pub machine : IsSound (machine_of helds entries states)
+  pub machine : (part : TotalsPart) → IsSound (machine_of helds entries states part)
   pub unparked : AllUnparked states
   pub attached : length states ≤ length entries
 
--- From some parts of a counter to others, the request gets this response, and the parts are sound again.
-pub record Serves (helds : List Held) (entries : List Entry) (states : List PeripheralState) (request : Request)
+-- From some parts of a counter to others, the request gets this response, whatever the totals, which have no part in it. The
+-- parts are sound again.
+pub record ServesBeside (helds : List Held) (entries : List Entry) (states : List PeripheralState) (request : Request)
   (response : Response) (new_helds : List Held) (new_states : List PeripheralState) : Type 0 where
-  pub step : Step (machine_of helds entries states) request response (machine_of new_helds entries new_states)
+  pub step : (part : TotalsPart) →
+      Step (machine_of helds entries states part) request response (machine_of new_helds entries new_states part)
   pub sound : ArePartsSound new_helds entries new_states
+
+-- what totals and their disk are to the machine, where a crash may leave bytes that stand for these
+abbrev pub part_of : {D : Type 0} → Ghosts D → TotalsView D → List Standing → TotalsPart
+part_of bound view left = record { totals = view.totals; left = left; failures = (bound.state view.disk).failures }
+
+-- The disk is honest, and what a crash leaves of it now stands for one of these: while the totals are ready, for their files.
+pub record Leaves {D : Type 0} (bound : Ghosts D) (view : TotalsView D) (left : List Standing) : Type 0 where
+  pub honest : bound.honest view.disk
+  pub leaves : LeavesOneOf left (bound.state view.disk)
+  pub is_settled : left ≡ settled view.totals.mode left
+
+-- the bytes stand for one of the standings before a step or of those after it
+abbrev pub IsLeft : List Standing → List Standing → List ℕ → Type 0
+IsLeft before after bytes = StandsForOneOf before bytes ⊎ StandsForOneOf after bytes
+
+-- A step, by what the disk may leave before it: a crash at any moment leaves what may be left before the step or after it, and
+-- a crash now what may be left after it.
+pub record Stepped {D : Type 0} (bound : Ghosts D) (left : List Standing) (old : TotalsPart → Machine) (before : TotalsView D)
+  (request : Request) (response : Response) (new : TotalsPart → Machine) (now : TotalsView D) : Type 0 where
+  pub after : List Standing
+  pub leaves : Leaves bound now after
+  pub step : Step (old (part_of bound before left)) request response (new (part_of bound now after))
+  pub any_moment : LeavesOnly (bound.state before.disk) (bound.state now.disk) (IsLeft left after)
+
+-- From some parts of a counter to others, the request gets this response, for all that the disk may leave.
+pub record Serves {D : Type 0} (bound : Ghosts D) (helds : List Held) (entries : List Entry) (states : List PeripheralState)
+  (before : TotalsView D) (request : Request) (response : Response) (new_helds : List Held)
+  (new_states : List PeripheralState) (now : TotalsView D) : Type 0 where
+  pub steps : (left : List Standing) → Leaves bound before left → Stepped bound left
+      (machine_of helds entries states) before request response (machine_of new_helds entries new_states) now
+  pub sound : ArePartsSound new_helds entries new_states
+  pub kept : KeepsDisk bound before.disk now.disk
+
+-- A call of the totals' own on an enabled control, by what the disk may leave before it.
+pub record FilesStepped {D : Type 0} (bound : Ghosts D) (left : List Standing) (before : TotalsView D) (number : ℕ)
+  (asked : Call) (outcome : Result Answer NoMemory) (now : TotalsView D) : Type 0 where
+  pub after : List Standing
+  pub leaves : Leaves bound now after
+  pub answer : FilesCalled number asked (part_of bound before left) outcome (part_of bound now after)
+  pub any_moment : LeavesOnly (bound.state before.disk) (bound.state now.disk) (IsLeft left after)
+
+-- What the totals do with a call of their own on an enabled control.
+pub record CallsFiles {D : Type 0} (bound : Ghosts D) (before : TotalsView D) (number : ℕ) (asked : Call)
+  (outcome : Result Answer NoMemory) (now : TotalsView D) : Type 0 where
+  pub steps : (left : List Standing) → Leaves bound before left → FilesStepped bound left before number asked outcome now
+  pub kept : KeepsDisk bound before.disk now.disk
+
+-- setting the property of the control that a number has recovers totals of this mode
+abbrev pub IsRecovering : List Held → ℕ → Property → Value → Mode → Type 0
+IsRecovering helds number p v mode =
+    MatchOption (slice_get (controls_of helds) number) ⊥ (λ control. (asks_recovery control p v && not (is_ready mode)) ≡ true)

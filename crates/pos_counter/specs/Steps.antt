@@ -1,5 +1,6 @@
 -- The steps of the device machine, and its runs.
-use Rattle.std.specs.Prelude.{◌≡◌, ℕ, ◌++◌, ◌∷◌, Bool, true, false, List, [], Option, Some, None, MatchOption, IfSome, All, IsTrue, length, ◌<◌, ◌≤◌, ◌||◌, slice_get, is_some, is_none}
+use Rattle.std.specs.Bool.{MatchBool}
+use Rattle.std.specs.Prelude.{◌≡◌, ◌⊎◌, ℕ, ◌++◌, ◌∷◌, Bool, true, false, List, [], Option, Some, None, MatchOption, IfSome, All, IsTrue, length, ◌<◌, ◌≤◌, ◌||◌, slice_get, is_some, is_none}
 use Rattle.pos_service.specs.declared.category.Category.{Category}
 use Rattle.pos_service.specs.declared.category.Category.TheVariants as category
 use Rattle.pos_service.specs.declared.call.Call.{Call}
@@ -19,6 +20,12 @@ use Rattle.pos_service.specs.Calls.{takes_memory as own_takes_memory}
 use Rattle.pos_service.specs.Calls.{serves, own_rows, place_found, open_rows, close_rows, set_rows, after_set, get_rows, property_of}
 use Rattle.pos_service.specs.Stations.{Station, Effect, TakesIn, signs_in}
 use Rattle.pos_service.specs.DrawerCalls.{drawer_rows, DrawerDoes}
+use Rattle.pos_service.specs.declared.property.Property.{Property}
+use Rattle.pos_service.specs.declared.answer.Value.{Value}
+use Rattle.pos_service.specs.declared.facts.Facts.{Facts}
+use Rattle.pos_service.specs.HardTotals.{layout_1}
+use Rattle.pos_service.specs.TotalsCalls.{file_call, totals_rows}
+use Rattle.pos_counter.specs.Totals.{TotalsDo, Recovered, Recovers, Rests, recovers, file_facts}
 use Rattle.pos_counter.specs.Machine.{Device, Machine, place_of, device_at, station_in, station_named, found_under, with_control, with_station}
 
 -- what may be asked of the machine: controls by their numbers, devices by their names
@@ -41,6 +48,14 @@ pub data Response : Type 0 where
   Shown : Plant → Response
   OutOfMemory : Response
 
+-- what is known of a control's device, as properties tell it
+abbrev pub facts_of : Machine → Control → Facts
+facts_of machine control = record {
+  signs = signs_in (station_in (device_at machine.devices control.device));
+  totals_size = layout_1.bytes;
+  files = file_facts machine.totals.totals.mode;
+}
+
 -- how many controls there may be
 abbrev pub most_controls : ℕ
 most_controls = 4096
@@ -62,47 +77,72 @@ pub record OnStation (old : Machine) (at : Option ℕ) (Does : ℕ → Effect) (
 abbrev pub takes_memory : Machine → Control → Call → Bool
 takes_memory machine control (call.Open name) = true
 takes_memory machine control call.Close = false
-takes_memory machine control (call.Set property v) = false
+takes_memory machine control (call.Set property v) = recovers machine.totals control property v
 takes_memory machine control (call.Get property) = false
 takes_memory machine control own = own_takes_memory own
 
 -- what each call of a category's own asks, in order
-abbrev pub category_rows : Category → Control → Call → List Row
-category_rows category.CashDrawer = drawer_rows
+abbrev pub category_rows : Category → Machine → ℕ → Control → Call → List Row
+category_rows category.CashDrawer machine number control own = drawer_rows control own
+category_rows category.HardTotals machine number control own = totals_rows machine.totals.totals number control own
 
--- what each call of a category's own does at its device's station, where nothing refuses it
-abbrev pub CategoryDoes : Category → Call → ℕ → Answer → Effect
-CategoryDoes category.CashDrawer asked place result = DrawerDoes asked place result
+-- what each call of a category's own does, where nothing refuses it: at its device's station, or with the totals
+abbrev pub CategoryDoes : Category → Machine → ℕ → Control → Call → Answer → Machine → Type 0
+CategoryDoes category.CashDrawer old number control own result new =
+    OnStation old control.device (λ place. DrawerDoes own place result) new
+CategoryDoes category.HardTotals old number control own result new =
+    TotalsDo (file_call own) old.totals number result new.totals × (new ≡ record old { totals = new.totals })
 
 -- The refusals of the call of the control with a number, in their order.
 abbrev pub refusals : Machine → ℕ → Control → Call → List Row
 refusals machine number control (call.Open name) = open_rows control (found_under machine control.category name)
 refusals machine number control call.Close = close_rows control
 refusals machine number control (call.Set property v) = set_rows control property v
-refusals machine number control (call.Get property) = get_rows control property
+refusals machine number control (call.Get property) = get_rows control (facts_of machine control) property
 refusals machine number control own =
-    when (is_none control.device) code.Closed ∷ own_rows control own (category_rows control.category control own)
+    when (is_none control.device) code.Closed
+    ∷ own_rows control own (category_rows control.category machine number control own)
+
+-- a property is set, and nothing else changes
+abbrev pub Sets : Machine → ℕ → Control → Property → Value → Answer → Machine → Type 0
+Sets old number control property v result new =
+    (result ≡ answer.Done value.Empty) × (new ≡ with_control old number (after_set control property v))
+
+-- DeviceEnabled is set once the totals are recovered, and stays as it is where they aren't
+abbrev pub SetsByRecovery : Machine → ℕ → Control → Property → Value → Answer → Machine → Type 0
+SetsByRecovery old number control property v result new =
+    ((result ≡ answer.Done value.Empty) × Recovered old.totals new.totals
+    × (new ≡ record (with_control old number (after_set control property v)) { totals = new.totals }))
+    ⊎ (Recovers old.totals result new.totals × (new ≡ record old { totals = new.totals }))
 
 -- What each call does where nothing refuses it.
 abbrev pub Does : Machine → ℕ → Control → Call → Answer → Machine → Type 0
 Does old number control (call.Open name) result new =
-    (result ≡ answer.Done value.Empty) × (new ≡ with_control old number (opened control (place_found (found_under old control.category name))))
-Does old number control call.Close result new = (result ≡ answer.Done value.Empty) × (new ≡ with_control old number (closed control))
+    (result ≡ answer.Done value.Empty)
+    × (new ≡ with_control old number (opened control (place_found (found_under old control.category name))))
+Does old number control call.Close result new =
+    (result ≡ answer.Done value.Empty) × (new ≡ with_control old number (closed control))
 Does old number control (call.Set property v) result new =
-    (result ≡ answer.Done value.Empty) × (new ≡ with_control old number (after_set control property v))
+    MatchBool (recovers old.totals control property v) (SetsByRecovery old number control property v result new)
+    (Sets old number control property v result new)
 Does old number control (call.Get property) result new =
-    (result ≡ answer.Done (property_of control (signs_in (station_in (device_at old.devices control.device))) property)) × (new ≡ old)
-Does old number control own result new =
-    OnStation old control.device (λ place. CategoryDoes control.category own place result) new
+    (result ≡ answer.Done (property_of control (facts_of old control) property)) × (new ≡ old)
+Does old number control own result new = CategoryDoes control.category old number control own result new
 
 -- A call on a control: by its table of refusals, and then by what it does.
 abbrev pub Called : Machine → ℕ → Control → Call → Answer → Machine → Type 0
 Called old number control call result new = Decided (refusals old number control call) result (new ≡ old) (Does old number control call result new)
 
+-- the machine is as it was, but that a recovery which found no memory may have met a failure of the disk
+abbrev pub Stays : Machine → Control → Call → Machine → Type 0
+Stays old control (call.Set property v) new = Rests old.totals new.totals × (new ≡ record old { totals = new.totals })
+Stays old control other new = new ≡ old
+
 -- A call may find no memory only where it takes some and nothing refuses it before.
 abbrev pub Wants : Machine → ℕ → Control → Call → Machine → Type 0
 Wants old number control call new =
-    IsTrue (takes_memory old control call) × (first_refusal (refusals old number control call) ≡ None) × (new ≡ old)
+    IsTrue (takes_memory old control call) × (first_refusal (refusals old number control call) ≡ None)
+    × Stays old control call new
 
 -- A device has a peripheral, and the input fits its kind, or doesn't.
 pub record FindsFit (station : Option Station) (input : Input) (fits : Bool) : Type 0 where

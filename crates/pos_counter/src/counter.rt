@@ -1,50 +1,72 @@
 ghost use Rattle.std.specs.Prelude.{◌≡◌, length, map, IfOk, IfErr, OnErr};
+ghost use Rattle.pos_disk.specs.State.{IsAtRest};
+ghost use Rattle.pos_totals.specs.Views.{WhenReady};
 ghost use Rattle.pos_counter.specs.Steps.{NewControl, CallOf, InputTo, Deliver, Delivered, Snapshot as SnapshotOf};
 ghost use Rattle.pos_counter.specs.Profile.{ServesProfile};
 ghost use Rattle.pos_counter.specs.Parts.{AllUnparked, HandsOver, parked};
 ghost use Rattle.pos_counter.specs.Responses.{made, answered, taken_in, shown, request_of, response_of, steps_of};
-ghost use Rattle.pos_counter.specs.Counters.{machine, states_of, Begins, IsStep, IsRun, Stays, IsCounterSound};
+ghost use Rattle.pos_counter.specs.Totals.{TotalsPart};
+ghost use Rattle.pos_counter.specs.Counters.{machine, states_of, Begins, IsStep, IsStepBeside, IsRun, Stays, IsCounterSound};
 
 use crate::desk::Desk;
 use crate::device_calls;
-use crate::entry::{Entry, built_entries};
+use crate::entry::{Entry, build_entries};
 use crate::faults::{ControlFault, InputFault, SnapshotFault};
 use crate::request::{Request, Response};
+use pos_disk::Disk;
 use pos_service::{
     Answer, Call, Category, ErrorReply, Event, HasState, Input, NoMemory, PeripheralBox, Snapshot,
 };
+use pos_totals::Totals;
 use std::alloc::Global;
 
-/// The controls of all applications, and the devices that they share. It is ended by `shutdown` alone.
+/// The handle of a new counter's first file.
+const FIRST_HANDLE: u64 = 1;
+
+/// The controls of all applications, the devices that they share, and the totals on a disk. It is ended by `shutdown`
+/// alone.
 ///
-/// Each call is a step of the device machine that the counter stands for, so each list of calls is a run of it.
-pub struct Counter {
+/// Each call is a step of the device machine that the counter stands for, so each list of calls is a run of it. What is said
+/// of the totals, and of what a crash leaves, is said over an honest disk.
+pub struct Counter<D: Disk> {
     desk: Desk,
     entries: Vec<Entry>,
     boxes: Vec<PeripheralBox>,
+    totals: Totals<D>,
 }
 
-impl Counter {
-    /// A counter with no control, whose devices these peripherals serve: in order, each of the kind of its device.
+/// What is left of a counter that was ended.
+pub struct Ended<D: Disk> {
+    /// The disk of the totals, at rest where they were ready.
+    pub disk: D,
+    /// The peripherals in the order of the devices, each out of service.
+    pub boxes: Vec<PeripheralBox>,
+}
+
+impl<D: Disk> Counter<D> {
+    /// A counter with no control, over a disk, whose devices these peripherals serve: in order, each of the kind of its
+    /// device. The totals are off until a control of Hard Totals is enabled.
     ///
-    /// Want of memory hands all peripherals back as they are.
+    /// Want of memory hands disk and peripherals back as they are.
     pub fn new(
         alloc: Global,
         boxes: Vec<PeripheralBox>,
-    ) -> Result<Self, (NoMemory, Vec<PeripheralBox>)>
+        disk: D,
+    ) -> Result<Self, (NoMemory, Vec<PeripheralBox>, D)>
         requires serves { ServesProfile (states_of ⟦<PeripheralBox as HasState>⟧ boxes.items) }
         requires unparked { AllUnparked (states_of ⟦<PeripheralBox as HasState>⟧ boxes.items) }
-        ensures machine { IfOk result (λ counter. Begins ⟦<PeripheralBox as HasState>⟧ boxes.items counter) }
+        ensures begins { IfOk result (λ counter. Begins ⟦<PeripheralBox as HasState>⟧ boxes.items disk counter) }
         ensures sound { IfOk result (λ counter. IsCounterSound ⟦<PeripheralBox as HasState>⟧ counter) }
-        ensures handed_back { IfErr result (λ refusal. refusal.1.items ≡ boxes.items) }
+        ensures handed_back { IfErr result (λ refusal. (refusal.1.items ≡ boxes.items) × (refusal.2 ≡ disk)) }
     {
-        match built_entries(alloc) {
+        match build_entries(alloc) {
             Ok(entries) => Ok(Counter {
                 desk: Desk::new(alloc),
                 entries,
                 boxes,
+                totals: Totals::new(alloc, disk, FIRST_HANDLE),
             }),
-            Err(want) => Err((want, boxes)),
+            Err(want) => Err((want, boxes, disk)),
         }
     }
 
@@ -53,7 +75,7 @@ impl Counter {
     /// Refused with Full where there are 4,096 controls, closed ones included. Want of memory changes nothing.
     pub fn control(&mut self, category: Category) -> Result<usize, ControlFault>
         requires sound { IsCounterSound ⟦<PeripheralBox as HasState>⟧ self.old }
-        ensures step { IsStep ⟦<PeripheralBox as HasState>⟧ self.old (NewControl category) (made result) self.new }
+        ensures step { IsStepBeside ⟦<PeripheralBox as HasState>⟧ self.old (NewControl category) (made result) self.new }
         ensures sound { IsCounterSound ⟦<PeripheralBox as HasState>⟧ self.new }
     {
         self.desk.control(category)
@@ -62,16 +84,18 @@ impl Counter {
     /// A call of an application on its control.
     ///
     /// The answer is E_ILLEGAL where there is no control of this number, else the first refusal of the call's table
-    /// that applies, else what the call gives. Want of memory changes nothing.
+    /// that applies, else what the call gives. Want of memory changes nothing. A crash at any moment of the call leaves
+    /// what may be left before it or after it.
     pub fn call(&mut self, number: usize, call: &Call) -> Result<Answer, NoMemory>
         requires sound { IsCounterSound ⟦<PeripheralBox as HasState>⟧ self.old }
-        ensures step { IsStep ⟦<PeripheralBox as HasState>⟧ self.old (CallOf number call.now) (answered result) self.new }
+        ensures step { IsStep D.Disk ⟦<PeripheralBox as HasState>⟧ self.old (CallOf number call.now) (answered result) self.new }
         ensures sound { IsCounterSound ⟦<PeripheralBox as HasState>⟧ self.new }
     {
         device_calls::call(
             &mut self.desk.controls,
             &self.entries,
             &mut self.boxes,
+            &mut self.totals,
             number,
             call,
         )
@@ -83,7 +107,7 @@ impl Counter {
     /// peripheral of its kind has no such input. Want of memory changes nothing.
     pub fn input(&mut self, device: &[u8], input: &Input) -> Result<(), InputFault>
         requires sound { IsCounterSound ⟦<PeripheralBox as HasState>⟧ self.old }
-        ensures step { IsStep ⟦<PeripheralBox as HasState>⟧ self.old (InputTo device.now input.now) (taken_in result) self.new }
+        ensures step { IsStepBeside ⟦<PeripheralBox as HasState>⟧ self.old (InputTo device.now input.now) (taken_in result) self.new }
         ensures sound { IsCounterSound ⟦<PeripheralBox as HasState>⟧ self.new }
     {
         device_calls::input(
@@ -99,7 +123,7 @@ impl Counter {
     /// It is None where there is none, or no control of this number.
     pub fn deliver(&mut self, number: usize, reply: ErrorReply) -> Option<Event>
         requires sound { IsCounterSound ⟦<PeripheralBox as HasState>⟧ self.old }
-        ensures step { IsStep ⟦<PeripheralBox as HasState>⟧ self.old (Deliver number reply) (Delivered result) self.new }
+        ensures step { IsStepBeside ⟦<PeripheralBox as HasState>⟧ self.old (Deliver number reply) (Delivered result) self.new }
         ensures sound { IsCounterSound ⟦<PeripheralBox as HasState>⟧ self.new }
     {
         self.desk.deliver(number, reply)
@@ -110,7 +134,7 @@ impl Counter {
     /// Refused with NoDevice where no device has the name or no peripheral stands behind it.
     pub fn snapshot(&self, device: &[u8]) -> Result<Snapshot, SnapshotFault>
         requires sound { IsCounterSound ⟦<PeripheralBox as HasState>⟧ self.now }
-        ensures { IsStep ⟦<PeripheralBox as HasState>⟧ self.now (SnapshotOf device.now) (shown result) self.now }
+        ensures { IsStepBeside ⟦<PeripheralBox as HasState>⟧ self.now (SnapshotOf device.now) (shown result) self.now }
     {
         device_calls::snapshot(&self.entries, &self.boxes, device)
     }
@@ -120,7 +144,8 @@ impl Counter {
     /// Want of memory for the list of answers changes nothing. A request that finds no memory is answered so.
     pub fn perform(&mut self, requests: &[Request]) -> Result<Vec<Response>, NoMemory>
         requires sound { IsCounterSound ⟦<PeripheralBox as HasState>⟧ self.old }
-        ensures run { IfOk result (λ responses. IsRun ⟦<PeripheralBox as HasState>⟧ self.old (steps_of requests.now responses.items) self.new) }
+        ensures run { IfOk result (λ responses.
+            IsRun D.Disk ⟦<PeripheralBox as HasState>⟧ self.old (steps_of requests.now responses.items) self.new) }
         ensures whole { IfOk result (λ responses. length responses.items ≡ length requests.now) }
         ensures unchanged { OnErr result (Stays ⟦<PeripheralBox as HasState>⟧ self.old self.new) }
         ensures sound { IsCounterSound ⟦<PeripheralBox as HasState>⟧ self.new }
@@ -136,7 +161,7 @@ impl Counter {
     /// Carries out a request.
     fn carry_out(&mut self, request: &Request) -> Response
         requires sound { IsCounterSound ⟦<PeripheralBox as HasState>⟧ self.old }
-        ensures step { IsStep ⟦<PeripheralBox as HasState>⟧ self.old (request_of request.now) (response_of result) self.new }
+        ensures step { IsStep D.Disk ⟦<PeripheralBox as HasState>⟧ self.old (request_of request.now) (response_of result) self.new }
         ensures sound { IsCounterSound ⟦<PeripheralBox as HasState>⟧ self.new }
     {
         match request {
@@ -150,18 +175,24 @@ impl Counter {
         }
     }
 
-    /// Ends the counter: its peripherals in the order of the devices, each taken out of service and else as it is. It
-    /// takes no memory.
-    pub fn shutdown(self) -> Vec<PeripheralBox>
+    /// Ends the counter: the disk, and the peripherals, each taken out of service and else as it is. It takes no memory.
+    pub fn shutdown(self) -> Ended<D>
         requires sound { IsCounterSound ⟦<PeripheralBox as HasState>⟧ self }
-        ensures { HandsOver (machine ⟦<PeripheralBox as HasState>⟧ self) (states_of ⟦<PeripheralBox as HasState>⟧ result.items) }
+        ensures disk { result.disk ≡ self.totals.disk }
+        ensures at_rest { D.honest result.disk → WhenReady self.totals.totals.mode (IsAtRest (D.state result.disk)) }
+        ensures boxes { let states = states_of ⟦<PeripheralBox as HasState>⟧ result.boxes.items in
+            (part : TotalsPart) → HandsOver (machine ⟦<PeripheralBox as HasState>⟧ self part) states }
     {
         let Counter {
             desk: _,
             entries: _,
             boxes,
+            totals,
         } = self;
-        park_all(boxes)
+        Ended {
+            disk: totals.into_disk(),
+            boxes: park_all(boxes),
+        }
     }
 }
 

@@ -2,30 +2,37 @@
 ghost use Rattle.std.specs.Prelude.{◌≡◌, ◌<◌, ◌≤◌, false, List, length, map};
 ghost use Rattle.pos_service.specs.Calls.{is_common};
 ghost use Rattle.pos_common.specs.Held.{Held};
-ghost use Rattle.pos_counter.specs.Parts.{ArePartsSound, Serves, machine_of};
+ghost use Rattle.pos_counter.specs.Parts.{ArePartsSound, Serves, ServesBeside, machine_of};
 ghost use Rattle.pos_counter.specs.Responses.{answered, taken_in, shown};
 ghost use Rattle.pos_counter.specs.Steps.{Step, CallOf, InputTo, Snapshot as SnapshotOf};
+ghost use Rattle.pos_counter.specs.Totals.{TotalsPart};
 
-use crate::control_calls::{close, get, open, set};
+use crate::control_calls::{close, open};
 use crate::devices::find;
 use crate::entry::Entry;
 use crate::faults::{InputFault, SnapshotFault};
+use crate::properties::{get, set};
+use crate::totals_calls::call_totals;
 use pos_common::Control;
+use pos_disk::Disk;
 use pos_service::{
     Answer, Call, Category, Code, HasState, Input, NoMemory, PeripheralBox, Snapshot,
 };
+use pos_totals::Totals;
 
 /// A call of an application on a control.
-pub(crate) fn call(
+pub(crate) fn call<D: Disk>(
     controls: &mut [Control],
     entries: &[Entry],
     boxes: &mut [PeripheralBox],
+    totals: &mut Totals<D>,
     number: usize,
     call: &Call,
 ) -> Result<Answer, NoMemory>
     requires { ArePartsSound controls.old entries.now (map ⟦<PeripheralBox as HasState>⟧.state boxes.old) }
     ensures { let state = ⟦<PeripheralBox as HasState>⟧.state in
-        Serves controls.old entries.now (map state boxes.old) (CallOf number call.now) (answered result) controls.new (map state boxes.new) }
+        Serves D.Disk controls.old entries.now (map state boxes.old) totals.old (CallOf number call.now) (answered result)
+        controls.new (map state boxes.new) totals.new }
 {
     if number >= controls.len() {
         return Ok(Answer::Refused(Code::Illegal, 0));
@@ -33,17 +40,18 @@ pub(crate) fn call(
     match call {
         Call::Open(name) => Ok(open(controls, entries, boxes, number, name.as_slice())),
         Call::Close => Ok(close(controls, number)),
-        Call::Set(property, value) => Ok(set(controls, number, *property, value)),
-        Call::Get(property) => Ok(get(controls, entries, boxes, number, *property)),
-        _ => call_category(controls, entries, boxes, number, call),
+        Call::Set(property, value) => set(controls, totals, number, *property, value),
+        Call::Get(property) => Ok(get(controls, entries, boxes, totals, number, *property)),
+        _ => call_category(controls, entries, boxes, totals, number, call),
     }
 }
 
 /// A call of a category's own, which the crate of the control's category answers.
-fn call_category(
+fn call_category<D: Disk>(
     controls: &mut [Control],
     entries: &[Entry],
     boxes: &mut [PeripheralBox],
+    totals: &mut Totals<D>,
     number: usize,
     call: &Call,
 ) -> Result<Answer, NoMemory>
@@ -51,13 +59,15 @@ fn call_category(
     requires own { is_common call.now ≡ false }
     requires sound { ArePartsSound controls.old entries.now (map ⟦<PeripheralBox as HasState>⟧.state boxes.old) }
     ensures { let state = ⟦<PeripheralBox as HasState>⟧.state in
-        Serves controls.old entries.now (map state boxes.old) (CallOf number call.now) (answered result) controls.new (map state boxes.new) }
+        Serves D.Disk controls.old entries.now (map state boxes.old) totals.old (CallOf number call.now) (answered result)
+        controls.new (map state boxes.new) totals.new }
 {
     let Some(place) = controls[number].device() else {
         return Ok(Answer::Refused(Code::Closed, 0));
     };
     match controls[number].category() {
         Category::CashDrawer => pos_drawer::call(controls, number, &mut boxes[place], call),
+        Category::HardTotals => call_totals(controls, totals, number, call),
     }
 }
 
@@ -71,7 +81,8 @@ pub(crate) fn input(
 ) -> Result<(), InputFault>
     requires { ArePartsSound controls.old entries.now (map ⟦<PeripheralBox as HasState>⟧.state boxes.old) }
     ensures { let state = ⟦<PeripheralBox as HasState>⟧.state in
-        Serves controls.old entries.now (map state boxes.old) (InputTo name.now input.now) (taken_in result) controls.new (map state boxes.new) }
+        ServesBeside controls.old entries.now (map state boxes.old) (InputTo name.now input.now) (taken_in result)
+        controls.new (map state boxes.new) }
 {
     let Some(place) = find(entries, name) else {
         return Err(InputFault::NoDevice);
@@ -95,7 +106,8 @@ pub(crate) fn snapshot<P: HasState>(
     name: &[u8],
 ) -> Result<Snapshot, SnapshotFault>
     requires { length (map P.state peripherals.now) ≤ length entries.now }
-    ensures { (helds : List Held) → let machine = machine_of helds entries.now (map P.state peripherals.now) in
+    ensures { (helds : List Held) (part : TotalsPart) →
+        let machine = machine_of helds entries.now (map P.state peripherals.now) part in
         Step machine (SnapshotOf name.now) (shown result) machine }
 {
     let Some(place) = find(entries, name) else {

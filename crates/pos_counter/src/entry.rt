@@ -13,15 +13,20 @@ pub(crate) struct Entry {
     pub(crate) kind: Option<Kind>,
 }
 
-/// The built devices in order: the cash drawer `d1`.
-pub(crate) fn built_entries(alloc: Global) -> Result<Vec<Entry>, NoMemory>
+/// The built devices in order: the cash drawer `d1`, and the Hard Totals device `t1`.
+pub(crate) fn build_entries(alloc: Global) -> Result<Vec<Entry>, NoMemory>
     ensures { IfOk result (λ entries. entries.items ≡ profile) }
 {
-    let name = Bytes::from_slice(alloc, b"d1")?;
-    let mut entries = Vec::with_capacity(alloc, 1)?;
+    let drawer = Bytes::from_slice(alloc, b"d1")?;
+    let totals = Bytes::from_slice(alloc, b"t1")?;
+    let mut entries = Vec::with_capacity(alloc, 2)?;
     entries.push_reserved(Entry {
-        name,
+        name: drawer,
         kind: Some(Kind::Drawer),
+    });
+    entries.push_reserved(Entry {
+        name: totals,
+        kind: None,
     });
     Ok(entries)
 }

@@ -8,10 +8,12 @@ mod device_calls;
 mod devices;
 mod entry;
 mod faults;
+mod properties;
 mod request;
 #[cfg(test)]
 mod tests;
+mod totals_calls;
 
-pub use counter::Counter;
+pub use counter::{Counter, Ended};
 pub use faults::{ControlFault, InputFault, SnapshotFault};
 pub use request::{Request, Response};

@@ -32,6 +32,7 @@ file_again : (x : File) (rest : List ℕ) → IsFile x → file_at (file_spellin
 unfolding file_at
 file_again x rest fits = both_again name_at name_spelling (λ name. is_name name ≡ true) text_at text_spelling (λ text. length text < 2 ^ 32) make_file name_reads text_reads x.name x.bytes rest fits.0 fits.1
 
+-- a file is read as it is spelled
 pub file_reads : IsReader file_at file_spelling IsFile
 file_reads = record { takes = file_takes; again = file_again }
 
@@ -64,6 +65,7 @@ is_sound-true limits files h =
     and_from (nat_le (length files) limits.files) (nat_le (total_size files) limits.bytes && are_distinct files) (le-leb (length files) limits.files h.count)
     (and_from (nat_le (total_size files) limits.bytes) (are_distinct files) (le-leb (total_size files) limits.bytes h.size) h.distinct)
 
+-- where no bytes are left over there are none
 pub ended : (bytes : List ℕ) → is_end bytes ≡ true → bytes ≡ []
 ended [] test = refl
 ended (byte ∷ bytes) test = absurd cc
@@ -130,9 +132,11 @@ length_files (file ∷ files) named =
     let text = length-append (to_be_bytes w32 (length file.bytes)) file.bytes in
     omega (arith, length-append (file_spelling file) (flat_map file_spelling files), one, text, short, sum, length_files files parts.1)
 
+-- the spelling of a directory is no longer than a body may be
 pub length-spelling : (limits : Limits) (files : List File) → IsDirectory limits files → length (spelling files) ≤ body_limit limits
 length-spelling limits files h = omega (arith, length_files files h.named, h.count, h.size)
 
+-- the widths hold the limits of layout 1
 pub layout_1_writable : AreWritable LAYOUT_1
 layout_1_writable = record { files = lit< tt; bytes = lit< tt }
 
@@ -142,14 +146,17 @@ layout_1_writable = record { files = lit< tt; bytes = lit< tt }
 abbrev pub body : Limits → Option (List File × List ℕ) → Option (List File)
 body limits read = read >>= λ x. cond (is_sound limits x.0 && is_end x.1) (Some x.0) None
 
+-- bytes without a count spell no directory
 pub directory_none : (limits : Limits) (bytes : List ℕ) → None ≡ number_at w16 bytes → directory_at limits bytes ≡ None
 unfolding directory_at
 directory_none limits bytes e = ap (λ (o : Option (ℕ × List ℕ)). o >>= λ count. body limits (items_at file_at count.0 count.1)) (sym e)
 
+-- behind the count the files are read
 pub directory_is : (limits : Limits) (bytes : List ℕ) (count : ℕ) (rest : List ℕ) → Some (count, rest) ≡ number_at w16 bytes → directory_at limits bytes ≡ body limits (items_at file_at count rest)
 unfolding directory_at
 directory_is limits bytes count rest e = ap (λ (o : Option (ℕ × List ℕ)). o >>= λ count. body limits (items_at file_at count.0 count.1)) (sym e)
 
+-- too many files are no directory
 pub body_of_many : (limits : Limits) (read : Option (List File × List ℕ)) (count : ℕ) → ((x : List File × List ℕ) → read ≡ Some x → length x.0 ≡ count) → limits.files < count → body limits read ≡ None
 body_of_many limits None count counted many = refl
 body_of_many limits (Some x) count counted many =
@@ -157,6 +164,7 @@ body_of_many limits (Some x) count counted many =
     cond-false (is_sound limits x.0 && is_end x.1) (Some x.0) None
     (and_left (is_sound limits x.0) (is_end x.1) (and_left (nat_le (length x.0) limits.files) (nat_le (total_size x.0) limits.bytes && are_distinct x.0) few))
 
+-- files too large in sum are no directory
 pub body_too_large : (limits : Limits) (read : Option (List File × List ℕ)) → None ≡ end_within limits.bytes read → body limits read ≡ None
 body_too_large limits None large = refl
 body_too_large limits (Some x) large =
@@ -164,18 +172,21 @@ body_too_large limits (Some x) large =
     cond-false (is_sound limits x.0 && is_end x.1) (Some x.0) None
     (and_left (is_sound limits x.0) (is_end x.1) (and_right (nat_le (length x.0) limits.files) (nat_le (total_size x.0) limits.bytes && are_distinct x.0) (and_left (nat_le (total_size x.0) limits.bytes) (are_distinct x.0) over)))
 
+-- with bytes left over there is no directory
 pub body_with_more : (limits : Limits) (read : Option (List File × List ℕ)) (end : List ℕ) → Some end ≡ end_within limits.bytes read → (end ≡ [] → ⊥) → body limits read ≡ None
 body_with_more limits None end at more = absurd cc
 body_with_more limits (Some x) end at more =
     let g = passed (nat_le (total_size x.0) limits.bytes) x.1 end (sym at) in
     cond-false (is_sound limits x.0 && is_end x.1) (Some x.0) None (and_right (is_sound limits x.0) (is_end x.1) (not_ended x.1 (λ none. more (sym g.1 ∙ none))))
 
+-- files of which two have one name are no directory
 pub body_not_distinct : (limits : Limits) (read : Option (List File × List ℕ)) → IfSome read (λ x. false ≡ are_distinct x.0) → body limits read ≡ None
 body_not_distinct limits None twice = refl
 body_not_distinct limits (Some x) twice =
     cond-false (is_sound limits x.0 && is_end x.1) (Some x.0) None
     (and_left (is_sound limits x.0) (is_end x.1) (and_right (nat_le (length x.0) limits.files) (nat_le (total_size x.0) limits.bytes && are_distinct x.0) (and_right (nat_le (total_size x.0) limits.bytes) (are_distinct x.0) (sym twice))))
 
+-- few and small enough files with distinct names and nothing behind them are a directory
 pub body_found : (limits : Limits) (read : Option (List File × List ℕ)) (count : ℕ) (end : List ℕ) → ((x : List File × List ℕ) → read ≡ Some x → length x.0 ≡ count) → count ≤ limits.files → Some end ≡ end_within limits.bytes read → end ≡ []
     → IfSome read (λ x. true ≡ are_distinct x.0) → (files : List File) × (body limits read ≡ Some files) × (read ≡ Some (files, []))
 body_found limits None count end counted few at none distinct = absurd cc

@@ -142,6 +142,7 @@ change_again (Write index offset text) rest h = write_again index offset text re
 change_again (SetAll index value) rest h =
     both_again (number_at w16) (to_be_bytes w16) (λ n. n < 2 ^ 16) byte_at byte_spelling (λ byte. byte < 256) SetAll u16_reads byte_reads index value rest h.widths.0 h.widths.1
 
+-- a change is read as it is spelled
 pub change_reads : IsReader change_at change_spelling IsChange
 change_reads = record { takes = change_takes; again = change_again }
 
@@ -178,6 +179,7 @@ one_group_spelling changes others h g same =
 
 -- ---- the walk over a group, without memory
 
+-- bytes without a count spell no group
 pub group_none : (bytes : List ℕ) → None ≡ number_at w16 bytes → group_at bytes ≡ None
 unfolding group_at
 group_none bytes e = ap (λ (o : Option (ℕ × List ℕ)). o >>= λ count. items_at change_at count.0 count.1 >>= λ x. cond (is_end x.1) (Some x.0) None) (sym e)
@@ -189,6 +191,7 @@ ends (Some x) end at none =
     let left : x.1 ≡ [] = sym (some_is end x.1 at) ∙ none in
     (x.0, ap (λ (r : List ℕ). cond (is_end r) (Some x.0) None) left, ap (λ (r : List ℕ). Some (x.0, r)) left)
 
+-- changes with nothing behind them are a group
 pub group_found : (bytes : List ℕ) (count : ℕ) (rest end : List ℕ) → Some (count, rest) ≡ number_at w16 bytes → Some end ≡ option_map (λ x. x.1) (items_at change_at count rest) → end ≡ []
     → (changes : List Change) × (group_at bytes ≡ Some changes) × (items_at change_at count rest ≡ Some (changes, []))
 unfolding group_at

@@ -17,6 +17,7 @@ with_front front read = read >>= λ others. Some (front ++ others.0, others.1)
 
 -- ---- what is read is what was spelled
 
+-- items that were read are spelled so, one behind the other
 pub items_take : {A : Type 0} (read : List ℕ → Option (A × List ℕ)) (spell : A → List ℕ) (Fits : A → Type 0) → IsReader read spell Fits
     → (count : ℕ) (bytes : List ℕ) (xs : List A) (rest : List ℕ) → IsBytes bytes → items_at read count bytes ≡ Some (xs, rest)
     → Takes bytes (flat_map spell xs) rest × (length xs ≡ count) × AllByRecursion Fits xs
@@ -32,6 +33,7 @@ items_take {A = A} read spell Fits reads (suc count) bytes xs rest fits e =
     subst (λ (y : List A × List ℕ). Takes bytes (flat_map spell y.0) y.1 × (length y.0 ≡ suc count) × AllByRecursion Fits y.0) (some_is (a.0.0 ∷ b.0.0, b.0.1) (xs, rest) b.2)
     (joined, ap suc second.1, (first.1, second.2))
 
+-- items that are spelled one behind the other are read
 pub items_again : {A : Type 0} (read : List ℕ → Option (A × List ℕ)) (spell : A → List ℕ) (Fits : A → Type 0) → IsReader read spell Fits
     → (xs : List A) (rest : List ℕ) → AllByRecursion Fits xs → items_at read (length xs) (flat_map spell xs ++ rest) ≡ Some (xs, rest)
 unfolding items_at
@@ -40,6 +42,7 @@ items_again read spell Fits reads (x ∷ xs) rest fits =
     let regrouped : flat_map spell (x ∷ xs) ++ rest ≡ spell x ++ (flat_map spell xs ++ rest) = append_assoc (spell x) (flat_map spell xs) rest in
     ap (items_at read (suc (length xs))) regrouped ∙ rw (reads.again x (flat_map spell xs ++ rest) fits.0, items_again read spell Fits reads xs rest fits.1) refl
 
+-- as many items are read as were asked for
 pub length_items : {A : Type 0} (read : List ℕ → Option (A × List ℕ)) (count : ℕ) (bytes : List ℕ) (x : List A × List ℕ) → items_at read count bytes ≡ Some x → length x.0 ≡ count
 unfolding items_at
 length_items {A = A} read zero bytes x e = ap (λ (y : List A × List ℕ). length y.0) (sym (some_is ([], bytes) x e))
@@ -72,12 +75,14 @@ no_more read count i bytes le =
     let k : count - i ≡ 0 = omega arith in
     rw k refl
 
+-- an item that was read first is the last of those in front
 pub front-first : {A : Type 0} (front : List A) (x : A) (read : Option (List A × List ℕ)) → with_front front (with_first x read) ≡ with_front (front ++ x ∷ []) read
 front-first front x None = refl
 front-first {A = A} front x (Some others) = ap (λ (xs : List A). Some (xs, others.1)) (simp append_assoc)
 
 -- ---- a loop that keeps what it read
 
+-- one more item is kept in front of those that are left to read
 pub kept_more : {A : Type 0} (read : List ℕ → Option (A × List ℕ)) (front : List A) (count i : ℕ) (bytes : List ℕ) (x : A) (after : List ℕ) (total : Option (List A × List ℕ)) → i < count → Some (x, after) ≡ read bytes
     → with_front front (items_at read (count - i) bytes) ≡ total → with_front (front ++ x ∷ []) (items_at read (count - (i + 1)) after) ≡ total
 kept_more read front count i bytes x after total lt e so_far =
@@ -91,11 +96,13 @@ must_read {A = A} read front count i bytes total lt e so_far some =
     let never : IsSome {T = List A × List ℕ} None = subst (λ (o : Option (List A × List ℕ)). IsSome o) (sym so_far ∙ none) some in
     false≢true never
 
+-- where none is left to read, those that were kept are all
 pub kept_all : {A : Type 0} (read : List ℕ → Option (A × List ℕ)) (front : List A) (count i : ℕ) (bytes : List ℕ) (total : Option (List A × List ℕ)) → count ≤ i
     → with_front front (items_at read (count - i) bytes) ≡ total → IfSome total (λ x. front ≡ x.0)
 kept_all {A = A} read front count i bytes total le so_far =
     let all : with_front front (items_at read (count - i) bytes) ≡ Some (front ++ [], bytes) = ap (with_front front) (no_more read count i bytes le) in
     subst (λ (o : Option (List A × List ℕ)). IfSome o (λ x. front ≡ x.0)) (sym all ∙ so_far) (sym (append-nil front))
 
+-- items equal to those that were read are these
 pub same_items : {A : Type 0} (read : Option (List A × List ℕ)) (xs ys : List A) (rest : List ℕ) → IfSome read (λ x. xs ≡ x.0) → read ≡ Some (ys, rest) → xs ≡ ys
 same_items {A = A} read xs ys rest all e = subst (λ (o : Option (List A × List ℕ)). IfSome o (λ x. xs ≡ x.0)) e all

@@ -18,7 +18,6 @@ use Rattle.pos_dir.specs.declared.change.Change.{Change}
 use Rattle.pos_dir.specs.declared.change.Change.TheVariants.{Create, Delete, Rename, Write, SetAll}
 use Rattle.pos_dir.specs.declared.fault.DirectoryFault.{DirectoryFault}
 use Rattle.pos_dir.specs.declared.fault.DirectoryFault.TheVariants.{Exists, Range, NoRoom, BadName}
-use Rattle.pos_dir.specs.Outlines.{Shape}
 use Rattle.pos_dir.specs.Files.{is_name, has_name, are_distinct, total_size, IsDirectory}
 use Rattle.pos_dir.specs.Changes.{splice, with_file, outcome, and_then, outcome_of_all, IsChange}
 
@@ -40,6 +39,7 @@ good_name : (b : Bool) → ◌≡◌ {A = Option DirectoryFault} (cond b None (S
 good_name true h = refl
 good_name false h = absurd cc
 
+-- two files at one place are the same
 pub same_file : (x y : File) → Some x ≡ Some y → x ≡ y
 same_file x y h = cc
 
@@ -159,6 +159,7 @@ replaced limits files i old new was at name size = record {
   distinct = are_distinct-same files i old new at name ∙ was.distinct;
 }
 
+-- bytes put in the place of others within a file leave its size
 pub length-splice : (old : List ℕ) (at : ℕ) (bytes : List ℕ) → at + length bytes ≤ length old → length (splice old at bytes) ≡ length old
 length-splice old at bytes fits = omega (arith, length-append (take at old ++ bytes) (drop (at + length bytes) old), length-append (take at old) bytes, length-take at old, length-drop (at + length bytes) old)
 
@@ -241,9 +242,11 @@ all_changed limits files next (change ∷ changes) was each h =
 
 -- ---- a loop over the changes
 
+-- each change of a group is one that it takes
 pub takes_change : (changes : List Change) (i : ℕ) (change : Change) → AllByRecursion IsChange changes → i < length changes → change ≡ get_or changes i change → IsChange change
 takes_change changes i change each lt at = rw at (All-from_recursion IsChange changes each i change lt)
 
+-- where a change is applicable, the rest makes of its files what the whole makes
 pub goes_on : (limits : Limits) (files next : List File) (changes : List Change) (i : ℕ) (change : Change) (total : Result (List File) DirectoryFault) → i < length changes → change ≡ get_or changes i change → outcome limits files change ≡ Ok next
     → outcome_of_all limits files (drop i changes) ≡ total → outcome_of_all limits next (drop (i + 1) changes) ≡ total
 goes_on limits files next changes i change total lt at made so_far =
@@ -251,9 +254,6 @@ goes_on limits files next changes i change total lt at made so_far =
     let step : and_then (outcome limits files (get_or changes i change)) (λ x. outcome_of_all limits x (drop (i + 1) changes)) ≡ outcome_of_all limits next (drop (i + 1) changes) =
     ap (λ x. and_then (outcome limits files x) (λ y. outcome_of_all limits y (drop (i + 1) changes))) (sym at) ∙ ap (λ x. and_then x (λ y. outcome_of_all limits y (drop (i + 1) changes))) made in
     sym (one ∙ step) ∙ so_far
-
-pub same_fault : (x y : DirectoryFault) → ◌≡◌ {A = Result (List Shape) DirectoryFault} (Err x) (Err y) → x ≡ y
-same_fault x y h = cc
 
 -- where a change isn't applicable, the whole isn't
 pub stops : (limits : Limits) (files : List File) (changes : List Change) (i : ℕ) (change : Change) (fault : DirectoryFault) (total : Result (List File) DirectoryFault) → i < length changes → change ≡ get_or changes i change → outcome limits files change ≡ Err fault

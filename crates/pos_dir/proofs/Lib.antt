@@ -4,4 +4,5 @@ pub mod Items
 pub mod Directories
 pub mod Groups
 pub mod Loops
-pub mod Shapes
+pub mod Outlined
+pub mod Applied

@@ -24,18 +24,21 @@ leb_less a b room le =
       | inr h ↦ lt-leb (a + b) room (omega (arith, leb-false b (room - a) h)) ∙ sym h
     ]
 
+-- a file that has room takes it from those behind it
 pub end_step : (room : ℕ) (file : File) (read : Read) → length file.bytes ≤ room → end_within room (with_first file read) ≡ end_within (room - length file.bytes) read
 end_step room file None le = refl
 end_step room file (Some x) le =
     ap (λ n. cond (leb n room) (Some x.1) None) (sum_by-cons (λ (f : File). length f.bytes) file x.0)
     ∙ ap (λ b. cond b (Some x.1) None) (leb_less (length file.bytes) (total_size x.0) room le)
 
+-- a file without room leaves no end
 pub end_over : (room : ℕ) (file : File) (read : Read) → (length file.bytes ≤ room → ⊥) → end_within room (with_first file read) ≡ None
 end_over room file None over = refl
 end_over room file (Some x) over =
     let sum = sum_by-cons (λ (f : File). length f.bytes) file x.0 in
     ap (λ b. cond b (Some x.1) None) (lt-leb (total_size (file ∷ x.0)) room (omega (arith, sum, over)))
 
+-- behind no files there is the end
 pub end_now : (room : ℕ) (rest : List ℕ) → end_within room (Some ([], rest)) ≡ Some rest
 end_now room rest = ap (λ b. cond b (Some rest) None) (le-leb 0 room (omega arith))
 
@@ -45,10 +48,12 @@ end_now room rest = ap (λ b. cond b (Some rest) None) (le-leb 0 room (omega ari
 abbrev pub tell : (List File → Bool) → Read → Option Bool
 tell test read = option_map (λ files. test files.0) read
 
+-- a test of what is read, told of the files
 pub told : (test : List File → Bool) (read : Read) (answer : Bool) → IfSome (tell test read) (λ b. answer ≡ b) → IfSome read (λ files. answer ≡ test files.0)
 told test None answer h = tt
 told test (Some x) answer h = h
 
+-- and the other way round
 pub untold : (test : List File → Bool) (read : Read) (answer : Bool) → IfSome read (λ files. answer ≡ test files.0) → IfSome (tell test read) (λ b. answer ≡ b)
 untold test None answer h = tt
 untold test (Some x) answer h = h
@@ -57,18 +62,22 @@ untold test (Some x) answer h = h
 pub answered : (test : List File → Bool) (read : Read) (answer value : Bool) → answer ≡ value → IfSome read (λ files. answer ≡ test files.0) → IfSome read (λ files. value ≡ test files.0)
 answered test read answer value e h = subst (λ b. IfSome read (λ files. b ≡ test files.0)) e h
 
+-- a file with another name leaves open whether the name is used
 pub another_name : (file : File) (read : Read) (name : List ℕ) → bytes_eq file.name name ≡ false → tell (λ files. has_name files name) (with_first file read) ≡ tell (λ files. has_name files name) read
 another_name file None name h = refl
 another_name file (Some x) name h = ap (λ b. Some (b || has_name x.0 name)) h
 
+-- a file with the name uses it
 pub this_name : (file : File) (read : Read) (name : List ℕ) → bytes_eq file.name name ≡ true → IfSome (tell (λ files. has_name files name) (with_first file read)) (λ b. true ≡ b)
 this_name file None name h = tt
 this_name file (Some x) name h = ap (λ b. b || has_name x.0 name) (sym h)
 
+-- a file whose name none behind it has leaves open whether the names are distinct
 pub still_distinct : (file : File) (read : Read) → IfSome read (λ files. false ≡ has_name files.0 file.name) → tell are_distinct (with_first file read) ≡ tell are_distinct read
 still_distinct file None h = refl
 still_distinct file (Some x) h = ap (λ b. Some (not b && are_distinct x.0)) (sym h)
 
+-- a file whose name one behind it has makes the names the same
 pub not_distinct : (file : File) (read : Read) → IfSome read (λ files. true ≡ has_name files.0 file.name) → IfSome (tell are_distinct (with_first file read)) (λ b. false ≡ b)
 not_distinct file None h = tt
 not_distinct file (Some x) h = ap (λ b. not b && are_distinct x.0) h
@@ -79,6 +88,7 @@ not_distinct file (Some x) h = ap (λ b. not b && are_distinct x.0) h
 abbrev pub rest_of : Option (List Change × List ℕ) → Option (List ℕ)
 rest_of read = option_map (λ x. x.1) read
 
+-- one more change leaves the bytes behind all of them
 pub rest_of_first : (change : Change) (read : Option (List Change × List ℕ)) → rest_of (with_first change read) ≡ rest_of read
 rest_of_first change None = refl
 rest_of_first change (Some x) = refl

@@ -36,6 +36,7 @@ stopped : {A : Type 0} (b : Bool) (x y : A) → cond b None (Some x) ≡ Some y 
 stopped true x y e = absurd cc
 stopped false x y e = (refl, cc)
 
+-- what is there is there once
 pub some_is : {A : Type 0} (x y : A) → Some x ≡ Some y → x ≡ y
 some_is x y e = cc
 
@@ -44,6 +45,7 @@ pub record Takes (bytes text rest : List ℕ) : Type 0 where
   pub parts : bytes ≡ text ++ rest
   pub rest_fits : IsBytes rest
 
+-- two items one behind the other
 pub Takes-then : (a x b y c : List ℕ) → Takes a x b → Takes b y c → Takes a (x ++ y) c
 Takes-then a x b y c p q = record { parts = p.parts ∙ ap (λ (t : List ℕ). x ++ t) q.parts ∙ sym (append_assoc x y c); rest_fits = q.rest_fits }
 
@@ -54,6 +56,7 @@ pub record IsReader {A : Type 0} (read : List ℕ → Option (A × List ℕ)) (s
 
 -- ---- bytes and numbers
 
+-- a byte is spelled by itself
 abbrev pub byte_spelling : ℕ → List ℕ
 byte_spelling byte = byte ∷ []
 
@@ -62,9 +65,11 @@ byte_takes [] x rest fits e = absurd cc
 byte_takes (byte ∷ bytes) x rest fits e =
     subst (λ (p : ℕ × List ℕ). Takes (byte ∷ bytes) (byte_spelling p.0) p.1 × (p.0 < 256)) (some_is (byte, bytes) (x, rest) e) (record { parts = refl; rest_fits = λ i. fits (suc i) }, fits 0)
 
+-- a byte is read as it is spelled
 pub byte_reads : IsReader byte_at byte_spelling (λ byte. byte < 256)
 byte_reads = record { takes = byte_takes; again = λ x rest lt. refl }
 
+-- A width whose numbers are those below the limit.
 pub record IsWide (w : Width) (limit : ℕ) : Type 0 where
   pub len : (n : ℕ) → length (to_be_bytes w n) ≡ byte_len w
   pub back : (bytes : List ℕ) → length bytes ≡ byte_len w → IsBytes bytes → to_be_bytes w (from_be_bytes w bytes) ≡ bytes
@@ -102,9 +107,11 @@ number_again w limit wide n rest lt =
     let long : ltb (length (to_be_bytes w n ++ rest)) (byte_len w) ≡ false = le-ltb _ _ (omega (arith, length-append (to_be_bytes w n) rest)) in
     rw (long, take_at (to_be_bytes w n) rest (byte_len w) len, drop_at (to_be_bytes w n) rest (byte_len w) len, wide.again n lt) refl
 
+-- a number of two bytes is read as it is spelled
 pub u16_reads : IsReader (number_at w16) (to_be_bytes w16) (λ n. n < 2 ^ 16)
 u16_reads = record { takes = number_takes w16 (2 ^ 16) wide16; again = number_again w16 (2 ^ 16) wide16 }
 
+-- a number of four bytes is read as it is spelled
 pub u32_reads : IsReader (number_at w32) (to_be_bytes w32) (λ n. n < 2 ^ 32)
 u32_reads = record { takes = number_takes w32 (2 ^ 32) wide32; again = number_again w32 (2 ^ 32) wide32 }
 
@@ -140,6 +147,7 @@ name_again : (x rest : List ℕ) → is_name x ≡ true → name_at (name_spelli
 unfolding name_at
 name_again x rest good = rw (part_again x rest, good) refl
 
+-- a good name is read as it is spelled
 pub name_reads : IsReader name_at name_spelling (λ name. is_name name ≡ true)
 name_reads = record { takes = name_takes; again = name_again }
 
@@ -157,6 +165,7 @@ text_again x rest lt =
     ap text_at (append_assoc (to_be_bytes w32 (length x)) x rest)
     ∙ ap (λ (o : Option (ℕ × List ℕ)). o >>= λ size. part_at size.0 size.1) (u32_reads.again (length x) (x ++ rest) lt) ∙ part_again x rest
 
+-- a text is read as it is spelled
 pub text_reads : IsReader text_at text_spelling (λ text. length text < 2 ^ 32)
 text_reads = record { takes = text_takes; again = text_again }
 
@@ -166,6 +175,7 @@ text_reads = record { takes = text_takes; again = text_again }
 abbrev pub both : {A B C : Type 0} → (List ℕ → Option (A × List ℕ)) → (List ℕ → Option (B × List ℕ)) → (A → B → C) → List ℕ → Option (C × List ℕ)
 both first second make bytes = first bytes >>= λ a. second a.1 >>= λ b. Some (make a.0 b.0, b.1)
 
+-- two things that were read one behind the other are spelled so
 pub both_take : {A B C : Type 0} (read_a : List ℕ → Option (A × List ℕ)) (spell_a : A → List ℕ) (FitsA : A → Type 0) (read_b : List ℕ → Option (B × List ℕ)) (spell_b : B → List ℕ) (FitsB : B → Type 0) (make : A → B → C)
     → IsReader read_a spell_a FitsA → IsReader read_b spell_b FitsB → (bytes : List ℕ) (x : C) (rest : List ℕ) → IsBytes bytes → both read_a read_b make bytes ≡ Some (x, rest)
     → (a : A) × (b : B) × (make a b ≡ x) × Takes bytes (spell_a a ++ spell_b b) rest × FitsA a × FitsB b
@@ -178,6 +188,7 @@ both_take {C = C} read_a spell_a FitsA read_b spell_b FitsB make reads_a reads_b
     let joined = Takes-then bytes (spell_a p.0.0) p.0.1 (spell_b q.0.0) q.0.1 first.0 second.0 in
     (p.0.0, q.0.0, ap (λ (y : C × List ℕ). y.0) made, subst (λ (y : List ℕ). Takes bytes (spell_a p.0.0 ++ spell_b q.0.0) y) (ap (λ (y : C × List ℕ). y.1) made) joined, first.1, second.1)
 
+-- two things that are spelled one behind the other are read
 pub both_again : {A B C : Type 0} (read_a : List ℕ → Option (A × List ℕ)) (spell_a : A → List ℕ) (FitsA : A → Type 0) (read_b : List ℕ → Option (B × List ℕ)) (spell_b : B → List ℕ) (FitsB : B → Type 0) (make : A → B → C)
     → IsReader read_a spell_a FitsA → IsReader read_b spell_b FitsB → (a : A) (b : B) (rest : List ℕ) → FitsA a → FitsB b → both read_a read_b make ((spell_a a ++ spell_b b) ++ rest) ≡ Some (make a b, rest)
 both_again read_a spell_a FitsA read_b spell_b FitsB make reads_a reads_b a b rest fits_a fits_b =

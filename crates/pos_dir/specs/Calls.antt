@@ -1,12 +1,12 @@
 -- What the calls on directories and groups answer.
-use Rattle.std.specs.Prelude.{◌≡◌, ℕ, List, ◌∷◌, [], ◌++◌, Result, Ok, Err, IsOk, Some, None}
+use Rattle.std.specs.Prelude.{◌≡◌, ℕ, List, ◌∷◌, [], ◌++◌, Result, Ok, Err, Some, None, IsSome}
 use Rattle.pos_dir.specs.declared.file.File.{File}
 use Rattle.pos_dir.specs.declared.limits.Limits.{Limits}
 use Rattle.pos_dir.specs.declared.change.Change.{Change}
 use Rattle.pos_dir.specs.declared.fault.DirectoryFault.{DirectoryFault}
 use Rattle.pos_dir.specs.declared.fault.DirectoryFault.TheVariants.{NoMemory, Malformed}
 use Rattle.pos_dir.specs.Files.{IsDirectory}
-use Rattle.pos_dir.specs.Changes.{refusal_of, IsGroup}
+use Rattle.pos_dir.specs.Changes.{after, fault_of, refusal_of, IsGroup}
 use Rattle.pos_dir.specs.Spelling.{spelling, group_spelling}
 
 -- A group that takes a change has it at its end; else it is as it was, and the change is given back.
@@ -15,11 +15,12 @@ Pushes old change (Ok _) new = (refusal_of old change ≡ None) × (new ≡ old 
 Pushes old change (Err (NoMemory, back)) new = (refusal_of old change ≡ None) × (new ≡ old) × (back ≡ change)
 Pushes old change (Err (fault, back)) new = (refusal_of old change ≡ Some fault) × (new ≡ old) × (back ≡ change)
 
--- What was made of the files is their outcome, or the fault is its fault. Memory is wanted only where there is an outcome.
-abbrev pub Makes : {X : Type 0} → (X → List File) → Result X DirectoryFault → Result (List File) DirectoryFault → Type 0
-Makes view (Ok made) expected = expected ≡ Ok (view made)
-Makes view (Err NoMemory) expected = IsOk expected
-Makes view (Err fault) expected = expected ≡ Err fault
+-- Applying a group makes the files after it, or is refused with the fault of its first change that isn't applicable.
+-- Memory is wanted of an applicable group alone. A refusal changes nothing.
+abbrev pub Applies : {X : Type 0} → Limits → List File → List Change → Result X DirectoryFault → List File → Type 0
+Applies limits old changes (Ok _) new = after limits old changes ≡ Some new
+Applies limits old changes (Err NoMemory) new = IsSome (after limits old changes) × (new ≡ old)
+Applies limits old changes (Err fault) new = (fault_of limits old changes ≡ Some fault) × (new ≡ old)
 
 -- the bytes spell some directory
 abbrev pub IsBody : Limits → List ℕ → Type 0

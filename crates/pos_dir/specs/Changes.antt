@@ -1,5 +1,6 @@
 -- What changes do to files, and which groups of changes there are (Hard Totals).
-use Rattle.std.specs.Prelude.{◌≡◌, ℕ, ◌+◌, ◌<◌, ◌≤◌, ◌^◌, ◌&&◌, List, [], ◌∷◌, ◌++◌, length, take, drop, remove, replicate, slice_get, slice_set, Option, Some, None, Result, Ok, Err, nat_lt, nat_le, if◌then◌else◌}
+use Rattle.std.specs.Prelude.{◌≡◌, ℕ, ◌+◌, ◌<◌, ◌≤◌, ◌^◌, ◌&&◌, List, [], ◌∷◌, ◌++◌, length, take, drop, remove, replicate}
+use Rattle.std.specs.Prelude.{slice_get, slice_set, Option, Some, None, Result, Ok, Err, nat_lt, nat_le, if◌then◌else◌}
 use Rattle.std.specs.Result.{result_ok, result_err}
 use Rattle.std.specs.List.{AllByRecursion}
 use Rattle.pos_dir.specs.declared.file.File.{File}
@@ -37,22 +38,24 @@ outcome limits files (SetAll index value) = with_file (slice_get files index) (�
     Ok (slice_set files index (record file { bytes = replicate (length file.bytes) value })))
 
 -- what a step makes of the files that the one before it made
-abbrev pub and_then : Result (List File) DirectoryFault → (List File → Result (List File) DirectoryFault) → Result (List File) DirectoryFault
+abbrev pub and_then : Result (List File) DirectoryFault → (List File → Result (List File) DirectoryFault)
+    → Result (List File) DirectoryFault
 and_then (Ok files) step = step files
 and_then (Err fault) step = Err fault
 
 -- the files after all changes in order, or the fault of the first that isn't applicable
 abbrev pub outcome_of_all : Limits → List File → List Change → Result (List File) DirectoryFault
 outcome_of_all limits files [] = Ok files
-outcome_of_all limits files (change ∷ changes) = and_then (outcome limits files change) (λ next. outcome_of_all limits next changes)
+outcome_of_all limits files (change ∷ changes) =
+    and_then (outcome limits files change) (λ next. outcome_of_all limits next changes)
 
 -- the files after a group, or none where one of its changes isn't applicable
 abbrev pub after : Limits → List File → List Change → Option (List File)
 after limits files changes = result_ok (outcome_of_all limits files changes)
 
--- the fault of a change, where it isn't applicable
-abbrev pub fault_of : Limits → List File → Change → Option DirectoryFault
-fault_of limits files change = result_err (outcome limits files change)
+-- the fault of the first change of a group that isn't applicable
+abbrev pub fault_of : Limits → List File → List Change → Option DirectoryFault
+fault_of limits files changes = result_err (outcome_of_all limits files changes)
 
 -- the most bytes that one Write may have
 abbrev pub write_limit : ℕ
@@ -73,7 +76,10 @@ flaw_of (SetAll index value) = None
 -- why a group doesn't take one more change: its flaw, else want of room
 abbrev pub refusal_of : List Change → Change → Option DirectoryFault
 refusal_of changes change =
-    elim (flaw_of change) [ None ↦ if nat_lt (length changes) group_limit then None else Some NoRoom | Some fault ↦ Some fault ]
+    elim (flaw_of change) [
+      | None ↦ if nat_lt (length changes) group_limit then None else Some NoRoom
+      | Some fault ↦ Some fault
+    ]
 
 -- the numbers of a change are within their widths
 abbrev pub HasWidths : Change → Type 0

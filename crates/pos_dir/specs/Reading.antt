@@ -1,5 +1,5 @@
 -- Reading bytes from left to right: an item and the bytes behind it, or none.
-use Rattle.std.specs.Prelude.{ℕ, zero, suc, Bool, true, false, ◌&&◌, ◌==◌, List, [], ◌∷◌, length, take, drop, Option, Some, None, nat_lt, nat_le, if◌then◌else◌}
+use Rattle.std.specs.Prelude.{◌≡◌, ℕ, zero, suc, Bool, true, false, ◌&&◌, ◌==◌, List, [], ◌∷◌, length, take, drop, Option, Some, None, nat_lt, nat_le, if◌then◌else◌}
 use Rattle.std.specs.Int.{Width, w16, w32, byte_len, from_be_bytes}
 use Rattle.pos_dir.specs.declared.file.File.{File}
 use Rattle.pos_dir.specs.declared.limits.Limits.{Limits}
@@ -26,7 +26,8 @@ part_at size bytes = if nat_lt (length bytes) size then None else Some (take siz
 -- a big-endian number of some width
 abbrev pub number_at : Width → List ℕ → Option (ℕ × List ℕ)
 number_at width bytes =
-    if nat_lt (length bytes) (byte_len width) then None else Some (from_be_bytes width (take (byte_len width) bytes), drop (byte_len width) bytes)
+    if nat_lt (length bytes) (byte_len width) then None
+    else Some (from_be_bytes width (take (byte_len width) bytes), drop (byte_len width) bytes)
 
 -- a good name behind its length
 unfoldable pub name_at : List ℕ → Option (List ℕ × List ℕ)
@@ -63,7 +64,13 @@ end_within room (Some files) = if nat_le (total_size files.0) room then Some fil
 
 -- files within the limits, of which no two have one name
 abbrev pub is_sound : Limits → List File → Bool
-is_sound limits files = nat_le (length files) limits.files && (nat_le (total_size files) limits.bytes && are_distinct files)
+is_sound limits files =
+    nat_le (length files) limits.files && (nat_le (total_size files) limits.bytes && are_distinct files)
+
+-- all is read as items, and so are as many as the count at the start of the bytes behind it
+abbrev pub Locates : {A : Type 0} → (List ℕ → Option (A × List ℕ)) → Option (List A) → ℕ → List ℕ → Type 0
+Locates {A = A} item_at read count bytes =
+    (items : List A) × (read ≡ Some items) × (items_at item_at count bytes ≡ Some (items, []))
 
 -- no bytes are left over
 abbrev pub is_end : List ℕ → Bool

@@ -6,6 +6,7 @@ use Rattle.pos_dir.specs.declared.file.File.{File}
 use Rattle.pos_dir.specs.declared.limits.Limits.{Limits}
 use Rattle.pos_dir.specs.declared.change.Change.{Change}
 use Rattle.pos_dir.specs.declared.change.Change.TheVariants.{Create, Delete, Rename, Write, SetAll}
+use Rattle.pos_dir.specs.Changes.{write_limit}
 
 -- a name: one byte of length, and its bytes
 abbrev pub name_spelling : List ℕ → List ℕ
@@ -32,8 +33,13 @@ abbrev pub change_spelling : Change → List ℕ
 change_spelling (Create name size) = 1 ∷ (name_spelling name ++ to_be_bytes w32 size)
 change_spelling (Delete index) = 2 ∷ to_be_bytes w16 index
 change_spelling (Rename index name) = 3 ∷ (to_be_bytes w16 index ++ name_spelling name)
-change_spelling (Write index offset bytes) = 4 ∷ (to_be_bytes w16 index ++ (to_be_bytes w32 offset ++ text_spelling bytes))
+change_spelling (Write index offset bytes) =
+    4 ∷ (to_be_bytes w16 index ++ (to_be_bytes w32 offset ++ text_spelling bytes))
 change_spelling (SetAll index value) = 5 ∷ (to_be_bytes w16 index ++ value ∷ [])
+
+-- the most bytes of a change's spelling: a Write of the most bytes behind its tag, index, offset and length
+abbrev pub change_limit : ℕ
+change_limit = 11 + write_limit
 
 -- a group: two bytes of count, and the changes in order
 abbrev pub group_spelling : List Change → List ℕ

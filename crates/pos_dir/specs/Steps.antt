@@ -6,14 +6,14 @@ use Rattle.pos_dir.specs.declared.steps.Work.{Work}
 use Rattle.pos_dir.specs.declared.steps.Work.TheVariants.{Create, Delete, Rename, Write, SetAll}
 
 -- the change
-abbrev pub change_of : Work → Change
-change_of (Create file) = changes.Create file.name (length file.bytes)
-change_of (Delete index) = changes.Delete index
-change_of (Rename index name) = changes.Rename index name
-change_of (Write index offset bytes) = changes.Write index offset bytes.now
-change_of (SetAll index value) = changes.SetAll index value
+abbrev pub change_of_work : Work → Change
+change_of_work (Create file) = changes.Create file.name (length file.bytes)
+change_of_work (Delete index) = changes.Delete index
+change_of_work (Rename index name) = changes.Rename index name
+change_of_work (Write index offset bytes) = changes.Write index offset bytes.now
+change_of_work (SetAll index value) = changes.SetAll index value
 
 -- a new file is all zero bytes
-abbrev pub IsReady : Work → Type 0
-IsReady (Create file) = file.bytes ≡ replicate (length file.bytes) 0
-IsReady work = Unit {0}
+abbrev pub IsZeroed : Work → Type 0
+IsZeroed (Create file) = file.bytes ≡ replicate (length file.bytes) 0
+IsZeroed work = Unit {0}

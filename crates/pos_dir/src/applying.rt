@@ -1,8 +1,8 @@
-ghost use Rattle.std.specs.Prelude.{◌≡◌, ◌≤◌, length, vec_capacity, Ok, MatchResult, IsOk, OnErr, IfOk};
+ghost use Rattle.std.specs.Prelude.{◌≡◌, ◌≤◌, length, vec_capacity, Ok, MatchResult, IsOk, IfOk};
 ghost use Rattle.pos_dir.specs.Files.{IsDirectory};
 ghost use Rattle.pos_dir.specs.Changes.{outcome_of_all};
 ghost use Rattle.pos_dir.specs.Spelling.{spelling, body_limit};
-ghost use Rattle.pos_dir.specs.Calls.{Makes};
+ghost use Rattle.pos_dir.specs.Calls.{Applies};
 
 use crate::directory::Directory;
 use crate::fault::DirectoryFault;
@@ -11,19 +11,21 @@ use crate::group::Group;
 use crate::laws::{is_directory, is_group};
 use crate::limits::LAYOUT_1;
 use crate::outlines::check_group;
-use crate::steps::{Step, steps_of};
+use crate::steps::{Step, make_steps};
 use crate::writing::{BODY_LIMIT, put_directory};
 use std::alloc::Global;
 
 /// Applies all changes of a group in order. A change that isn't applicable refuses the group with
 /// the fault of the first such change: NoFile, Exists, Range or NoRoom. Want of memory is answered
 /// for a group that is applicable alone (NoMemory). The directory is unchanged then.
-pub fn apply_group(directory: &mut Directory, group: &Group) -> Result<(), DirectoryFault>
-    ensures applied { Makes (λ _. directory.new) result (outcome_of_all LAYOUT_1 directory.old group.now) }
-    ensures unchanged { OnErr result (directory.new ≡ directory.old) }
+pub fn apply_group(
+    alloc: Global,
+    directory: &mut Directory,
+    group: &Group,
+) -> Result<(), DirectoryFault>
+    ensures { Applies LAYOUT_1 directory.old group.now result directory.new }
 {
     check_group(directory, group)?;
-    let alloc = *directory.files.allocator();
     apply_checked(alloc, &mut directory.files, group)
 }
 
@@ -35,8 +37,7 @@ pub fn apply_and_encode(
     directory: &mut Directory,
     group: &Group,
 ) -> Result<Vec<u8>, DirectoryFault>
-    ensures applied { Makes (λ _. directory.new) result (outcome_of_all LAYOUT_1 directory.old group.now) }
-    ensures unchanged { OnErr result (directory.new ≡ directory.old) }
+    ensures applied { Applies LAYOUT_1 directory.old group.now result directory.new }
     ensures spelled { IfOk result (λ body. body.items ≡ spelling directory.new) }
     ensures directory { IsDirectory LAYOUT_1 directory.new }
     ensures length { length (spelling directory.new) ≤ body_limit LAYOUT_1 }
@@ -59,7 +60,7 @@ fn apply_checked(alloc: Global, files: &mut Vec<File>, group: &Group) -> Result<
     ensures directory { IsDirectory LAYOUT_1 files.new.items }
 {
     is_group(group);
-    let steps = steps_of(alloc, group)?;
+    let steps = make_steps(alloc, group)?;
     files.reserve(LAYOUT_1.files as usize - files.len())?;
     carry_out(files, steps);
     Ok(())

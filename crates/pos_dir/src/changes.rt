@@ -1,13 +1,13 @@
 //! Changes read from the bytes that spell them.
-ghost use Rattle.std.specs.Prelude.{◌≡◌, [], List, Some, None, IsSome, IfSome, MatchOption, MatchResult};
+ghost use Rattle.std.specs.Prelude.{◌≡◌, None, IsSome, IfSome, MatchOption, MatchResult};
 ghost use Rattle.std.specs.Option.{option_map};
 ghost use Rattle.pos_dir.specs.Texts.{change_of};
-ghost use Rattle.pos_dir.specs.Reading.{create_at, delete_at, rename_at, write_at, set_all_at, fields_at, change_at, items_at, group_at};
+ghost use Rattle.pos_dir.specs.Reading.{create_at, delete_at, rename_at, write_at, set_all_at, fields_at, change_at, items_at, group_at, Locates};
 
 use crate::bytes::{Bytes, Name};
 use crate::change::Change;
 use crate::fault::DirectoryFault;
-use crate::fields::{byte_at, name_at, text_at, u16_at, u32_at};
+use crate::fields::{read_byte, read_name, read_text, read_u16, read_u32};
 use crate::group::WRITE_LIMIT;
 use std::alloc::Global;
 
@@ -38,65 +38,65 @@ enum ChangeText<'a> {
 
 /// A change.
 #[tactic(auto, unfolding(crate::specs::Reading::change_at))]
-fn change_at(bytes: &[u8]) -> Option<(ChangeText<'_>, &[u8])>
+fn read_change(bytes: &[u8]) -> Option<(ChangeText<'_>, &[u8])>
     ensures { option_map (λ x. (change_of x.0, x.1.now)) result ≡ change_at bytes.now }
 {
-    let (tag, rest) = byte_at(bytes)?;
-    fields_at(tag, rest)
+    let (tag, rest) = read_byte(bytes)?;
+    read_fields(tag, rest)
 }
 
 /// The fields behind a tag.
 #[tactic(auto, unfolding(crate::specs::Reading::fields_at))]
-fn fields_at(tag: u8, bytes: &[u8]) -> Option<(ChangeText<'_>, &[u8])>
+fn read_fields(tag: u8, bytes: &[u8]) -> Option<(ChangeText<'_>, &[u8])>
     ensures { option_map (λ x. (change_of x.0, x.1.now)) result ≡ fields_at tag bytes.now }
 {
     match tag {
-        1 => create_at(bytes),
-        2 => delete_at(bytes),
-        3 => rename_at(bytes),
-        4 => write_at(bytes),
-        5 => set_all_at(bytes),
+        1 => read_create(bytes),
+        2 => read_delete(bytes),
+        3 => read_rename(bytes),
+        4 => read_write(bytes),
+        5 => read_set_all(bytes),
         _ => None,
     }
 }
 
 /// The fields of a Create.
 #[tactic(auto, unfolding(crate::specs::Reading::create_at))]
-fn create_at(bytes: &[u8]) -> Option<(ChangeText<'_>, &[u8])>
+fn read_create(bytes: &[u8]) -> Option<(ChangeText<'_>, &[u8])>
     ensures { option_map (λ x. (change_of x.0, x.1.now)) result ≡ create_at bytes.now }
 {
-    let (name, rest) = name_at(bytes)?;
-    let (size, rest) = u32_at(rest)?;
+    let (name, rest) = read_name(bytes)?;
+    let (size, rest) = read_u32(rest)?;
     Some((ChangeText::Create { name, size }, rest))
 }
 
 /// The fields of a Delete.
 #[tactic(auto, unfolding(crate::specs::Reading::delete_at))]
-fn delete_at(bytes: &[u8]) -> Option<(ChangeText<'_>, &[u8])>
+fn read_delete(bytes: &[u8]) -> Option<(ChangeText<'_>, &[u8])>
     ensures { option_map (λ x. (change_of x.0, x.1.now)) result ≡ delete_at bytes.now }
 {
-    let (index, rest) = u16_at(bytes)?;
+    let (index, rest) = read_u16(bytes)?;
     Some((ChangeText::Delete { index }, rest))
 }
 
 /// The fields of a Rename.
 #[tactic(auto, unfolding(crate::specs::Reading::rename_at))]
-fn rename_at(bytes: &[u8]) -> Option<(ChangeText<'_>, &[u8])>
+fn read_rename(bytes: &[u8]) -> Option<(ChangeText<'_>, &[u8])>
     ensures { option_map (λ x. (change_of x.0, x.1.now)) result ≡ rename_at bytes.now }
 {
-    let (index, rest) = u16_at(bytes)?;
-    let (name, rest) = name_at(rest)?;
+    let (index, rest) = read_u16(bytes)?;
+    let (name, rest) = read_name(rest)?;
     Some((ChangeText::Rename { index, name }, rest))
 }
 
 /// The fields of a Write.
 #[tactic(auto, unfolding(crate::specs::Reading::write_at))]
-fn write_at(bytes: &[u8]) -> Option<(ChangeText<'_>, &[u8])>
+fn read_write(bytes: &[u8]) -> Option<(ChangeText<'_>, &[u8])>
     ensures { option_map (λ x. (change_of x.0, x.1.now)) result ≡ write_at bytes.now }
 {
-    let (index, rest) = u16_at(bytes)?;
-    let (offset, rest) = u32_at(rest)?;
-    let (bytes, rest) = text_at(rest)?;
+    let (index, rest) = read_u16(bytes)?;
+    let (offset, rest) = read_u32(rest)?;
+    let (bytes, rest) = read_text(rest)?;
     if bytes.len() > WRITE_LIMIT {
         return None;
     }
@@ -112,16 +112,16 @@ fn write_at(bytes: &[u8]) -> Option<(ChangeText<'_>, &[u8])>
 
 /// The fields of a SetAll.
 #[tactic(auto, unfolding(crate::specs::Reading::set_all_at))]
-fn set_all_at(bytes: &[u8]) -> Option<(ChangeText<'_>, &[u8])>
+fn read_set_all(bytes: &[u8]) -> Option<(ChangeText<'_>, &[u8])>
     ensures { option_map (λ x. (change_of x.0, x.1.now)) result ≡ set_all_at bytes.now }
 {
-    let (index, rest) = u16_at(bytes)?;
-    let (value, rest) = byte_at(rest)?;
+    let (index, rest) = read_u16(bytes)?;
+    let (value, rest) = read_byte(rest)?;
     Some((ChangeText::SetAll { index, value }, rest))
 }
 
 /// The change in memory of its own.
-fn own_change(alloc: Global, text: &ChangeText<'_>) -> Result<Change, DirectoryFault>
+fn copy_change(alloc: Global, text: &ChangeText<'_>) -> Result<Change, DirectoryFault>
     ensures { MatchResult result (λ change. change ≡ change_of text.now) (λ fault. fault ≡ DirectoryFault.NoMemory) }
 {
     match text {
@@ -151,12 +151,12 @@ fn own_change(alloc: Global, text: &ChangeText<'_>) -> Result<Change, DirectoryF
 }
 
 /// The bytes behind so many changes.
-fn changes_end(count: u16, bytes: &[u8]) -> Option<&[u8]>
+fn skip_changes(count: u16, bytes: &[u8]) -> Option<&[u8]>
     ensures { option_map (λ x. x.now) result ≡ option_map (λ x. x.1) (items_at change_at count bytes.now) }
 {
     let mut rest = bytes;
     for _ in 0..count {
-        let (_change, after) = change_at(rest)?;
+        let (_change, after) = read_change(rest)?;
         rest = after;
     }
     Some(rest)
@@ -164,12 +164,12 @@ fn changes_end(count: u16, bytes: &[u8]) -> Option<&[u8]>
 
 /// The number of changes and the bytes that spell them, where the bytes spell a group.
 #[tactic(auto, unfolding(crate::specs::Reading::group_at))]
-pub(crate) fn group_at(bytes: &[u8]) -> Option<(u16, &[u8])>
+pub(crate) fn locate_changes(bytes: &[u8]) -> Option<(u16, &[u8])>
     ensures { MatchOption result (group_at bytes.now ≡ None)
-        (λ x. (changes : List Change) × (group_at bytes.now ≡ Some changes) × (items_at change_at x.0 x.1.now ≡ Some (changes, []))) }
+        (λ x. Locates change_at (group_at bytes.now) x.0 x.1.now) }
 {
-    let (count, rest) = u16_at(bytes)?;
-    let end = changes_end(count, rest)?;
+    let (count, rest) = read_u16(bytes)?;
+    let end = skip_changes(count, rest)?;
     if !end.is_empty() {
         return None;
     }
@@ -177,21 +177,22 @@ pub(crate) fn group_at(bytes: &[u8]) -> Option<(u16, &[u8])>
 }
 
 /// So many changes in memory of their own.
-pub(crate) fn own_changes(
+pub(crate) fn copy_changes(
     alloc: Global,
     count: u16,
     bytes: &[u8],
 ) -> Result<Vec<Change>, DirectoryFault>
     requires { IsSome (items_at change_at count bytes.now) }
-    ensures { MatchResult result (λ changes. IfSome (items_at change_at count bytes.now) (λ x. changes.items ≡ x.0)) (λ fault. fault ≡ DirectoryFault.NoMemory) }
+    ensures { MatchResult result (λ changes. IfSome (items_at change_at count bytes.now) (λ x. changes.items ≡ x.0))
+        (λ fault. fault ≡ DirectoryFault.NoMemory) }
 {
     let mut changes = Vec::with_capacity(alloc, count as usize)?;
     let mut rest = bytes;
     for _ in 0..count {
-        let Some((change, after)) = change_at(rest) else {
+        let Some((change, after)) = read_change(rest) else {
             unreachable!()
         };
-        changes.push(own_change(alloc, &change)?)?;
+        changes.push(copy_change(alloc, &change)?)?;
         rest = after;
     }
     Ok(changes)

@@ -2,7 +2,7 @@ ghost use Rattle.std.specs.Prelude.{◌≡◌, [], length, slice_get};
 ghost use Rattle.std.specs.Option.{option_copied, option_map};
 ghost use Rattle.pos_dir.specs.Files.{index_of, total_size};
 
-use crate::file::{File, total_of};
+use crate::file::{File, sum_sizes};
 use crate::limits::LAYOUT_1;
 use std::alloc::Global;
 use std::marker::Model;
@@ -49,7 +49,7 @@ impl Directory {
     pub fn size(&self) -> usize
         ensures { result ≡ total_size self.now }
     {
-        total_of(LAYOUT_1, &self.files)
+        sum_sizes(LAYOUT_1, &self.files)
     }
 
     /// The name of the file at an index, or None where no file has the index.

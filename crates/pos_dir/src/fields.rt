@@ -7,7 +7,7 @@ ghost use Rattle.pos_dir.specs.Reading.{byte_at, part_at, number_at, name_at, te
 use crate::names::is_name;
 
 /// One byte.
-pub(crate) fn byte_at(bytes: &[u8]) -> Option<(u8, &[u8])>
+pub(crate) fn read_byte(bytes: &[u8]) -> Option<(u8, &[u8])>
     ensures { option_map (λ x. (x.0, x.1.now)) result ≡ byte_at bytes.now }
 {
     match bytes {
@@ -17,7 +17,7 @@ pub(crate) fn byte_at(bytes: &[u8]) -> Option<(u8, &[u8])>
 }
 
 /// So many bytes.
-fn part_at(bytes: &[u8], size: usize) -> Option<(&[u8], &[u8])>
+fn read_part(bytes: &[u8], size: usize) -> Option<(&[u8], &[u8])>
     ensures { option_map (λ x. (x.0.now, x.1.now)) result ≡ part_at size bytes.now }
 {
     if bytes.len() < size {
@@ -27,7 +27,7 @@ fn part_at(bytes: &[u8], size: usize) -> Option<(&[u8], &[u8])>
 }
 
 /// A big-endian number of two bytes.
-pub(crate) fn u16_at(bytes: &[u8]) -> Option<(u16, &[u8])>
+pub(crate) fn read_u16(bytes: &[u8]) -> Option<(u16, &[u8])>
     ensures { option_map (λ x. (x.0, x.1.now)) result ≡ number_at w16 bytes.now }
 {
     if bytes.len() < 2 {
@@ -39,7 +39,7 @@ pub(crate) fn u16_at(bytes: &[u8]) -> Option<(u16, &[u8])>
 }
 
 /// A big-endian number of four bytes.
-pub(crate) fn u32_at(bytes: &[u8]) -> Option<(u32, &[u8])>
+pub(crate) fn read_u32(bytes: &[u8]) -> Option<(u32, &[u8])>
     ensures { option_map (λ x. (x.0, x.1.now)) result ≡ number_at w32 bytes.now }
 {
     if bytes.len() < 4 {
@@ -52,11 +52,11 @@ pub(crate) fn u32_at(bytes: &[u8]) -> Option<(u32, &[u8])>
 
 /// A good name behind its length.
 #[tactic(auto, unfolding(crate::specs::Reading::name_at))]
-pub(crate) fn name_at(bytes: &[u8]) -> Option<(&[u8], &[u8])>
+pub(crate) fn read_name(bytes: &[u8]) -> Option<(&[u8], &[u8])>
     ensures { option_map (λ x. (x.0.now, x.1.now)) result ≡ name_at bytes.now }
 {
-    let (size, rest) = byte_at(bytes)?;
-    let (name, rest) = part_at(rest, size as usize)?;
+    let (size, rest) = read_byte(bytes)?;
+    let (name, rest) = read_part(rest, size as usize)?;
     if !is_name(name) {
         return None;
     }
@@ -65,9 +65,9 @@ pub(crate) fn name_at(bytes: &[u8]) -> Option<(&[u8], &[u8])>
 
 /// Bytes behind their number.
 #[tactic(auto, unfolding(crate::specs::Reading::text_at))]
-pub(crate) fn text_at(bytes: &[u8]) -> Option<(&[u8], &[u8])>
+pub(crate) fn read_text(bytes: &[u8]) -> Option<(&[u8], &[u8])>
     ensures { option_map (λ x. (x.0.now, x.1.now)) result ≡ text_at bytes.now }
 {
-    let (size, rest) = u32_at(bytes)?;
-    part_at(rest, size as usize)
+    let (size, rest) = read_u32(bytes)?;
+    read_part(rest, size as usize)
 }

@@ -15,7 +15,7 @@ pub struct File {
 }
 
 /// The bytes of all files in sum.
-pub(crate) fn total_of(limits: Limits, files: &[File]) -> usize
+pub(crate) fn sum_sizes(limits: Limits, files: &[File]) -> usize
     requires { total_size files.now ≤ limits.bytes }
     ensures { result ≡ total_size files.now }
 {

@@ -1,13 +1,13 @@
 //! Files read from the bytes that spell them.
-ghost use Rattle.std.specs.Prelude.{◌≡◌, [], List, Some, None, IsSome, IfSome, MatchOption, MatchResult};
+ghost use Rattle.std.specs.Prelude.{◌≡◌, None, IsSome, IfSome, MatchOption, MatchResult};
 ghost use Rattle.std.specs.Option.{option_map};
 ghost use Rattle.pos_dir.specs.Texts.{file_of};
 ghost use Rattle.pos_dir.specs.Files.{has_name, are_distinct};
-ghost use Rattle.pos_dir.specs.Reading.{file_at, items_at, end_within, directory_at};
+ghost use Rattle.pos_dir.specs.Reading.{file_at, items_at, end_within, directory_at, Locates};
 
 use crate::bytes::{Bytes, Name};
 use crate::fault::DirectoryFault;
-use crate::fields::{name_at, text_at, u16_at};
+use crate::fields::{read_name, read_text, read_u16};
 use crate::file::File;
 use crate::limits::Limits;
 use std::alloc::Global;
@@ -21,16 +21,16 @@ struct FileText<'a> {
 
 /// A file.
 #[tactic(auto, unfolding(crate::specs::Reading::file_at))]
-fn file_at(bytes: &[u8]) -> Option<(FileText<'_>, &[u8])>
+fn read_file(bytes: &[u8]) -> Option<(FileText<'_>, &[u8])>
     ensures { option_map (λ x. (file_of x.0, x.1.now)) result ≡ file_at bytes.now }
 {
-    let (name, rest) = name_at(bytes)?;
-    let (bytes, rest) = text_at(rest)?;
+    let (name, rest) = read_name(bytes)?;
+    let (bytes, rest) = read_text(rest)?;
     Some((FileText { name, bytes }, rest))
 }
 
 /// The file in memory of its own.
-fn own_file(alloc: Global, text: &FileText<'_>) -> Result<File, DirectoryFault>
+fn copy_file(alloc: Global, text: &FileText<'_>) -> Result<File, DirectoryFault>
     ensures { MatchResult result (λ file. file ≡ file_of text.now) (λ fault. fault ≡ DirectoryFault.NoMemory) }
 {
     Ok(File {
@@ -40,13 +40,13 @@ fn own_file(alloc: Global, text: &FileText<'_>) -> Result<File, DirectoryFault>
 }
 
 /// The bytes behind so many files, whose sizes are at most the room in sum.
-fn files_end(count: u16, bytes: &[u8], room: usize) -> Option<&[u8]>
+fn skip_files(count: u16, bytes: &[u8], room: usize) -> Option<&[u8]>
     ensures { option_map (λ x. x.now) result ≡ end_within room (items_at file_at count bytes.now) }
 {
     let mut rest = bytes;
     let mut room = room;
     for _ in 0..count {
-        let (file, after) = file_at(rest)?;
+        let (file, after) = read_file(rest)?;
         room = room.checked_sub(file.bytes.len())?;
         rest = after;
     }
@@ -59,7 +59,7 @@ fn is_used(count: u16, bytes: &[u8], name: &[u8]) -> bool
 {
     let mut rest = bytes;
     for _ in 0..count {
-        let Some((file, after)) = file_at(rest) else {
+        let Some((file, after)) = read_file(rest) else {
             return false;
         };
         if file.name == name {
@@ -76,7 +76,7 @@ fn are_distinct(count: u16, bytes: &[u8]) -> bool
 {
     let mut rest = bytes;
     for i in 0..count {
-        let Some((file, after)) = file_at(rest) else {
+        let Some((file, after)) = read_file(rest) else {
             return false;
         };
         if is_used(count - (i + 1), after, file.name) {
@@ -88,15 +88,15 @@ fn are_distinct(count: u16, bytes: &[u8]) -> bool
 }
 
 /// The number of files and the bytes that spell them, where the bytes spell a directory.
-pub(crate) fn body_at(limits: Limits, bytes: &[u8]) -> Option<(u16, &[u8])>
+pub(crate) fn locate_files(limits: Limits, bytes: &[u8]) -> Option<(u16, &[u8])>
     ensures { MatchOption result (directory_at limits bytes.now ≡ None)
-        (λ x. (files : List File) × (directory_at limits bytes.now ≡ Some files) × (items_at file_at x.0 x.1.now ≡ Some (files, []))) }
+        (λ x. Locates file_at (directory_at limits bytes.now) x.0 x.1.now) }
 {
-    let (count, rest) = u16_at(bytes)?;
+    let (count, rest) = read_u16(bytes)?;
     if count > limits.files {
         return None;
     }
-    let end = files_end(count, rest, limits.bytes as usize)?;
+    let end = skip_files(count, rest, limits.bytes as usize)?;
     if !end.is_empty() {
         return None;
     }
@@ -107,21 +107,22 @@ pub(crate) fn body_at(limits: Limits, bytes: &[u8]) -> Option<(u16, &[u8])>
 }
 
 /// So many files in memory of their own.
-pub(crate) fn own_files(
+pub(crate) fn copy_files(
     alloc: Global,
     count: u16,
     bytes: &[u8],
 ) -> Result<Vec<File>, DirectoryFault>
     requires { IsSome (items_at file_at count bytes.now) }
-    ensures { MatchResult result (λ files. IfSome (items_at file_at count bytes.now) (λ x. files.items ≡ x.0)) (λ fault. fault ≡ DirectoryFault.NoMemory) }
+    ensures { MatchResult result (λ files. IfSome (items_at file_at count bytes.now) (λ x. files.items ≡ x.0))
+        (λ fault. fault ≡ DirectoryFault.NoMemory) }
 {
     let mut files = Vec::with_capacity(alloc, count as usize)?;
     let mut rest = bytes;
     for _ in 0..count {
-        let Some((file, after)) = file_at(rest) else {
+        let Some((file, after)) = read_file(rest) else {
             unreachable!()
         };
-        files.push(own_file(alloc, &file)?)?;
+        files.push(copy_file(alloc, &file)?)?;
         rest = after;
     }
     Ok(files)

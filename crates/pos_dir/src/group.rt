@@ -59,7 +59,7 @@ impl Group {
     pub fn push(&mut self, change: Change) -> Result<(), (DirectoryFault, Change)>
         ensures { Pushes self.old change result self.new }
     {
-        if let Some(fault) = flaw_of(&change) {
+        if let Some(fault) = find_flaw(&change) {
             return Err((fault, change));
         }
         if self.changes.len() >= GROUP_LIMIT {
@@ -73,14 +73,14 @@ impl Group {
 }
 
 /// Why a group doesn't take a change, whatever its room.
-fn flaw_of(change: &Change) -> Option<DirectoryFault>
+fn find_flaw(change: &Change) -> Option<DirectoryFault>
     ensures flaw { result ≡ flaw_of change.now }
     ensures widths { HasWidths change.now }
 {
     match change {
         Change::Create { name, size } => {
             let _size = *size;
-            flaw_of_name(name)
+            find_name_flaw(name)
         }
         Change::Delete { index } => {
             let _index = *index;
@@ -88,7 +88,7 @@ fn flaw_of(change: &Change) -> Option<DirectoryFault>
         }
         Change::Rename { index, name } => {
             let _index = *index;
-            flaw_of_name(name)
+            find_name_flaw(name)
         }
         Change::Write {
             index,
@@ -110,7 +110,7 @@ fn flaw_of(change: &Change) -> Option<DirectoryFault>
 }
 
 /// Why a group doesn't take a name.
-fn flaw_of_name(name: &Name) -> Option<DirectoryFault>
+fn find_name_flaw(name: &Name) -> Option<DirectoryFault>
     ensures { result ≡ (if is_name name.now then None else Some BadName) }
 {
     if is_name(name.as_slice()) {

@@ -1,8 +1,9 @@
 //! A check of a group over the names and sizes of the files, which takes no memory.
-ghost use Rattle.std.specs.Prelude.{◌≡◌, ◌≤◌, ◌<◌, ◌^◌, ℕ, List, length, map, sum_by, MatchResult};
+ghost use Rattle.std.specs.Prelude.{◌≡◌, ◌≤◌, ◌<◌, ◌^◌, ℕ, length, sum_by};
 ghost use Rattle.pos_dir.specs.declared.change.Change.TheVariants.{Create, Delete, Rename, Write, SetAll};
-ghost use Rattle.pos_dir.specs.Changes.{outcome_of_all};
-ghost use Rattle.pos_dir.specs.Outlines.{shape_of, shapes_of, is_named, shape_outcome, Checks, Answers};
+ghost use Rattle.std.specs.Result.{result_err};
+ghost use Rattle.pos_dir.specs.Changes.{fault_of};
+ghost use Rattle.pos_dir.specs.Outlines.{AreOutlines, is_named, Checks};
 
 use crate::bytes::Bytes;
 use crate::change::Change;
@@ -31,7 +32,7 @@ fn is_named(outlines: &[Outline<'_>], name: &[u8]) -> bool
 }
 
 /// The sizes in sum.
-fn size_in_sum(outlines: &[Outline<'_>]) -> usize
+fn sum_outlines(outlines: &[Outline<'_>]) -> usize
     requires { sum_by (λ outline. outline.size) outlines.now < 2 ^ 32 }
     ensures { result ≡ sum_by (λ outline. outline.size) outlines.now }
 {
@@ -47,7 +48,7 @@ fn check_create<'a>(
 ) -> Result<(), DirectoryFault>
     requires files { limits.files ≤ LAYOUT_1.files }
     requires total { sum_by (λ outline. outline.size) outlines.old.items ≤ limits.bytes }
-    ensures { Checks result (shape_outcome limits (map shape_of outlines.old.items) (Create name.now size)) outlines.new.items }
+    ensures { Checks limits outlines.old.items (Create name.now size) result outlines.new.items }
 {
     if is_named(outlines.as_slice(), name) {
         return Err(DirectoryFault::Exists);
@@ -55,7 +56,7 @@ fn check_create<'a>(
     if outlines.len() >= limits.files as usize {
         return Err(DirectoryFault::NoRoom);
     }
-    let room = limits.bytes as usize - size_in_sum(outlines.as_slice());
+    let room = limits.bytes as usize - sum_outlines(outlines.as_slice());
     let size = size as usize;
     if size > room {
         return Err(DirectoryFault::NoRoom);
@@ -69,7 +70,7 @@ fn check_delete(
     outlines: &mut ArrayVec<Outline<'_>, MOST_FILES>,
     index: u16,
 ) -> Result<(), DirectoryFault>
-    ensures { (limits : Limits) → Checks result (shape_outcome limits (map shape_of outlines.old.items) (Delete index)) outlines.new.items }
+    ensures { (limits : Limits) → Checks limits outlines.old.items (Delete index) result outlines.new.items }
 {
     let index = index as usize;
     if index >= outlines.len() {
@@ -85,7 +86,7 @@ fn check_rename<'a>(
     index: u16,
     name: &'a [u8],
 ) -> Result<(), DirectoryFault>
-    ensures { (limits : Limits) → Checks result (shape_outcome limits (map shape_of outlines.old.items) (Rename index name.now)) outlines.new.items }
+    ensures { (limits : Limits) → Checks limits outlines.old.items (Rename index name.now) result outlines.new.items }
 {
     let index = index as usize;
     if index >= outlines.len() {
@@ -107,15 +108,15 @@ fn check_write(
     offset: u32,
     bytes: &Bytes,
 ) -> Result<(), DirectoryFault>
-    ensures { (limits : Limits) → Checks result (shape_outcome limits (map shape_of outlines.now.items) (Write index offset bytes.now)) outlines.now.items }
+    ensures { (limits : Limits)
+        → Checks limits outlines.now.items (Write index offset bytes.now) result outlines.now.items }
 {
     let outlines = outlines.as_slice();
     if index as usize >= outlines.len() {
         return Err(DirectoryFault::NoFile);
     }
-    let size = outlines[index as usize].size;
-    let offset = offset as usize;
-    if offset > size || bytes.as_slice().len() > size - offset {
+    let end = offset as usize + bytes.as_slice().len();
+    if end > outlines[index as usize].size {
         return Err(DirectoryFault::Range);
     }
     Ok(())
@@ -126,7 +127,8 @@ fn check_set_all(
     outlines: &ArrayVec<Outline<'_>, MOST_FILES>,
     index: u16,
 ) -> Result<(), DirectoryFault>
-    ensures { (limits : Limits) → (value : ℕ) → Checks result (shape_outcome limits (map shape_of outlines.now.items) (SetAll index value)) outlines.now.items }
+    ensures { (limits : Limits) (value : ℕ)
+        → Checks limits outlines.now.items (SetAll index value) result outlines.now.items }
 {
     if index as usize >= outlines.len() {
         return Err(DirectoryFault::NoFile);
@@ -142,7 +144,7 @@ fn check<'a>(
 ) -> Result<(), DirectoryFault>
     requires files { limits.files ≤ LAYOUT_1.files }
     requires total { sum_by (λ outline. outline.size) outlines.old.items ≤ limits.bytes }
-    ensures { Checks result (shape_outcome limits (map shape_of outlines.old.items) change.now) outlines.new.items }
+    ensures { Checks limits outlines.old.items change.now result outlines.new.items }
 {
     match change {
         Change::Create { name, size } => check_create(outlines, limits, name.as_slice(), *size),
@@ -158,9 +160,9 @@ fn check<'a>(
 }
 
 /// The outlines of files.
-fn outlines_of(files: &[File]) -> ArrayVec<Outline<'_>, MOST_FILES>
+fn outline_files(files: &[File]) -> ArrayVec<Outline<'_>, MOST_FILES>
     requires { length files.now ≤ LAYOUT_1.files }
-    ensures { map shape_of result.items ≡ shapes_of files.now }
+    ensures { AreOutlines result.items files.now }
 {
     let mut outlines = ArrayVec::new();
     for file in files {
@@ -175,9 +177,9 @@ fn outlines_of(files: &[File]) -> ArrayVec<Outline<'_>, MOST_FILES>
 /// Whether a group is applicable, or the fault of the first change that isn't: NoFile, Exists,
 /// Range or NoRoom. It takes no memory.
 pub fn check_group<'a>(directory: &'a Directory, group: &'a Group) -> Result<(), DirectoryFault>
-    ensures { Answers result (outcome_of_all LAYOUT_1 directory.now group.now) }
+    ensures { result_err result ≡ fault_of LAYOUT_1 directory.now group.now }
 {
-    let mut outlines = outlines_of(&directory.files);
+    let mut outlines = outline_files(&directory.files);
     for change in &group.changes {
         check(&mut outlines, LAYOUT_1, change)?;
     }

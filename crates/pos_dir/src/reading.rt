@@ -1,9 +1,9 @@
 ghost use Rattle.pos_dir.specs.Calls.{Decodes, DecodesGroup};
 
-use crate::changes::{group_at, own_changes};
+use crate::changes::{copy_changes, locate_changes};
 use crate::directory::Directory;
 use crate::fault::DirectoryFault;
-use crate::files::{body_at, own_files};
+use crate::files::{copy_files, locate_files};
 use crate::group::Group;
 use crate::limits::LAYOUT_1;
 use std::alloc::Global;
@@ -15,10 +15,10 @@ use std::alloc::Global;
 pub fn decode(alloc: Global, bytes: &[u8]) -> Result<Directory, DirectoryFault>
     ensures { Decodes LAYOUT_1 bytes.now result }
 {
-    let Some((count, rest)) = body_at(LAYOUT_1, bytes) else {
+    let Some((count, rest)) = locate_files(LAYOUT_1, bytes) else {
         return Err(DirectoryFault::Malformed);
     };
-    let files = own_files(alloc, count, rest)?;
+    let files = copy_files(alloc, count, rest)?;
     Ok(Directory { files })
 }
 
@@ -29,9 +29,9 @@ pub fn decode(alloc: Global, bytes: &[u8]) -> Result<Directory, DirectoryFault>
 pub fn decode_group(alloc: Global, bytes: &[u8]) -> Result<Group, DirectoryFault>
     ensures { DecodesGroup bytes.now result }
 {
-    let Some((count, rest)) = group_at(bytes) else {
+    let Some((count, rest)) = locate_changes(bytes) else {
         return Err(DirectoryFault::Malformed);
     };
-    let changes = own_changes(alloc, count, rest)?;
+    let changes = copy_changes(alloc, count, rest)?;
     Ok(Group { changes })
 }

@@ -46,11 +46,11 @@ impl<'a> Model for Step<'a> {
 
     ghost Value = { Change };
 
-    ghost use Rattle.pos_dir.specs.Steps.{change_of, IsReady};
+    ghost use Rattle.pos_dir.specs.Steps.{change_of_work, IsZeroed};
 
-    ghost view = { λ step. change_of step.work };
+    ghost view = { λ step. change_of_work step.work };
 
-    ghost invariant = { λ step. IsReady step.work };
+    ghost invariant = { λ step. IsZeroed step.work };
 }
 
 impl<'a> Step<'a> {
@@ -60,12 +60,12 @@ impl<'a> Step<'a> {
     {
         let work = match change {
             Change::Create { name, size } => Work::Create {
-                file: new_file(alloc, name, *size)?,
+                file: make_file(alloc, name, *size)?,
             },
             Change::Delete { index } => Work::Delete { index: *index },
             Change::Rename { index, name } => Work::Rename {
                 index: *index,
-                name: copy_of_name(alloc, name)?,
+                name: copy_name(alloc, name)?,
             },
             Change::Write {
                 index,
@@ -111,24 +111,25 @@ impl<'a> Step<'a> {
 }
 
 /// A file of zero bytes.
-fn new_file(alloc: Global, name: &Name, size: u32) -> Result<File, DirectoryFault>
-    ensures { MatchResult result (λ file. file ≡ record { name = name.now; bytes = replicate size 0 }) (λ fault. fault ≡ DirectoryFault.NoMemory) }
+fn make_file(alloc: Global, name: &Name, size: u32) -> Result<File, DirectoryFault>
+    ensures { MatchResult result (λ file. file ≡ record { name = name.now; bytes = replicate size 0 })
+        (λ fault. fault ≡ DirectoryFault.NoMemory) }
 {
     Ok(File {
-        name: copy_of_name(alloc, name)?,
+        name: copy_name(alloc, name)?,
         bytes: Bytes::from_vec(vec![in alloc; 0; size as usize]?),
     })
 }
 
 /// The same name in memory of its own.
-fn copy_of_name(alloc: Global, name: &Name) -> Result<Name, DirectoryFault>
+fn copy_name(alloc: Global, name: &Name) -> Result<Name, DirectoryFault>
     ensures { MatchResult result (λ copy. copy ≡ name.now) (λ fault. fault ≡ DirectoryFault.NoMemory) }
 {
     Ok(Name::from_vec(Vec::from_slice(alloc, name.as_slice())?))
 }
 
 /// The changes of a group, all made ready.
-pub(crate) fn steps_of(alloc: Global, group: &Group) -> Result<Vec<Step<'_>>, DirectoryFault>
+pub(crate) fn make_steps(alloc: Global, group: &Group) -> Result<Vec<Step<'_>>, DirectoryFault>
     ensures { MatchResult result (λ steps. steps.items ≡ group.now) (λ fault. fault ≡ DirectoryFault.NoMemory) }
 {
     let mut steps = Vec::with_capacity(alloc, group.changes.len())?;

@@ -3,8 +3,8 @@ ghost use Rattle.std.specs.Int.{w16, w32, to_be_bytes};
 ghost use Rattle.std.specs.List.{flat_map};
 ghost use Rattle.pos_dir.specs.Files.{IsDirectory};
 ghost use Rattle.pos_dir.specs.Room.{HasRoom, Puts};
-ghost use Rattle.pos_dir.specs.Changes.{IsGroup, IsChange};
-ghost use Rattle.pos_dir.specs.Spelling.{body_limit, spelling, group_spelling, name_spelling, text_spelling, file_spelling, change_spelling};
+ghost use Rattle.pos_dir.specs.Changes.{group_limit, IsGroup, IsChange};
+ghost use Rattle.pos_dir.specs.Spelling.{body_limit, change_limit, spelling, group_spelling, name_spelling, text_spelling, file_spelling, change_spelling};
 
 use crate::bytes::{Bytes, Name};
 use crate::change::Change;
@@ -34,7 +34,8 @@ pub(crate) const BODY_LIMIT: usize = COUNT_SIZE
 pub fn encode(alloc: Global, directory: &Directory) -> Result<Vec<u8>, DirectoryFault>
     ensures directory { IsDirectory LAYOUT_1 directory.now }
     ensures length { length (spelling directory.now) ≤ body_limit LAYOUT_1 }
-    ensures spelling { MatchResult result (λ bytes. bytes.items ≡ spelling directory.now) (λ fault. fault ≡ DirectoryFault.NoMemory) }
+    ensures spelling { MatchResult result (λ bytes. bytes.items ≡ spelling directory.now)
+        (λ fault. fault ≡ DirectoryFault.NoMemory) }
 {
     is_directory(directory);
     let mut body = Vec::with_capacity(alloc, BODY_LIMIT)?;
@@ -72,10 +73,11 @@ pub(crate) fn put_directory(out: &mut Vec<u8>, directory: &Directory)
 /// It is refused for want of memory alone (NoMemory).
 pub fn encode_group(alloc: Global, group: &Group) -> Result<Vec<u8>, DirectoryFault>
     ensures group { IsGroup group.now }
-    ensures spelling { MatchResult result (λ bytes. bytes.items ≡ group_spelling group.now) (λ fault. fault ≡ DirectoryFault.NoMemory) }
+    ensures spelling { MatchResult result (λ bytes. bytes.items ≡ group_spelling group.now)
+        (λ fault. fault ≡ DirectoryFault.NoMemory) }
 {
     let changes = group.changes.as_slice();
-    let mut out = Vec::with_capacity(alloc, COUNT_SIZE + size_of(changes))?;
+    let mut out = Vec::with_capacity(alloc, COUNT_SIZE + measure_changes(changes))?;
     put_u16(&mut out, changes.len() as u16);
     for change in changes {
         put_change(&mut out, change);
@@ -84,23 +86,23 @@ pub fn encode_group(alloc: Global, group: &Group) -> Result<Vec<u8>, DirectoryFa
 }
 
 /// The bytes of the spellings of changes in sum.
-fn size_of(changes: &[Change]) -> usize
+fn measure_changes(changes: &[Change]) -> usize
     requires { IsGroup changes.now }
     ensures size { result ≡ length (flat_map change_spelling changes.now) }
-    ensures bound { result ≤ 65_547 * 65_535 }
+    ensures bound { result ≤ change_limit * group_limit }
 {
     let mut size = 0;
     for change in changes {
-        size += size_of_change(change);
+        size += measure_change(change);
     }
     size
 }
 
 /// The bytes of a change's spelling.
-fn size_of_change(change: &Change) -> usize
+fn measure_change(change: &Change) -> usize
     requires { IsChange change.now }
     ensures size { result ≡ length (change_spelling change.now) }
-    ensures bound { result ≤ 65_547 }
+    ensures bound { result ≤ change_limit }
 {
     match change {
         Change::Create { name, size: _ } => 6 + name.as_slice().len(),

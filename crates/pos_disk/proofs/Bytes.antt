@@ -4,6 +4,7 @@ use Rattle.std.proofs.lemmas.Bool.{cases_lt}
 use Rattle.std.proofs.lemmas.List.{length-take-le, take_at, drop_at, get_or-take, get_or-drop, get_or-append_right, get_or_append_left, ext_get_or}
 use Rattle.pos_disk.specs.State.{InRange, splice, part}
 
+-- bytes put over others leave the length
 pub length-splice : {A : Type 0} (old new : List A) (at : ℕ) → at + length new ≤ length old → length (splice old at new) ≡ length old
 length-splice old new at fits =
     omega (arith, length-append (take at old ++ new) (drop (at + length new) old), length-append (take at old) new, length-take-le at old (omega arith), length-drop (at + length new) old)
@@ -15,12 +16,14 @@ spliced_before d old new at i fits before =
     get_or_append_left (take at old ++ new) (drop (at + length new) old) d i (omega (arith, length-append (take at old) new))
     ∙ get_or_append_left (take at old) new d i (omega arith) ∙ get_or-take at old i d before
 
+-- within its range stand the new ones
 pub spliced_within : {A : Type 0} (d : A) (old new : List A) (at i : ℕ) → at + length new ≤ length old → InRange at (length new) i → get_or (splice old at new) i d ≡ get_or new (i - at) d
 spliced_within d old new at i fits inside =
     let front = length-take-le at old (omega arith) in
     get_or_append_left (take at old ++ new) (drop (at + length new) old) d i (omega (arith, inside.1, length-append (take at old) new))
     ∙ get_or-append_right (take at old) new at i d front inside.0
 
+-- behind it the old ones
 pub spliced_behind : {A : Type 0} (d : A) (old new : List A) (at i : ℕ) → at + length new ≤ length old → at + length new ≤ i → get_or (splice old at new) i d ≡ get_or old i d
 spliced_behind d old new at i fits behind =
     let front = length-take-le at old (omega arith) in
@@ -29,6 +32,7 @@ spliced_behind d old new at i fits behind =
     get_or-append_right (take at old ++ new) (drop (at + length new) old) (at + length new) i d size behind
     ∙ get_or-drop (at + length new) old (i - (at + length new)) d ∙ ap (λ (k : ℕ). get_or old k d) same
 
+-- and everywhere else too
 pub spliced_elsewhere : {A : Type 0} (d : A) (old new : List A) (at i : ℕ) → at + length new ≤ length old → ¬ (InRange at (length new) i) → get_or (splice old at new) i d ≡ get_or old i d
 spliced_elsewhere d old new at i fits outside = elim (cases_lt i at) [
   | inl before ↦ spliced_before d old new at i fits before
@@ -38,6 +42,7 @@ spliced_elsewhere d old new at i fits outside = elim (cases_lt i at) [
   ]
 ]
 
+-- the same of bytes, as a read gives them
 pub splice_elsewhere : (old bytes : List ℕ) (at i : ℕ) → at + length bytes ≤ length old → ¬ (InRange at (length bytes) i) → get_or (splice old at bytes) i 0 ≡ get_or old i 0
 splice_elsewhere old bytes at i fits outside = spliced_elsewhere 0 old bytes at i fits outside
 
@@ -49,9 +54,11 @@ part-splice old bytes at fits =
     ∙ ap (λ (l : List ℕ). take (length bytes) l) (drop_at (take at old) (bytes ++ drop (at + length bytes) old) at front)
     ∙ take_at bytes (drop (at + length bytes) old) (length bytes) refl
 
+-- a part has the length that was asked for
 pub length-part : (at n : ℕ) (bytes : List ℕ) → at + n ≤ length bytes → length (part at n bytes) ≡ n
 length-part at n bytes fits = length-take-le n (drop at bytes) (omega (arith, length-drop at bytes))
 
+-- and the bytes from its place on
 pub get_or-part : (at n : ℕ) (bytes : List ℕ) (i : ℕ) → i < n → get_or (part at n bytes) i 0 ≡ get_or bytes (at + i) 0
 get_or-part at n bytes i inside = get_or-take n (drop at bytes) i 0 inside ∙ get_or-drop at bytes i 0
 

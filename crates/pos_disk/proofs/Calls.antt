@@ -36,6 +36,7 @@ module _ (past : List Moment) (present next : Moment) where
       ])
       (λ now. inr now) left
 
+-- a disk in memory keeps its moment before each change
 pub elapsed : (disk : Memory) (next : Moment) (settled : List ℕ) → Elapses (state_of disk) (state_of (record { present = next; settled = settled; past = disk.past ++ disk.present ∷ [] }))
 elapsed disk next settled =
     let after : Memory = record { present = next; settled = settled; past = disk.past ++ disk.present ∷ [] } in
@@ -48,6 +49,7 @@ elapsed disk next settled =
 no_failure : {T : Type 0} (old new : Memory) (x : T) → HasCause (state_of old) (state_of new) (Ok x)
 no_failure old new x = record { later = omega arith; last = omega arith; rises = tt }
 
+-- its write does what a write of an honest disk does
 pub writes : (disk : Memory) (at : ℕ) (bytes : List ℕ) → length disk.present.loose ≡ length disk.present.reading → at + length bytes ≤ length disk.present.reading
     → Writes {T = Unit {0}} (state_of disk) (state_of (written at bytes disk)) at bytes (Ok tt)
 writes disk at bytes long fits =
@@ -76,6 +78,7 @@ none_loose zero i is = absurd cc
 none_loose (suc n) zero is = absurd cc
 none_loose (suc n) (suc i) is = none_loose n i is
 
+-- and so does its sync
 pub syncs : (disk : Memory) → Syncs {T = Unit {0}} (state_of disk) (state_of (synced disk)) (Ok tt)
 syncs disk = record {
   at_rest = λ i loose. none_loose (length disk.present.reading) i loose;

@@ -48,6 +48,7 @@ seen_before old new bytes same loose may = record {
 }
 
 module _ {T : Type 0} (old new : DiskState) (only : (c : List ℕ) → old.left_since old.moment c → MayLeave old c) (result : Result T DiskFault) where
+  -- a read only looks at the disk
   pub watches_read : (at : ℕ) (out : List ℕ) → Reads old new at out result → Watches old new
   watches_read at out reads = record {
     reading = reads.reading;
@@ -55,6 +56,7 @@ module _ {T : Type 0} (old new : DiskState) (only : (c : List ℕ) → old.left_
     any_moment = goes_on old old new (MayLeave old) (started old (MayLeave old) only) reads.time (λ c may. seen_before old new c reads.reading reads.loose may);
   }
 
+  -- and so does a sync
   pub watches_sync : Syncs old new result → Watches old new
   watches_sync syncs = record {
     reading = syncs.reading;
@@ -62,9 +64,11 @@ module _ {T : Type 0} (old new : DiskState) (only : (c : List ℕ) → old.left_
     any_moment = goes_on old old new (MayLeave old) (started old (MayLeave old) only) syncs.time (λ c may. seen_before old new c syncs.reading syncs.loose may);
   }
 
+-- no call
 pub watches_none : (disk : DiskState) → ((c : List ℕ) → disk.left_since disk.moment c → MayLeave disk c) → Watches disk disk
 watches_none disk only = record { reading = refl; loose = λ i l. l; any_moment = started disk (MayLeave disk) only }
 
+-- one look after another
 pub watches_on : (old mid new : DiskState) → Watches old mid → Watches mid new → Watches old new
 watches_on old mid new first second = record {
   reading = second.reading ∙ first.reading;

@@ -8,6 +8,7 @@ use Rattle.pos_disk.specs.declared.device.DiskFault.{DiskFault}
 use Rattle.pos_disk.proofs.Bytes.{length-splice, spliced_within, splice_elsewhere, length-part, get_or-part}
 use Rattle.pos_disk.proofs.Written.{in_range}
 
+-- a read spoils nothing
 pub spoils_read : {T : Type 0} (old new : DiskState) (place : ℕ) (out : List ℕ) (result : Result T DiskFault) (at : ℕ) → Reads old new place out result → Spoils old new at 0
 spoils_read old new place out result at reads = record {
   same_length = ap length reads.reading;
@@ -17,6 +18,7 @@ spoils_read old new place out result at reads = record {
   time = reads.time;
 }
 
+-- a write spoils its range
 pub spoils_write : {T : Type 0} (old new : DiskState) (at : ℕ) (bytes : List ℕ) (result : Result T DiskFault) → Writes old new at bytes result → Spoils old new at (length bytes)
 spoils_write old new at bytes result writes = record {
   same_length = writes.same_length;
@@ -77,6 +79,7 @@ splice-part old at n fits =
       | inr missed ↦ splice_elsewhere old (part at n old) at i room (λ hit. missed (hit.0, omega (arith, hit.1, long)))
     ])
 
+-- before the first place nothing is loosened
 pub loosens_none : (disk : DiskState) (at : ℕ) → Loosens disk disk at 0
 loosens_none disk at = record {
   spoils = record {
@@ -92,6 +95,7 @@ loosens_none disk at = record {
 
 -- one place more, read and written
 module _ {T : Type 0} (old mid read new : DiskState) (at n : ℕ) (out : List ℕ) (first second : Result T DiskFault) where
+  -- one place more: it is read and written again
   pub loosens_on : Loosens old mid at n → length out ≡ 1 → at + n + 1 ≤ length mid.reading → Reads mid read (at + n) out first → Writes read new (at + n) out second → Loosens old new at (n + 1)
   loosens_on so_far one fits reads writes =
       let start : Spoils mid read (at + n) 0 = spoils_read mid read (at + n) out first (at + n) reads in

@@ -11,6 +11,7 @@ loose_at stamp [] i loose = absurd cc
 loose_at stamp (s ∷ stamps) zero loose = grind (arith, nat_tests)
 loose_at stamp (s ∷ stamps) (suc i) loose = loose_at stamp stamps i loose
 
+-- a place that bears the present stamp is loose
 pub stamp_at : (stamp : ℕ) (stamps : List ℕ) (i : ℕ) → i < length stamps → get_or stamps i 0 ≡ stamp → get_or (loose_by stamp stamps) i false ≡ true
 stamp_at stamp [] i inside is = absurd (omega (arith, inside))
 stamp_at stamp (s ∷ stamps) zero inside is = grind (arith, nat_tests)
@@ -25,6 +26,7 @@ length-choose (l ∷ loose) [] (y ∷ ys) long same = absurd (omega (arith, same
 length-choose (true ∷ loose) (x ∷ xs) (y ∷ ys) long same = ap suc (length-choose loose xs ys (omega (arith, long)) (omega (arith, same)))
 length-choose (false ∷ loose) (x ∷ xs) (y ∷ ys) long same = ap suc (length-choose loose xs ys (omega (arith, long)) (omega (arith, same)))
 
+-- at a loose place the first list tells
 pub choose_loose : (loose : List Bool) (xs ys : List ℕ) (i : ℕ) → length loose ≡ length ys → length xs ≡ length ys → get_or loose i false ≡ true → get_or (choose loose xs ys) i 0 ≡ get_or xs i 0
 choose_loose [] xs ys i long same is = absurd cc
 choose_loose (l ∷ loose) xs [] i long same is = absurd (omega (arith, long))
@@ -34,6 +36,7 @@ choose_loose (false ∷ loose) (x ∷ xs) (y ∷ ys) zero long same is = absurd 
 choose_loose (true ∷ loose) (x ∷ xs) (y ∷ ys) (suc i) long same is = choose_loose loose xs ys i (omega (arith, long)) (omega (arith, same)) is
 choose_loose (false ∷ loose) (x ∷ xs) (y ∷ ys) (suc i) long same is = choose_loose loose xs ys i (omega (arith, long)) (omega (arith, same)) is
 
+-- and at any other the second
 pub choose_settled : (loose : List Bool) (xs ys : List ℕ) (i : ℕ) → length loose ≡ length ys → length xs ≡ length ys → ¬ (get_or loose i false ≡ true) → get_or (choose loose xs ys) i 0 ≡ get_or ys i 0
 choose_settled [] xs [] i long same isnt = refl
 choose_settled [] xs (y ∷ ys) i long same isnt = absurd (omega (arith, long))
@@ -51,12 +54,14 @@ choose_left moment xs long same = record {
   settled = λ i isnt. choose_settled moment.loose xs moment.reading i long same isnt;
 }
 
+-- a place is loose or not
 pub is_loose : (b : Bool) → (b ≡ true) ⊎ (¬ (b ≡ true))
 is_loose true = inl refl
 is_loose false = inr (λ is. cc)
 
 -- where each place has been saved
 module _ (bytes stamps old new : List ℕ) (stamp : ℕ) (long : length stamps ≡ length bytes) (same : length old ≡ length bytes) where
+  -- saving all places gives the bytes at the last sync
   pub saved_all : IsSaved stamps stamp bytes 0 (length bytes) old new → new ≡ choose (loose_by stamp stamps) old bytes
   saved_all saved =
       let loose = loose_by stamp stamps in
@@ -98,6 +103,7 @@ memory_fresh bytes saved stamps stamp past saved_long long earlier =
     ap (λ (loose : List Bool). record { present = record { reading = bytes; loose = loose }; settled = choose loose saved bytes; past = past }) none
     ∙ ap (λ (settled : List ℕ). record { present = record { reading = bytes; loose = replicate (length bytes) false }; settled = settled; past = past }) (choose_none saved bytes saved_long)
 
+-- cleared stamps are below 1
 pub zeros : (n i : ℕ) → get_or (replicate n 0) i 0 < 1
 zeros zero i = omega arith
 zeros (suc n) zero = omega arith

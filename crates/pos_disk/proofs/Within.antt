@@ -5,6 +5,7 @@ use Rattle.pos_disk.proofs.Moments.{goes_on}
 use Rattle.pos_disk.specs.declared.device.DiskFault.{DiskFault}
 use Rattle.pos_disk.specs.Within.{SameBut, IsWithin}
 
+-- bytes differ nowhere from themselves
 pub unchanged : (bytes : List ℕ) (at n : ℕ) → SameBut at n bytes bytes
 unchanged bytes at n = record { same_length = refl; elsewhere = λ i outside. refl }
 
@@ -12,9 +13,11 @@ unchanged bytes at n = record { same_length = refl; elsewhere = λ i outside. re
 pub within_here : (disk : DiskState) (at n : ℕ) → ((i : ℕ) → disk.loose i → InRange at n i) → IsWithin disk.reading at n disk
 within_here disk at n loose = record { same = unchanged disk.reading at n; loose = loose }
 
+-- none is loose at rest
 pub within_start : (disk : DiskState) (at n : ℕ) → IsAtRest disk → IsWithin disk.reading at n disk
 within_start disk at n rest = within_here disk at n (λ i loose. absurd (rest i loose))
 
+-- a crash then leaves bytes that differ within the range only
 pub leaves_within : (was : List ℕ) (at n : ℕ) (disk : DiskState) → IsWithin was at n disk → (c : List ℕ) → MayLeave disk c → SameBut at n was c
 leaves_within was at n disk within c may = record {
   same_length = may.same_length ∙ within.same.same_length;
@@ -26,6 +29,7 @@ pub within_goes_on : (was : List ℕ) (at n : ℕ) (old mid new : DiskState) →
 within_goes_on was at n old mid new so_far time within = goes_on old mid new (SameBut at n was) so_far time (leaves_within was at n new within)
 
 module _ {T : Type 0} (was : List ℕ) (at n : ℕ) (old new : DiskState) (result : Result T DiskFault) where
+  -- a write within the range stays there
   pub within_write : (place : ℕ) (bytes : List ℕ) → at ≤ place → place + length bytes ≤ at + n → IsWithin was at n old → Writes old new place bytes result → IsWithin was at n new
   within_write place bytes low high within writes =
       let wider : (i : ℕ) → InRange place (length bytes) i → InRange at n i = λ i inside. (omega (arith, inside.0), omega (arith, inside.1)) in
@@ -37,6 +41,7 @@ module _ {T : Type 0} (was : List ℕ) (at n : ℕ) (old new : DiskState) (resul
         loose = λ i loose. ⊎_elim (within.loose i) (wider i) (writes.loose i loose);
       }
 
+  -- a sync does too
   pub within_sync : IsWithin was at n old → Syncs old new result → IsWithin was at n new
   within_sync within syncs = record {
     same = record {
@@ -46,6 +51,7 @@ module _ {T : Type 0} (was : List ℕ) (at n : ℕ) (old new : DiskState) (resul
     loose = λ i loose. within.loose i (syncs.loose i loose);
   }
 
+  -- and a read
   pub within_read : (place : ℕ) (out : List ℕ) → IsWithin was at n old → Reads old new place out result → IsWithin was at n new
   within_read place out within reads = record {
     same = record {

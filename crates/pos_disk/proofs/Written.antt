@@ -54,6 +54,7 @@ module _ (bytes saved stamps : List ℕ) (stamp at n : ℕ) (kept : IsKept bytes
   outside_same : (i : ℕ) → ¬ (InRange at n i) → get_or (splice stamps at (replicate n stamp)) i 0 ≡ get_or stamps i 0
   outside_same i outside = spliced_elsewhere 0 stamps (replicate n stamp) at i room (λ inside. outside (inside.0, omega (arith, inside.1, length-replicate n stamp)))
 
+  -- what a disk in memory keeps of its places still holds after a write
   pub still_kept : IsKept (splice bytes at new) saved' (splice stamps at (replicate n stamp)) stamp
   still_kept =
       let bytes_long = length-splice bytes new at (omega (arith, long)) in
@@ -96,6 +97,7 @@ module _ (bytes saved stamps : List ℕ) (stamp at n : ℕ) (kept : IsKept bytes
         ]
       ])
 
+  -- and the disk is the one that was written to
   pub is_written : (past : List Moment) → memory_of (splice bytes at new) saved' (splice stamps at (replicate n stamp)) stamp (past ++ moment_of bytes stamps stamp ∷ []) ≡ written at new (memory_of bytes saved stamps stamp past)
   is_written past =
       let then_past = past ++ moment_of bytes stamps stamp ∷ [] in

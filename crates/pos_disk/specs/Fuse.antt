@@ -1,6 +1,6 @@
 -- A disk that fails on demand, as contracts see it.
 use Rattle.std.specs.Prelude.{◌≡◌, ◌⊎◌, ◌≤◌, ◌+◌, ◌-◌, ◌/◌, ◌^◌, ◌&&◌, ℕ, List, Bool, true, false, min, leb, ltb, length, take, get_or, Result, Ok, Err}
-use Rattle.pos_disk.specs.State.{DiskState, Elapses, InRange, Rises, Reads, Writes, Syncs, splice}
+use Rattle.pos_disk.specs.State.{DiskState, Answer, MayLeave, CountsNow, OnlyNow, Elapses, InRange, Rises, Reads, Writes, Syncs, splice}
 use Rattle.pos_disk.specs.declared.device.DiskFault.{DiskFault}
 use Rattle.pos_disk.specs.declared.device.Disk.{Ghosts}
 
@@ -11,6 +11,11 @@ pub record Fuse (D : Type 0) : Type 0 where
   pub fail : ℕ
   pub calls : ℕ
   pub failures : ℕ
+
+-- the fuse with these parts
+abbrev pub fuse_of : {D : Type 0} → D → ℕ → ℕ → ℕ → ℕ → Fuse D
+fuse_of inner pass fail calls failures =
+    record { inner = inner; pass = pass; fail = fail; calls = calls; failures = failures }
 
 -- one more; the last value stays
 abbrev pub counted : ℕ → ℕ
@@ -27,7 +32,8 @@ failures_after failures (Err fault) = counted failures
 
 -- the fuse after one more call, which left the disk within like this
 abbrev pub after_call : {D : Type 0} {T : Type 0} → Fuse D → D → Result T DiskFault → Fuse D
-after_call fuse inner result = record fuse { inner = inner; calls = counted fuse.calls; failures = failures_after fuse.failures result }
+after_call fuse inner result =
+    fuse_of inner fuse.pass fuse.fail (counted fuse.calls) (failures_after fuse.failures result)
 
 -- the fuse as a disk: the disk within, with its own count of failures
 abbrev pub with_failures : DiskState → ℕ → DiskState
@@ -59,20 +65,69 @@ pub record PutsHalf (old new : DiskState) (at : ℕ) (bytes : List ℕ) : Type 0
   pub later : old.failures ≤ new.failures
   pub half : ¬ (Rises old.failures new.failures) → new.reading ≡ splice old.reading at (take (length bytes / 2) bytes)
 
--- A read through a fuse: one that fails asks nothing of the disk within, and any other is its read.
-pub record FuseReads {D : Type 0} (bound : Ghosts D) (old new : Fuse D) (at : ℕ) (before after : List ℕ) {T : Type 0} (result : Result T DiskFault) : Type 0 where
-  pub counts : new ≡ after_call old new.inner result
-  pub blown : is_blown old ≡ true → (result ≡ Err record {}) × (new.inner ≡ old.inner) × (after ≡ before)
-  pub passed : is_blown old ≡ false → bound.honest old.inner → Reads (bound.state old.inner) (bound.state new.inner) at after result
+-- the fuse as a disk
+abbrev pub fuse_state : {D : Type 0} → Ghosts D → Fuse D → DiskState
+fuse_state bound fuse = with_failures (bound.state fuse.inner) fuse.failures
 
--- A write through a fuse: one that fails puts down half, and any other is the write of the disk within.
-pub record FuseWrites {D : Type 0} (bound : Ghosts D) (old new : Fuse D) (at : ℕ) (bytes : List ℕ) {T : Type 0} (result : Result T DiskFault) : Type 0 where
-  pub counts : new ≡ after_call old new.inner result
-  pub blown : is_blown old ≡ true → (result ≡ Err record {}) × (bound.honest old.inner → PutsHalf (bound.state old.inner) (bound.state new.inner) at bytes)
-  pub passed : is_blown old ≡ false → bound.honest old.inner → Writes (bound.state old.inner) (bound.state new.inner) at bytes result
+-- what a crash leaves of the fuse is what it leaves of the disk within
+pub may_under : (disk : DiskState) (failures : ℕ) (bytes : List ℕ) → MayLeave disk bytes
+    → MayLeave (with_failures disk failures) bytes
+may_under disk failures bytes may = record { same_length = may.same_length; settled = may.settled }
 
--- A sync through a fuse: one that fails asks nothing of the disk within, and any other is its sync.
-pub record FuseSyncs {D : Type 0} (bound : Ghosts D) (old new : Fuse D) {T : Type 0} (result : Result T DiskFault) : Type 0 where
-  pub counts : new ≡ after_call old new.inner result
-  pub blown : is_blown old ≡ true → (result ≡ Err record {}) × (new.inner ≡ old.inner)
-  pub passed : is_blown old ≡ false → bound.honest old.inner → Syncs (bound.state old.inner) (bound.state new.inner) result
+pub may_within : (disk : DiskState) (failures : ℕ) (bytes : List ℕ) → MayLeave (with_failures disk failures) bytes
+    → MayLeave disk bytes
+may_within disk failures bytes may = record { same_length = may.same_length; settled = may.settled }
+
+-- so the laws of a disk hold of the fuse where they hold of the disk within
+pub counts_under : (disk : DiskState) (failures t : ℕ) (bytes : List ℕ) → CountsNow disk t bytes
+    → CountsNow (with_failures disk failures) t bytes
+counts_under disk failures t bytes counts le may = counts le (may_within disk failures bytes may)
+
+pub only_under : (disk : DiskState) (failures : ℕ) (bytes : List ℕ) → OnlyNow disk bytes
+    → OnlyNow (with_failures disk failures) bytes
+only_under disk failures bytes only left = may_under disk failures bytes (only left)
+
+-- what a call of a fuse over an honest disk does
+abbrev pub HonestReads : {D : Type 0} → Ghosts D → Fuse D → Fuse D → ℕ → List ℕ → Answer → Type 0
+HonestReads bound old new at out answer =
+    bound.honest old.inner → Reads (fuse_state bound old) (fuse_state bound new) at out answer
+
+abbrev pub HonestWrites : {D : Type 0} → Ghosts D → Fuse D → Fuse D → ℕ → List ℕ → Answer → Type 0
+HonestWrites bound old new at bytes answer =
+    bound.honest old.inner → Writes (fuse_state bound old) (fuse_state bound new) at bytes answer
+
+abbrev pub HonestSyncs : {D : Type 0} → Ghosts D → Fuse D → Fuse D → Answer → Type 0
+HonestSyncs bound old new answer =
+    bound.honest old.inner → Syncs (fuse_state bound old) (fuse_state bound new) answer
+
+-- a call that fails asks nothing of the disk within
+abbrev pub IsRefused : {D : Type 0} → Fuse D → Fuse D → Answer → Type 0
+IsRefused old new answer = (answer ≡ Err record {}) × (new.inner ≡ old.inner)
+
+-- A read through a fuse: one that fails asks nothing of the disk within, and any other is one read of it.
+pub record FuseReads {D : Type 0} (bound : Ghosts D) (old new : Fuse D) (at : ℕ) (before after : List ℕ)
+    (answer : Answer) : Type 0 where
+  pub counts : new ≡ after_call old new.inner answer
+  pub blown : is_blown old ≡ true → IsRefused old new answer × (after ≡ before)
+  pub passed : is_blown old ≡ false → bound.own_read old.inner new.inner at before after answer
+  pub reads : is_blown old ≡ false → bound.honest old.inner
+      → Reads (bound.state old.inner) (bound.state new.inner) at after answer
+
+-- A write through a fuse: one that fails puts down half, and any other is one write of the disk within.
+pub record FuseWrites {D : Type 0} (bound : Ghosts D) (old new : Fuse D) (at : ℕ) (bytes : List ℕ) (answer : Answer)
+    : Type 0 where
+  pub counts : new ≡ after_call old new.inner answer
+  pub fails : is_blown old ≡ true → answer ≡ Err record {}
+  pub blown : is_blown old ≡ true → bound.honest old.inner
+      → PutsHalf (bound.state old.inner) (bound.state new.inner) at bytes
+  pub passed : is_blown old ≡ false → bound.own_write old.inner new.inner at bytes answer
+  pub writes : is_blown old ≡ false → bound.honest old.inner
+      → Writes (bound.state old.inner) (bound.state new.inner) at bytes answer
+
+-- A sync through a fuse: one that fails asks nothing of the disk within, and any other is one sync of it.
+pub record FuseSyncs {D : Type 0} (bound : Ghosts D) (old new : Fuse D) (answer : Answer) : Type 0 where
+  pub counts : new ≡ after_call old new.inner answer
+  pub blown : is_blown old ≡ true → IsRefused old new answer
+  pub passed : is_blown old ≡ false → bound.own_sync old.inner new.inner answer
+  pub syncs : is_blown old ≡ false → bound.honest old.inner
+      → Syncs (bound.state old.inner) (bound.state new.inner) answer

@@ -1,4 +1,5 @@
 pub mod Fuse
+pub mod Keeps
 pub mod Kept
 pub mod Memory
 pub mod Stamps

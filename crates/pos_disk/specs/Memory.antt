@@ -1,6 +1,6 @@
 -- A disk in memory, as contracts see it.
-use Rattle.std.specs.Prelude.{◌≡◌, ◌⊎◌, ◌≤◌, ◌<◌, ◌++◌, ℕ, List, [], ◌∷◌, Bool, true, false, length, get_or, replicate}
-use Rattle.pos_disk.specs.State.{DiskState, splice}
+use Rattle.std.specs.Prelude.{◌≡◌, ◌⊎◌, ◌≤◌, ◌<◌, ◌++◌, ℕ, List, [], ◌∷◌, Bool, true, false, length, get_or, replicate, Ok}
+use Rattle.pos_disk.specs.State.{DiskState, Answer, splice}
 use Rattle.pos_disk.specs.declared.fill.Fill.{Fill}
 use Rattle.pos_disk.specs.declared.fill.Fill.TheVariants.{Old, New, Byte}
 
@@ -22,7 +22,8 @@ pub record LeftAt (moment : Moment) (bytes : List ℕ) : Type 0 where
 
 -- a crash at the moment with number t, or at some moment after it, may have left these bytes
 abbrev pub LeftSince : List Moment → Moment → ℕ → List ℕ → Type 0
-LeftSince past present t bytes = ((k : ℕ) × (t ≤ k) × (k < length past) × LeftAt (get_or past k present) bytes) ⊎ LeftAt present bytes
+LeftSince past present t bytes =
+    ((k : ℕ) × (t ≤ k) × (k < length past) × LeftAt (get_or past k present) bytes) ⊎ LeftAt present bytes
 
 -- the disk in the terms of every disk; it never fails
 abbrev pub state_of : Memory → DiskState
@@ -36,12 +37,19 @@ state_of disk = record {
 
 -- a disk with these bytes, at rest
 abbrev pub fresh : List ℕ → Memory
-fresh bytes = record { present = record { reading = bytes; loose = replicate (length bytes) false }; settled = bytes; past = [] }
+fresh bytes = record {
+  present = record { reading = bytes; loose = replicate (length bytes) false };
+  settled = bytes;
+  past = [];
+}
 
 -- bytes were written at a place
 abbrev pub written : ℕ → List ℕ → Memory → Memory
 written at bytes disk = record {
-  present = record { reading = splice disk.present.reading at bytes; loose = splice disk.present.loose at (replicate (length bytes) true) };
+  present = record {
+    reading = splice disk.present.reading at bytes;
+    loose = splice disk.present.loose at (replicate (length bytes) true);
+  };
   settled = disk.settled;
   past = disk.past ++ disk.present ∷ [];
 }
@@ -61,3 +69,15 @@ abbrev pub filled : Fill → Memory → List ℕ
 filled Old disk = disk.settled
 filled New disk = disk.present.reading
 filled (Byte byte) disk = choose disk.present.loose (replicate (length disk.present.reading) byte) disk.present.reading
+
+-- a read of a disk in memory succeeds and leaves it as it is
+abbrev pub MemoryReads : Memory → Memory → ℕ → List ℕ → List ℕ → Answer → Type 0
+MemoryReads old new at before after answer = (answer ≡ Ok tt) × (new ≡ old)
+
+-- a write succeeds and puts the bytes down
+abbrev pub MemoryWrites : Memory → Memory → ℕ → List ℕ → Answer → Type 0
+MemoryWrites old new at bytes answer = (answer ≡ Ok tt) × (new ≡ written at bytes old)
+
+-- a sync succeeds and settles what was written
+abbrev pub MemorySyncs : Memory → Memory → Answer → Type 0
+MemorySyncs old new answer = (answer ≡ Ok tt) × (new ≡ synced old)

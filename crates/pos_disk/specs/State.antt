@@ -2,6 +2,10 @@
 use Rattle.std.specs.Prelude.{◌≡◌, ◌⊎◌, ◌≤◌, ◌<◌, ◌^◌, ℕ, ◌+◌, List, ◌++◌, length, take, drop, get_or, Result, OnOk, OnErr}
 use Rattle.pos_disk.specs.declared.device.DiskFault.{DiskFault}
 
+-- what a read, a write or a sync answers
+abbrev pub Answer : Type 0
+Answer = Result (Unit {0}) DiskFault
+
 -- An honest disk at one moment.
 pub record DiskState : Type 1 where
   -- the bytes that a read gives
@@ -44,7 +48,8 @@ Rises before now = (before < now) ⊎ (before + 1 ≡ 2 ^ 64)
 pub record Elapses (old new : DiskState) : Type 0 where
   pub later : old.moment ≤ new.moment
   pub keeps : (t : ℕ) (bytes : List ℕ) → t ≤ old.moment → old.left_since t bytes → new.left_since t bytes
-  pub nothing_else : (t : ℕ) (bytes : List ℕ) → t ≤ old.moment → new.left_since t bytes → old.left_since t bytes ⊎ MayLeave new bytes
+  pub nothing_else : (t : ℕ) (bytes : List ℕ) → t ≤ old.moment → new.left_since t bytes
+      → old.left_since t bytes ⊎ MayLeave new bytes
 
 -- A fault is answered only where the disk has failed. The count never falls, and its last value is 2 ^ 64 - 1.
 pub record HasCause {T : Type 0} (old new : DiskState) (result : Result T DiskFault) : Type 0 where
@@ -63,7 +68,8 @@ pub record Reads {T : Type 0} (old new : DiskState) (at : ℕ) (out : List ℕ) 
 
 -- Bytes were written at a place: all of them where the write succeeded, else any bytes in their range.
 -- The range is loose from the beginning of the write on, whatever its result.
-pub record Writes {T : Type 0} (old new : DiskState) (at : ℕ) (bytes : List ℕ) (result : Result T DiskFault) : Type 0 where
+pub record Writes {T : Type 0} (old new : DiskState) (at : ℕ) (bytes : List ℕ) (result : Result T DiskFault)
+    : Type 0 where
   pub written : OnOk result (new.reading ≡ splice old.reading at bytes)
   pub same_length : length new.reading ≡ length old.reading
   pub elsewhere : (i : ℕ) → ¬ (InRange at (length bytes) i) → get_or new.reading i 0 ≡ get_or old.reading i 0
@@ -86,6 +92,14 @@ pub record LeavesOnly (old new : DiskState) (P : List ℕ → Type 0) : Type 0 w
   pub each : (bytes : List ℕ) → new.left_since old.moment bytes → P bytes
   -- for a run that began earlier
   pub before : (t : ℕ) (bytes : List ℕ) → t ≤ old.moment → new.left_since t bytes → old.left_since t bytes ⊎ P bytes
+
+-- what a crash may leave now is among what a crash since an earlier moment may have left
+abbrev pub CountsNow : DiskState → ℕ → List ℕ → Type 0
+CountsNow disk t bytes = t ≤ disk.moment → MayLeave disk bytes → disk.left_since t bytes
+
+-- what a crash since this very moment may have left is among what a crash may leave now
+abbrev pub OnlyNow : DiskState → List ℕ → Type 0
+OnlyNow disk bytes = disk.left_since disk.moment bytes → MayLeave disk bytes
 
 -- The disk was only looked at: a crash at any moment leaves what a crash before might have left.
 pub record Watches (old new : DiskState) : Type 0 where

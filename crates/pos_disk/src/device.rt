@@ -1,6 +1,6 @@
 // A disk as the layers above see it, honest or not.
 ghost use Rattle.std.specs.Prelude.{◌↔◌, ◌≡◌, ◌≤◌, ◌+◌, List, ℕ, length};
-ghost use Rattle.pos_disk.specs.State.{DiskState, MayLeave, Reads, Writes, Syncs};
+ghost use Rattle.pos_disk.specs.State.{DiskState, Answer, MayLeave, Reads, Writes, Syncs};
 
 use thiserror::Error;
 
@@ -21,6 +21,16 @@ pub trait Disk {
     /// What an honest disk is at this moment.
     ghost state: { Self → DiskState };
 
+    /// What one read of this very disk does, honest or not: the disk before and after, the place, what `out` held
+    /// before and holds after, and the answer. By it a disk that hands a call on says that it made this one call.
+    ghost own_read: { Self → Self → ℕ → List ℕ → List ℕ → Answer → Type 0 };
+
+    /// What one write of this very disk does: the disk before and after, the place, the bytes and the answer.
+    ghost own_write: { Self → Self → ℕ → List ℕ → Answer → Type 0 };
+
+    /// What one sync of this very disk does: the disk before and after, and the answer.
+    ghost own_sync: { Self → Self → Answer → Type 0 };
+
     /// How many bytes it has.
     fn len(&self) -> u64
         ensures { result ≡ size self.now };
@@ -30,7 +40,8 @@ pub trait Disk {
         requires { at + length out.old ≤ size self.old }
         ensures size { size self.new ≡ size self.old }
         ensures honest { honest self.old ↔ honest self.new }
-        ensures reads { honest self.old → Reads (state self.old) (state self.new) at out.new result };
+        ensures reads { honest self.old → Reads (state self.old) (state self.new) at out.new result }
+        ensures own { own_read self.old self.new at out.old out.new result };
 
     /// Writes the bytes from place `at` on. After a fault any bytes stand there. From the beginning of a write on its
     /// range is loose, whatever its answer.
@@ -38,21 +49,25 @@ pub trait Disk {
         requires { at + length bytes.now ≤ size self.old }
         ensures size { size self.new ≡ size self.old }
         ensures honest { honest self.old ↔ honest self.new }
-        ensures writes { honest self.old → Writes (state self.old) (state self.new) at bytes.now result };
+        ensures writes { honest self.old → Writes (state self.old) (state self.new) at bytes.now result }
+        ensures own { own_write self.old self.new at bytes.now result };
 
     /// Makes what was written stay: after a success a crash leaves what a read gives. After a fault nothing is promised
     /// to have settled.
     fn sync(&mut self) -> Result<(), DiskFault>
         ensures size { size self.new ≡ size self.old }
         ensures honest { honest self.old ↔ honest self.new }
-        ensures syncs { honest self.old → Syncs (state self.old) (state self.new) result };
+        ensures syncs { honest self.old → Syncs (state self.old) (state self.new) result }
+        ensures own { own_sync self.old self.new result };
 
     /// An honest disk has as many bytes as its size.
     ghost whole: { (disk : Self) → honest disk → length (state disk).reading ≡ size disk };
 
     /// What a crash may leave now is among what a crash since an earlier moment may have left.
-    ghost counts_now: { (disk : Self) (t : ℕ) (bytes : List ℕ) → honest disk → t ≤ (state disk).moment → MayLeave (state disk) bytes → (state disk).left_since t bytes };
+    ghost counts_now: { (disk : Self) (t : ℕ) (bytes : List ℕ) → honest disk → t ≤ (state disk).moment
+        → MayLeave (state disk) bytes → (state disk).left_since t bytes };
 
     /// A crash since this very moment leaves what a crash may leave now.
-    ghost only_now: { (disk : Self) (bytes : List ℕ) → honest disk → (state disk).left_since (state disk).moment bytes → MayLeave (state disk) bytes };
+    ghost only_now: { (disk : Self) (bytes : List ℕ) → honest disk → (state disk).left_since (state disk).moment bytes
+        → MayLeave (state disk) bytes };
 }

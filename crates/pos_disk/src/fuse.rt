@@ -1,6 +1,6 @@
 // A disk that fails on demand.
 ghost use Rattle.std.specs.Prelude.{◌≡◌, ◌≤◌, ◌+◌, ◌-◌, ◌↔◌, ℕ, length, Result, Ok, Err};
-ghost use Rattle.pos_disk.specs.Fuse.{counted, is_blown, Loosens, PutsHalf};
+ghost use Rattle.pos_disk.specs.Fuse.{counted, fuse_of, is_blown, Loosens, PutsHalf};
 
 use crate::{Disk, DiskFault};
 use std::marker::Model;
@@ -20,11 +20,11 @@ pub struct FuseDisk<D: Disk> {
 
 impl<D: Disk> Model for FuseDisk<D> {
     ghost use Rattle.std.specs.Prelude.{◌<◌, ◌^◌};
-    ghost use Rattle.pos_disk.specs.Fuse.{Fuse};
+    ghost use Rattle.pos_disk.specs.Fuse.{Fuse, fuse_of};
 
     ghost Value = { Fuse D };
 
-    ghost view = { λ f. record { inner = f.inner; pass = f.pass; fail = f.fail; calls = f.calls; failures = f.failures } };
+    ghost view = { λ f. fuse_of f.inner f.pass f.fail f.calls f.failures };
 
     ghost invariant = { λ f. f.failures < 2 ^ 64 };
 }
@@ -32,7 +32,7 @@ impl<D: Disk> Model for FuseDisk<D> {
 impl<D: Disk> FuseDisk<D> {
     /// A disk over this one, with no call so far.
     pub fn new(inner: D, pass: u64, fail: u64) -> FuseDisk<D>
-        ensures { result ≡ record { inner = inner; pass = pass; fail = fail; calls = 0; failures = 0 } }
+        ensures { result ≡ fuse_of inner pass fail 0 0 }
     {
         FuseDisk {
             inner,
@@ -105,20 +105,25 @@ impl<D: Disk> FuseDisk<D> {
 }
 
 impl<D: Disk> Disk for FuseDisk<D> {
-    ghost use Rattle.pos_disk.specs.State.{Reads, Writes, Syncs};
-    ghost use Rattle.pos_disk.specs.Fuse.{with_failures, FuseReads, FuseWrites, FuseSyncs};
+    ghost use Rattle.pos_disk.specs.Fuse.{fuse_state, counts_under, only_under, HonestReads, HonestWrites, HonestSyncs, FuseReads, FuseWrites, FuseSyncs};
 
     ghost size = { λ f. D.size f.inner };
 
     ghost honest = { λ f. D.honest f.inner };
 
-    ghost state = { λ f. with_failures (D.state f.inner) f.failures };
+    ghost state = { fuse_state D.Disk };
+
+    ghost own_read = { FuseReads D.Disk };
+
+    ghost own_write = { FuseWrites D.Disk };
+
+    ghost own_sync = { FuseSyncs D.Disk };
 
     ghost whole = { λ f honest. D.whole f.inner honest };
 
-    ghost counts_now = { λ f t c honest le may. D.counts_now f.inner t c honest le (record { same_length = may.same_length; settled = may.settled }) };
+    ghost counts_now = { λ f t c h. counts_under (D.state f.inner) f.failures t c (D.counts_now f.inner t c h) };
 
-    ghost only_now = { λ f c honest left. let may = D.only_now f.inner c honest left in record { same_length = may.same_length; settled = may.settled } };
+    ghost only_now = { λ f c h. only_under (D.state f.inner) f.failures c (D.only_now f.inner c h) };
 
     fn len(&self) -> u64 {
         self.inner.len()
@@ -128,7 +133,7 @@ impl<D: Disk> Disk for FuseDisk<D> {
         requires { at + length out.old ≤ D.size self.old.inner }
         ensures size { D.size self.new.inner ≡ D.size self.old.inner }
         ensures honest { D.honest self.old.inner ↔ D.honest self.new.inner }
-        ensures reads { D.honest self.old.inner → Reads (with_failures (D.state self.old.inner) self.old.failures) (with_failures (D.state self.new.inner) self.new.failures) at out.new result }
+        ensures reads { HonestReads D.Disk self.old self.new at out.new result }
         ensures fuse { FuseReads D.Disk self.old self.new at out.old out.new result }
     {
         let blown = self.is_blown();
@@ -148,7 +153,7 @@ impl<D: Disk> Disk for FuseDisk<D> {
         requires { at + length bytes.now ≤ D.size self.old.inner }
         ensures size { D.size self.new.inner ≡ D.size self.old.inner }
         ensures honest { D.honest self.old.inner ↔ D.honest self.new.inner }
-        ensures writes { D.honest self.old.inner → Writes (with_failures (D.state self.old.inner) self.old.failures) (with_failures (D.state self.new.inner) self.new.failures) at bytes.now result }
+        ensures writes { HonestWrites D.Disk self.old self.new at bytes.now result }
         ensures fuse { FuseWrites D.Disk self.old self.new at bytes.now result }
     {
         let blown = self.is_blown();
@@ -168,7 +173,7 @@ impl<D: Disk> Disk for FuseDisk<D> {
     fn sync(&mut self) -> Result<(), DiskFault>
         ensures size { D.size self.new.inner ≡ D.size self.old.inner }
         ensures honest { D.honest self.old.inner ↔ D.honest self.new.inner }
-        ensures syncs { D.honest self.old.inner → Syncs (with_failures (D.state self.old.inner) self.old.failures) (with_failures (D.state self.new.inner) self.new.failures) result }
+        ensures syncs { HonestSyncs D.Disk self.old self.new result }
         ensures fuse { FuseSyncs D.Disk self.old self.new result }
     {
         let blown = self.is_blown();

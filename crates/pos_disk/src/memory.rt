@@ -123,7 +123,7 @@ fn next_stamp(stamps: &mut Vec<u32>, stamp: u32) -> u32
 
 impl Disk for MemDisk {
     ghost use Rattle.pos_disk.specs.State.{Reads, Writes, Syncs};
-    ghost use Rattle.pos_disk.specs.Memory.{state_of, written, synced};
+    ghost use Rattle.pos_disk.specs.Memory.{state_of, written, synced, MemoryReads, MemoryWrites, MemorySyncs};
     ghost use Rattle.pos_disk.specs.Kept.{counts, only};
 
     ghost size = { λ m. length m.present.reading };
@@ -132,11 +132,17 @@ impl Disk for MemDisk {
 
     ghost state = { state_of };
 
+    ghost own_read = { MemoryReads };
+
+    ghost own_write = { MemoryWrites };
+
+    ghost own_sync = { MemorySyncs };
+
     ghost whole = { λ m _. refl };
 
-    ghost counts_now = { λ m t bytes _ _ may. counts m t bytes may };
+    ghost counts_now = { λ m t bytes _. counts m t bytes };
 
-    ghost only_now = { λ m bytes _ left. only m bytes left };
+    ghost only_now = { λ m bytes _. only m bytes };
 
     fn len(&self) -> u64 {
         self.bytes.len() as u64

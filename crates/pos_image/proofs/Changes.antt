@@ -7,7 +7,8 @@ use Rattle.pos_disk.proofs.Moments.{started, weaker, rest_leaves}
 use Rattle.pos_disk.proofs.Bytes.{length-splice, splice_elsewhere, part-splice, get_or-part}
 use Rattle.pos_disk.specs.declared.device.Disk.{Ghosts}
 use Rattle.pos_disk.specs.Within.{SameBut}
-use Rattle.pos_image.specs.Layout.{start, other, is_open, Stages}
+use Rattle.pos_image.specs.Layout.{start, other, is_open}
+use Rattle.pos_image.specs.Steps.{Stages}
 use Rattle.pos_image.specs.Slots.{IsCurrent, IsPrepared, HasFields}
 use Rattle.pos_image.specs.Standing.{log_of, HasImage, HasNewImage, HasEither}
 use Rattle.pos_image.specs.Images.{View, IsSound, IsReady, next_of, body_or_nothing}
@@ -37,13 +38,16 @@ ready bound images large counted sound = record {
 }
 
 module _ (old new : DiskState) (slot : Slot) (body : List ℕ) (sequence : ℕ) (current : IsCurrent old.reading slot body sequence) where
+  -- bytes where an image is being put into the other slot hold the current image and its log
   pub staged : (c : List ℕ) → Stages (start (other slot)) old.reading c → HasImage body sequence (log_of old.reading) c
   staged c stages =
       kept_image slot old.reading c body sequence (start (other slot)) 32768 (omega arith) (omega arith) current (stage_current slot old.reading c body sequence current stages) stages.same
 
+  -- so does each crash then
   pub staging : LeavesOnly old new (Stages (start (other slot)) old.reading) → LeavesOnly old new (HasImage body sequence (log_of old.reading))
   staging = weaker old new (Stages (start (other slot)) old.reading) (HasImage body sequence (log_of old.reading)) staged
 
+  -- each crash while the gate is written leaves the old image or the new one
   pub publishing : (next : List ℕ) → IsPrepared old.reading (other slot) next (sequence + 1) → LeavesOnly old new (SameBut (start (other slot)) 1 old.reading) → LeavesOnly old new (HasEither body next sequence (log_of old.reading))
   publishing next prepared = weaker old new (SameBut (start (other slot)) 1 old.reading) (HasEither body next sequence (log_of old.reading)) (λ c same.
       elim (cases_Bool (is_open c (start (other slot)))) [
@@ -59,7 +63,7 @@ beside_leaves bound old disk at at_is was is_ready moments =
     (subst (λ (place : ℕ). LeavesOnly (bound.state old.disk) (bound.state disk) (Stages place (bound.state old.disk).reading)) at_is moments)
 
 -- the image that was put into a slot
-pub placed : (bytes body : List ℕ) (slot : Slot) (sequence : ℕ) → length body ≤ 16371 → is_open bytes (start slot) ≡ false → is_open bytes (start slot + 16384) ≡ false → HasFields bytes (start slot) sequence body
+pub placed : (bytes body : List ℕ) (slot : Slot) (sequence : ℕ) → length body ≤ 16371 → is_open bytes (start slot) ≡ false → get_or bytes (start slot + 16384) 0 ≡ 0 → HasFields bytes (start slot) sequence body
     → IsPrepared bytes slot body sequence
 placed bytes body slot sequence short shut no_log fields = record {
   gate = shut;
@@ -108,6 +112,7 @@ module _ {D : Type 0} (bound : Ghosts D) (old : View D) (disk : D) (next : List 
         let sound = is_ready.sound was in
         published old.slot (bound.state old.disk).reading (bound.state disk).reading old.body next old.sequence sound.current (prepared_is (bound.state old.disk) old next is_next sound) opened gate
 
+    -- and is there with no log
     pub publish_new : HasNewImage next (old.sequence + 1) (bound.state disk).reading
     publish_new =
         let sound = is_ready.sound was in

@@ -1,47 +1,56 @@
 -- The current image, and what changes of the other slot leave of it.
-use Rattle.std.proofs.Common.{◌≡◌, ◌⊎◌, inl, inr, ⊎_elim, ℕ, ◌+◌, ◌≤◌, ◌<◌, List, length, refl, sym, ap, subst, ◌∙◌, arith, true, false, nat_lt, nat_le, nat_eq}
+use Rattle.std.proofs.Common.{◌≡◌, ◌⊎◌, inl, inr, ⊎_elim, ℕ, ◌+◌, ◌≤◌, ◌<◌, List, length, get_or, refl, sym, ap, subst, ◌∙◌, arith, true, false, nat_lt, nat_le, nat_eq}
 use Rattle.std.specs.Int.{w32, w64, from_be_bytes}
 use Rattle.std.proofs.lemmas.Bool.{cases_Bool}
 use Rattle.std.proofs.lemmas.Bool.Decides.{nat_tests}
 use Rattle.pos_disk.specs.State.{InRange, part}
 use Rattle.pos_disk.proofs.Bytes.{same_part}
 use Rattle.pos_disk.specs.Within.{SameBut}
-use Rattle.pos_image.specs.Layout.{start, other, is_open, sequence_at, length_at, body_at, Stages}
+use Rattle.pos_image.specs.Layout.{start, other, is_open, sequence_at, length_at, body_at}
+use Rattle.pos_image.specs.Steps.{Stages}
 use Rattle.pos_image.specs.Slots.{IsCurrent, IsPrepared, IsFound}
-use Rattle.pos_image.specs.Standing.{Stands, stands, image_at}
+use Rattle.pos_image.specs.Standing.{OneImage, image_on, image_at}
 use Rattle.pos_image.specs.declared.slot.Slot.{Slot}
 use Rattle.pos_image.specs.declared.slot.Slot.TheVariants.{First, Second}
 
+-- the slot beside the slot beside this one is this one
 pub other_other : (slot : Slot) → other (other slot) ≡ slot
 other_other First = refl
 other_other Second = refl
 
+-- both slots begin at 32,768 at the latest
 pub start_low : (slot : Slot) → start slot ≤ 32768
 start_low First = omega arith
 start_low Second = omega arith
 
+-- the slots lie apart
 pub apart : (slot : Slot) → (start slot + 32768 ≤ start (other slot)) ⊎ (start (other slot) + 32768 ≤ start slot)
 apart First = inl (omega arith)
 apart Second = inr (omega arith)
 
 module _ (old new : List ℕ) (at n : ℕ) (same : SameBut at n old new) where
+  -- a gate outside the range is as it was
   pub kept_gate : (i : ℕ) → ¬ (InRange at n i) → is_open new i ≡ is_open old i
   kept_gate i outside = ap (λ (b : ℕ). nat_eq b 165) (same.elsewhere i outside)
 
+  -- so is a part
   pub kept_part : (place m : ℕ) → place + m ≤ length old → ((i : ℕ) → InRange place m i → ¬ (InRange at n i)) → part place m new ≡ part place m old
   kept_part place m fits outside =
       same_part new old place m (omega (arith, same.same_length)) same.same_length (λ i inside. same.elsewhere i (outside i inside))
 
+  -- a sequence
   pub kept_sequence : (place : ℕ) → place + 13 ≤ length old → ((i : ℕ) → InRange (place + 1) 12 i → ¬ (InRange at n i)) → sequence_at new place ≡ sequence_at old place
   unfolding sequence_at
   kept_sequence place fits outside =
       ap (from_be_bytes w64) (kept_part (place + 1) 8 (omega arith) (λ i inside. outside i (inside.0, omega (arith, inside.1))))
 
+  -- a length
   pub kept_length : (place : ℕ) → place + 13 ≤ length old → ((i : ℕ) → InRange (place + 1) 12 i → ¬ (InRange at n i)) → length_at new place ≡ length_at old place
   unfolding length_at
   kept_length place fits outside =
       ap (from_be_bytes w32) (kept_part (place + 9) 4 (omega arith) (λ i inside. outside i (omega (arith, inside.0), omega (arith, inside.1))))
 
+  -- and a body
   pub kept_body : (place : ℕ) → place + 16384 ≤ length old → length_at old place ≤ 16371 → ((i : ℕ) → InRange (place + 1) 16383 i → ¬ (InRange at n i)) → body_at new place ≡ body_at old place
   unfolding body_at
   kept_body place fits short outside =
@@ -111,18 +120,21 @@ published slot old new body next sequence current prepared same opened =
       greater = λ _. subst (λ (s : Slot). sequence_at new (start s) < sequence + 1) (sym (other_other slot)) (omega (arith, kept, was));
     }
 
--- the first gate of its log stays closed
+-- the first gate of its log stays 0
 pub published_log : (slot : Slot) (old new body next : List ℕ) (sequence : ℕ) → IsCurrent old slot body sequence → IsPrepared old (other slot) next (sequence + 1) → SameBut (start (other slot)) 1 old new
-    → is_open new (start (other slot) + 16384) ≡ false
+    → get_or new (start (other slot) + 16384) 0 ≡ 0
 published_log slot old new body next sequence current prepared same =
-    kept_gate old new (start (other slot)) 1 same (start (other slot) + 16384) (λ hit. absurd (omega (arith, hit.1))) ∙ prepared.log
+    same.elsewhere (start (other slot) + 16384) (λ hit. absurd (omega (arith, hit.1))) ∙ prepared.log
 
+-- the lesser of two numbers is not the other
 pub differ : (a b : ℕ) → a < b → (nat_eq a b ≡ false) × (nat_eq b a ≡ false)
 differ a b less = (grind (arith, nat_tests), grind (arith, nat_tests))
 
+-- the tests of the definitions, by the numbers
 pub long_enough : (a b : ℕ) → b ≤ a → nat_lt a b ≡ false
 long_enough a b le = grind (arith, nat_tests)
 
+-- and of a lesser number
 pub less_than : (a b : ℕ) → a < b → nat_lt a b ≡ true
 less_than a b less = grind (arith, nat_tests)
 
@@ -130,14 +142,14 @@ at_most : (a b : ℕ) → a ≤ b → nat_le a b ≡ true
 at_most a b le = grind (arith, nat_tests)
 
 -- the image in a slot, where it fits
-stands_at : (bytes body : List ℕ) (sequence place : ℕ) → length_at bytes place ≤ 16371 → body_at bytes place ≡ body → sequence_at bytes place ≡ sequence → image_at bytes place ≡ Stands body sequence
+stands_at : (bytes body : List ℕ) (sequence place : ℕ) → length_at bytes place ≤ 16371 → body_at bytes place ≡ body → sequence_at bytes place ≡ sequence → image_at bytes place ≡ OneImage body sequence
 stands_at bytes body sequence place fits body_is sequence_is =
     let yes = at_most (length_at bytes place) 16371 fits in
-    rw yes (λ i. Stands (body_is i) (sequence_is i))
+    rw yes (λ i. OneImage (body_is i) (sequence_is i))
 
 -- the bytes stand for the current image
-pub current_stands : (slot : Slot) (bytes body : List ℕ) (sequence : ℕ) → IsCurrent bytes slot body sequence → stands bytes ≡ Stands body sequence
-unfolding stands
+pub current_stands : (slot : Slot) (bytes body : List ℕ) (sequence : ℕ) → IsCurrent bytes slot body sequence → image_on bytes ≡ OneImage body sequence
+unfolding image_on
 current_stands First bytes body sequence current =
     let long = long_enough (length bytes) 327680 current.whole in
     let here : is_open bytes 0 ≡ true = current.gate in

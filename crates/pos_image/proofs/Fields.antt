@@ -29,5 +29,6 @@ module _ (bytes body : List ℕ) (at sequence : ℕ) (fits : at + 13 ≤ length 
   unfolding body_at
   body_is = ap (λ (m : ℕ). part (at + 13) m bytes) length_is ∙ behind
 
+  -- the slot has these fields
   pub fields : HasFields bytes at sequence body
   fields = record { sequence_is = sequence_is; length_is = length_is; body_is = body_is }

@@ -1,5 +1,5 @@
 -- The log span of the current slot.
-use Rattle.std.proofs.Common.{◌≡◌, inl, inr, ⊎_elim, ℕ, ◌+◌, ◌≤◌, ◌<◌, List, get_or, refl, sym, ap, subst, ◌∙◌, arith, true, false, nat_eq}
+use Rattle.std.proofs.Common.{◌≡◌, inl, inr, ⊎_elim, ℕ, ◌+◌, ◌≤◌, ◌<◌, List, get_or, refl, sym, ap, subst, ◌∙◌, arith, true}
 use Rattle.std.proofs.lemmas.Bool.{cases_Bool}
 use Rattle.pos_disk.specs.State.{part}
 use Rattle.pos_disk.proofs.Bytes.{get_or-part}
@@ -30,6 +30,7 @@ current_place Second bytes body sequence current =
       | inr shut ↦ rw shut refl
     ]
 
+-- the log lies behind the current image
 pub log_place : (slot : Slot) (bytes body : List ℕ) (sequence : ℕ) → IsCurrent bytes slot body sequence → log_of bytes ≡ part (start slot + 16384) 16384 bytes
 unfolding log_of
 log_place slot bytes body sequence current = ap (λ (at : ℕ). part (at + 16384) 16384 bytes) (current_place slot bytes body sequence current)
@@ -51,8 +52,8 @@ kept_image slot old new body sequence at n low high was is same =
           ∙ sym (log_place slot old body sequence was);
     }
 
--- a new image, whose log has a closed first gate
-pub new_image : (slot : Slot) (bytes body : List ℕ) (sequence : ℕ) → IsCurrent bytes slot body sequence → is_open bytes (start slot + 16384) ≡ false → HasNewImage body sequence bytes
+-- a new image, whose log has 0 in its first gate
+pub new_image : (slot : Slot) (bytes body : List ℕ) (sequence : ℕ) → IsCurrent bytes slot body sequence → get_or bytes (start slot + 16384) 0 ≡ 0 → HasNewImage body sequence bytes
 new_image slot bytes body sequence current shut =
     let here : start slot + 16384 + 0 ≡ start slot + 16384 = omega arith in
     let first : get_or (log_of bytes) 0 0 ≡ get_or bytes (start slot + 16384) 0 =
@@ -60,5 +61,5 @@ new_image slot bytes body sequence current shut =
     ∙ get_or-part (start slot + 16384) 16384 bytes 0 (omega arith) ∙ ap (λ (k : ℕ). get_or bytes k 0) here in
     record {
       image = current_stands slot bytes body sequence current;
-      log = ap (λ (byte : ℕ). nat_eq byte 165) first ∙ shut;
+      log = first ∙ shut;
     }

@@ -1,36 +1,36 @@
 -- What formatting leaves.
-use Rattle.std.proofs.Common.{◌≡◌, inl, inr, ℕ, ◌+◌, ◌≤◌, List, [], ◌∷◌, length, sym, ap, subst, ◌∙◌, arith, true, false, nat_eq}
+use Rattle.std.proofs.Common.{◌≡◌, inl, inr, ℕ, ◌≤◌, List, [], ◌∷◌, length, get_or, sym, ap, subst, ◌∙◌, arith, true, false, nat_eq}
 use Rattle.std.proofs.lemmas.Bool.{cases_lt}
 use Rattle.pos_disk.specs.State.{part, splice}
 use Rattle.pos_disk.proofs.Bytes.{part-part, part-splice}
-use Rattle.pos_image.specs.NewDisk.{no_files}
+use Rattle.pos_image.specs.NewDisk.{HasClosedGates, no_files}
 use Rattle.pos_disk.specs.Within.{SameBut}
 use Rattle.pos_image.specs.Layout.{is_open}
 use Rattle.pos_image.specs.Slots.{IsCurrent, HasFields}
 use Rattle.pos_image.specs.Standing.{HasNewImage}
 use Rattle.pos_image.specs.declared.slot.Slot.TheVariants.{First}
-use Rattle.pos_image.proofs.Changes.{written_gate, opened_gate}
-use Rattle.pos_image.proofs.Current.{kept_gate, kept_sequence, kept_length, kept_body}
+use Rattle.pos_image.proofs.Changes.{opened_gate}
+use Rattle.pos_image.proofs.Current.{kept_sequence, kept_length, kept_body}
 use Rattle.pos_image.proofs.Fields.{fields}
 use Rattle.pos_image.proofs.Logs.{new_image}
 
--- a gate stays closed while another one, or it itself, is closed
-pub stays_closed : (old new : List ℕ) (at place : ℕ) → SameBut at 1 old new → is_open new at ≡ false → is_open old place ≡ false → is_open new place ≡ false
+-- a gate stays 0 while 0 is written to another one, or to itself
+pub stays_closed : (old new : List ℕ) (at place : ℕ) → SameBut at 1 old new → get_or new at 0 ≡ 0 → get_or old place 0 ≡ 0 → get_or new place 0 ≡ 0
 stays_closed old new at place same shut was = elim (cases_lt place at) [
-  | inl before ↦ kept_gate old new at 1 same place (λ hit. absurd (omega (arith, before, hit.0))) ∙ was
+  | inl before ↦ same.elsewhere place (λ hit. absurd (omega (arith, before, hit.0))) ∙ was
   | inr from ↦ elim (cases_lt at place) [
-    | inl behind ↦ kept_gate old new at 1 same place (λ hit. absurd (omega (arith, behind, hit.1))) ∙ was
+    | inl behind ↦ same.elsewhere place (λ hit. absurd (omega (arith, behind, hit.1))) ∙ was
     | inr not_behind ↦
         let here : place ≡ at = omega (arith, from, not_behind) in
-        subst (λ (p : ℕ). is_open new p ≡ false) (sym here) shut
+        subst (λ (p : ℕ). get_or new p 0 ≡ 0) (sym here) shut
   ]
 ]
 
--- a gate that was written closed
-pub closed_gate : (old new : List ℕ) (at : ℕ) → at + 1 ≤ length old → new ≡ splice old at (0 ∷ []) → is_open new at ≡ false
-closed_gate old new at fits written = ap (λ (byte : ℕ). nat_eq byte 165) (written_gate old new at 0 fits written).1
+-- a gate that holds 0 is closed
+pub shut_gate : (bytes : List ℕ) (at : ℕ) → get_or bytes at 0 ≡ 0 → is_open bytes at ≡ false
+shut_gate bytes at is = ap (λ (byte : ℕ). nat_eq byte 165) is
 
-module _ (closed mid new : List ℕ) (large : 327680 ≤ length closed) (second : is_open closed 32768 ≡ false) (log : is_open closed 16384 ≡ false) (third : is_open closed 65536 ≡ false) (fourth : is_open closed 196608 ≡ false)
+module _ (closed mid new : List ℕ) (large : 327680 ≤ length closed) (gates : HasClosedGates closed)
     (image : mid ≡ splice closed 1 (0 ∷ 0 ∷ 0 ∷ 0 ∷ 0 ∷ 0 ∷ 0 ∷ 1 ∷ 0 ∷ 0 ∷ 0 ∷ 2 ∷ 0 ∷ 0 ∷ [])) (same : SameBut 1 14 closed mid) (gate : new ≡ splice mid 0 (165 ∷ [])) where
   long : 327680 ≤ length mid
   long = omega (arith, same.same_length, large)
@@ -47,10 +47,20 @@ module _ (closed mid new : List ℕ) (large : 327680 ≤ length closed) (second 
       (sym (part-part 1 14 0 12 mid (omega (arith, long)) (omega arith)) ∙ ap (part 0 12) written)
       (sym (part-part 1 14 12 2 mid (omega (arith, long)) (omega arith)) ∙ ap (part 12 2) written)
 
-  stays : (i : ℕ) → 15 ≤ i → is_open closed i ≡ false → is_open new i ≡ false
+  stays : (i : ℕ) → 15 ≤ i → get_or closed i 0 ≡ 0 → get_or new i 0 ≡ 0
   stays i far was =
-      kept_gate mid new 0 1 opened.0 i (λ hit. absurd (omega (arith, far, hit.1)))
-      ∙ kept_gate closed mid 1 14 same i (λ hit. absurd (omega (arith, far, hit.1))) ∙ was
+      opened.0.elsewhere i (λ hit. absurd (omega (arith, far, hit.1)))
+      ∙ same.elsewhere i (λ hit. absurd (omega (arith, far, hit.1))) ∙ was
+
+  -- the closed gates stay so
+  pub still_closed : HasClosedGates new
+  still_closed = record {
+    first_log = stays 16384 (omega arith) gates.first_log;
+    second = stays 32768 (omega arith) gates.second;
+    second_log = stays 49152 (omega arith) gates.second_log;
+    third = stays 65536 (omega arith) gates.third;
+    fourth = stays 196608 (omega arith) gates.fourth;
+  }
 
   -- the first slot has the body of no files and sequence 1
   first_current : IsCurrent new First no_files 1
@@ -58,13 +68,14 @@ module _ (closed mid new : List ℕ) (large : 327680 ≤ length closed) (second 
       let small = holds.length_is in
       record {
         whole = omega (arith, opened.0.same_length, long);
-        first_layout = (stays 65536 (omega arith) third, stays 196608 (omega arith) fourth);
+        first_layout = (shut_gate new 65536 still_closed.third, shut_gate new 196608 still_closed.fourth);
         gate = opened.1;
         sequence_is = kept_sequence mid new 0 1 opened.0 0 (omega (arith, long)) (λ i inside hit. absurd (omega (arith, inside.0, hit.1))) ∙ holds.sequence_is;
         fits = let kept = kept_length mid new 0 1 opened.0 0 (omega (arith, long)) (λ i inside hit. absurd (omega (arith, inside.0, hit.1))) in omega (arith, kept, small);
         body_is = kept_body mid new 0 1 opened.0 0 (omega (arith, long)) (omega (arith, small)) (λ i inside hit. absurd (omega (arith, inside.0, hit.1))) ∙ holds.body_is;
-        greater = λ is. absurd (cc (is, stays 32768 (omega arith) second));
+        greater = λ is. absurd (cc (is, shut_gate new 32768 still_closed.second));
       }
 
+  -- it is the current image, and there is no log
   pub first_image : HasNewImage no_files 1 new
-  first_image = new_image First new no_files 1 first_current (stays 16384 (omega arith) log)
+  first_image = new_image First new no_files 1 first_current still_closed.first_log

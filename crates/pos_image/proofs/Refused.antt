@@ -4,7 +4,7 @@ use Rattle.std.proofs.lemmas.Bool.{cases_Bool}
 use Rattle.std.proofs.lemmas.Bool.Decides.{nat_tests}
 use Rattle.pos_image.specs.Layout.{is_open, sequence_at, length_at}
 use Rattle.pos_image.specs.Slots.{HasHeads}
-use Rattle.pos_image.specs.Standing.{Unformatted, Damaged, stands}
+use Rattle.pos_image.specs.Standing.{NoImage, DamagedImage, image_on}
 use Rattle.pos_image.specs.declared.reading.Head.{Head}
 use Rattle.pos_image.proofs.Current.{long_enough, less_than, differ}
 
@@ -14,26 +14,30 @@ same_number a b is = grind (arith, nat_tests)
 too_long : (a b : ℕ) → b < a → nat_le a b ≡ false
 too_long a b less = grind (arith, nat_tests)
 
-pub short_stands : (bytes : List ℕ) → length bytes < 327680 → stands bytes ≡ Unformatted
-unfolding stands
+-- too few bytes hold no image
+pub short_stands : (bytes : List ℕ) → length bytes < 327680 → image_on bytes ≡ NoImage
+unfolding image_on
 short_stands bytes short = rw (less_than (length bytes) 327680 short) refl
 
 module _ (bytes : List ℕ) (first second : Head) (later : Bool) (heads : HasHeads bytes first second later) where
-  pub none_found : first.gate ≡ false → second.gate ≡ false → stands bytes ≡ Unformatted
-  unfolding stands
+  -- both gates are closed: no image
+  pub none_found : first.gate ≡ false → second.gate ≡ false → image_on bytes ≡ NoImage
+  unfolding image_on
   none_found shut shut_too =
       let long = long_enough (length bytes) 327680 heads.whole in
       rw (long, heads.at_first.gate ∙ shut, heads.at_second.gate ∙ shut_too) refl
 
-  pub later_found : (first.gate || second.gate) ≡ true → later ≡ true → stands bytes ≡ Damaged
-  unfolding stands
+  -- a gate of the later layout is open: damage
+  pub later_found : (first.gate || second.gate) ≡ true → later ≡ true → image_on bytes ≡ DamagedImage
+  unfolding image_on
   later_found one is_later =
       let long = long_enough (length bytes) 327680 heads.whole in
       let gates : (is_open bytes 0 || is_open bytes 32768) ≡ true = (λ i. heads.at_first.gate i || heads.at_second.gate i) ∙ one in
       rw (long, gates, heads.at_later ∙ is_later) refl
 
-  pub tie_found : first.gate ≡ true → second.gate ≡ true → first.sequence ≡ second.sequence → stands bytes ≡ Damaged
-  unfolding stands
+  -- both gates are open with one sequence: damage
+  pub tie_found : first.gate ≡ true → second.gate ≡ true → first.sequence ≡ second.sequence → image_on bytes ≡ DamagedImage
+  unfolding image_on
   tie_found one two tie =
       let long = long_enough (length bytes) 327680 heads.whole in
       let same = same_number (sequence_at bytes 0) (sequence_at bytes 32768) (heads.at_first.sequence ∙ tie ∙ sym heads.at_second.sequence) in
@@ -42,8 +46,9 @@ module _ (bytes : List ℕ) (first second : Head) (later : Bool) (heads : HasHea
         | inr not_later ↦ rw (long, heads.at_first.gate ∙ one, heads.at_second.gate ∙ two, heads.at_later ∙ not_later, same) refl
       ]
 
-  pub long_first : first.gate ≡ true → later ≡ false → (second.gate ≡ true → second.sequence < first.sequence) → 16371 < first.length → stands bytes ≡ Damaged
-  unfolding stands
+  -- the current body is too long, in the first slot: damage
+  pub long_first : first.gate ≡ true → later ≡ false → (second.gate ≡ true → second.sequence < first.sequence) → 16371 < first.length → image_on bytes ≡ DamagedImage
+  unfolding image_on
   long_first one not_later less over =
       let long = long_enough (length bytes) 327680 heads.whole in
       let too = too_long (length_at bytes 0) 16371 (omega (arith, heads.at_first.length)) in
@@ -54,8 +59,9 @@ module _ (bytes : List ℕ) (first second : Head) (later : Bool) (heads : HasHea
         | inr shut ↦ rw (long, heads.at_first.gate ∙ one, heads.at_second.gate ∙ shut, heads.at_later ∙ not_later, too) refl
       ]
 
-  pub long_second : second.gate ≡ true → later ≡ false → (first.gate ≡ true → first.sequence < second.sequence) → 16371 < second.length → stands bytes ≡ Damaged
-  unfolding stands
+  -- or in the second
+  pub long_second : second.gate ≡ true → later ≡ false → (first.gate ≡ true → first.sequence < second.sequence) → 16371 < second.length → image_on bytes ≡ DamagedImage
+  unfolding image_on
   long_second two not_later less over =
       let long = long_enough (length bytes) 327680 heads.whole in
       let too = too_long (length_at bytes 32768) 16371 (omega (arith, heads.at_second.length)) in

@@ -40,9 +40,11 @@ gate_read bytes out at fits one is =
     let here : at + 0 ≡ at = omega arith in
     ap (λ (l : List ℕ). get_or l 0 0) is ∙ get_or-part at (length out) bytes 0 (omega arith) ∙ ap (λ (k : ℕ). get_or bytes k 0) here
 
+-- a gate that holds 0xA5 is open
 pub gate_open : (bytes : List ℕ) (at : ℕ) → get_or bytes at 0 ≡ 165 → is_open bytes at ≡ true
 gate_open bytes at is = grind (arith, nat_tests)
 
+-- and one that holds another byte is closed
 pub gate_closed : (bytes : List ℕ) (at : ℕ) → get_or bytes at 0 ≢ 165 → is_open bytes at ≡ false
 gate_closed bytes at is = grind (arith, nat_tests)
 

@@ -1,10 +1,14 @@
 -- What contracts see of images on a disk.
-use Rattle.std.specs.Prelude.{◌≡◌, ◌↔◌, ◌⊎◌, ◌≤◌, ◌<◌, ◌+◌, ◌^◌, ℕ, List, [], length, Option, Some, None, Result, Ok, Err, OnOk, IsErr, IsErrOf, ⊤, MatchOption}
-use Rattle.pos_disk.specs.State.{DiskState, IsAtRest, MayLeave, LeavesOnly, Rises}
+use Rattle.std.specs.Prelude.{◌≡◌, ◌↔◌, ◌⊎◌, ◌≤◌, ◌<◌, ◌+◌, ◌^◌, ℕ, List, [], length, Option, Some, None, true}
+use Rattle.std.specs.Prelude.{Result, Ok, Err, OnOk, IsErr, IsErrOf, ⊤, MatchOption}
+use Rattle.pos_disk.specs.State.{DiskState, IsAtRest, MayLeave, LeavesOnly, Rises, Watches}
+use Rattle.pos_disk.specs.Keeps.{KeepsDisk}
 use Rattle.pos_disk.specs.declared.device.Disk.{Ghosts}
-use Rattle.pos_image.specs.Layout.{other}
+use Rattle.pos_image.specs.Layout.{disk_size, longest, start, other}
+use Rattle.pos_image.specs.Steps.{Keeps, ClosesGate, KeepsBeside}
 use Rattle.pos_image.specs.Slots.{IsCurrent, IsPrepared}
-use Rattle.pos_image.specs.Standing.{HasImage, log_of}
+use Rattle.pos_image.specs.Standing.{HasImage, NoImage, DamagedImage}
+use Rattle.pos_image.specs.Standing.{image_on, is_marked, log_of}
 use Rattle.pos_image.specs.declared.fault.ImageFault.{ImageFault}
 use Rattle.pos_image.specs.declared.fault.ImageFault.TheVariants as fault
 use Rattle.pos_image.specs.declared.slot.Slot.{Slot}
@@ -17,36 +21,57 @@ pub record View (D : Type 0) : Type 0 where
   pub sequence : ℕ
   pub prepared : Option (List ℕ)
 
+-- the images with these parts
+abbrev pub images_of : {D : Type 0} → D → Slot → List ℕ → ℕ → Option (List ℕ) → View D
+images_of disk slot body sequence prepared =
+    record { disk = disk; slot = slot; body = body; sequence = sequence; prepared = prepared }
+
+-- the bytes hold the image with this body, prepared beside the current one
+abbrev pub HasPrepared : {D : Type 0} → List ℕ → View D → List ℕ → Type 0
+HasPrepared bytes images body = IsPrepared bytes (other images.slot) body (images.sequence + 1)
+
 -- The disk is at rest, and has the current image and the one that is prepared.
 pub record IsSound (state : DiskState) {D : Type 0} (images : View D) : Type 0 where
   pub at_rest : IsAtRest state
   pub current : IsCurrent state.reading images.slot images.body images.sequence
-  pub prepared : MatchOption images.prepared ⊤ (λ body. IsPrepared state.reading (other images.slot) body (images.sequence + 1))
+  pub prepared : MatchOption images.prepared ⊤ (HasPrepared state.reading images)
 
 -- The disk is large enough and, where it is honest, sound, and a crash now leaves the current image and its log alone.
 -- After a fault of the disk images aren't ready, and can't be used but by `into_disk`.
 pub record IsReady {D : Type 0} (bound : Ghosts D) (images : View D) : Type 0 where
-  pub large : 327680 ≤ bound.size images.disk
+  pub large : disk_size ≤ bound.size images.disk
   pub counted : images.sequence < 2 ^ 64
   pub sound : bound.honest images.disk → IsSound (bound.state images.disk) images
-  pub leaves : bound.honest images.disk → (c : List ℕ) → MayLeave (bound.state images.disk) c → HasImage images.body images.sequence (log_of (bound.state images.disk).reading) c
+  pub leaves : bound.honest images.disk → (c : List ℕ) → MayLeave (bound.state images.disk) c
+      → HasImage images.body images.sequence (log_of (bound.state images.disk).reading) c
+
+-- the disk failed more often than before, or as often as can be counted
+abbrev pub HasFailed : DiskState → DiskState → Type 0
+HasFailed old new = Rises old.failures new.failures
 
 -- What preparing an image with this body does, whether it copies the body or takes it over. Of the disk itself, and of
 -- what a crash may leave, it speaks where the disk is honest.
-pub record Prepares {D : Type 0} (bound : Ghosts D) (old : View D) (body : List ℕ) (result : Result (Unit {0}) ImageFault) (new : View D) : Type 0 where
+pub record Prepares {D : Type 0} (bound : Ghosts D) (old : View D) (body : List ℕ)
+    (result : Result (Unit {0}) ImageFault) (new : View D) : Type 0 where
   pub ready : OnOk result (IsReady bound new)
   pub prepared : OnOk result (new ≡ record old { disk = new.disk; prepared = Some body })
-  pub log : bound.honest old.disk → OnOk result (log_of (bound.state new.disk).reading ≡ log_of (bound.state old.disk).reading)
+  pub log : bound.honest old.disk
+      → OnOk result (log_of (bound.state new.disk).reading ≡ log_of (bound.state old.disk).reading)
+  pub gate : bound.honest old.disk
+      → OnOk result (ClosesGate (start (other old.slot)) (bound.state old.disk) (bound.state new.disk))
+  -- whatever it answers, nothing but the other slot's gate, fields, body and log gate was written
+  pub rest : bound.honest old.disk
+      → KeepsBeside (start (other old.slot)) (length body) (bound.state old.disk) (bound.state new.disk)
   -- a crash at any moment of the call leaves the current image and its log
-  pub any_moment : bound.honest old.disk → LeavesOnly (bound.state old.disk) (bound.state new.disk) (HasImage old.body old.sequence (log_of (bound.state old.disk).reading))
-  pub too_large : IsErrOf result fault.TooLarge ↔ (16371 < length body)
-  pub exhausted : IsErrOf result fault.Exhausted ↔ (length body ≤ 16371) × (old.sequence + 1 ≡ 2 ^ 64)
+  pub any_moment : bound.honest old.disk → LeavesOnly (bound.state old.disk) (bound.state new.disk)
+      (HasImage old.body old.sequence (log_of (bound.state old.disk).reading))
+  pub too_large : IsErrOf result fault.TooLarge ↔ (longest < length body)
+  pub exhausted : IsErrOf result fault.Exhausted ↔ (length body ≤ longest) × (old.sequence + 1 ≡ 2 ^ 64)
   pub unchanged : IsErr result → IsErrOf result fault.Device ⊎ (new ≡ old)
   pub failed : IsErrOf result fault.Device → new ≡ record old { disk = new.disk }
-  pub device : bound.honest old.disk → IsErrOf result fault.Device → Rises (bound.state old.disk).failures (bound.state new.disk).failures
-  pub later : bound.honest old.disk → (bound.state old.disk).failures ≤ (bound.state new.disk).failures
-  pub size : bound.size new.disk ≡ bound.size old.disk
-  pub honest : bound.honest old.disk ↔ bound.honest new.disk
+  pub device : bound.honest old.disk → IsErrOf result fault.Device
+      → Rises (bound.state old.disk).failures (bound.state new.disk).failures
+  pub keeps : KeepsDisk bound old.disk new.disk
 
 -- the body of the image that is prepared
 abbrev pub body_or_nothing : Option (List ℕ) → List ℕ
@@ -58,7 +83,11 @@ next_of images = body_or_nothing images.prepared
 
 -- with the prepared image as the current one
 abbrev pub published : {D : Type 0} → View D → D → View D
-published images disk = record { disk = disk; slot = other images.slot; body = next_of images; sequence = images.sequence + 1; prepared = None }
+published images disk = images_of disk (other images.slot) (next_of images) (images.sequence + 1) None
+
+-- the gate of the prepared image was written, and nothing else
+abbrev pub KeepsButGate : {D : Type 0} → View D → DiskState → DiskState → Type 0
+KeepsButGate images old new = Keeps (start (other images.slot)) 1 old new
 
 -- the disk after `open`: that of the images, or the one that a refusal hands back
 abbrev pub disk_after : {D : Type 0} → Result (View D) (ImageFault × D) → D
@@ -69,3 +98,37 @@ disk_after (Err refusal) = refusal.1
 abbrev pub handed_back : {D : Type 0} → Result D (ImageFault × D) → D
 handed_back (Ok disk) = disk
 handed_back (Err refusal) = refusal.1
+
+-- why no image is found
+abbrev pub IsFindFault : ImageFault → Type 0
+IsFindFault it = (it ≡ fault.Unformatted) ⊎ (it ≡ fault.Damaged) ⊎ (it ≡ fault.Device) ⊎ (it ≡ fault.NoMemory)
+
+-- why a disk isn't formatted, or not opened
+abbrev pub IsFormatFault : ImageFault → Type 0
+IsFormatFault it = (it ≡ fault.TooSmall) ⊎ (it ≡ fault.AlreadyFormatted) ⊎ (it ≡ fault.Device)
+
+abbrev pub IsOpenFault : ImageFault → Type 0
+IsOpenFault it = (it ≡ fault.TooSmall) ⊎ IsFindFault it
+
+-- the disk was marked as formatted, and was only looked at
+abbrev pub RefusesMarked : DiskState → DiskState → ImageFault → Type 0
+RefusesMarked old new it = it ≡ fault.AlreadyFormatted → (is_marked old.reading ≡ true) × Watches old new
+
+-- a disk fault is answered only where the disk failed
+abbrev pub FailsWithCause : DiskState → DiskState → ImageFault → Type 0
+FailsWithCause old new it = it ≡ fault.Device → HasFailed old new
+
+-- why an image isn't prepared, want of memory aside
+abbrev pub IsPrepareFault : ImageFault → Type 0
+IsPrepareFault it = (it ≡ fault.TooLarge) ⊎ (it ≡ fault.Exhausted) ⊎ (it ≡ fault.Device)
+
+abbrev pub FailsFor : {D : Type 0} → Ghosts D → View D → View D → ImageFault → Type 0
+FailsFor bound old new it = FailsWithCause (bound.state old.disk) (bound.state new.disk) it
+
+-- bytes on which no image is found hold none
+abbrev pub FindsNone : List ℕ → ImageFault → Type 0
+FindsNone bytes it = ((it ≡ fault.Unformatted) ⊎ (it ≡ fault.TooSmall)) → image_on bytes ≡ NoImage
+
+-- or a damaged one
+abbrev pub FindsDamage : List ℕ → ImageFault → Type 0
+FindsDamage bytes it = it ≡ fault.Damaged → image_on bytes ≡ DamagedImage

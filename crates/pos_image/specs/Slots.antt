@@ -1,16 +1,19 @@
 -- What slots and their gates hold.
-use Rattle.std.specs.Prelude.{◌≡◌, ◌≤◌, ◌<◌, ◌+◌, ℕ, List, length, Bool, true, false, ◌||◌}
+use Rattle.std.specs.Prelude.{◌≡◌, ◌≤◌, ◌<◌, ◌+◌, ℕ, List, length, get_or, Bool, true, false, ◌||◌}
+use Rattle.pos_image.specs.Layout.{disk_size, slot_size, later_first, later_second, longest, log_place, body_place}
+use Rattle.pos_disk.specs.State.{DiskState, part}
 use Rattle.pos_image.specs.Layout.{start, other, is_open, sequence_at, length_at, body_at}
 use Rattle.pos_image.specs.declared.slot.Slot.{Slot}
 use Rattle.pos_image.specs.declared.reading.Head.{Head}
+use Rattle.pos_image.specs.declared.reading.Heads.{Heads}
 
 -- The image in this slot is the current one.
 pub record IsCurrent (bytes : List ℕ) (slot : Slot) (body : List ℕ) (sequence : ℕ) : Type 0 where
-  pub whole : 327680 ≤ length bytes
-  pub first_layout : (is_open bytes 65536 ≡ false) × (is_open bytes 196608 ≡ false)
+  pub whole : disk_size ≤ length bytes
+  pub first_layout : (is_open bytes later_first ≡ false) × (is_open bytes later_second ≡ false)
   pub gate : is_open bytes (start slot) ≡ true
   pub sequence_is : sequence_at bytes (start slot) ≡ sequence
-  pub fits : length_at bytes (start slot) ≤ 16371
+  pub fits : length_at bytes (start slot) ≤ longest
   pub body_is : body_at bytes (start slot) ≡ body
   pub greater : is_open bytes (start (other slot)) ≡ true → sequence_at bytes (start (other slot)) < sequence
 
@@ -20,13 +23,13 @@ pub record HasFields (bytes : List ℕ) (at sequence : ℕ) (body : List ℕ) : 
   pub length_is : length_at bytes at ≡ length body
   pub body_is : body_at bytes at ≡ body
 
--- An image is in this slot, behind a closed gate, and the first gate of its log is closed.
+-- An image is in this slot, behind a closed gate, and the first gate of its log is 0.
 pub record IsPrepared (bytes : List ℕ) (slot : Slot) (body : List ℕ) (sequence : ℕ) : Type 0 where
   pub gate : is_open bytes (start slot) ≡ false
   pub sequence_is : sequence_at bytes (start slot) ≡ sequence
-  pub fits : length_at bytes (start slot) ≤ 16371
+  pub fits : length_at bytes (start slot) ≤ longest
   pub body_is : body_at bytes (start slot) ≡ body
-  pub log : is_open bytes (start slot + 16384) ≡ false
+  pub log : get_or bytes (start slot + log_place) 0 ≡ 0
 
 -- What a slot's gate and first fields say.
 pub record HasHead (bytes : List ℕ) (at : ℕ) (head : Head) : Type 0 where
@@ -36,16 +39,28 @@ pub record HasHead (bytes : List ℕ) (at : ℕ) (head : Head) : Type 0 where
 
 -- The bytes are long enough and have these heads, and a gate of the later layout is open or not.
 pub record HasHeads (bytes : List ℕ) (first second : Head) (later : Bool) : Type 0 where
-  pub whole : 327680 ≤ length bytes
+  pub whole : disk_size ≤ length bytes
   pub at_first : HasHead bytes 0 first
-  pub at_second : HasHead bytes 32768 second
-  pub at_later : (is_open bytes 65536 || is_open bytes 196608) ≡ later
+  pub at_second : HasHead bytes slot_size second
+  pub at_later : (is_open bytes later_first || is_open bytes later_second) ≡ later
 
 -- The image in this slot is the current one, whatever its body.
 pub record IsFound (bytes : List ℕ) (slot : Slot) (sequence size : ℕ) : Type 0 where
-  pub first_layout : (is_open bytes 65536 ≡ false) × (is_open bytes 196608 ≡ false)
+  pub first_layout : (is_open bytes later_first ≡ false) × (is_open bytes later_second ≡ false)
   pub gate : is_open bytes (start slot) ≡ true
   pub sequence_is : sequence_at bytes (start slot) ≡ sequence
   pub length_is : length_at bytes (start slot) ≡ size
-  pub fits : size ≤ 16371
+  pub fits : size ≤ longest
   pub greater : is_open bytes (start (other slot)) ≡ true → sequence_at bytes (start (other slot)) < sequence
+
+-- What was read of both slots is so.
+abbrev pub HeadsAre : List ℕ → Heads → Type 0
+HeadsAre bytes heads = HasHeads bytes heads.first heads.second heads.later
+
+-- the slot and the head that were found are those of the current image
+abbrev pub FindsSlot : List ℕ → Slot × Head → Type 0
+FindsSlot bytes found = IsFound bytes found.0 found.1.sequence found.1.length
+
+-- the bytes where a body of this length lies in a slot
+abbrev pub body_in : Slot → ℕ → DiskState → List ℕ
+body_in slot n disk = part (start slot + body_place) n disk.reading

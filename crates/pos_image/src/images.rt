@@ -1,22 +1,22 @@
 // The current image of a disk, and the next one.
-ghost use Rattle.std.specs.Prelude.{◌≡◌, ◌↔◌, ◌<◌, ◌≤◌, ◌+◌, ◌^◌, ◌⊎◌, length, IfOk, IfErr, OnOk, IsErr, IsErrOf, IsSome, Some, None, true, false};
-ghost use Rattle.pos_disk.specs.State.{IsAtRest, LeavesOnly, Rises, Watches};
-ghost use Rattle.pos_image.specs.NewDisk.{KeepsRest, no_files};
-ghost use Rattle.pos_image.specs.Standing.{Unformatted, Damaged, stands, is_marked, log_of, StandsFor, HasNewImage, HasEither};
-ghost use Rattle.pos_image.specs.declared.fault.ImageFault.TheVariants.{NoMemory, Device, TooLarge, Exhausted};
+ghost use Rattle.std.specs.Prelude.{◌≡◌, ◌↔◌, ◌<◌, ◌≤◌, ◌+◌, ◌^◌, ◌⊎◌, length, IfOk, IfErr, OnOk, IsErr, IsErrOf, IsSome, Some, None, false};
+ghost use Rattle.pos_disk.specs.State.{IsAtRest, LeavesOnly, Watches};
+ghost use Rattle.pos_disk.specs.Keeps.{KeepsDisk};
+ghost use Rattle.pos_image.specs.Layout.{disk_size, longest};
+ghost use Rattle.pos_image.specs.NewDisk.{KeepsRest, HasClosedGates, no_files};
+ghost use Rattle.pos_image.specs.Standing.{is_marked, log_of, HasEither, ShowsImage, HasNewImage};
+ghost use Rattle.pos_image.specs.declared.fault.ImageFault.TheVariants.{NoMemory, Device, TooLarge, TooSmall, Exhausted};
 
 use crate::fault::ImageFault;
 use crate::finding::find;
 use crate::formatting::{is_marked, lay_out};
-use crate::image::{Image, LONGEST};
+use crate::image::Image;
+use crate::layout::{LONGEST, OPEN, SIZE};
 use crate::slot::Slot;
-use crate::steps::{OPEN, place_image, write_through};
+use crate::steps::{place_image, write_through};
 use pos_disk::Disk;
 use std::alloc::Global;
 use std::marker::Model;
-
-// How many bytes a disk has at least.
-const SIZE: u64 = 327_680;
 
 /// The images of a disk: the current one, and the one that is prepared, if there is one. A body has 0 to 16,371 bytes,
 /// a sequence is a u64. After a fault of the disk every call but `into_disk` has the condition
@@ -32,43 +32,44 @@ pub struct Images<D: Disk> {
 
 impl<D: Disk> Model for Images<D> {
     ghost use Rattle.std.specs.Prelude.{◌≡◌, ◌+◌, ⊤, MatchOption};
-    ghost use Rattle.std.specs.Option.{option_map};
-    ghost use Rattle.pos_image.specs.Images.{View};
+    ghost use Rattle.pos_image.specs.Images.{View, images_of};
+    ghost use Rattle.pos_image.specs.Found.{prepared_body};
 
     ghost Value = { View D };
 
-    ghost view = { λ s. record { disk = s.disk; slot = s.slot; body = s.current.body.items; sequence = s.current.sequence; prepared = option_map (λ image. image.body.items) s.prepared } };
+    ghost view = { λ s. images_of s.disk s.slot s.current.body.items s.current.sequence (prepared_body s.prepared) };
 
     ghost invariant = { λ s. MatchOption s.prepared ⊤ (λ next. next.sequence ≡ s.current.sequence + 1) };
 }
 
 impl<D: Disk> Images<D> {
-    ghost use Rattle.pos_image.specs.Images.{IsReady, Prepares, disk_after, handed_back, next_of, published};
+    ghost use Rattle.pos_image.specs.Images.{IsReady, Prepares, IsPrepareFault, IsFormatFault, IsOpenFault, FindsNone, FindsDamage};
+    ghost use Rattle.pos_image.specs.Images.{RefusesMarked, FailsWithCause, FailsFor, KeepsButGate};
+    ghost use Rattle.pos_image.specs.Images.{disk_after, handed_back, next_of, published};
 
-    /// Makes the disk one that stands for the body of no files, `0000`, and sequence 1, and gives it back at rest. It takes
-    /// no memory. Nothing is promised of a disk whose formatting was interrupted. docs/DISK.md, "Formatting".
+    /// Makes the current image of the disk that of no files, body `0000` and sequence 1, and gives it back at rest. It
+    /// takes no memory. Nothing is promised of a disk whose formatting was interrupted. docs/DISK.md, "Formatting".
     ///
     /// # Errors
     ///
-    /// `TooSmall` where the disk has fewer than 327,680 bytes, else `AlreadyFormatted` where one of the bytes at 0, 32,768,
-    /// 65,536 and 196,608 is 0xA5: nothing was written. `Device` where the disk failed. A refusal hands the disk back.
+    /// `TooSmall` where the disk has fewer than 327,680 bytes, else `AlreadyFormatted` where one of the bytes at 0,
+    /// 32,768, 65,536 and 196,608 is 0xA5: nothing was written. `Device` where the disk failed. A refusal hands the
+    /// disk back.
     pub fn format(mut disk: D) -> Result<D, (ImageFault, D)>
         ensures at_rest { D.honest disk → IfOk result (λ formatted. IsAtRest (D.state formatted)) }
         ensures image { D.honest disk → IfOk result (λ formatted. HasNewImage no_files 1 (D.state formatted).reading) }
-        ensures large { IfOk result (λ formatted. 327680 ≤ D.size formatted) }
-        ensures too_small { IfErr result (λ e. e.0 ≡ ImageFault.TooSmall ↔ (D.size disk < 327680)) }
+        ensures gates { D.honest disk → IfOk result (λ formatted. HasClosedGates (D.state formatted).reading) }
+        ensures large { IfOk result (λ formatted. disk_size ≤ D.size formatted) }
+        ensures too_small { IfErr result (λ e. e.0 ≡ TooSmall ↔ (D.size disk < disk_size)) }
         ensures unmarked { D.honest disk → IfOk result (λ formatted. is_marked (D.state disk).reading ≡ false) }
-        ensures marked { D.honest disk → IfErr result (λ e. e.0 ≡ ImageFault.AlreadyFormatted → is_marked (D.state disk).reading ≡ true) }
-        ensures device { D.honest disk → IfErr result (λ e. e.0 ≡ Device → Rises (D.state disk).failures (D.state e.1).failures) }
-        ensures faults { IfErr result (λ e. (e.0 ≡ ImageFault.TooSmall) ⊎ (e.0 ≡ ImageFault.AlreadyFormatted) ⊎ (e.0 ≡ Device)) }
-        ensures untouched { IfErr result (λ e. e.0 ≡ ImageFault.TooSmall → e.1 ≡ disk) }
-        ensures unwritten { D.honest disk → IfErr result (λ e. e.0 ≡ ImageFault.AlreadyFormatted → Watches (D.state disk) (D.state e.1)) }
+        ensures marked { D.honest disk → IfErr result (λ e. RefusesMarked (D.state disk) (D.state e.1) e.0) }
+        ensures device { D.honest disk → IfErr result (λ e. FailsWithCause (D.state disk) (D.state e.1) e.0) }
+        ensures faults { IfErr result (λ e. IsFormatFault e.0) }
+        ensures untouched { IfErr result (λ e. e.0 ≡ TooSmall → e.1 ≡ disk) }
 
         // Whatever it answers, nothing but the gates and the fields of the first image was written.
         ensures rest { D.honest disk → KeepsRest (D.state disk).reading (D.state (handed_back result)).reading }
-        ensures later { D.honest disk → (D.state disk).failures ≤ (D.state (handed_back result)).failures }
-        ensures size { D.size (handed_back result) ≡ D.size disk }
-        ensures honest { D.honest disk ↔ D.honest (handed_back result) }
+        ensures keeps { KeepsDisk D.Disk disk (handed_back result) }
     {
         if disk.len() < SIZE {
             return Err((ImageFault::TooSmall, disk));
@@ -95,19 +96,17 @@ impl<D: Disk> Images<D> {
     /// layout is open; `Device` where the disk failed; `NoMemory`. A refusal hands the disk back.
     pub fn open(alloc: Global, mut disk: D) -> Result<Images<D>, (ImageFault, D)>
         ensures ready { IfOk result (λ images. IsReady D.Disk images × (images.prepared ≡ None)) }
-        ensures found { D.honest disk → IfOk result (λ images. StandsFor images.body images.sequence (D.state disk).reading) }
-        ensures too_small { IfErr result (λ e. e.0 ≡ ImageFault.TooSmall ↔ (D.size disk < 327680)) }
-        ensures unformatted { D.honest disk → IfErr result (λ e. (e.0 ≡ ImageFault.Unformatted) ⊎ (e.0 ≡ ImageFault.TooSmall) → stands (D.state disk).reading ≡ Unformatted) }
-        ensures damaged { D.honest disk → IfErr result (λ e. e.0 ≡ ImageFault.Damaged → stands (D.state disk).reading ≡ Damaged) }
-        ensures device { D.honest disk → IfErr result (λ e. e.0 ≡ Device → Rises (D.state disk).failures (D.state e.1).failures) }
-        ensures faults { IfErr result (λ e. (e.0 ≡ ImageFault.TooSmall) ⊎ (e.0 ≡ ImageFault.Unformatted) ⊎ (e.0 ≡ ImageFault.Damaged) ⊎ (e.0 ≡ Device) ⊎ (e.0 ≡ NoMemory)) }
-        ensures untouched { IfErr result (λ e. e.0 ≡ ImageFault.TooSmall → e.1 ≡ disk) }
+        ensures found { D.honest disk → IfOk result (λ it. ShowsImage it.body it.sequence (D.state disk).reading) }
+        ensures too_small { IfErr result (λ e. e.0 ≡ TooSmall ↔ (D.size disk < disk_size)) }
+        ensures unformatted { D.honest disk → IfErr result (λ e. FindsNone (D.state disk).reading e.0) }
+        ensures damaged { D.honest disk → IfErr result (λ e. FindsDamage (D.state disk).reading e.0) }
+        ensures device { D.honest disk → IfErr result (λ e. FailsWithCause (D.state disk) (D.state e.1) e.0) }
+        ensures faults { IfErr result (λ e. IsOpenFault e.0) }
+        ensures untouched { IfErr result (λ e. e.0 ≡ TooSmall → e.1 ≡ disk) }
 
-        // A crash at any moment of the call leaves what a crash before it might have left.
+        // What a read gives stays, and a crash at any moment of the call leaves what a crash before it might have left.
         ensures any_moment { D.honest disk → Watches (D.state disk) (D.state (disk_after result)) }
-        ensures later { D.honest disk → (D.state disk).failures ≤ (D.state (disk_after result)).failures }
-        ensures size { D.size (disk_after result) ≡ D.size disk }
-        ensures honest { D.honest disk ↔ D.honest (disk_after result) }
+        ensures keeps { KeepsDisk D.Disk disk (disk_after result) }
     {
         if disk.len() < SIZE {
             return Err((ImageFault::TooSmall, disk));
@@ -147,17 +146,17 @@ impl<D: Disk> Images<D> {
         self.disk
     }
 
-    /// Puts a new image beside the current one, which stays the current one: the body is copied once. docs/DISK.md, "A new
-    /// image".
+    /// Puts a new image beside the current one, which stays the current one: the body is copied once. docs/DISK.md, "A
+    /// new image".
     ///
     /// # Errors
     ///
-    /// `TooLarge` where the body has more than 16,371 bytes, else `Exhausted` where the current sequence is the last one,
-    /// else `NoMemory`: nothing has changed. `Device` where the disk failed: the images have to be opened again.
+    /// `TooLarge` where the body has more than 16,371 bytes, else `Exhausted` where the current sequence is the last
+    /// one, else `NoMemory`: nothing has changed. `Device` where the disk failed: the images have to be opened again.
     pub fn prepare(&mut self, body: &[u8]) -> Result<(), ImageFault>
         requires { IsReady D.Disk self.old }
         ensures prepares { Prepares D.Disk self.old body.now result self.new }
-        ensures faults { IsErr result → IsErrOf result TooLarge ⊎ IsErrOf result Exhausted ⊎ IsErrOf result NoMemory ⊎ IsErrOf result Device }
+        ensures faults { IfErr result (λ e. IsPrepareFault e ⊎ (e ≡ NoMemory)) }
     {
         self.check(body.len())?;
         let copy = Vec::from_slice(self.alloc, body)?;
@@ -168,18 +167,19 @@ impl<D: Disk> Images<D> {
     ///
     /// # Errors
     ///
-    /// `TooLarge` where the body has more than 16,371 bytes, else `Exhausted` where the current sequence is the last one:
-    /// nothing has changed. `Device` where the disk failed: the images have to be opened again.
+    /// `TooLarge` where the body has more than 16,371 bytes, else `Exhausted` where the current sequence is the last
+    /// one: nothing has changed. `Device` where the disk failed: the images have to be opened again.
     pub fn prepare_owned(&mut self, body: Vec<u8>) -> Result<(), ImageFault>
         requires { IsReady D.Disk self.old }
         ensures prepares { Prepares D.Disk self.old body.items result self.new }
-        ensures faults { IsErr result → IsErrOf result TooLarge ⊎ IsErrOf result Exhausted ⊎ IsErrOf result Device }
+        ensures faults { IfErr result IsPrepareFault }
     {
         self.check(body.len())?;
         self.put_beside(body)
     }
 
-    /// Makes the prepared image the current one, with the next sequence. It takes no memory. docs/DISK.md, "A new image".
+    /// Makes the prepared image the current one, with the next sequence. It takes no memory. docs/DISK.md, "A new
+    /// image".
     ///
     /// # Errors
     ///
@@ -189,17 +189,20 @@ impl<D: Disk> Images<D> {
         requires prepared { IsSome self.old.prepared }
         ensures ready { OnOk result (IsReady D.Disk self.new) }
         ensures published { OnOk result (self.new ≡ published self.old self.new.disk) }
-        ensures log { D.honest self.old.disk → OnOk result (HasNewImage self.new.body self.new.sequence (D.state self.new.disk).reading) }
+        ensures log { D.honest self.old.disk → OnOk result
+            (HasNewImage self.new.body self.new.sequence (D.state self.new.disk).reading) }
+
+        // Whatever it answers, nothing but the gate of the other slot was written.
+        ensures rest { D.honest self.old.disk → KeepsButGate self.old (D.state self.old.disk) (D.state self.new.disk) }
 
         // A crash at any moment of the call leaves the current image and its log, or the new one with a closed log.
-        ensures any_moment { D.honest self.old.disk → LeavesOnly (D.state self.old.disk) (D.state self.new.disk) (HasEither self.old.body (next_of self.old) self.old.sequence (log_of (D.state self.old.disk).reading)) }
+        ensures any_moment { D.honest self.old.disk → LeavesOnly (D.state self.old.disk) (D.state self.new.disk)
+            (HasEither self.old.body (next_of self.old) self.old.sequence (log_of (D.state self.old.disk).reading)) }
 
         ensures faults { IsErr result → IsErrOf result Device }
         ensures failed { IsErr result → self.new ≡ record self.old { disk = self.new.disk; prepared = None } }
-        ensures device { D.honest self.old.disk → IsErr result → Rises (D.state self.old.disk).failures (D.state self.new.disk).failures }
-        ensures later { D.honest self.old.disk → (D.state self.old.disk).failures ≤ (D.state self.new.disk).failures }
-        ensures size { D.size self.new.disk ≡ D.size self.old.disk }
-        ensures honest { D.honest self.old.disk ↔ D.honest self.new.disk }
+        ensures device { D.honest self.old.disk → IfErr result (FailsFor D.Disk self.old self.new) }
+        ensures keeps { KeepsDisk D.Disk self.old.disk self.new.disk }
     {
         let Some(next) = self.prepared.take() else {
             unreachable!();
@@ -217,9 +220,9 @@ impl<D: Disk> Images<D> {
 
     // Refuses a body that is too long, and any body after the last sequence.
     fn check(&self, length: usize) -> Result<(), ImageFault>
-        ensures too_large { IsErrOf result TooLarge ↔ (16371 < length) }
-        ensures exhausted { IsErrOf result Exhausted ↔ (length ≤ 16371) × (self.now.sequence + 1 ≡ 2 ^ 64) }
-        ensures faults { IsErr result → IsErrOf result TooLarge ⊎ IsErrOf result Exhausted }
+        ensures too_large { IsErrOf result TooLarge ↔ (longest < length) }
+        ensures exhausted { IsErrOf result Exhausted ↔ (length ≤ longest) × (self.now.sequence + 1 ≡ 2 ^ 64) }
+        ensures faults { IfErr result (λ e. (e ≡ TooLarge) ⊎ (e ≡ Exhausted)) }
     {
         if length > LONGEST as usize {
             return Err(ImageFault::TooLarge);
@@ -233,7 +236,7 @@ impl<D: Disk> Images<D> {
     // Puts an image with this body beside the current one.
     fn put_beside(&mut self, body: Vec<u8>) -> Result<(), ImageFault>
         requires ready { IsReady D.Disk self.old }
-        requires short { length body.items ≤ 16371 }
+        requires short { length body.items ≤ longest }
         requires more { self.old.sequence + 1 < 2 ^ 64 }
         ensures prepares { Prepares D.Disk self.old body.items result self.new }
         ensures faults { IsErr result → IsErrOf result Device }

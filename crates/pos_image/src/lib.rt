@@ -6,9 +6,12 @@ mod finding;
 mod formatting;
 mod image;
 mod images;
+mod layout;
 mod reading;
 mod slot;
 mod steps;
+#[cfg(test)]
+mod test_disks;
 #[cfg(test)]
 mod tests;
 

@@ -1,12 +1,15 @@
 // The fields of a slot, as they stand on a disk.
-ghost use Rattle.std.specs.Prelude.{◌≡◌, ◌≤◌, ◌+◌, ◌⊎◌, ◌↔◌, length, IfOk, IsErr, IsErrOf};
-ghost use Rattle.pos_disk.specs.State.{HasCause, Rises, Watches, part};
-ghost use Rattle.pos_image.specs.Layout.{is_open, sequence_at, length_at, start};
-ghost use Rattle.pos_image.specs.Slots.{HasHead, HasHeads};
+ghost use Rattle.std.specs.Prelude.{◌≡◌, ◌≤◌, ◌+◌, ◌⊎◌, length, IfOk, IfErr};
+ghost use Rattle.pos_disk.specs.State.{HasCause, Watches};
+ghost use Rattle.pos_disk.specs.Keeps.{KeepsDisk};
+ghost use Rattle.pos_image.specs.Images.{FailsWithCause};
+ghost use Rattle.pos_image.specs.Layout.{disk_size, slot_size, longest, is_open, sequence_at, length_at};
+ghost use Rattle.pos_image.specs.Slots.{HasHead, HeadsAre, body_in};
+ghost use Rattle.pos_image.specs.declared.fault.ImageFault.TheVariants.{Device, NoMemory};
 
 use crate::fault::ImageFault;
+use crate::layout::{BODY, CLOSED, LATER_FIRST, LATER_SECOND, LENGTH, OPEN, SECOND, SEQUENCE};
 use crate::slot::Slot;
-use crate::steps::{CLOSED, OPEN};
 use pos_disk::{Disk, DiskFault};
 use std::alloc::Global;
 
@@ -29,8 +32,7 @@ pub struct Heads {
 /// Whether the gate at this place is open.
 pub fn read_gate<D: Disk>(disk: &mut D, at: u64) -> Result<bool, DiskFault>
     requires { at + 1 ≤ D.size disk.old }
-    ensures size { D.size disk.new ≡ D.size disk.old }
-    ensures honest { D.honest disk.old ↔ D.honest disk.new }
+    ensures keeps { KeepsDisk D.Disk disk.old disk.new }
     ensures gate { D.honest disk.old → IfOk result (λ gate. is_open (D.state disk.old).reading at ≡ gate) }
     ensures watches { D.honest disk.old → Watches (D.state disk.old) (D.state disk.new) }
     ensures cause { D.honest disk.old → HasCause (D.state disk.old) (D.state disk.new) result }
@@ -41,38 +43,35 @@ pub fn read_gate<D: Disk>(disk: &mut D, at: u64) -> Result<bool, DiskFault>
 }
 
 fn read_sequence<D: Disk>(disk: &mut D, at: u64) -> Result<u64, DiskFault>
-    requires low { at ≤ 32768 }
+    requires low { at ≤ slot_size }
     requires fits { at + 9 ≤ D.size disk.old }
-    ensures size { D.size disk.new ≡ D.size disk.old }
-    ensures honest { D.honest disk.old ↔ D.honest disk.new }
+    ensures keeps { KeepsDisk D.Disk disk.old disk.new }
     ensures sequence { D.honest disk.old → IfOk result (λ n. sequence_at (D.state disk.old).reading at ≡ n) }
     ensures watches { D.honest disk.old → Watches (D.state disk.old) (D.state disk.new) }
     ensures cause { D.honest disk.old → HasCause (D.state disk.old) (D.state disk.new) result }
 {
     let mut bytes = [0; 8];
-    disk.read(at + 1, &mut bytes)?;
+    disk.read(at + SEQUENCE, &mut bytes)?;
     Ok(u64::from_be_bytes(bytes))
 }
 
 fn read_length<D: Disk>(disk: &mut D, at: u64) -> Result<u32, DiskFault>
-    requires low { at ≤ 32768 }
+    requires low { at ≤ slot_size }
     requires fits { at + 13 ≤ D.size disk.old }
-    ensures size { D.size disk.new ≡ D.size disk.old }
-    ensures honest { D.honest disk.old ↔ D.honest disk.new }
+    ensures keeps { KeepsDisk D.Disk disk.old disk.new }
     ensures length { D.honest disk.old → IfOk result (λ n. length_at (D.state disk.old).reading at ≡ n) }
     ensures watches { D.honest disk.old → Watches (D.state disk.old) (D.state disk.new) }
     ensures cause { D.honest disk.old → HasCause (D.state disk.old) (D.state disk.new) result }
 {
     let mut bytes = [0; 4];
-    disk.read(at + 9, &mut bytes)?;
+    disk.read(at + LENGTH, &mut bytes)?;
     Ok(u32::from_be_bytes(bytes))
 }
 
 fn read_head<D: Disk>(disk: &mut D, at: u64) -> Result<Head, DiskFault>
-    requires low { at ≤ 32768 }
+    requires low { at ≤ slot_size }
     requires fits { at + 13 ≤ D.size disk.old }
-    ensures size { D.size disk.new ≡ D.size disk.old }
-    ensures honest { D.honest disk.old ↔ D.honest disk.new }
+    ensures keeps { KeepsDisk D.Disk disk.old disk.new }
     ensures head { D.honest disk.old → IfOk result (λ head. HasHead (D.state disk.old).reading at head) }
     ensures watches { D.honest disk.old → Watches (D.state disk.old) (D.state disk.new) }
     ensures cause { D.honest disk.old → HasCause (D.state disk.old) (D.state disk.new) result }
@@ -89,17 +88,16 @@ fn read_head<D: Disk>(disk: &mut D, at: u64) -> Result<Head, DiskFault>
 
 /// Reads what tells the current slot.
 pub fn read_heads<D: Disk>(disk: &mut D) -> Result<Heads, DiskFault>
-    requires large { 327680 ≤ D.size disk.old }
-    ensures size { D.size disk.new ≡ D.size disk.old }
-    ensures honest { D.honest disk.old ↔ D.honest disk.new }
-    ensures heads { D.honest disk.old → IfOk result (λ heads. HasHeads (D.state disk.old).reading heads.first heads.second heads.later) }
+    requires large { disk_size ≤ D.size disk.old }
+    ensures keeps { KeepsDisk D.Disk disk.old disk.new }
+    ensures heads { D.honest disk.old → IfOk result (HeadsAre (D.state disk.old).reading) }
     ensures watches { D.honest disk.old → Watches (D.state disk.old) (D.state disk.new) }
     ensures cause { D.honest disk.old → HasCause (D.state disk.old) (D.state disk.new) result }
 {
     let first = read_head(disk, 0)?;
-    let second = read_head(disk, 32_768)?;
-    let third = read_gate(disk, 65_536)?;
-    let fourth = read_gate(disk, 196_608)?;
+    let second = read_head(disk, SECOND)?;
+    let third = read_gate(disk, LATER_FIRST)?;
+    let fourth = read_gate(disk, LATER_SECOND)?;
     Ok(Heads {
         first,
         second,
@@ -114,17 +112,15 @@ pub fn read_body<D: Disk>(
     slot: Slot,
     length: u32,
 ) -> Result<Vec<u8>, ImageFault>
-    requires large { 327680 ≤ D.size disk.old }
-    requires short { length ≤ 16371 }
-    ensures size { D.size disk.new ≡ D.size disk.old }
-    ensures honest { D.honest disk.old ↔ D.honest disk.new }
-    ensures body { D.honest disk.old → IfOk result (λ body. body.items ≡ part (start slot + 13) length (D.state disk.old).reading) }
+    requires large { disk_size ≤ D.size disk.old }
+    requires short { length ≤ longest }
+    ensures keeps { KeepsDisk D.Disk disk.old disk.new }
+    ensures body { D.honest disk.old → IfOk result (λ it. it.items ≡ body_in slot length (D.state disk.old)) }
     ensures watches { D.honest disk.old → Watches (D.state disk.old) (D.state disk.new) }
-    ensures device { D.honest disk.old → IsErrOf result ImageFault.Device → Rises (D.state disk.old).failures (D.state disk.new).failures }
-    ensures later { D.honest disk.old → (D.state disk.old).failures ≤ (D.state disk.new).failures }
-    ensures faults { IsErr result → IsErrOf result ImageFault.Device ⊎ IsErrOf result ImageFault.NoMemory }
+    ensures device { D.honest disk.old → IfErr result (FailsWithCause (D.state disk.old) (D.state disk.new)) }
+    ensures faults { IfErr result (λ e. (e ≡ Device) ⊎ (e ≡ NoMemory)) }
 {
     let mut body = vec![in alloc; 0; length as usize]?;
-    disk.read(slot.start() + 13, body.as_mut_slice())?;
+    disk.read(slot.start() + BODY, body.as_mut_slice())?;
     Ok(body)
 }

@@ -2,6 +2,8 @@
 ghost use Rattle.std.specs.Prelude.{◌≡◌};
 ghost use Rattle.pos_image.specs.Layout.{start, other};
 
+use crate::layout::SECOND;
+
 #[derive(Clone, Copy, Debug, PartialEq, Eq)]
 pub enum Slot {
     First,
@@ -14,7 +16,7 @@ impl Slot {
     {
         match self {
             Slot::First => 0,
-            Slot::Second => 32_768,
+            Slot::Second => SECOND,
         }
     }
 

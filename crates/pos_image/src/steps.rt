@@ -1,36 +1,26 @@
 // The few disk calls of which each change of the images is made.
-ghost use Rattle.std.specs.Prelude.{◌↔◌, ◌≡◌, ◌≤◌, ◌+◌, ◌∷◌, ◌++◌, [], length, OnOk, true, false, if◌then◌else◌};
+ghost use Rattle.std.specs.Prelude.{◌≡◌, ◌≤◌, ◌+◌, ◌++◌, length, OnOk, false};
 ghost use Rattle.byteorder.specs.Endian.{big_bytes};
-ghost use Rattle.pos_disk.specs.State.{IsAtRest, HasCause, LeavesOnly, splice};
-ghost use Rattle.pos_disk.specs.Within.{SameBut};
-ghost use Rattle.pos_image.specs.Layout.{Stages, is_open};
+ghost use Rattle.pos_disk.specs.State.{IsAtRest, HasCause};
+ghost use Rattle.pos_disk.specs.Keeps.{KeepsDisk};
+ghost use Rattle.pos_image.specs.Layout.{slot_size, longest, is_open};
+ghost use Rattle.pos_image.specs.Steps.{IsWritten, Keeps, CrashKeeps, ClosesGate, CrashClosing, KeepsGate, CrashKeepsGate};
+ghost use Rattle.pos_image.specs.Steps.{HasNoLog, KeepsBeside, Stages, CrashStages};
 ghost use Rattle.pos_image.specs.Slots.{HasFields};
 
+use crate::layout::{BODY, CLOSED, LOG, OPEN, SEQUENCE};
 use byteorder::{BigEndian, ByteOrder};
 use pos_disk::{Disk, DiskFault};
-
-/// An open gate; every other byte is a closed one.
-pub const OPEN: u8 = 0xA5;
-
-/// How a gate is written closed.
-pub const CLOSED: u8 = 0;
-
-// Where the body of a slot begins.
-const BODY: u64 = 13;
-
-// Where the log of a slot begins.
-const LOG: u64 = 16_384;
 
 /// Writes and syncs.
 pub fn write_through<D: Disk>(disk: &mut D, at: u64, bytes: &[u8]) -> Result<(), DiskFault>
     requires fits { at + length bytes.now ≤ D.size disk.old }
     requires at_rest { D.honest disk.old → IsAtRest (D.state disk.old) }
-    ensures size { D.size disk.new ≡ D.size disk.old }
-    ensures honest { D.honest disk.old ↔ D.honest disk.new }
+    ensures keeps { KeepsDisk D.Disk disk.old disk.new }
     ensures at_rest { D.honest disk.old → OnOk result (IsAtRest (D.state disk.new)) }
-    ensures written { D.honest disk.old → OnOk result ((D.state disk.new).reading ≡ splice (D.state disk.old).reading at bytes.now) }
-    ensures same { D.honest disk.old → SameBut at (length bytes.now) (D.state disk.old).reading (D.state disk.new).reading }
-    ensures any_moment { D.honest disk.old → LeavesOnly (D.state disk.old) (D.state disk.new) (SameBut at (length bytes.now) (D.state disk.old).reading) }
+    ensures written { D.honest disk.old → OnOk result (IsWritten at bytes.now (D.state disk.old) (D.state disk.new)) }
+    ensures same { D.honest disk.old → Keeps at (length bytes.now) (D.state disk.old) (D.state disk.new) }
+    ensures any_moment { D.honest disk.old → CrashKeeps at (length bytes.now) (D.state disk.old) (D.state disk.new) }
     ensures cause { D.honest disk.old → HasCause (D.state disk.old) (D.state disk.new) result }
 {
     disk.write(at, bytes)?;
@@ -41,12 +31,12 @@ pub fn write_through<D: Disk>(disk: &mut D, at: u64, bytes: &[u8]) -> Result<(),
 pub fn close_gate<D: Disk>(disk: &mut D, at: u64) -> Result<(), DiskFault>
     requires fits { at + 1 ≤ D.size disk.old }
     requires at_rest { D.honest disk.old → IsAtRest (D.state disk.old) }
-    ensures size { D.size disk.new ≡ D.size disk.old }
-    ensures honest { D.honest disk.old ↔ D.honest disk.new }
+    ensures keeps { KeepsDisk D.Disk disk.old disk.new }
     ensures at_rest { D.honest disk.old → OnOk result (IsAtRest (D.state disk.new)) }
     ensures closed { D.honest disk.old → OnOk result (is_open (D.state disk.new).reading at ≡ false) }
-    ensures same { D.honest disk.old → OnOk result (SameBut at 1 (D.state disk.old).reading (D.state disk.new).reading) }
-    ensures any_moment { D.honest disk.old → LeavesOnly (D.state disk.old) (D.state disk.new) (SameBut at (if is_open (D.state disk.old).reading at then 1 else 0) (D.state disk.old).reading) }
+    ensures gate { D.honest disk.old → OnOk result (ClosesGate at (D.state disk.old) (D.state disk.new)) }
+    ensures same { D.honest disk.old → Keeps at 1 (D.state disk.old) (D.state disk.new) }
+    ensures any_moment { D.honest disk.old → CrashClosing at (D.state disk.old) (D.state disk.new) }
     ensures cause { D.honest disk.old → HasCause (D.state disk.old) (D.state disk.new) result }
 {
     let mut gate = [CLOSED];
@@ -74,20 +64,20 @@ pub fn write_image<D: Disk>(
     sequence: u64,
     body: &[u8],
 ) -> Result<(), DiskFault>
-    requires fits { at + 32768 ≤ D.size disk.old }
-    requires low { at ≤ 32768 }
-    requires short { length body.now ≤ 16371 }
+    requires fits { at + slot_size ≤ D.size disk.old }
+    requires low { at ≤ slot_size }
+    requires short { length body.now ≤ longest }
     requires at_rest { D.honest disk.old → IsAtRest (D.state disk.old) }
-    ensures size { D.size disk.new ≡ D.size disk.old }
-    ensures honest { D.honest disk.old ↔ D.honest disk.new }
+    ensures keeps { KeepsDisk D.Disk disk.old disk.new }
     ensures at_rest { D.honest disk.old → OnOk result (IsAtRest (D.state disk.new)) }
     ensures written { D.honest disk.old → OnOk result (HasFields (D.state disk.new).reading at sequence body.now) }
-    ensures no_log { D.honest disk.old → OnOk result (is_open (D.state disk.new).reading (at + 16384) ≡ false) }
-    ensures same { D.honest disk.old → OnOk result (SameBut (at + 1) 32767 (D.state disk.old).reading (D.state disk.new).reading) }
-    ensures any_moment { D.honest disk.old → LeavesOnly (D.state disk.old) (D.state disk.new) (SameBut (at + 1) 32767 (D.state disk.old).reading) }
+    ensures no_log { D.honest disk.old → OnOk result (HasNoLog at (D.state disk.new)) }
+    ensures rest { D.honest disk.old → KeepsBeside at (length body.now) (D.state disk.old) (D.state disk.new) }
+    ensures same { D.honest disk.old → OnOk result (KeepsGate at (D.state disk.old) (D.state disk.new)) }
+    ensures any_moment { D.honest disk.old → CrashKeepsGate at (D.state disk.old) (D.state disk.new) }
     ensures cause { D.honest disk.old → HasCause (D.state disk.old) (D.state disk.new) result }
 {
-    disk.write(at + 1, &head_of(sequence, body.len() as u32))?;
+    disk.write(at + SEQUENCE, &head_of(sequence, body.len() as u32))?;
     disk.write(at + BODY, body)?;
     disk.write(at + LOG, &[CLOSED])?;
     disk.sync()
@@ -100,18 +90,19 @@ pub fn place_image<D: Disk>(
     sequence: u64,
     body: &[u8],
 ) -> Result<(), DiskFault>
-    requires fits { at + 32768 ≤ D.size disk.old }
-    requires low { at ≤ 32768 }
-    requires short { length body.now ≤ 16371 }
+    requires fits { at + slot_size ≤ D.size disk.old }
+    requires low { at ≤ slot_size }
+    requires short { length body.now ≤ longest }
     requires at_rest { D.honest disk.old → IsAtRest (D.state disk.old) }
-    ensures size { D.size disk.new ≡ D.size disk.old }
-    ensures honest { D.honest disk.old ↔ D.honest disk.new }
+    ensures keeps { KeepsDisk D.Disk disk.old disk.new }
     ensures at_rest { D.honest disk.old → OnOk result (IsAtRest (D.state disk.new)) }
     ensures closed { D.honest disk.old → OnOk result (is_open (D.state disk.new).reading at ≡ false) }
     ensures written { D.honest disk.old → OnOk result (HasFields (D.state disk.new).reading at sequence body.now) }
-    ensures no_log { D.honest disk.old → OnOk result (is_open (D.state disk.new).reading (at + 16384) ≡ false) }
+    ensures no_log { D.honest disk.old → OnOk result (HasNoLog at (D.state disk.new)) }
+    ensures rest { D.honest disk.old → KeepsBeside at (length body.now) (D.state disk.old) (D.state disk.new) }
+    ensures gate { D.honest disk.old → OnOk result (ClosesGate at (D.state disk.old) (D.state disk.new)) }
     ensures same { D.honest disk.old → OnOk result (Stages at (D.state disk.old).reading (D.state disk.new).reading) }
-    ensures any_moment { D.honest disk.old → LeavesOnly (D.state disk.old) (D.state disk.new) (Stages at (D.state disk.old).reading) }
+    ensures any_moment { D.honest disk.old → CrashStages at (D.state disk.old) (D.state disk.new) }
     ensures cause { D.honest disk.old → HasCause (D.state disk.old) (D.state disk.new) result }
 {
     close_gate(disk, at)?;

@@ -6,7 +6,8 @@ use Rattle.pos_service.specs.declared.kind.Kind.{Kind}
 use Rattle.pos_service.specs.declared.kind.Kind.TheVariants as kind
 use Rattle.pos_service.specs.declared.property.Property.{Property}
 use Rattle.pos_service.specs.declared.property.Property.TheVariants as property
-use Rattle.pos_service.specs.declared.signs.Signs.{Signs}
+use Rattle.pos_service.specs.declared.facts.Facts.{Facts}
+use Rattle.pos_service.specs.declared.facts.FileFacts.{FileFacts}
 use Rattle.pos_service.specs.declared.answer.Value.{Value}
 use Rattle.pos_service.specs.declared.answer.Value.TheVariants as value
 use Rattle.pos_service.specs.declared.call.Call.{Call}
@@ -24,6 +25,8 @@ serves category.CashDrawer (Some kind.Drawer) = true
 serves category.CashDrawer (Some kind.Scanner) = false
 serves category.CashDrawer (Some (kind.Display rows columns)) = false
 serves category.CashDrawer (Some (kind.Printer chars near)) = false
+serves category.HardTotals None = true
+serves category.HardTotals (Some k) = false
 
 -- a call that every category has
 abbrev pub is_common : Call → Bool
@@ -36,11 +39,26 @@ is_common asked = false
 -- the call is one of the category's own, besides those that every category has
 abbrev pub has_call : Category → Call → Bool
 has_call category.CashDrawer call.OpenDrawer = true
+has_call category.HardTotals (call.Create name size detection) = true
+has_call category.HardTotals (call.Delete name) = true
+has_call category.HardTotals (call.Find name) = true
+has_call category.HardTotals (call.FindByIndex index) = true
+has_call category.HardTotals (call.Read handle offset count) = true
+has_call category.HardTotals (call.Write handle offset bytes) = true
+has_call category.HardTotals (call.SetAll handle n) = true
+has_call category.HardTotals (call.Rename handle name) = true
 has_call c asked = false
 
 -- the calls of a category's own that may want memory
 abbrev pub takes_memory : Call → Bool
 takes_memory call.OpenDrawer = true
+takes_memory (call.Create name size detection) = true
+takes_memory (call.Delete name) = true
+takes_memory (call.FindByIndex index) = true
+takes_memory (call.Read handle offset count) = true
+takes_memory (call.Write handle offset bytes) = true
+takes_memory (call.SetAll handle n) = true
+takes_memory (call.Rename handle name) = true
 takes_memory asked = false
 
 -- the category has the property
@@ -49,6 +67,13 @@ has_property c property.State = true
 has_property c property.DeviceEnabled = true
 has_property category.CashDrawer property.CapStatus = true
 has_property category.CashDrawer property.DrawerOpened = true
+has_property category.HardTotals property.TotalsSize = true
+has_property category.HardTotals property.FreeData = true
+has_property category.HardTotals property.NumberOfFiles = true
+has_property category.HardTotals property.CapTransactions = true
+has_property category.HardTotals property.CapSingleFile = true
+has_property category.HardTotals property.CapErrorDetection = true
+has_property c p = false
 
 -- a call of another category is illegal before all that a call of its own asks
 abbrev pub own_rows : Control → Call → List Row → List Row
@@ -84,10 +109,8 @@ close_rows control = when (is_none control.device) code.Closed ∷ []
 
 -- the property may be set to some values
 abbrev pub is_settable : Property → Bool
-is_settable property.State = false
 is_settable property.DeviceEnabled = true
-is_settable property.CapStatus = false
-is_settable property.DrawerOpened = false
+is_settable p = false
 
 -- the property may be set to this value, by its type and range
 abbrev pub takes : Property → Value → Bool
@@ -113,26 +136,42 @@ after_set control p v = record control { enabled = enabled_after control.enabled
 -- the property can be read of an open control alone
 abbrev pub needs_open : Property → Bool
 needs_open property.State = false
-needs_open property.DeviceEnabled = true
-needs_open property.CapStatus = true
-needs_open property.DrawerOpened = true
+needs_open p = true
 
 -- the property can be read of an enabled device alone
 abbrev pub needs_enabled : Property → Bool
-needs_enabled property.State = false
-needs_enabled property.DeviceEnabled = false
-needs_enabled property.CapStatus = false
 needs_enabled property.DrawerOpened = true
+needs_enabled property.FreeData = true
+needs_enabled property.NumberOfFiles = true
+needs_enabled p = false
 
-abbrev pub get_rows : Control → Property → List Row
-get_rows control p =
+-- the property can be read of totals alone that are ready
+abbrev pub needs_files : Property → Bool
+needs_files property.FreeData = true
+needs_files property.NumberOfFiles = true
+needs_files p = false
+
+abbrev pub get_rows : Control → Facts → Property → List Row
+get_rows control facts p =
     when (needs_open p && is_none control.device) code.Closed
     ∷ when (not (has_property control.category p)) code.Illegal
-    ∷ when (needs_enabled p && not control.enabled) code.Disabled ∷ []
+    ∷ when (needs_enabled p && not control.enabled) code.Disabled
+    ∷ when (needs_files p && is_none facts.files) code.Failure ∷ []
 
--- the value of a property, by the signs at the control's device
-abbrev pub property_of : Control → Signs → Property → Value
-property_of control signs property.State = value.Number (pos (state_of control))
-property_of control signs property.DeviceEnabled = value.Truth control.enabled
-property_of control signs property.CapStatus = value.Truth true
-property_of control signs property.DrawerOpened = value.Truth signs.drawer_open
+-- what is told of files that are known
+abbrev pub told_of_files : Option FileFacts → (FileFacts → ℕ) → Value
+told_of_files None tell = value.Empty
+told_of_files (Some files) tell = value.Number (pos (tell files))
+
+-- the value of a property, by what is known of the control's device
+abbrev pub property_of : Control → Facts → Property → Value
+property_of control facts property.State = value.Number (pos (state_of control))
+property_of control facts property.DeviceEnabled = value.Truth control.enabled
+property_of control facts property.CapStatus = value.Truth true
+property_of control facts property.DrawerOpened = value.Truth facts.signs.drawer_open
+property_of control facts property.TotalsSize = value.Number (pos facts.totals_size)
+property_of control facts property.FreeData = told_of_files facts.files (λ files. files.free)
+property_of control facts property.NumberOfFiles = told_of_files facts.files (λ files. files.count)
+property_of control facts property.CapTransactions = value.Truth true
+property_of control facts property.CapSingleFile = value.Truth false
+property_of control facts property.CapErrorDetection = value.Truth false

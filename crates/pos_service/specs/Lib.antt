@@ -1,9 +1,14 @@
 pub mod Codes
+pub mod Displays
+pub mod Receipts
 pub mod Peripherals
 pub mod Statuses
+pub mod Events
+pub mod Output
 pub mod Controls
 pub mod Refusals
 pub mod Calls
 pub mod Stations
 pub mod DrawerCalls
 pub mod HardTotals
+pub mod TotalsCalls

@@ -15,4 +15,21 @@ pub enum Call {
     Get(Property),
     /// `openDrawer` (chapter Cash Drawer).
     OpenDrawer,
+    /// `create` with the new file's name, its size in bytes, and whether errors are to be detected, which has no effect
+    /// (chapter Hard Totals, as the calls below).
+    Create(Bytes, i128, bool),
+    /// `delete` with the file's name.
+    Delete(Bytes),
+    /// `find` with the file's name.
+    Find(Bytes),
+    /// `findByIndex` with an index, counted from 0 in the order of creation.
+    FindByIndex(i128),
+    /// `read` with the file's handle, an offset and how many bytes.
+    Read(i128, i128, i128),
+    /// `write` with the file's handle, an offset and the bytes.
+    Write(i128, i128, Bytes),
+    /// `setAll` with the file's handle and a byte.
+    SetAll(i128, i128),
+    /// `rename` with the file's handle and its new name.
+    Rename(i128, Bytes),
 }

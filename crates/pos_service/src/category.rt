@@ -1,13 +1,17 @@
 ghost use Rattle.std.specs.Prelude.{◌≡◌};
-ghost use Rattle.pos_service.specs.Calls.{serves};
+ghost use Rattle.pos_service.specs.Calls.{serves, has_call, has_property};
 
+use crate::call::Call;
 use crate::kind::Kind;
+use crate::property::Property;
 
 /// The category of a control and of the devices that it may open.
 #[derive(Clone, Copy, Debug, PartialEq, Eq)]
 pub enum Category {
     /// Chapter Cash Drawer.
     CashDrawer,
+    /// Chapter Hard Totals.
+    HardTotals,
 }
 
 impl Category {
@@ -17,6 +21,38 @@ impl Category {
     {
         match self {
             Category::CashDrawer => matches!(kind, Some(Kind::Drawer)),
+            Category::HardTotals => kind.is_none(),
+        }
+    }
+
+    /// Whether its controls have the property.
+    pub fn has_property(self, property: Property) -> bool
+        ensures { result ≡ has_property self property }
+    {
+        match property {
+            Property::State | Property::DeviceEnabled => true,
+            Property::CapStatus | Property::DrawerOpened => self == Category::CashDrawer,
+            _ => self == Category::HardTotals,
+        }
+    }
+
+    /// Whether the call is one of its own, besides those that every category has.
+    pub fn has_call(self, call: &Call) -> bool
+        ensures { result ≡ has_call self call.now }
+    {
+        match self {
+            Category::CashDrawer => matches!(call, Call::OpenDrawer),
+            Category::HardTotals => matches!(
+                call,
+                Call::Create(_, _, _)
+                    | Call::Delete(_)
+                    | Call::Find(_)
+                    | Call::FindByIndex(_)
+                    | Call::Read(_, _, _)
+                    | Call::Write(_, _, _)
+                    | Call::SetAll(_, _)
+                    | Call::Rename(_, _)
+            ),
         }
     }
 }

@@ -1,4 +1,7 @@
-/// A property of a control (common chapter, and chapter Cash Drawer).
+ghost use Rattle.std.specs.Prelude.{◌≡◌};
+ghost use Rattle.pos_service.specs.Calls.{needs_open, needs_enabled};
+
+/// A property of a control (common chapter, and chapters Cash Drawer and Hard Totals).
 #[derive(Clone, Copy, Debug, PartialEq, Eq)]
 pub enum Property {
     /// What the control is at: closed 1, idle 2, busy 3, in error 4.
@@ -9,4 +12,35 @@ pub enum Property {
     CapStatus,
     /// Whether the drawer is open.
     DrawerOpened,
+    /// How many bytes the files of the totals may have in sum.
+    TotalsSize,
+    /// How many bytes are left for new files.
+    FreeData,
+    /// How many files there are.
+    NumberOfFiles,
+    /// Whether changes can be made together as a transaction.
+    CapTransactions,
+    /// Whether there is one file alone.
+    CapSingleFile,
+    /// Whether files are kept with error detection.
+    CapErrorDetection,
+}
+
+impl Property {
+    /// Whether it can be read of an open control alone.
+    pub fn needs_open(self) -> bool
+        ensures { result ≡ needs_open self }
+    {
+        !matches!(self, Property::State)
+    }
+
+    /// Whether it can be read of an enabled device alone.
+    pub fn needs_enabled(self) -> bool
+        ensures { result ≡ needs_enabled self }
+    {
+        matches!(
+            self,
+            Property::DrawerOpened | Property::FreeData | Property::NumberOfFiles
+        )
+    }
 }

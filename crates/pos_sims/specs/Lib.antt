@@ -1,1 +1,3 @@
 pub mod Drawers
+pub mod Windows
+pub mod Tapes

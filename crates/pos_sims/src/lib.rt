@@ -1,8 +1,16 @@
 //! Simulated peripherals.
 #![tactic(auto)]
 
+mod laying;
 mod plain_drawer;
+mod printing;
+mod roll;
+mod scrolling;
+mod tape;
 #[cfg(test)]
 mod tests;
+mod window;
 
 pub use plain_drawer::PlainDrawer;
+pub use roll::Roll;
+pub use window::Window;

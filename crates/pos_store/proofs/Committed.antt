@@ -1,6 +1,9 @@
 -- What a change of the images means for the files.
 use Rattle.std.proofs.Common.{◌≡◌, ◌≤◌, ◌+◌, ◌↔◌, inl, inr, ⊎_elim, ℕ, List, Result, Ok, Err, MatchResult, length, refl, sym, ap, subst, ◌∙◌}
-use Rattle.pos_dir.specs.Changes.{outcome_of_all}
+use Rattle.std.specs.Prelude.{Some}
+use Rattle.std.specs.Result.{result_err}
+use Rattle.pos_dir.proofs.Applied.{never_memory}
+use Rattle.pos_dir.specs.Changes.{outcome_of_all, fault_of}
 use Rattle.pos_dir.specs.Files.{IsDirectory}
 use Rattle.pos_dir.specs.Spelling.{spelling}
 use Rattle.pos_dir.specs.declared.change.Change.{Change}
@@ -9,14 +12,16 @@ use Rattle.pos_dir.specs.declared.fault.DirectoryFault.TheVariants as directory
 use Rattle.pos_dir.specs.declared.file.File.{File}
 use Rattle.pos_dir.specs.declared.limits.TheConstants.{LAYOUT_1}
 use Rattle.pos_disk.proofs.Moments.{weaker}
-use Rattle.pos_disk.specs.State.{LeavesOnly, MayLeave, Rises}
+use Rattle.pos_disk.specs.State.{LeavesOnly, CountsNow, Rises}
+use Rattle.pos_disk.specs.Keeps.{KeepsDisk}
 use Rattle.pos_disk.specs.declared.device.Disk.{Ghosts}
 use Rattle.pos_image.specs.Standing as image
 use Rattle.pos_image.specs.Standing.{HasEither}
-use Rattle.pos_store.specs.Commits.{Commits, IsLast, before_or_after}
+use Rattle.pos_store.specs.Commits.{Commits, IsLast, IsNextBody, before_or_after}
 use Rattle.pos_store.specs.Faults.{refusal}
 use Rattle.pos_store.specs.Modes.{Off, Ready}
 use Rattle.pos_store.specs.Standing.{StandsForOneOf}
+use Rattle.pos_store.specs.declared.fault.StoreFault.{StoreFault}
 use Rattle.pos_store.specs.declared.fault.StoreFault.TheVariants as fault
 
 -- the bodies of a change spell the files before it and those after it
@@ -31,49 +36,49 @@ pub either_stands : (files after : List File) (body next log : List ℕ) (sequen
     → outcome ≡ Ok after → (bytes : List ℕ) → HasEither body next sequence log bytes → StandsForOneOf (before_or_after files sequence outcome) bytes
 either_stands files after body next log sequence outcome spells applicable bytes either =
     rw applicable (⊎_elim
-    (λ old. inl (spells.before, old.image ∙ ap (λ (b : List ℕ). image.Stands b sequence) spells.spelled))
-    (λ new. inr (inl (spells.behind, new.image ∙ ap (λ (b : List ℕ). image.Stands b (sequence + 1)) spells.spelled_next)))
+    (λ old. inl (spells.before, old.image ∙ ap (λ (b : List ℕ). image.OneImage b sequence) spells.spelled))
+    (λ new. inr (inl (spells.behind, new.image ∙ ap (λ (b : List ℕ). image.OneImage b (sequence + 1)) spells.spelled_next)))
     either)
 
 -- a commit that met a fault of the disk
 pub failed_commits : {D : Type 0} (bound : Ghosts D) (disk failed : D) (files after : List File) (body next log : List ℕ) (sequence : ℕ) (changes : List Change) → Spells files after body next
     → outcome_of_all LAYOUT_1 files changes ≡ Ok after → (IsLast sequence → ⊥)
     → (bound.honest disk → LeavesOnly (bound.state disk) (bound.state failed) (HasEither body next sequence log))
-    → (bound.honest disk → (bytes : List ℕ) → MayLeave (bound.state failed) bytes → HasEither body next sequence log bytes)
+    → (bound.honest disk → (bytes : List ℕ) → CountsNow (bound.state failed) (bound.state disk).moment bytes)
     → (bound.honest disk → Rises (bound.state disk).failures (bound.state failed).failures)
-    → (bound.honest disk → (bound.state disk).failures ≤ (bound.state failed).failures)
-    → bound.size failed ≡ bound.size disk
-    → bound.honest disk ↔ bound.honest failed
+    → KeepsDisk bound disk failed
     → Commits bound (record { disk = disk; state = Ready files sequence }) changes (Err fault.Device) (record { disk = failed; state = Off })
-failed_commits bound disk failed files after body next log sequence changes spells applicable more any_moment now device later size honest =
+failed_commits bound disk failed files after body next log sequence changes spells applicable more any_moment counts device keeps =
     let stands = either_stands files after body next log sequence (outcome_of_all LAYOUT_1 files changes) spells applicable in
     record {
       answer = rw applicable (more, refl);
       unchanged = λ err. inl refl;
       any_moment = λ h. weaker (bound.state disk) (bound.state failed) (HasEither body next sequence log) (StandsForOneOf (before_or_after files sequence (outcome_of_all LAYOUT_1 files changes))) stands (any_moment h);
       now = λ h. tt;
-      in_doubt = λ h is bytes may. stands bytes (now h bytes may);
+      in_doubt = λ h is bytes may. stands bytes ((any_moment h).each bytes (counts h bytes (any_moment h).later may));
       device = λ h is. device h;
-      later = later;
-      size = size;
-      honest = honest;
+      keeps = keeps;
     }
 
--- a fault of a change is told as a refusal
-pub told_refused : (cause : DirectoryFault) → (cause ≡ directory.NoMemory → ⊥) → refusal cause ≡ fault.Refused cause
-told_refused directory.NoFile other = refl
-told_refused directory.Exists other = refl
-told_refused directory.Range other = refl
-told_refused directory.NoRoom other = refl
-told_refused directory.BadName other = refl
-told_refused directory.NoMemory other = absurd (other refl)
-told_refused directory.Malformed other = refl
+told_so : (X : Type 0) (P : List File → Type 0) (outcome : Result (List File) DirectoryFault) (cause : DirectoryFault) → refusal cause ≡ fault.Refused cause → Some cause ≡ result_err outcome
+    → MatchResult outcome P (λ refused. ◌≡◌ {A = Result X StoreFault} (Err (refusal cause)) (Err (fault.Refused refused)))
+told_so X P (Ok files) cause told same = absurd cc
+told_so X P (Err other) cause told same = cc
+
+-- the fault of a group is told as its refusal
+pub fault_told : (X : Type 0) (P : List File → Type 0) (files : List File) (changes : List Change) (cause : DirectoryFault) → Some cause ≡ fault_of LAYOUT_1 files changes
+    → MatchResult (outcome_of_all LAYOUT_1 files changes) P (λ refused. ◌≡◌ {A = Result X StoreFault} (Err (refusal cause)) (Err (fault.Refused refused)))
+fault_told X P files changes directory.NoFile same = told_so X P (outcome_of_all LAYOUT_1 files changes) directory.NoFile refl same
+fault_told X P files changes directory.Exists same = told_so X P (outcome_of_all LAYOUT_1 files changes) directory.Exists refl same
+fault_told X P files changes directory.Range same = told_so X P (outcome_of_all LAYOUT_1 files changes) directory.Range refl same
+fault_told X P files changes directory.NoRoom same = told_so X P (outcome_of_all LAYOUT_1 files changes) directory.NoRoom refl same
+fault_told X P files changes directory.BadName same = told_so X P (outcome_of_all LAYOUT_1 files changes) directory.BadName refl same
+fault_told X P files changes directory.NoMemory same = absurd (never_memory LAYOUT_1 files changes same)
+fault_told X P files changes directory.Malformed same = told_so X P (outcome_of_all LAYOUT_1 files changes) directory.Malformed refl same
 
 -- what was made is the outcome, and its body the spelling
 pub is_made : {X : Type 0} (made : X) (directory : List File) (body : List ℕ) (sequence : ℕ) (outcome : Result (List File) DirectoryFault)
-    → MatchResult outcome
-    (λ after. ¬ (IsLast sequence) × (directory ≡ after) × IsDirectory LAYOUT_1 after × (body ≡ spelling after) × (length (spelling after) ≤ 16371))
-    (λ refusal. Ok made ≡ Err (fault.Refused refusal))
-    → ¬ (IsLast sequence) × (outcome ≡ Ok directory) × IsDirectory LAYOUT_1 directory × (body ≡ spelling directory)
-is_made made directory body sequence (Ok after) h = (h.0, ap Ok (sym h.1), subst (IsDirectory LAYOUT_1) (sym h.1) h.2, h.3 ∙ ap spelling (sym h.1))
+    → MatchResult outcome (λ after. (directory ≡ after) × IsNextBody sequence after body) (λ refusal. Ok made ≡ Err (fault.Refused refusal))
+    → (outcome ≡ Ok directory) × IsNextBody sequence directory body
+is_made made directory body sequence (Ok after) h = (ap Ok (sym h.0), subst (λ (files : List File). IsNextBody sequence files body) (sym h.0) h.1)
 is_made made directory body sequence (Err cause) h = absurd (let is_refused = h in cc)

@@ -5,39 +5,38 @@ use Rattle.pos_dir.specs.declared.fault.DirectoryFault.{DirectoryFault}
 use Rattle.pos_dir.specs.declared.fault.DirectoryFault.TheVariants as directory
 use Rattle.pos_dir.specs.declared.limits.TheConstants.{LAYOUT_1}
 use Rattle.pos_disk.specs.State.{Watches, Rises}
+use Rattle.pos_disk.specs.Keeps.{KeepsDisk}
 use Rattle.pos_disk.specs.declared.device.Disk.{Ghosts}
 use Rattle.pos_image.specs.Standing as image
-use Rattle.pos_image.specs.Standing.{stands}
+use Rattle.pos_image.specs.Standing.{image_on}
 use Rattle.pos_image.specs.declared.fault.ImageFault.{ImageFault}
 use Rattle.pos_image.specs.declared.fault.ImageFault.TheVariants as images
 use Rattle.pos_store.proofs.Found.{finds_so, recovers_one}
-use Rattle.pos_store.specs.Modes.{View, Off, LeavesItsFiles}
-use Rattle.pos_store.specs.Recoveries.{Finds, Recovers}
+use Rattle.pos_store.specs.Modes.{StoreView, Off, LeavesItsFiles}
+use Rattle.pos_store.specs.Recoveries.{FindsStanding, DiskStandsFor, Recovers}
 use Rattle.pos_store.specs.Standing.{Standing, Unformatted, Damaged, StandsFor}
 use Rattle.pos_store.specs.Faults.{Tells}
 use Rattle.pos_store.specs.declared.fault.StoreFault.{StoreFault}
 use Rattle.pos_store.specs.declared.fault.StoreFault.TheVariants as fault
 
-pub off_recovers : {D : Type 0} (bound : Ghosts D) (disk : D) (result : Result (Unit {0}) StoreFault) (new : View D)
-    → Finds (λ standing. bound.honest disk → StandsFor standing (bound.state disk).reading) result new.state
+-- a recovery that only looked at the disk of a store that was off
+pub off_recovers : {D : Type 0} (bound : Ghosts D) (disk : D) (result : Result (Unit {0}) StoreFault) (new : StoreView D)
+    → FindsStanding (DiskStandsFor bound disk) result new.state
     → (bound.honest disk → Watches (bound.state disk) (bound.state new.disk))
     → (bound.honest disk → LeavesItsFiles new.state (bound.state new.disk))
     → (bound.honest disk → IsErrOf result fault.Device → Rises (bound.state disk).failures (bound.state new.disk).failures)
-    → (bound.honest disk → (bound.state disk).failures ≤ (bound.state new.disk).failures)
-    → bound.size new.disk ≡ bound.size disk
-    → bound.honest disk ↔ bound.honest new.disk
+    → KeepsDisk bound disk new.disk
     → Recovers bound (record { disk = disk; state = Off }) result new
-off_recovers bound disk result new finds watches now device later size honest = record {
+off_recovers bound disk result new finds watches now device keeps = record {
   ready = tt;
   answer = finds;
   one_of = λ h candidates leaves. recovers_one candidates (bound.state disk) (bound.state new.disk) result new.state
-      (finds_so (λ standing. bound.honest disk → StandsFor standing (bound.state disk).reading) (λ standing. StandsFor standing (bound.state disk).reading) (λ standing stands. stands h) result new.state finds)
+      (finds_so (DiskStandsFor bound disk) (λ standing. StandsFor standing (bound.state disk).reading) (λ standing stands. stands h) result new.state finds)
       (watches h) leaves;
+  reading = λ h. (watches h).reading;
   now = now;
   device = device;
-  later = later;
-  size = size;
-  honest = honest;
+  keeps = keeps;
 }
 
 -- images aren't exhausted where they are opened
@@ -49,7 +48,7 @@ pub told_finds : (P : Standing → Type 0) (cause : ImageFault) (told : StoreFau
     → ((cause ≡ images.Unformatted) ⊎ (cause ≡ images.TooSmall) → P Unformatted)
     → (cause ≡ images.Damaged → P Damaged)
     → (cause ≡ images.TooSmall) ⊎ ((cause ≡ images.Unformatted) ⊎ ((cause ≡ images.Damaged) ⊎ ((cause ≡ images.Device) ⊎ (cause ≡ images.NoMemory))))
-    → Finds P (Err told) Off
+    → FindsStanding P (Err told) Off
 told_finds P images.Unformatted told tells unformatted damaged known = rw tells (unformatted (inl refl), refl)
 told_finds P images.AlreadyFormatted told tells unformatted damaged known = absurd tells
 told_finds P images.Damaged told tells unformatted damaged known = rw tells (damaged refl, refl)
@@ -71,11 +70,11 @@ told_device images.NoMemory told tells is = cc
 told_device images.TooSmall told tells is = cc
 
 -- a damaged image is damage
-pub damaged_stands : (bytes : List ℕ) → stands bytes ≡ image.Damaged → StandsFor Damaged bytes
+pub damaged_stands : (bytes : List ℕ) → image_on bytes ≡ image.DamagedImage → StandsFor Damaged bytes
 damaged_stands bytes same = rw same tt
 
 -- and so is one whose body spells no directory
-pub no_body_stands : (bytes body : List ℕ) (sequence : ℕ) → stands bytes ≡ image.Stands body sequence → ¬ (IsBody LAYOUT_1 body) → StandsFor Damaged bytes
+pub no_body_stands : (bytes body : List ℕ) (sequence : ℕ) → image_on bytes ≡ image.OneImage body sequence → ¬ (IsBody LAYOUT_1 body) → StandsFor Damaged bytes
 no_body_stands bytes body sequence same none = rw same none
 
 -- malformed bytes spell no directory

@@ -12,8 +12,8 @@ abbrev pub refusal : DirectoryFault → StoreFault
 refusal directory.NoMemory = store.NoMemory
 refusal fault = store.Refused fault
 
--- an images' fault has the same name here, and a disk that is too small is unformatted; no body is too large and no disk is
--- formatted here
+-- an images' fault has the same name here, and a disk that is too small is unformatted; no body is too large and no
+-- disk is formatted here
 abbrev pub Tells : ImageFault → StoreFault → Type 0
 Tells image.Unformatted told = told ≡ store.Unformatted
 Tells image.AlreadyFormatted told = ⊥

@@ -14,46 +14,47 @@ use Rattle.pos_store.specs.declared.mode.Mode.{Mode}
 use Rattle.pos_store.specs.declared.mode.Mode.TheVariants as mode
 
 -- Off, or ready with these files and the sequence of their image
-pub data State : Type 0 where
-  Off : State
-  Ready : (files : List File) (sequence : ℕ) → State
+pub data StoreState : Type 0 where
+  Off : StoreState
+  Ready : (files : List File) (sequence : ℕ) → StoreState
 
 -- The disk, and what the store has of it.
-pub record View (D : Type 0) : Type 0 where
+pub record StoreView (D : Type 0) : Type 0 where
   pub disk : D
-  pub state : State
+  pub state : StoreState
 
 -- the files, where it is ready
-abbrev pub files_of : State → Option (List File)
+abbrev pub files_of : StoreState → Option (List File)
 files_of Off = None
 files_of (Ready files sequence) = Some files
 
 -- whether it is ready, and with which sequence
-abbrev pub mode_of : State → Mode
+abbrev pub mode_of : StoreState → Mode
 mode_of Off = mode.Off
 mode_of (Ready files sequence) = mode.Ready sequence
 
 -- P, where it is off
-abbrev pub WhenOff : State → Type 0 → Type 0
+abbrev pub WhenOff : StoreState → Type 0 → Type 0
 WhenOff Off P = P
 WhenOff (Ready files sequence) P = ⊤
 
 -- P, where it is ready
-abbrev pub WhenReady : State → Type 0 → Type 0
+abbrev pub WhenReady : StoreState → Type 0 → Type 0
 WhenReady Off P = ⊤
 WhenReady (Ready files sequence) P = P
 
 -- where it is ready, a crash at this moment leaves its files and their sequence alone
-abbrev pub LeavesItsFiles : State → DiskState → Type 0
+abbrev pub LeavesItsFiles : StoreState → DiskState → Type 0
 LeavesItsFiles Off disk = ⊤
 LeavesItsFiles (Ready files sequence) disk = LeavesOneOf (Stands files sequence ∷ []) disk
 
 -- what the parts of a store mean
-abbrev pub view_of : {D : Type 0} → Medium D → View D
+abbrev pub view_of : {D : Type 0} → Medium D → StoreView D
 view_of (medium.Off disk) = record { disk = disk; state = Off }
 view_of (medium.Ready images directory) = record { disk = images.disk; state = Ready directory images.sequence }
 
 -- where it is ready, so are its images, and their body is the spelling of the files
-abbrev pub IsSound : {D : Type 0} → Ghosts D → Medium D → Type 0
-IsSound bound (medium.Off disk) = ⊤
-IsSound bound (medium.Ready images directory) = IsReady bound images × IsDirectory LAYOUT_1 directory × (images.body ≡ spelling directory)
+abbrev pub SpellsItsFiles : {D : Type 0} → Ghosts D → Medium D → Type 0
+SpellsItsFiles bound (medium.Off disk) = ⊤
+SpellsItsFiles bound (medium.Ready images directory) =
+    IsReady bound images × IsDirectory LAYOUT_1 directory × (images.body ≡ spelling directory)

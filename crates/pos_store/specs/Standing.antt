@@ -15,16 +15,17 @@ pub data Standing : Type 0 where
   Stands : (files : List File) (sequence : ℕ) → Standing
 
 -- the image is damaged, or its body spells no directory
-abbrev pub IsDamaged : image.Standing → Type 0
-IsDamaged image.Unformatted = ⊥
-IsDamaged image.Damaged = ⊤
-IsDamaged (image.Stands body sequence) = ¬ (IsBody LAYOUT_1 body)
+abbrev pub IsDamaged : image.ImageStanding → Type 0
+IsDamaged image.NoImage = ⊥
+IsDamaged image.DamagedImage = ⊤
+IsDamaged (image.OneImage body sequence) = ¬ (IsBody LAYOUT_1 body)
 
 -- the bytes stand for this: their image's body is read as the files that it spells
 abbrev pub StandsFor : Standing → List ℕ → Type 0
-StandsFor Unformatted bytes = image.stands bytes ≡ image.Unformatted
-StandsFor Damaged bytes = IsDamaged (image.stands bytes)
-StandsFor (Stands files sequence) bytes = IsDirectory LAYOUT_1 files × (image.stands bytes ≡ image.Stands (spelling files) sequence)
+StandsFor Unformatted bytes = image.image_on bytes ≡ image.NoImage
+StandsFor Damaged bytes = IsDamaged (image.image_on bytes)
+StandsFor (Stands files sequence) bytes =
+    IsDirectory LAYOUT_1 files × (image.image_on bytes ≡ image.OneImage (spelling files) sequence)
 
 -- it is one of the candidates
 abbrev pub IsOneOf : List Standing → Standing → Type 0

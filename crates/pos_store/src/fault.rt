@@ -34,7 +34,7 @@ pub enum StoreFault {
 }
 
 /// Why a directory refuses a call, in a store's words.
-pub fn of_directory(fault: DirectoryFault) -> StoreFault
+pub fn tell_directory(fault: DirectoryFault) -> StoreFault
     ensures { result ≡ refusal fault }
 {
     match fault {
@@ -44,7 +44,7 @@ pub fn of_directory(fault: DirectoryFault) -> StoreFault
 }
 
 /// Why images refuse a call, in a store's words.
-pub fn of_images(fault: ImageFault) -> StoreFault
+pub fn tell_images(fault: ImageFault) -> StoreFault
     requires new { fault ≢ ImageFault.AlreadyFormatted }
     requires short { fault ≢ ImageFault.TooLarge }
     ensures { Tells fault result }

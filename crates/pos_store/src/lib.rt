@@ -15,4 +15,6 @@ pub use mode::Mode;
 pub use store::Store;
 
 #[cfg(test)]
+mod support;
+#[cfg(test)]
 mod tests;

@@ -1,10 +1,10 @@
 ghost use Rattle.std.specs.Prelude.{◌≡◌, ◌<◌, length};
 
-use crate::committing::committed;
+use crate::committing::commit_group;
 use crate::fault::StoreFault;
 use crate::medium::Medium;
 use crate::mode::Mode;
-use crate::recovering::recovered;
+use crate::recovering::recover_files;
 use core::mem::replace_with;
 use pos_dir::{Directory, Group};
 use pos_disk::Disk;
@@ -20,13 +20,13 @@ pub struct Store<D: Disk> {
 }
 
 impl<D: Disk> Model for Store<D> {
-    ghost use Rattle.pos_store.specs.Modes.{View, view_of, IsSound};
+    ghost use Rattle.pos_store.specs.Modes.{StoreView, view_of, SpellsItsFiles};
 
-    ghost Value = { View D };
+    ghost Value = { StoreView D };
 
     ghost view = { λ s. view_of s.medium };
 
-    ghost invariant = { λ s. IsSound D.Disk s.medium };
+    ghost invariant = { λ s. SpellsItsFiles D.Disk s.medium };
 }
 
 impl<D: Disk> Store<D> {
@@ -57,7 +57,7 @@ impl<D: Disk> Store<D> {
     pub fn recover(&mut self) -> Result<(), StoreFault>
         ensures { Recovers D.Disk self.old result self.new }
     {
-        replace_with(&mut self.medium, self.alloc, recovered)
+        replace_with(&mut self.medium, self.alloc, recover_files)
     }
 
     /// Carries out all changes of a group, or none. At Ok they are on the disk.
@@ -72,7 +72,7 @@ impl<D: Disk> Store<D> {
         requires { 0 < length group.now }
         ensures { Commits D.Disk self.old group.now result self.new }
     {
-        replace_with(&mut self.medium, (self.alloc, group), committed)
+        replace_with(&mut self.medium, (self.alloc, group), commit_group)
     }
 
     /// The files, or None while the store is off.

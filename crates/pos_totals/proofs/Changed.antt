@@ -21,8 +21,8 @@ use Rattle.pos_service.specs.HardTotals.{File, Mode, Off, Ready, Totals, Change,
 use Rattle.pos_service.specs.Refusals.{Row, first_refusal, Decided}
 use Rattle.pos_store.specs.Commits.{Commits, PutsDown, IsLast}
 use Rattle.pos_store.specs.Commits as store
-use Rattle.pos_store.specs.Modes.{State, LeavesItsFiles}
-use Rattle.pos_store.specs.Modes.{Off as StoreOff, Ready as StoreReady, View as StoreView}
+use Rattle.pos_store.specs.Modes.{StoreState as State, LeavesItsFiles}
+use Rattle.pos_store.specs.Modes.{Off as StoreOff, Ready as StoreReady, StoreView}
 use Rattle.pos_store.specs.Standing.{Standing, Stands, StandsForOneOf}
 use Rattle.pos_store.specs.declared.fault.StoreFault.{StoreFault}
 use Rattle.pos_store.specs.declared.fault.StoreFault.TheVariants as fault
@@ -206,7 +206,7 @@ module _ {D : Type 0} (bound : Ghosts D) (disk : D) (only : bound.honest disk 鈫
           any_moment = 位 h. weaker (bound.state disk) (bound.state new.disk) _ _ (位 c among. subst (位 (cs : List Standing). StandsForOneOf cs c) candidates among) (commits.any_moment h);
           now = 位 h. subst (位 (s : State). LeavesItsFiles s (bound.state new.disk)) down.1 (commits.now h);
           in_doubt = 位 h turns. absurd turns;
-          kept = record { size = commits.size; honest = commits.honest; later = commits.later };
+          kept = record { size = commits.keeps.size; honest = commits.keeps.honest; later = commits.keeps.later };
         });
       }
 
@@ -265,7 +265,7 @@ module _ {D : Type 0} (bound : Ghosts D) (disk : D) (only : bound.honest disk 鈫
             any_moment = 位 h. weaker (bound.state disk) (bound.state new.disk) _ _ (位 c among. subst (位 (cs : List Standing). StandsForOneOf cs c) candidates among) (commits.any_moment h);
             now = 位 h. tt;
             in_doubt = 位 h turns bytes may. subst (位 (cs : List Standing). StandsForOneOf cs bytes) candidates (commits.in_doubt h refl bytes may);
-            kept = record { size = commits.size; honest = commits.honest; later = commits.later };
+            kept = record { size = commits.keeps.size; honest = commits.keeps.honest; later = commits.keeps.later };
           });
         },
         tt,

@@ -5,8 +5,8 @@ use Rattle.std.proofs.lemmas.Option.{same_Some}
 use Rattle.pos_dir.specs.declared.file.File.{File as PlainFile}
 use Rattle.pos_disk.specs.declared.device.Disk.{Ghosts}
 use Rattle.pos_service.specs.HardTotals.{Off, Ready, last_number}
-use Rattle.pos_store.specs.Modes.{State, LeavesItsFiles}
-use Rattle.pos_store.specs.Modes.{Off as StoreOff, Ready as StoreReady, View as StoreView, mode_of as store_mode_of, files_of as store_files_of}
+use Rattle.pos_store.specs.Modes.{StoreState as State, LeavesItsFiles}
+use Rattle.pos_store.specs.Modes.{Off as StoreOff, Ready as StoreReady, StoreView, mode_of as store_mode_of, files_of as store_files_of}
 use Rattle.pos_store.specs.Recoveries as store
 use Rattle.pos_store.specs.Standing.{Standing, Stands, StandsFor}
 use Rattle.pos_store.specs.declared.mode.Mode.TheVariants as mode
@@ -37,7 +37,7 @@ ready_recovers bound disk (StoreReady files sequence) handles next sound other r
 -- ---- what a store found, in the totals' words
 
 -- a fault of the store
-told_finds : (P : Standing → Type 0) (next : ℕ) (handles : List ℕ) (why : StoreFault) (result : RecoveryFault) (state : State) → store.Finds P (Err why) state → told_as why ≡ Some result
+told_finds : (P : Standing → Type 0) (next : ℕ) (handles : List ℕ) (why : StoreFault) (result : RecoveryFault) (state : State) → store.FindsStanding P (Err why) state → told_as why ≡ Some result
     → FindsFiles P (record { mode = Off; next = next }) (Err result) (record { mode = mode_of handles state; next = next })
 told_finds P next handles cause.Off result state finds tells = absurd finds
 told_finds P next handles (cause.Refused refusal) result state finds tells = absurd finds
@@ -75,7 +75,7 @@ numbered_finds P next files sequence found left = record {
 pub off_recovers : {D : Type 0} (bound : Ghosts D) (disk : D) (handles : List ℕ) (next : ℕ) (result : Result (Unit {0}) StoreFault) (mid : StoreView D) (told : Result (Unit {0}) RecoveryFault) (new : TotalsView D)
     → store.Recovers bound (record { disk = disk; state = StoreOff }) result mid
     → new.disk ≡ mid.disk
-    → ((P : Standing → Type 0) → store.Finds P result mid.state → FindsFiles P (record { mode = Off; next = next }) told new.totals)
+    → ((P : Standing → Type 0) → store.FindsStanding P result mid.state → FindsFiles P (record { mode = Off; next = next }) told new.totals)
     → (bound.honest disk → IsErrOf told fault.Device → IsErrOf result cause.Device)
     → (bound.honest disk → Rattle.pos_totals.specs.Views.LeavesTheirFiles new.totals.mode (bound.state mid.disk))
     → Recovers bound (view_of (record { disk = disk; state = StoreOff }) handles next) told new
@@ -85,12 +85,12 @@ off_recovers bound disk handles next result mid told new recovers same finds dev
   one_of = λ h candidates leaves. let one = recovers.one_of h candidates leaves in record { found = finds _ one.found; any_moment = one.any_moment; still = one.still };
   now = now;
   device = λ is h. recovers.device h (device h is);
-  kept = record { size = recovers.size; honest = recovers.honest; later = recovers.later };
+  kept = record { size = recovers.keeps.size; honest = recovers.keeps.honest; later = recovers.keeps.later };
 })
 
 -- ---- the same for a store in any state
 
-no_files : (P : Standing → Type 0) (why : StoreFault) (state : State) → store.Finds P (Err why) state → state ≡ StoreOff
+no_files : (P : Standing → Type 0) (why : StoreFault) (state : State) → store.FindsStanding P (Err why) state → state ≡ StoreOff
 no_files P cause.Off state finds = absurd finds
 no_files P (cause.Refused refusal) state finds = absurd finds
 no_files P cause.Exhausted state finds = absurd finds

@@ -7,8 +7,8 @@ use Rattle.pos_dir.specs.Files.{IsDirectory}
 use Rattle.pos_dir.specs.declared.file.File.{File as PlainFile}
 use Rattle.pos_dir.specs.declared.limits.TheConstants.{LAYOUT_1}
 use Rattle.pos_service.specs.HardTotals.{File, Mode, Off, Ready, Totals, files_of}
-use Rattle.pos_store.specs.Modes.{State, LeavesItsFiles}
-use Rattle.pos_store.specs.Modes.{Off as StoreOff, Ready as StoreReady, View as StoreView}
+use Rattle.pos_store.specs.Modes.{StoreState as State, LeavesItsFiles}
+use Rattle.pos_store.specs.Modes.{Off as StoreOff, Ready as StoreReady, StoreView}
 
 -- The disk, and what the totals have of it.
 pub record TotalsView (D : Type 0) : Type 0 where

@@ -1,13 +1,13 @@
-ghost use Rattle.std.specs.Prelude.{◌≡◌, ⊤, MatchResult, None, Some};
-ghost use Rattle.pos_service.specs.Calls.{place_found, open_rows, close_rows, set_rows, after_set, get_rows, property_of};
+ghost use Rattle.std.specs.Prelude.{◌≡◌, ◌&&◌, ◌∷◌, [], ⊤, MatchResult, None, Some, is_none};
+ghost use Rattle.pos_service.specs.Calls.{needs_files, place_found, open_rows, close_rows, set_rows, after_set, get_rows, property_of};
 ghost use Rattle.pos_service.specs.Controls.{opened, closed};
-ghost use Rattle.pos_service.specs.Refusals.{Decided, first_refusal};
+ghost use Rattle.pos_service.specs.Refusals.{Decided, first_refusal, when};
 ghost use Rattle.pos_common.specs.Held.{TurnsInto};
 ghost use Rattle.pos_common.specs.Needs.{need_rows};
 
 use super::Control;
 use crate::need::Need;
-use pos_service::{Answer, Code, Finding, Property, Signs, Value};
+use pos_service::{Answer, Code, Facts, Finding, Property, Value};
 
 impl Control {
     /// `open`: it is for the device that was found from now on (common chapter).
@@ -73,22 +73,52 @@ impl Control {
         }
     }
 
-    /// A property, by the signs of the control's device (common chapter, chapter Cash Drawer).
+    /// A property, by what is known of the control's device (common chapter, chapters Cash Drawer and Hard Totals).
     ///
-    /// Refused with E_CLOSED where the control is closed, but for State, and with E_DISABLED where the property is
-    /// one of an enabled device and the device is disabled.
-    pub fn get(&self, property: Property, signs: Signs) -> Answer
-        ensures { Decided (get_rows self.now.control property) result ⊤
-            (result ≡ Answer.Done (property_of self.now.control signs property)) }
+    /// Refused with E_CLOSED where the control is closed, but for State; with E_ILLEGAL where its category doesn't have
+    /// the property; with E_DISABLED where the property is one of an enabled device and the device is disabled; with
+    /// E_FAILURE where the property is one of the files and the totals are off.
+    pub fn get(&self, property: Property, facts: &Facts) -> Answer
+        ensures { Decided (get_rows self.now.control facts.now property) result ⊤
+            (result ≡ Answer.Done (property_of self.now.control facts.now property)) }
     {
-        let is_closed = self.device.is_none();
+        if property.needs_open() && self.device.is_none() {
+            return Answer::Refused(Code::Closed, 0);
+        }
+        if !self.category.has_property(property) {
+            return Answer::Refused(Code::Illegal, 0);
+        }
+        if property.needs_enabled() && !self.is_enabled {
+            return Answer::Refused(Code::Disabled, 0);
+        }
+        self.value_of(property, facts)
+    }
+
+    /// The value of a property, by what is known of the control's device.
+    ///
+    /// Refused with E_FAILURE where it is one of the files and the totals are off.
+    fn value_of(&self, property: Property, facts: &Facts) -> Answer
+        ensures { Decided (when (needs_files property && is_none facts.now.files) Code.Failure ∷ []) result ⊤
+            (result ≡ Answer.Done (property_of self.now.control facts.now property)) }
+    {
         match property {
-            Property::State => Answer::Done(Value::Number(if is_closed { 1 } else { 2 })),
-            _ if is_closed => Answer::Refused(Code::Closed, 0),
+            Property::State if self.device.is_none() => Answer::Done(Value::Number(1)),
+            Property::State => Answer::Done(Value::Number(2)),
             Property::DeviceEnabled => Answer::Done(Value::Truth(self.is_enabled)),
-            Property::CapStatus => Answer::Done(Value::Truth(true)),
-            Property::DrawerOpened if !self.is_enabled => Answer::Refused(Code::Disabled, 0),
-            Property::DrawerOpened => Answer::Done(Value::Truth(signs.drawer_open)),
+            Property::CapStatus | Property::CapTransactions => Answer::Done(Value::Truth(true)),
+            Property::CapSingleFile | Property::CapErrorDetection => {
+                Answer::Done(Value::Truth(false))
+            }
+            Property::DrawerOpened => Answer::Done(Value::Truth(facts.signs.drawer_open)),
+            Property::TotalsSize => Answer::Done(Value::Number(facts.totals_size as i128)),
+            Property::FreeData => match facts.files {
+                Some(files) => Answer::Done(Value::Number(files.free as i128)),
+                None => Answer::Refused(Code::Failure, 0),
+            },
+            Property::NumberOfFiles => match facts.files {
+                Some(files) => Answer::Done(Value::Number(files.count as i128)),
+                None => Answer::Refused(Code::Failure, 0),
+            },
         }
     }
 

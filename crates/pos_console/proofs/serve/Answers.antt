@@ -1,17 +1,8 @@
-use Rattle.std.proofs.Common.{◌≡◌, ◌∙◌, ◌∷◌, ◌++◌, [], false, ap, subst}
-use Rattle.pos_sims.specs.Drawers.{drawer_state}
-use Rattle.pos_counter.specs.Machines.{beginning}
-use Rattle.pos_counter.specs.Counters.{machine, states_of, boxes_of}
-use Rattle.pos_console.specs.Running.{RunsScript}
+use Rattle.pos_console.proofs.Serving.{served_fault, served_unflushed}
 use Rattle.pos_console.proofs.serve.Goals as goal
 
-pub returns : goal.returns
-returns g c =
-    let boxes = boxes_of c.in-Ok-new-2.ensures.sound in
-    let one = c.push_reserved.ensures.items ∙ ap (λ items. items ++ c.closed_drawer.result ∷ []) c.in-Ok.ensures.items in
-    let drawers : states_of boxes c.push_reserved.new.self.items ≡ drawer_state false false ∷ [] = ap (states_of boxes) one ∙ ap (λ state. state ∷ []) c.closed_drawer.ensures in
-    let begins = c.in-Ok-new-2.ensures.machine ∙ ap beginning drawers in
-    record {
-      end = machine boxes c.run-result.new.counter;
-      run = subst (λ old. RunsScript old (g.R.Read.remaining c.args.reader.now) (g.W.Write.contents c.args.writer.now) (g.W.Write.contents c.run-result.new.writer) c.run-result.result (machine boxes c.run-result.new.counter)) begins c.run-result.ensures.script;
-    }
+pub returns-in-Err-flush-clause-script : goal.returns-in-Err-flush-clause-script
+returns-in-Err-flush-clause-script g c = served_unflushed _ _ _ _ c.in-Ok.ensures c.flush.ensures.bytes
+
+pub returns-in-Err-clause-script : goal.returns-in-Err-clause-script
+returns-in-Err-clause-script g c = served_fault _ _ _ c.in-Err.fault c.in-Err.ensures

@@ -14,7 +14,6 @@ returns g c =
     let ss = map g.P.HasState.state c.args.peripherals.now in
     let n = c.args.number in
     let held = c.index-controls-number.result in
-    let found = simp (c.find_for-found.ensures, c.category.ensures) at c.open.ensures in
     controls_serve hs (set hs n c.open.new.self) es ss (CallOf n (call.Open c.args.name.now)) (Answered c.open.result) c.requires.sound
-    (match_at_some _ _ _ _ (control_at hs n held c.requires.in_range)
-    (decided_at hs (devices_of es ss) n c.open.new.self (get_or hs n held) _ _ _ _ (get_or_default hs n held _ c.requires.in_range) found))
+    (λ part. match_at_some _ _ _ _ (control_at hs n held c.requires.in_range)
+    (decided_at hs (devices_of es ss) part n c.open.new.self (get_or hs n held) _ _ _ _ (get_or_default hs n held _ c.requires.in_range) (simp (c.find_for-found.ensures part, c.category.ensures) at c.open.ensures)))

@@ -7,7 +7,7 @@ use Rattle.pos_counter.proofs.DeviceLists.{found_there}
 use Rattle.pos_counter.proofs.devices.find_for.Goals as goal
 
 pub returns-then-not-serves : goal.returns-then-not-serves
-returns-then-not-serves g c =
+returns-then-not-serves g c = λ part.
     let es = c.args.entries.now in
     let ss = map g.P.HasState.state c.args.peripherals.now in
     let d = c.index-entries-place.result in
@@ -17,7 +17,7 @@ returns-then-not-serves g c =
     ∙ found_there c.args.category es ss c.in-Some.place e false (is_none e.kind || is_some (slice_get ss c.in-Some.place)) at (sym c.serves.ensures ∙ c.if-not-serves.true) refl)
 
 pub returns-then-not-is_attached : goal.returns-then-not-is_attached
-returns-then-not-is_attached g c =
+returns-then-not-is_attached g c = λ part.
     let es = c.args.entries.now in
     let ss = map g.P.HasState.state c.args.peripherals.now in
     let d = c.index-entries-place.result in
@@ -27,7 +27,7 @@ returns-then-not-is_attached g c =
     ∙ found_there c.args.category es ss c.in-Some.place e true false at (sym c.serves.ensures ∙ c.if-not-serves.false) (sym c.is_attached.ensures ∙ c.if-not-is_attached.true))
 
 pub returns : goal.returns
-returns g c =
+returns g c = λ part.
     let es = c.args.entries.now in
     let ss = map g.P.HasState.state c.args.peripherals.now in
     let d = c.index-entries-place.result in

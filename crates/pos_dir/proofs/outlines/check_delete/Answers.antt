@@ -1,11 +1,9 @@
-use Rattle.std.proofs.Common.{◌∙◌, sym, ap, map, arith, List, Ok}
-use Rattle.pos_dir.specs.declared.outlines.Outline.{Outline}
-use Rattle.pos_dir.specs.Outlines.{shape_of}
-use Rattle.pos_dir.proofs.Shapes.{outline_at, delete_made}
+use Rattle.std.proofs.Common.{arith}
+use Rattle.pos_dir.proofs.Outlined.{outline_at, delete_made}
 use Rattle.pos_dir.proofs.outlines.check_delete.Goals as goal
 
 pub returns : goal.returns
-returns c = λ limits.
+returns c = λ limits files same.
     let outlines = c.args.outlines.now.items in
     let at = outline_at outlines c.args.index (omega (arith, c.len.ensures.value, c.if-index-len.false)) in
-    delete_made limits outlines c.args.index at.0 at.1 ∙ ap (λ (x : List Outline). Ok (map shape_of x)) (sym c.remove-removed.ensures.items)
+    rw c.remove-removed.ensures.items (delete_made limits outlines files c.args.index at.0 same at.1)

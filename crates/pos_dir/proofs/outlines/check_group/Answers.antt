@@ -4,7 +4,7 @@ use Rattle.std.proofs.lemmas.Result.{err_from_is_err_and}
 use Rattle.pos_dir.specs.declared.limits.TheConstants.{LAYOUT_1}
 use Rattle.pos_dir.specs.Changes.{IsChange, outcome_of_all}
 use Rattle.pos_dir.proofs.Kept.{takes_change}
-use Rattle.pos_dir.proofs.Shapes.{stage_room, stage_on, stage_stops}
+use Rattle.pos_dir.proofs.Outlined.{stage_room, stage_on, stage_stops}
 use Rattle.pos_dir.proofs.outlines.check_group.Goals as goal
 
 pub check-requires-clause-total : goal.check-requires-clause-total

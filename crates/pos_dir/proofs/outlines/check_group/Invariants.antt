@@ -1,7 +1,7 @@
 use Rattle.std.proofs.Common.{drop}
 use Rattle.pos_dir.specs.declared.limits.TheConstants.{LAYOUT_1}
 use Rattle.pos_dir.specs.Changes.{outcome_of_all}
-use Rattle.pos_dir.proofs.Shapes.{IsStage}
+use Rattle.pos_dir.proofs.Outlined.{IsStage}
 use Rattle.pos_dir.proofs.outlines.check_group.Given as goal
 
 abbrev pub invariant-loop-change : goal.invariant-loop-change

@@ -9,21 +9,21 @@ use Rattle.pos_image.proofs.finding.find.Goals as goal
 pub returns-in_err-body-clause-watches : goal.returns-in_err-body-clause-watches
 returns-in_err-body-clause-watches g c honest =
     let honest1 = c.sync.ensures.honest.0 honest in
-    let honest2 = c.read_heads.ensures.honest.0 honest1 in
+    let honest2 = c.read_heads.ensures.keeps.honest.0 honest1 in
     let w1 = watches_sync _ _ (λ f left. g.met.D.Disk.only_now c.args.disk.now f honest left) _ (c.sync.ensures.syncs honest) in
     watches_on _ _ _ (watches_on _ _ _ w1 (c.read_heads.ensures.watches honest1)) (c.read_body.ensures.watches honest2)
 
 pub returns-clause-watches : goal.returns-clause-watches
 returns-clause-watches g c honest =
     let honest1 = c.sync.ensures.honest.0 honest in
-    let honest2 = c.read_heads.ensures.honest.0 honest1 in
+    let honest2 = c.read_heads.ensures.keeps.honest.0 honest1 in
     let w1 = watches_sync _ _ (λ f left. g.met.D.Disk.only_now c.args.disk.now f honest left) _ (c.sync.ensures.syncs honest) in
     watches_on _ _ _ (watches_on _ _ _ w1 (c.read_heads.ensures.watches honest1)) (c.read_body.ensures.watches honest2)
 
 pub returns-clause-found : goal.returns-clause-found
 returns-clause-found g c honest =
     let honest1 = c.sync.ensures.honest.0 honest in
-    let honest2 = c.read_heads.ensures.honest.0 honest1 in
+    let honest2 = c.read_heads.ensures.keeps.honest.0 honest1 in
     let same1 = (c.sync.ensures.syncs honest).reading in
     let same2 = (c.read_heads.ensures.watches honest1).reading ∙ same1 in
     let heads = subst (λ (b : List ℕ). HasHeads b c.in_ok-heads.heads.first c.in_ok-heads.heads.second c.in_ok-heads.heads.later) same1 (c.in_ok-heads.ensures.heads honest1) in

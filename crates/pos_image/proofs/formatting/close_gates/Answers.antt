@@ -1,10 +1,10 @@
-use Rattle.std.proofs.Common.{◌≡◌, ◌≤◌, ◌<◌, ◌+◌, ℕ, List, inl, inr, sym, subst, length, get_or, false, arith, rules}
+use Rattle.std.proofs.Common.{◌≡◌, ◌≤◌, ◌<◌, ◌+◌, ℕ, List, inl, inr, sym, subst, length, get_or, arith, rules}
 use Rattle.std.proofs.lemmas.Bool.{cases_lt}
 use Rattle.std.proofs.lemmas.List.Elements.{All-get_or}
 use Rattle.pos_disk.specs.Within.{SameBut}
-use Rattle.pos_image.specs.Layout.{is_open}
 use Rattle.pos_image.specs.declared.formatting.TheConstants.{GATES}
-use Rattle.pos_image.proofs.NewDisk.{stays_closed, closed_gate}
+use Rattle.pos_image.proofs.NewDisk.{stays_closed}
+use Rattle.pos_image.proofs.Changes.{written_gate}
 use Rattle.pos_image.proofs.Staged.{where_ok}
 use Rattle.pos_image.proofs.formatting.close_gates.Goals as goal
 
@@ -25,12 +25,12 @@ loop-at-preserved g c = record {
       let low = gates_low c.loop-at.at-index c.loop-at-test.true in
       let fits : at + 1 ≤ length s1.reading = omega (arith, low, whole, c.requires.large, c.loop-at.invariant.size) in
       let same : SameBut at 1 s1.reading s2.reading = record { same_length = wrote.same_length; elsewhere = wrote.elsewhere } in
-      let shut : is_open s2.reading at ≡ false = closed_gate s1.reading s2.reading at fits wrote.written in
+      let shut : get_or s2.reading at 0 ≡ 0 = (written_gate s1.reading s2.reading at 0 fits wrote.written).1 in
       elim (cases_lt k c.loop-at.at-index) [
         | inl earlier ↦ stays_closed s1.reading s2.reading at (get_or GATES k 0) same shut (c.loop-at.invariant.closed honest k earlier)
         | inr not_earlier ↦
             let here : k ≡ c.loop-at.at-index = omega (arith, less, not_earlier) in
-            subst (λ (j : ℕ). is_open s2.reading (get_or GATES j 0) ≡ false) (sym here) shut
+            subst (λ (j : ℕ). get_or s2.reading (get_or GATES j 0) 0 ≡ 0) (sym here) shut
       ];
   rest = search rules;
   later = search rules;
@@ -40,5 +40,5 @@ pub returns-clause-closed : goal.returns-clause-closed
 returns-clause-closed g c honest =
     let now = c.loop-at.invariant.honest.0 honest in
     where_ok c.sync.result _ (λ k less.
-    subst (λ (b : List ℕ). is_open b (get_or GATES k 0) ≡ false) (sym (c.sync.ensures.syncs now).reading)
+    subst (λ (b : List ℕ). get_or b (get_or GATES k 0) 0 ≡ 0) (sym (c.sync.ensures.syncs now).reading)
     (c.loop-at.invariant.closed honest k (omega (arith, less, c.loop-at-test.false))))

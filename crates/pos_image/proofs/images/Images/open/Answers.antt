@@ -11,8 +11,8 @@ returns-in-Ok-clause-found g c honest =
 
 pub returns-in-Ok-clause-ready : goal.returns-in-Ok-clause-ready
 returns-in-Ok-clause-ready g c = (
-  ready g.D.Disk _ (omega (arith, c.find.ensures.size)) (omega arith) (λ honest.
-      let was = c.find.ensures.honest.1 honest in
+  ready g.D.Disk _ (omega (arith, c.find.ensures.keeps.size)) (omega arith) (λ honest.
+      let was = c.find.ensures.keeps.honest.1 honest in
       record {
         at_rest = c.in-Ok.ensures.at_rest was;
         current = subst (λ (b : List ℕ). IsCurrent b c.in-Ok.found.slot c.in-Ok.found.image.body.items c.in-Ok.found.image.sequence) (sym (c.find.ensures.watches was).reading) (c.in-Ok.ensures.found was);

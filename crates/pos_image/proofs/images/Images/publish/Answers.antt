@@ -31,8 +31,8 @@ returns-clause-any_moment g c = rw (← c.self.view_is) (λ honest.
 pub returns-clause-ready : goal.returns-clause-ready
 returns-clause-ready g c =
     let is_ready = subst (IsReady g.D.Disk) (sym c.self.view_is) c.requires.ready in
-    ready g.D.Disk _ (omega (arith, is_ready.large, c.write_through.ensures.size)) (omega arith) (λ honest.
-    let was = c.write_through.ensures.honest.1 honest in
+    ready g.D.Disk _ (omega (arith, is_ready.large, c.write_through.ensures.keeps.size)) (omega arith) (λ honest.
+    let was = c.write_through.ensures.keeps.honest.1 honest in
     let s0 = g.D.Disk.state c.self.inside.disk in
     let s1 = g.D.Disk.state c.write_through.new.disk in
     let at_is : c.start.result ≡ start (other c.self.inside.slot) = c.start.ensures ∙ ap start c.other-slot.ensures in

@@ -1,0 +1,59 @@
+use Rattle.std.proofs.Common.{◌++◌, ◌∷◌, [], ◌∙◌, ap, sym, refl, subst, append_assoc, append-nil, ◌≡◌, rules, length}
+use Rattle.std.proofs.KnownBytes.{Appends-trans}
+use Rattle.std.specs.Prelude.{option_map}
+use Rattle.pos_counter.specs.Counters.{machine, boxes_of}
+use Rattle.pos_console.specs.Lines.{lines_of}
+use Rattle.pos_console.specs.Names.{names_of}
+use Rattle.pos_console.specs.Text.{reply_text}
+use Rattle.pos_console.specs.Transcript.{Transcript, printed}
+use Rattle.pos_console.proofs.Sessions.{session_more, session_start, writes_failed, writes_done, lines_more, no_lines}
+use Rattle.pos_console.proofs.run.carry_out_lines.Goals as goal
+
+pub loop-rest-init : goal.loop-rest-init
+loop-rest-init g c =
+    let counted = machine (boxes_of c.requires.sound) in
+    (c.requires.sound, [], [], refl, subst (λ ns. Transcript (counted c.args.counter.now) [] [] ns (counted c.args.counter.now)) (sym c.new-names.ensures) (session_start (counted c.args.counter.now)), search rules)
+
+pub returns-then-is_err-clause-lines : goal.returns-then-is_err-clause-lines
+returns-then-is_err-clause-lines g c =
+    let counted = machine (boxes_of c.requires.sound) in
+    let (sound, done, text, lines, before, written) = c.loop-rest.invariant in
+    let (front, back, split, unwritten, more) = writes_failed _ _ _ c.print_line.result c.print_line.ensures (sym c.is_err.ensures.value ∙ c.if-is_err.true) in
+    record {
+      earlier = done;
+      line = c.next_line.result.0.now;
+      later = lines_of c.next_line.result.1.now;
+      text = text;
+      names = names_of c.loop-rest.names;
+      mid = counted c.loop-rest.counter;
+      reply = option_map reply_text c.carry_out_line-reply.result;
+      names_after = names_of c.carry_out_line-reply.new.names;
+      front = front;
+      back = back;
+      split = lines ∙ ap (λ x. done ++ x) c.next_line.ensures.lines;
+      transcript = before;
+      carried = c.carry_out_line-reply.ensures.becomes;
+      cut = split;
+      unwritten = unwritten;
+      written = Appends-trans _ _ _ _ _ written more;
+    }
+
+pub loop-rest-preserved : goal.loop-rest-preserved
+loop-rest-preserved g c =
+    let counted = machine (boxes_of c.requires.sound) in
+    let (sound, done, text, lines, before, written) = c.loop-rest.invariant in
+    let more = writes_done _ _ _ c.print_line.result c.print_line.ensures (sym c.is_err.ensures.value ∙ c.if-is_err.false) in
+    (c.carry_out_line-reply.ensures.sound, done ++ c.next_line.result.0.now ∷ [], text ++ printed (option_map reply_text c.carry_out_line-reply.result), lines_more (lines_of c.args.input.now) done c.loop-rest.rest.now c.next_line.result.0.now c.next_line.result.1.now lines c.next_line.ensures.lines, session_more (counted c.args.counter.now) done text (names_of c.loop-rest.names) (counted c.loop-rest.counter) c.next_line.result.0.now (option_map reply_text c.carry_out_line-reply.result) (names_of c.carry_out_line-reply.new.names) (counted c.carry_out_line-reply.new.counter) before c.carry_out_line-reply.ensures.becomes, Appends-trans _ _ _ _ _ written more)
+
+pub returns-clause-lines : goal.returns-clause-lines
+returns-clause-lines g c =
+    let counted = machine (boxes_of c.requires.sound) in
+    let (sound, done, text, lines, before, written) = c.loop-rest.invariant in
+    let empty : length c.loop-rest.rest.now ≡ 0 = search rules in
+    let none = no_lines c.loop-rest.rest.now empty in
+    record {
+      text = text;
+      names = names_of c.loop-rest.names;
+      transcript = subst (λ ls. Transcript (counted c.args.counter.now) ls text (names_of c.loop-rest.names) (counted c.loop-rest.counter)) (sym (lines ∙ ap (λ x. done ++ x) none ∙ append-nil done)) before;
+      written = written;
+    }

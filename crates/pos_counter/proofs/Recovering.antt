@@ -1,0 +1,253 @@
+-- Setting a property as a step of the machine, where it recovers the totals and where it doesn't.
+use Rattle.std.proofs.Common.{◌≡◌, ◌⊎◌, inl, inr, ℕ, List, [], ◌∷◌, Option, Some, None, Result, Ok, Err, Bool, true, false, not, ◌&&◌, set, get_or, length, ◌<◌, arith, refl, sym, ap, ◌∙◌, subst}
+use Rattle.std.specs.Bool.{MatchBool}
+use Rattle.std.specs.Result.{result_ok}
+use Rattle.std.specs.Prelude.{MatchOption, IsTrue, is_some, is_none, slice_get}
+use Rattle.std.proofs.lemmas.List.{length-map, map-set, set-get_or}
+use Rattle.std.proofs.lemmas.Option.{slice_get_within}
+use Rattle.pos_disk.specs.State.{LeavesOnly}
+use Rattle.pos_disk.specs.declared.device.Disk.{Ghosts}
+use Rattle.pos_disk.proofs.Moments.{weaker}
+use Rattle.pos_service.specs.declared.answer.Answer.{Answer}
+use Rattle.pos_service.specs.declared.answer.Answer.TheVariants as answer
+use Rattle.pos_service.specs.declared.answer.Value.{Value}
+use Rattle.pos_service.specs.declared.answer.Value.TheVariants as value
+use Rattle.pos_service.specs.declared.call.Call.TheVariants as call
+use Rattle.pos_service.specs.declared.category.Category.{Category}
+use Rattle.pos_service.specs.declared.category.Category.TheVariants as category
+use Rattle.pos_service.specs.declared.code.Code.{Code}
+use Rattle.pos_service.specs.declared.code.Code.TheVariants as code
+use Rattle.pos_service.specs.declared.memory.NoMemory.{NoMemory}
+use Rattle.pos_service.specs.declared.property.Property.{Property}
+use Rattle.pos_service.specs.declared.property.Property.TheVariants as property
+use Rattle.pos_service.specs.Calls.{set_rows, after_set, has_property}
+use Rattle.pos_service.specs.Controls.{Control}
+use Rattle.pos_service.specs.HardTotals.{Mode, Off, Ready, Totals, is_ready}
+use Rattle.pos_service.specs.Peripherals.{PeripheralState}
+use Rattle.pos_service.specs.Refusals.{Decided, first_refusal, when}
+use Rattle.pos_common.specs.Held.{Held, TurnsInto, controls_of}
+use Rattle.pos_store.specs.Standing.{Standing, LeavesOneOf, StandsForOneOf}
+use Rattle.pos_totals.specs.declared.fault.RecoveryFault.{RecoveryFault}
+use Rattle.pos_totals.specs.declared.fault.RecoveryFault.TheVariants as fault
+use Rattle.pos_totals.specs.Recoveries.{Recovers as DiskRecovers, RecoversOneOf, FindsFiles, ReadsAs, code_of}
+use Rattle.pos_totals.specs.Views.{TotalsView, WhenOff, LeavesTheirFiles}
+use Rattle.pos_counter.specs.declared.entry.Entry.{Entry}
+use Rattle.pos_counter.specs.Machine.{Machine, with_control}
+use Rattle.pos_counter.specs.Parts.{machine_of, devices_of, over, part_of, ArePartsSound, IsRecovering, IsLeft, Leaves, Serves, Stepped}
+use Rattle.pos_counter.specs.Responses.{answered}
+use Rattle.pos_counter.specs.Steps.{CallOf, Answered, IsSound, Step, Sets, SetsByRecovery}
+use Rattle.pos_counter.specs.Totals.{TotalsPart, Recovered, Recovers, Rests, asks_recovery, recovers, is_enabling, is_totals, settled}
+use Rattle.pos_counter.proofs.Lifts.{control_at, decided_at, match_at_none, match_at_some, match_cases, match_weaker}
+use Rattle.pos_counter.proofs.Sound.{seated, with_control_sound}
+
+and_left : (a b : Bool) → (a && b) ≡ true → a ≡ true
+and_left true b e = refl
+and_left false b e = cc
+
+and_right : (a b : Bool) → (a && b) ≡ true → b ≡ true
+and_right true b e = e
+and_right false b e = cc
+
+-- what asks for a recovery is DeviceEnabled set to true on an open control of Hard Totals
+asks_enabling : (c : Control) (p : Property) (v : Value) → asks_recovery c p v ≡ true → (p ≡ property.DeviceEnabled) × (v ≡ value.Truth true) × (is_some c.device ≡ true) × (c.category ≡ category.HardTotals)
+asks_enabling c p v e =
+    let enabling = and_right (is_totals c.category && is_some c.device && not c.enabled) _ e in
+    let rest = and_left (is_totals c.category && is_some c.device && not c.enabled) _ e in
+    let front = and_left (is_totals c.category && is_some c.device) _ rest in
+    (which p v enabling, to_true p v enabling, and_right (is_totals c.category) _ front, totals c.category (and_left (is_totals c.category) _ front))
+  where
+    which : (p : Property) (v : Value) → is_enabling p v ≡ true → p ≡ property.DeviceEnabled
+    which property.DeviceEnabled v e = refl
+    which p v e = cc
+
+    to_true : (p : Property) (v : Value) → is_enabling p v ≡ true → v ≡ value.Truth true
+    to_true property.DeviceEnabled (value.Truth true) e = refl
+    to_true property.DeviceEnabled (value.Truth false) e = cc
+    to_true property.DeviceEnabled v e = cc
+    to_true p v e = cc
+
+    totals : (k : Category) → is_totals k ≡ true → k ≡ category.HardTotals
+    totals category.HardTotals e = refl
+    totals category.CashDrawer e = cc
+
+-- nothing refuses it
+enabling_unrefused : (c : Control) (p : Property) (v : Value) → asks_recovery c p v ≡ true → first_refusal (set_rows c p v) ≡ None
+enabling_unrefused c p v e =
+    let asks = asks_enabling c p v e in
+    subst (λ q. first_refusal (set_rows c q v) ≡ None) (sym asks.0) (subst (λ u. first_refusal (set_rows c property.DeviceEnabled u) ≡ None) (sym asks.1) (open_one c asks.2 asks.3))
+  where
+    open_one : (c : Control) → is_some c.device ≡ true → c.category ≡ category.HardTotals → first_refusal (set_rows c property.DeviceEnabled (value.Truth true)) ≡ None
+    open_one c device is = by_parts c.device c.category device is
+      where
+        by_parts : (o : Option ℕ) (k : Category) → is_some o ≡ true → k ≡ category.HardTotals → first_refusal (when (is_none o) code.Closed ∷ when (not (has_property k property.DeviceEnabled && true)) code.Illegal ∷ when false code.Illegal ∷ []) ≡ None
+        by_parts None k d is = cc
+        by_parts (Some i) k d is = subst (λ (j : Category). first_refusal (when false code.Closed ∷ when (not (has_property j property.DeviceEnabled && true)) code.Illegal ∷ when false code.Illegal ∷ []) ≡ None) (sym is) refl
+
+-- the machine with one control in the place of another, and other totals
+set_machine : (hs : List Held) (es : List Entry) (ss : List PeripheralState) (n : ℕ) (g : Held) (c : Control) (old new : TotalsPart) → g.control ≡ c → machine_of (set hs n g) es ss new ≡ record (with_control (machine_of hs es ss old) n c) { totals = new }
+set_machine hs es ss n g c old new e =
+    ap (λ (cs : List Control). let m : Machine = record { controls = cs; devices = devices_of es ss; totals = new } in m) (map-set (λ (h : Held). h.control) hs n g ∙ ap (set (controls_of hs) n) e)
+
+-- a control with a property set keeps the parts sound
+set_sound : (hs : List Held) (es : List Entry) (ss : List PeripheralState) (n : ℕ) (g : Held) (c : Control) (p : Property) (v : Value) → slice_get (controls_of hs) n ≡ Some c → g.control ≡ after_set c p v → ArePartsSound hs es ss → ArePartsSound (set hs n g) es ss
+set_sound hs es ss n g c p v at e sound = record {
+  machine = λ part.
+      let m = machine_of hs es ss part in
+      let there = with_control_sound m n (after_set c p v) (seated m n c (sound.machine part) at) (sound.machine part) in
+      subst IsSound (sym (set_machine hs es ss n g (after_set c p v) part part e)) (record { kinds = there.kinds; places = there.places });
+  unparked = sound.unparked;
+  attached = sound.attached;
+}
+
+-- a property is set, and nothing is recovered
+pub plain_set : (hs : List Held) (es : List Entry) (ss : List PeripheralState) (part : TotalsPart) (n : ℕ) (g h : Held) (p : Property) (v : Value) (r : Answer) → n < length hs → h ≡ get_or hs n h → recovers part h.control p v ≡ false → TurnsInto (set_rows h.control p v) r h g (after_set h.control p v)
+    → Step (machine_of hs es ss part) (CallOf n (call.Set p v)) (Answered r) (machine_of (set hs n g) es ss part)
+plain_set hs es ss part n g h p v r lt is plain turns =
+    let d = decided_at hs (devices_of es ss) part n g h (set_rows h.control p v) r _ (after_set h.control p v) is turns in
+    match_at_some _ h.control _ _ (control_at hs n h lt ∙ ap (λ (k : Held). Some k.control) (sym is)) (record {
+      outcome = match_weaker (first_refusal (set_rows h.control p v)) _ _ _ _
+          (λ y. subst (λ b. MatchBool b (SetsByRecovery (machine_of hs es ss part) n h.control p v r (machine_of (set hs n g) es ss part)) (Sets (machine_of hs es ss part) n h.control p v r (machine_of (set hs n g) es ss part))) (sym plain) y)
+          (λ refusal y. y)
+          d.outcome;
+    })
+
+-- the parts after it are sound
+pub plain_sound : (hs : List Held) (es : List Entry) (ss : List PeripheralState) (n : ℕ) (g h : Held) (p : Property) (v : Value) (r : Answer) → n < length hs → h ≡ get_or hs n h → TurnsInto (set_rows h.control p v) r h g (after_set h.control p v) → ArePartsSound hs es ss → ArePartsSound (set hs n g) es ss
+plain_sound hs es ss n g h p v r lt is turns sound =
+    let at = control_at hs n h lt ∙ ap (λ (k : Held). Some k.control) (sym is) in
+    elim (match_cases (first_refusal (set_rows h.control p v)) _ _ turns.outcome) [
+      | inl x ↦ set_sound hs es ss n g h.control p v at x.1.1 sound
+      | inr x ↦ subst (λ (ks : List Held). ArePartsSound ks es ss) (sym (ap (set hs n) (x.2.1 ∙ is) ∙ set-get_or hs n h)) sound
+    ]
+
+-- ---- a recovery
+
+module _ {D : Type 0} (bound : Ghosts D) (old new : TotalsView D) (off : old.totals.mode ≡ Off) where
+  -- for all that the disk may leave, one of it is found
+  found_one : (r : Result (Unit {0}) RecoveryFault) (left : List Standing) → DiskRecovers bound old r new → Leaves bound old left → RecoversOneOf left (bound.state old.disk) (bound.state new.disk) old.totals r new.totals
+  found_one r left recovers leaves = subst (λ m. WhenOff m ((candidates : List Standing) → LeavesOneOf candidates (bound.state old.disk) → RecoversOneOf candidates (bound.state old.disk) (bound.state new.disk) old.totals r new.totals)) off (recovers.one_of leaves.honest) left leaves.leaves
+
+  -- a recovery that fails leaves what it was
+  failed_leaves : (r : Result (Unit {0}) RecoveryFault) (left : List Standing) → DiskRecovers bound old r new → Leaves bound old left → new.totals ≡ old.totals → Leaves bound new left
+  failed_leaves r left recovers leaves same = record {
+    honest = recovers.kept.honest.0 leaves.honest;
+    leaves = (found_one r left recovers leaves).still;
+    is_settled = subst (λ (t : Totals). left ≡ settled t.mode left) (sym same) leaves.is_settled;
+  }
+
+  failed_moments : (r : Result (Unit {0}) RecoveryFault) (left : List Standing) → DiskRecovers bound old r new → Leaves bound old left → LeavesOnly (bound.state old.disk) (bound.state new.disk) (IsLeft left left)
+  failed_moments r left recovers leaves = weaker (bound.state old.disk) (bound.state new.disk) (StandsForOneOf left) (IsLeft left left) (λ c p. inl p) (found_one r left recovers leaves).any_moment
+
+  moved_leaves : (left : List Standing) (m : Mode) → new.totals.mode ≡ m → LeavesOneOf left (bound.state new.disk) → LeavesTheirFiles m (bound.state new.disk) → LeavesOneOf (settled m left) (bound.state new.disk)
+  moved_leaves left Off is still there = still
+  moved_leaves left (Ready files q) is still there = there
+
+  settled_twice : (left : List Standing) (m : Mode) → settled m left ≡ settled m (settled m left)
+  settled_twice left Off = refl
+  settled_twice left (Ready files q) = refl
+
+  module _ (hs : List Held) (es : List Entry) (ss : List PeripheralState) (sound : ArePartsSound hs es ss) (n : ℕ) (c : Control) (p : Property) (v : Value) (at : slice_get (controls_of hs) n ≡ Some c) (asks : asks_recovery c p v ≡ true) (recovering : (asks_recovery c p v && not (is_ready old.totals.mode)) ≡ true) where
+    abbrev before : List Standing → Machine
+    before left = machine_of hs es ss (part_of bound old left)
+
+    -- the totals are recovered, and the control is enabled
+    pub recovered_serves : (g : Held) (r : Answer) → DiskRecovers bound old (Ok tt) new → r ≡ answer.Done value.Empty → g.control ≡ after_set c p v → Serves bound hs es ss old (CallOf n (call.Set p v)) (Answered r) (set hs n g) ss new
+    recovered_serves g r recovers done is = record {
+      steps = λ left leaves.
+          let f = found_one (Ok tt) left recovers leaves in
+          let after = settled new.totals.mode left in
+          record {
+            after = after;
+            leaves = record {
+                honest = recovers.kept.honest.0 leaves.honest;
+                leaves = moved_leaves left new.totals.mode refl f.still (recovers.now leaves.honest);
+                is_settled = settled_twice left new.totals.mode;
+            };
+            step = match_at_some _ c _ _ at (record {
+                outcome = match_at_none (first_refusal (set_rows c p v)) _ _ (enabling_unrefused c p v asks)
+                    (subst (λ b. MatchBool b (SetsByRecovery (before left) n c p v r (machine_of (set hs n g) es ss (part_of bound new after))) (Sets (before left) n c p v r (machine_of (set hs n g) es ss (part_of bound new after)))) (sym recovering)
+                    (inl (done, record { found = f.found; left = refl; later = recovers.kept.later leaves.honest }, set_machine hs es ss n g (after_set c p v) (part_of bound old left) (part_of bound new after) is)));
+            });
+            any_moment = weaker (bound.state old.disk) (bound.state new.disk) (StandsForOneOf left) (IsLeft left after) (λ b q. inl q) f.any_moment;
+          };
+      sound = set_sound hs es ss n g c p v at is sound;
+      kept = recovers.kept;
+    }
+
+    -- why a recovery has failed
+    why : (left : List Standing) (x : RecoveryFault) (k : Code) → DiskRecovers bound old (Err x) new → Leaves bound old left → Some k ≡ code_of x → new.totals ≡ old.totals → Recovers (part_of bound old left) (answer.Refused k 0) (part_of bound new left)
+    why left fault.Unformatted k recovers leaves is same =
+        let code : k ≡ code.NoHardware = cc in
+        inl (ap (λ j. answer.Refused j 0) code, (found_one (Err fault.Unformatted) left recovers leaves).found.0, record { totals = same; left = refl; later = recovers.kept.later leaves.honest })
+    why left fault.Damaged k recovers leaves is same =
+        let code : k ≡ code.Failure = cc in
+        inr (ap (λ j. answer.Refused j 0) code, inl (found_one (Err fault.Damaged) left recovers leaves).found.0, record { totals = same; left = refl; later = recovers.kept.later leaves.honest })
+    why left fault.Handles k recovers leaves is same =
+        let code : k ≡ code.Failure = cc in
+        inr (ap (λ j. answer.Refused j 0) code, inr (inl (found_one (Err fault.Handles) left recovers leaves).found.0), record { totals = same; left = refl; later = recovers.kept.later leaves.honest })
+    why left fault.NoMemory k recovers leaves is same = let bad : ⊥ = cc in absurd bad
+    why left fault.Device k recovers leaves is same =
+        let code : k ≡ code.Failure = cc in
+        inr (ap (λ j. answer.Refused j 0) code, inr (inr (recovers.device refl leaves.honest)), record { totals = same; left = refl; later = recovers.kept.later leaves.honest })
+
+    -- a recovery that fails keeps the totals
+    kept_totals : (x : RecoveryFault) → DiskRecovers bound old (Err x) new → new.totals ≡ old.totals
+    kept_totals x recovers = by_fault x (subst (λ m. WhenOff m (FindsFiles (ReadsAs bound old.disk) old.totals (Err x) new.totals)) off recovers.answer)
+      where
+        by_fault : (x : RecoveryFault) → FindsFiles (ReadsAs bound old.disk) old.totals (Err x) new.totals → new.totals ≡ old.totals
+        by_fault fault.Unformatted h = h.1
+        by_fault fault.Damaged h = h.1
+        by_fault fault.Handles h = h.1
+        by_fault fault.NoMemory h = h
+        by_fault fault.Device h = h
+
+    -- the recovery fails, and the control stays as it is
+    pub failed_serves : (x : RecoveryFault) (k : Code) → DiskRecovers bound old (Err x) new → Some k ≡ code_of x → Serves bound hs es ss old (CallOf n (call.Set p v)) (Answered (answer.Refused k 0)) hs ss new
+    failed_serves x k recovers is = record {
+      steps = λ left leaves.
+          let same = kept_totals x recovers in
+          record {
+            after = left;
+            leaves = failed_leaves (Err x) left recovers leaves same;
+            step = match_at_some _ c _ _ at (record {
+                outcome = match_at_none (first_refusal (set_rows c p v)) _ _ (enabling_unrefused c p v asks)
+                    (subst (λ b. MatchBool b (SetsByRecovery (before left) n c p v (answer.Refused k 0) (machine_of hs es ss (part_of bound new left))) (Sets (before left) n c p v (answer.Refused k 0) (machine_of hs es ss (part_of bound new left)))) (sym recovering)
+                    (inr (why left x k recovers leaves is same, refl)));
+            });
+            any_moment = failed_moments (Err x) left recovers leaves;
+          };
+      sound = sound;
+      kept = recovers.kept;
+    }
+
+-- ---- what a function that recovers knows
+
+-- the control that is to be enabled
+pub record Asking (hs : List Held) (n : ℕ) (p : Property) (v : Value) (mode : Mode) : Type 0 where
+  pub control : Control
+  pub at : slice_get (controls_of hs) n ≡ Some control
+  pub asks : asks_recovery control p v ≡ true
+  pub recovering : (asks_recovery control p v && not (is_ready mode)) ≡ true
+  pub off : mode ≡ Off
+
+pub asks_there : (hs : List Held) (n : ℕ) (p : Property) (v : Value) (mode : Mode) → IsRecovering hs n p v mode → Asking hs n p v mode
+asks_there hs n p v mode h =
+    elim (match_cases (slice_get (controls_of hs) n) _ _ h) [
+      | inl x ↦ absurd x.1
+      | inr x ↦ record { control = x.0; at = x.1; asks = and_left _ _ x.2; recovering = x.2; off = is_off mode (and_right (asks_recovery x.0 p v) _ x.2) }
+    ]
+  where
+    is_off : (m : Mode) → not (is_ready m) ≡ true → m ≡ Off
+    is_off Off e = refl
+    is_off (Ready files q) e = cc
+
+-- nothing refuses to set the property
+pub done_set : (hs : List Held) (n : ℕ) (h g : Held) (c : Control) (p : Property) (v : Value) (r : Answer) → n < length hs → h ≡ get_or hs n h → slice_get (controls_of hs) n ≡ Some c → asks_recovery c p v ≡ true → TurnsInto (set_rows h.control p v) r h g (after_set h.control p v) → (r ≡ answer.Done value.Empty) × (g.control ≡ after_set c p v)
+done_set hs n h g c p v r lt is at asks turns =
+    let same : h.control ≡ c = some_same h.control c (sym (control_at hs n h lt ∙ ap (λ (k : Held). Some k.control) (sym is)) ∙ at) in
+    let none = subst (λ (k : Control). first_refusal (set_rows k p v) ≡ None) (sym same) (enabling_unrefused c p v asks) in
+    let done = subst (λ o. MatchOption o ((r ≡ answer.Done value.Empty) × (g.control ≡ after_set h.control p v)) (λ refusal. (r ≡ refusal) × (g ≡ h))) none turns.outcome in
+    (done.0, done.1 ∙ ap (λ (k : Control). after_set k p v) same)
+  where
+    some_same : (a b : Control) → Some a ≡ Some b → a ≡ b
+    some_same a b e = cc

@@ -1,0 +1,110 @@
+-- A call of the totals' own as a step of the machine.
+use Rattle.std.proofs.Common.{◌≡◌, ◌<◌, ℕ, List, [], ◌∷◌, length, get_or, arith, Option, Some, None, Result, Ok, Err, Bool, true, false, cond, not, refl, sym, ap, ◌∙◌, subst}
+use Rattle.std.specs.Prelude.{MatchOption, MatchResult, IsTrue, is_none, is_some, slice_get}
+use Rattle.std.proofs.lemmas.List.{length-map}
+use Rattle.std.proofs.lemmas.Option.{slice_get_within}
+use Rattle.pos_disk.specs.declared.device.Disk.{Ghosts}
+use Rattle.pos_service.specs.declared.answer.Answer.{Answer}
+use Rattle.pos_service.specs.declared.answer.Answer.TheVariants as answer
+use Rattle.pos_service.specs.declared.call.Call.{Call}
+use Rattle.pos_service.specs.declared.category.Category.{Category}
+use Rattle.pos_service.specs.declared.category.Category.TheVariants as category
+use Rattle.pos_service.specs.declared.code.Code.{Code}
+use Rattle.pos_service.specs.declared.code.Code.TheVariants as code
+use Rattle.pos_service.specs.declared.memory.NoMemory.{NoMemory}
+use Rattle.pos_service.specs.Calls.{is_common, has_call}
+use Rattle.pos_service.specs.Controls.{Control}
+use Rattle.pos_service.specs.Peripherals.{PeripheralState}
+use Rattle.pos_service.specs.Refusals.{first_refusal, when}
+use Rattle.pos_service.specs.Stations.{IsOpen}
+use Rattle.pos_service.specs.TotalsCalls.{file_call, file_rows}
+use Rattle.pos_common.specs.Held.{Held, controls_of}
+use Rattle.pos_store.specs.Standing.{Standing}
+use Rattle.pos_totals.specs.Views.{TotalsView}
+use Rattle.pos_counter.specs.declared.entry.Entry.{Entry}
+use Rattle.pos_counter.specs.Machine.{Machine}
+use Rattle.pos_counter.specs.Parts.{machine_of, part_of, ArePartsSound, CallsFiles, Leaves, Serves, Stepped}
+use Rattle.pos_counter.specs.Responses.{answered}
+use Rattle.pos_counter.specs.Steps.{CallOf, Answered, Step, CategoryDoes, refusals}
+use Rattle.pos_counter.specs.Totals.{TotalsPart, FilesCalled}
+use Rattle.pos_counter.proofs.Lifts.{control_at, match_at_some, match_by, match_weaker}
+use Rattle.pos_counter.proofs.Stations.{own_does, own_takes, own_stays, open_refusals}
+
+-- a call that is refused is a step
+pub refused_step : (m : Machine) (n : ℕ) (c : Control) (asked : Call) (refusal : Answer) → slice_get m.controls n ≡ Some c → first_refusal (refusals m n c asked) ≡ Some refusal → Step m (CallOf n asked) (Answered refusal) m
+refused_step m n c asked refusal at refused =
+    match_at_some _ c _ _ at (record { outcome = match_at_some (first_refusal (refusals m n c asked)) refusal _ _ refused (refl, refl) })
+
+-- the refusals of a call on an open control of Hard Totals, by whether it is theirs and the control enabled
+pub totals_refusals : (m : Machine) (n : ℕ) (c : Control) (asked : Call) (has enabled : Bool) → is_common asked ≡ false → c.category ≡ category.HardTotals → IsTrue (is_some c.device) → has_call category.HardTotals asked ≡ has → c.enabled ≡ enabled
+    → first_refusal (refusals m n c asked) ≡ first_refusal (when (not has) code.Illegal ∷ when (not enabled) code.Disabled ∷ file_rows m.totals.totals n (file_call asked))
+totals_refusals m n c asked has enabled own is device theirs able =
+    open_refusals m n c category.HardTotals asked own is device
+    ∙ ap (λ k. first_refusal (when (not (has_call k asked)) code.Illegal ∷ when (not c.enabled) code.Disabled ∷ file_rows m.totals.totals n (file_call asked))) is
+    ∙ ap (λ b. first_refusal (when (not b) code.Illegal ∷ when (not c.enabled) code.Disabled ∷ file_rows m.totals.totals n (file_call asked))) theirs
+    ∙ ap (λ b. first_refusal (when (not has) code.Illegal ∷ when (not b) code.Disabled ∷ file_rows m.totals.totals n (file_call asked))) able
+
+-- what the totals do with a call on an enabled control is a step
+called_step : (m : Machine) (part : TotalsPart) (n : ℕ) (c : Control) (asked : Call) (outcome : Result Answer NoMemory) → is_common asked ≡ false → slice_get m.controls n ≡ Some c → c.category ≡ category.HardTotals → IsTrue (is_some c.device) → c.enabled ≡ true
+    → FilesCalled n asked m.totals outcome part → Step m (CallOf n asked) (answered outcome) (record m { totals = part })
+called_step m part n c asked (Ok result) own at is device able h =
+    match_at_some _ c _ _ at (record {
+      outcome = match_by _ _ _ _ (totals_refusals m n c asked (has_call category.HardTotals asked) true own is device refl able)
+          (match_weaker (first_refusal (when (not (has_call category.HardTotals asked)) code.Illegal ∷ file_rows m.totals.totals n (file_call asked))) _ _ _ _
+          (λ does. own_does m n c asked result (record m { totals = part }) own (subst (λ k. CategoryDoes k m n c asked result (record m { totals = part })) (sym is) (does, refl)))
+          (λ refusal y. (y.0, ap (λ (p : TotalsPart). let o : Machine = record m { totals = p } in o) y.1))
+          h.outcome);
+    })
+called_step m part n c asked (Err want) own at is device able h =
+    match_at_some _ c _ _ at (
+      own_takes m c asked own h.0,
+      totals_refusals m n c asked (has_call category.HardTotals asked) true own is device refl able ∙ h.1,
+      own_stays m (record m { totals = part }) c asked own (ap (λ (p : TotalsPart). let o : Machine = record m { totals = p } in o) h.2),
+    )
+
+-- a call of the totals' own on an enabled control
+pub files_serve : {D : Type 0} (bound : Ghosts D) (view new : TotalsView D) (hs : List Held) (es : List Entry) (ss : List PeripheralState) (n : ℕ) (c : Control) (asked : Call) (outcome : Result Answer NoMemory)
+    → is_common asked ≡ false → slice_get (controls_of hs) n ≡ Some c → c.category ≡ category.HardTotals → IsTrue (is_some c.device) → c.enabled ≡ true
+    → CallsFiles bound view n asked outcome new → ArePartsSound hs es ss → Serves bound hs es ss view (CallOf n asked) (answered outcome) hs ss new
+files_serve bound view new hs es ss n c asked outcome own at is device able calls sound = record {
+  steps = λ left leaves.
+      let f = calls.steps left leaves in
+      record {
+        after = f.after;
+        leaves = f.leaves;
+        step = called_step (machine_of hs es ss (part_of bound view left)) (part_of bound new f.after) n c asked outcome own at is device able f.answer;
+        any_moment = f.any_moment;
+      };
+  sound = sound;
+  kept = calls.kept;
+}
+
+-- what a check that asks for an enabled control says
+pub was_enabled : (b : Bool) → first_refusal (when (not b) code.Disabled ∷ []) ≡ None → b ≡ true
+was_enabled true e = refl
+was_enabled false e = cc
+
+pub was_disabled : (b : Bool) (k : Code) → first_refusal (when (not b) code.Disabled ∷ []) ≡ Some (answer.Refused k 0) → (b ≡ false) × (k ≡ code.Disabled)
+was_disabled true k e = cc
+was_disabled false k e = (refl, cc)
+
+-- the control that a number has is open, of Hard Totals
+pub opened_there : (hs : List Held) (n : ℕ) (d : Held) → IsOpen category.HardTotals (controls_of hs) n → (slice_get (controls_of hs) n ≡ Some (get_or hs n d).control) × ((get_or hs n d).control.category ≡ category.HardTotals) × IsTrue (is_some (get_or hs n d).control.device)
+opened_there hs n d h = by_control (slice_get (controls_of hs) n) refl h
+  where
+    some_same : (a b : Control) → Some a ≡ Some b → a ≡ b
+    some_same a b e = cc
+
+    by_control : (o : Option Control) → slice_get (controls_of hs) n ≡ o → MatchOption o ⊥ (λ control. (control.category ≡ category.HardTotals) × IsTrue (is_some control.device)) → (slice_get (controls_of hs) n ≡ Some (get_or hs n d).control) × ((get_or hs n d).control.category ≡ category.HardTotals) × IsTrue (is_some (get_or hs n d).control.device)
+    by_control None e h = absurd h
+    by_control (Some c) e h =
+        let within : n < length hs = omega (arith, slice_get_within (controls_of hs) n c e, length-map hs (λ (g : Held). g.control)) in
+        let at = control_at hs n d within in
+        let same : c ≡ (get_or hs n d).control = some_same c (get_or hs n d).control (sym e ∙ at) in
+        (at, subst (λ (k : Control). k.category ≡ category.HardTotals) same h.0, subst (λ (k : Control). IsTrue (is_some k.device)) same h.1)
+
+-- the same of the control as it was read
+pub opened_here : (hs : List Held) (n : ℕ) (d : Held) → d ≡ get_or hs n d → IsOpen category.HardTotals (controls_of hs) n → (slice_get (controls_of hs) n ≡ Some d.control) × (d.control.category ≡ category.HardTotals) × IsTrue (is_some d.control.device)
+opened_here hs n d is h =
+    let there = opened_there hs n d h in
+    subst (λ (g : Held). (slice_get (controls_of hs) n ≡ Some g.control) × (g.control.category ≡ category.HardTotals) × IsTrue (is_some g.control.device)) (sym is) there

@@ -1,0 +1,8 @@
+use Rattle.std.proofs.Common.{refl}
+use Rattle.pos_counter.proofs.counter.Counter.snapshot.Goals as goal
+
+pub returns : goal.returns
+returns g c = record {
+  step = λ part. let shown = rw (c.deref.ensures.value, c.deref-2.ensures.value) at c.snapshot.ensures in shown c.args.self.now.desk part;
+  totals = refl;
+}

@@ -1,0 +1,114 @@
+-- Hard Totals in the device machine (chapter Hard Totals).
+use Rattle.std.specs.Prelude.{◌≡◌, ◌≤◌, ◌⊎◌, ℕ, Bool, true, false, not, ◌&&◌, List, [], ◌∷◌, Option, Some, None, Result, MatchResult, IsTrue, is_some, length}
+use Rattle.pos_disk.specs.State.{Rises}
+use Rattle.pos_service.specs.declared.answer.Answer.{Answer}
+use Rattle.pos_service.specs.declared.answer.Answer.TheVariants as answer
+use Rattle.pos_service.specs.declared.answer.Value.{Value}
+use Rattle.pos_service.specs.declared.answer.Value.TheVariants as value
+use Rattle.pos_service.specs.declared.call.Call.{Call}
+use Rattle.pos_service.specs.declared.memory.NoMemory.{NoMemory}
+use Rattle.pos_service.specs.declared.category.Category.{Category}
+use Rattle.pos_service.specs.declared.category.Category.TheVariants as category
+use Rattle.pos_service.specs.declared.code.Code.TheVariants as code
+use Rattle.pos_service.specs.declared.facts.Facts.{Facts}
+use Rattle.pos_service.specs.declared.facts.FileFacts.{FileFacts}
+use Rattle.pos_service.specs.declared.property.Property.{Property}
+use Rattle.pos_service.specs.declared.property.Property.TheVariants as property
+use Rattle.pos_service.specs.Controls.{Control}
+use Rattle.pos_service.specs.HardTotals.{Totals, Mode, Off, Ready, Change, Question, layout_1, free_data, files_of, is_ready, told_of, DoesChange}
+use Rattle.pos_service.specs.Calls.{has_call, takes_memory}
+use Rattle.pos_service.specs.Refusals.{Decided, first_refusal, when}
+use Rattle.pos_service.specs.TotalsCalls.{FileCall, Asks, Makes, Nothing, file_call, file_rows}
+use Rattle.pos_store.specs.Standing.{Standing, Unformatted, Damaged, Stands, IsOneOf}
+use Rattle.pos_totals.specs.Changes.{IsOneGroup, before_or_after}
+use Rattle.pos_totals.specs.Recoveries.{HasFound, HasTooMany}
+use Rattle.pos_totals.specs.Views.{plain}
+
+-- The totals: what is known of them, for what the bytes may stand that a crash leaves now, and how often their disk has failed.
+pub record TotalsPart : Type 0 where
+  pub totals : Totals
+  pub left : List Standing
+  pub failures : ℕ
+
+-- what is known of the files, as properties tell it
+abbrev pub file_facts : Mode → Option FileFacts
+file_facts Off = None
+file_facts (Ready files sequence) = Some (record { free = free_data layout_1 files; count = length files })
+
+-- what a crash leaves while the disk stands for these files alone
+abbrev pub settled : Mode → List Standing → List Standing
+settled Off otherwise = otherwise
+settled (Ready files sequence) otherwise = Stands (plain files) sequence ∷ []
+
+-- what a crash leaves where the disk has failed while these changes were put on it as one group
+abbrev pub in_doubt : TotalsPart → List Change → Mode → List Standing
+in_doubt old changes Off = old.left
+in_doubt old changes (Ready files sequence) = before_or_after old.totals.next (Ready files sequence) changes
+
+-- what a crash leaves after that: the files that the totals have, or, where they are off, those before the group or after it
+abbrev pub left_after : TotalsPart → List Change → Mode → List Standing
+left_after old changes now = settled now (in_doubt old changes old.totals.mode)
+
+-- A change is refused by a number that has run out, or is done as one group, or the disk fails in it.
+pub record ChangesTotals (old : TotalsPart) (number : ℕ) (change : Change) (result : Answer) (new : TotalsPart) : Type 0 where
+  pub does : DoesChange (Rises old.failures new.failures) old.totals number change result new.totals
+  pub group : IsOneGroup old.totals (change ∷ [])
+  pub left : new.left ≡ left_after old (change ∷ []) new.totals.mode
+  pub later : old.failures ≤ new.failures
+
+-- what each call does with the totals, where nothing refuses it
+abbrev pub TotalsDo : FileCall → TotalsPart → ℕ → Answer → TotalsPart → Type 0
+TotalsDo (Asks question) old number result new =
+    (result ≡ answer.Done (told_of (files_of old.totals.mode) question)) × (new ≡ old)
+TotalsDo (Makes change) old number result new = ChangesTotals old number change result new
+TotalsDo Nothing old number result new = ⊥
+
+-- A call of the totals' own on an enabled control: by what the totals refuse, and then by what it does. Want of memory comes
+-- only from a call that takes some, and changes nothing.
+abbrev pub FilesCalled : ℕ → Call → TotalsPart → Result Answer NoMemory → TotalsPart → Type 0
+FilesCalled number asked old outcome new =
+    let rows = when (not (has_call category.HardTotals asked)) code.Illegal ∷ file_rows old.totals number (file_call asked) in
+    MatchResult outcome
+    (λ result. Decided rows result (new ≡ old) (TotalsDo (file_call asked) old number result new))
+    (λ want. IsTrue (takes_memory asked) × (first_refusal rows ≡ None) × (new ≡ old))
+
+-- The totals are as they were; the count of failures may have risen.
+pub record Rests (old new : TotalsPart) : Type 0 where
+  pub totals : new.totals ≡ old.totals
+  pub left : new.left ≡ old.left
+  pub later : old.failures ≤ new.failures
+
+-- One of the standings was found, which a crash leaves alone from then on.
+pub record Recovered (old new : TotalsPart) : Type 0 where
+  pub found : HasFound (IsOneOf old.left) old.totals new.totals
+  pub left : new.left ≡ settled new.totals.mode old.left
+  pub later : old.failures ≤ new.failures
+
+-- a recovery fails with E_FAILURE: by damage, by too few handles, or because the disk failed
+abbrev pub Fails : TotalsPart → TotalsPart → Type 0
+Fails old new =
+    IsOneOf old.left Damaged ⊎ (HasTooMany (IsOneOf old.left) old.totals.next ⊎ Rises old.failures new.failures)
+
+-- what a recovery answers where it recovers nothing: there are no totals, or it fails
+abbrev pub Recovers : TotalsPart → Answer → TotalsPart → Type 0
+Recovers old result new =
+    ((result ≡ answer.Refused code.NoHardware 0) × IsOneOf old.left Unformatted × Rests old new)
+    ⊎ ((result ≡ answer.Refused code.Failure 0) × Fails old new × Rests old new)
+
+-- the property is set to true
+abbrev pub is_enabling : Property → Value → Bool
+is_enabling property.DeviceEnabled (value.Truth is_enabled) = is_enabled
+is_enabling p v = false
+
+abbrev pub is_totals : Category → Bool
+is_totals category.CashDrawer = false
+is_totals category.HardTotals = true
+
+-- an open control of Hard Totals, which is disabled, is to be enabled
+abbrev pub asks_recovery : Control → Property → Value → Bool
+asks_recovery control p v =
+    is_totals control.category && is_some control.device && not control.enabled && is_enabling p v
+
+-- setting the property starts a recovery: it enables a control of totals that are off
+abbrev pub recovers : TotalsPart → Control → Property → Value → Bool
+recovers part control p v = asks_recovery control p v && not (is_ready part.totals.mode)

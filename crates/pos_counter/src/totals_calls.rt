@@ -1,0 +1,63 @@
+//! The calls of Hard Totals (chapter Hard Totals).
+ghost use Rattle.std.specs.Prelude.{◌≡◌, List, false};
+ghost use Rattle.pos_service.specs.declared.category.Category.TheVariants as category;
+ghost use Rattle.pos_service.specs.Calls.{is_common};
+ghost use Rattle.pos_service.specs.Peripherals.{PeripheralState};
+ghost use Rattle.pos_service.specs.Stations.{IsOpen};
+ghost use Rattle.pos_common.specs.Held.{controls_of};
+ghost use Rattle.pos_counter.specs.declared.entry.Entry.{Entry as OneEntry};
+ghost use Rattle.pos_counter.specs.Parts.{ArePartsSound, Serves, CallsFiles};
+ghost use Rattle.pos_counter.specs.Responses.{answered};
+ghost use Rattle.pos_counter.specs.Steps.{CallOf};
+
+use pos_common::{Control, Need};
+use pos_disk::Disk;
+use pos_service::{Answer, Call, Category, Code, NoMemory};
+use pos_totals::Totals;
+
+/// A call of the totals' own on a control of theirs that is open.
+///
+/// Refused with E_ILLEGAL for a call that totals don't have of their own, with E_DISABLED where the control is disabled, and
+/// then as the totals say.
+pub(crate) fn call_totals<D: Disk>(
+    controls: &[Control],
+    totals: &mut Totals<D>,
+    number: usize,
+    call: &Call,
+) -> Result<Answer, NoMemory>
+    requires open { IsOpen category.HardTotals (controls_of controls.now) number }
+    requires own { is_common call.now ≡ false }
+    ensures { (entries : List OneEntry) (states : List PeripheralState) → ArePartsSound controls.now entries states →
+        Serves D.Disk controls.now entries states totals.old (CallOf number call.now) (answered result) controls.now states totals.new }
+{
+    match controls[number].check(Need { is_enabled: true }) {
+        Ok(()) => call_files(totals, number, call),
+        Err(code) if Category::HardTotals.has_call(call) => Ok(Answer::Refused(code, 0)),
+        Err(_) => Ok(Answer::Refused(Code::Illegal, 0)),
+    }
+}
+
+/// A call of the totals' own on a control that is enabled.
+fn call_files<D: Disk>(
+    totals: &mut Totals<D>,
+    number: usize,
+    call: &Call,
+) -> Result<Answer, NoMemory>
+    ensures { CallsFiles D.Disk totals.old number call.now result totals.new }
+{
+    match call {
+        Call::Create(name, size, detection) => {
+            totals.create(number, name.as_slice(), *size, *detection)
+        }
+        Call::Delete(name) => totals.delete(number, name.as_slice()),
+        Call::Find(name) => Ok(totals.find(number, name.as_slice())),
+        Call::FindByIndex(index) => totals.find_by_index(number, *index),
+        Call::Read(handle, offset, count) => totals.read(number, *handle, *offset, *count),
+        Call::Write(handle, offset, bytes) => {
+            totals.write(number, *handle, *offset, bytes.as_slice())
+        }
+        Call::SetAll(handle, value) => totals.set_all(number, *handle, *value),
+        Call::Rename(handle, name) => totals.rename(number, *handle, name.as_slice()),
+        _ => Ok(Answer::Refused(Code::Illegal, 0)),
+    }
+}

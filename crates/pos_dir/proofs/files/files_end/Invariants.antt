@@ -1,6 +1,0 @@
-use Rattle.std.proofs.Common.{◌≡◌, ◌-◌}
-use Rattle.pos_dir.specs.Reading.{file_at, items_at, end_within}
-use Rattle.pos_dir.proofs.files.files_end.Given as goal
-
-abbrev pub invariant-loop : goal.invariant-loop
-invariant-loop l = end_within l.room (items_at file_at (l.count - l.counter) l.rest) ≡ end_within l.fn.room (items_at file_at l.count l.bytes)

@@ -1,0 +1,6 @@
+use Rattle.std.proofs.Common.{take}
+use Rattle.pos_dir.specs.Outlines.{AreOutlines}
+use Rattle.pos_dir.proofs.outlines.outline_files.Given as goal
+
+abbrev pub invariant-loop-file : goal.invariant-loop-file
+invariant-loop-file l = AreOutlines l.outlines.items (take l.file-index l.files)

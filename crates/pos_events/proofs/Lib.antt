@@ -1,0 +1,5 @@
+pub mod OthersLemmas
+pub mod EnqueuingLemmas
+pub mod ReadingLemmas
+pub mod ClearingLemmas
+pub mod DeliveringLemmas

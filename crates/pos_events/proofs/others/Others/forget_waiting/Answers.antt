@@ -1,0 +1,14 @@
+use Rattle.std.proofs.Common.{◌<◌, length, refl, ap, ◌∙◌, arith}
+use Rattle.pos_events.proofs.OthersLemmas.{tolds_set, none_more}
+use Rattle.pos_events.proofs.others.Others.forget_waiting.Goals as goal
+
+pub loop-i-preserved : goal.loop-i-preserved
+loop-i-preserved c =
+    let items = c.loop-i.self.events.items in
+    let within : c.loop-i.i < length items = omega (arith, c.loop-i.self.events.ok) in
+    record {
+      same = tolds_set items c.loop-i.i c.index_mut.result.now _ within (ap (λ o. o.event) c.index_mut.ensures.value) ∙ c.loop-i.invariant.same;
+      none = none_more items c.loop-i.i _ within refl c.loop-i.invariant.none;
+      len = c.loop-i.invariant.len;
+      capacity = c.loop-i.invariant.capacity;
+    }

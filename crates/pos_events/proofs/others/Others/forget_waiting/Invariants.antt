@@ -1,0 +1,13 @@
+use Rattle.std.proofs.Common.{◌≡◌, take}
+use Rattle.std.specs.VecDeque.{deque_len, deque_capacity}
+use Rattle.pos_events.specs.Parts.{all_before, tolds}
+use Rattle.pos_events.proofs.others.Others.forget_waiting.Given as goal
+
+-- the events are as they were, and before the first ones nothing waits
+abbrev pub invariant-loop-i : goal.invariant-loop-i
+invariant-loop-i l = record {
+  same : tolds l.self.events.items ≡ tolds l.initial.self.events.items;
+  none : all_before (take l.i l.self.events.items) ≡ 0;
+  len : deque_len l.self.events ≡ deque_len l.initial.self.events;
+  capacity : deque_capacity l.self.events ≡ deque_capacity l.initial.self.events;
+}

@@ -1,0 +1,12 @@
+//! The events that are held for a control until its application takes them (common chapter, event queue).
+#![tactic(auto)]
+
+mod delivery;
+mod others;
+mod queue;
+#[cfg(test)]
+mod tests;
+mod told;
+
+pub use delivery::Delivery;
+pub use queue::EventQueue;

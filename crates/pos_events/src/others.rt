@@ -1,0 +1,140 @@
+ghost use Rattle.std.specs.Prelude.{◌≡◌, ◌+◌, ◌<◌, ◌≤◌, ◌^◌, [], ◌∷◌, ◌++◌};
+ghost use Rattle.std.specs.VecDeque.{deque_len, deque_capacity};
+ghost use Rattle.pos_events.specs.declared.others.Other.{Other};
+ghost use Rattle.pos_events.specs.Parts.{all_before, before_first, one_less, first_told, without_first, without_errors, tolds};
+
+use crate::told::Told;
+use std::alloc::Global;
+use std::collections::VecDeque;
+
+/// An event that doesn't wait, in its place among those that wait.
+#[derive(Clone, Copy, Debug, PartialEq, Eq)]
+pub(crate) struct Other {
+    /// How many waiting events stand directly before it.
+    pub(crate) before: usize,
+    /// The event.
+    pub(crate) event: Told,
+}
+
+/// The events that don't wait, oldest first, each in its place.
+#[derive(Drop)]
+pub(crate) struct Others {
+    pub(crate) events: VecDeque<Other>,
+    /// How many waiting events stand behind the last of them.
+    pub(crate) behind: usize,
+}
+
+impl Others {
+    /// None, and nothing waits.
+    pub(crate) fn new(alloc: Global) -> Self
+        ensures events { result.events.items ≡ [] }
+        ensures behind { result.behind ≡ 0 }
+    {
+        Others {
+            events: VecDeque::new(alloc),
+            behind: 0,
+        }
+    }
+
+    /// Puts an event behind all.
+    pub(crate) fn push(&mut self, event: Told)
+        requires { deque_len self.old.events < deque_capacity self.old.events }
+        ensures events { let other : Other = record { before = self.old.behind; event = event } in
+            self.new.events.items ≡ self.old.events.items ++ other ∷ [] }
+        ensures behind { self.new.behind ≡ 0 }
+        ensures len { deque_len self.new.events ≡ deque_len self.old.events + 1 }
+        ensures capacity { deque_capacity self.new.events ≡ deque_capacity self.old.events }
+    {
+        self.events.push_back_reserved(Other {
+            before: self.behind,
+            event,
+        });
+        self.behind = 0;
+    }
+
+    /// Takes the first.
+    pub(crate) fn pop(&mut self) -> Option<Told>
+        requires { all_before self.old.events.items + self.old.behind < 2 ^ 64 }
+        ensures first { result ≡ first_told self.old.events.items }
+        ensures rest { self.new.events.items ≡ without_first self.old.events.items }
+        ensures counted { let count = all_before self.old.events.items + self.old.behind in
+            all_before self.new.events.items + self.new.behind ≡ count }
+        ensures capacity { deque_capacity self.new.events ≡ deque_capacity self.old.events }
+    {
+        let other = self.events.pop_front()?;
+        match self.events.pop_front() {
+            Some(next) => self.events.push_front_reserved(Other {
+                before: other.before + next.before,
+                event: next.event,
+            }),
+            None => self.behind += other.before,
+        }
+        Some(other.event)
+    }
+
+    /// How many waiting events stand before the first, or stand there where there is none.
+    pub(crate) fn before_first(&self) -> usize
+        ensures { result ≡ before_first self.now.events.items self.now.behind }
+    {
+        match self.events.front() {
+            Some(other) => other.before,
+            None => self.behind,
+        }
+    }
+
+    /// The first waiting event is gone.
+    pub(crate) fn one_less(&mut self)
+        requires { 0 < before_first self.old.events.items self.old.behind }
+        ensures rest { self.new.events.items ≡ one_less self.old.events.items }
+        ensures counted { let count = all_before self.old.events.items + self.old.behind in
+            all_before self.new.events.items + self.new.behind + 1 ≡ count }
+        ensures len { deque_len self.new.events ≡ deque_len self.old.events }
+        ensures capacity { deque_capacity self.new.events ≡ deque_capacity self.old.events }
+    {
+        match self.events.pop_front() {
+            Some(other) => self.events.push_front_reserved(Other {
+                before: other.before - 1,
+                event: other.event,
+            }),
+            None => self.behind -= 1,
+        }
+    }
+
+    /// Nothing waits any more.
+    pub(crate) fn forget_waiting(&mut self)
+        ensures events { tolds self.new.events.items ≡ tolds self.old.events.items }
+        ensures counted { all_before self.new.events.items + self.new.behind ≡ 0 }
+        ensures len { deque_len self.new.events ≡ deque_len self.old.events }
+        ensures capacity { deque_capacity self.new.events ≡ deque_capacity self.old.events }
+    {
+        for i in 0..self.events.len() {
+            self.events[i].before = 0;
+        }
+        self.behind = 0;
+    }
+
+    /// Deletes the errors of output. What stood before one of them stands before the next event that stays.
+    pub(crate) fn remove_errors(&mut self)
+        requires { all_before self.old.events.items + self.old.behind < 2 ^ 64 }
+        ensures events { self.new.events.items ≡ without_errors 0 self.old.events.items }
+        ensures counted { let count = all_before self.old.events.items + self.old.behind in
+            all_before self.new.events.items + self.new.behind ≡ count }
+        ensures len { deque_len self.new.events ≤ deque_len self.old.events }
+        ensures capacity { deque_capacity self.new.events ≡ deque_capacity self.old.events }
+    {
+        let mut before = 0;
+        for _ in 0..self.events.len() {
+            if let Some(other) = self.events.pop_front() {
+                before += other.before;
+                if !other.event.is_error() {
+                    self.events.push_back_reserved(Other {
+                        before,
+                        event: other.event,
+                    });
+                    before = 0;
+                }
+            }
+        }
+        self.behind += before;
+    }
+}

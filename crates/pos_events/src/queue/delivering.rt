@@ -1,0 +1,91 @@
+ghost use Rattle.std.specs.Prelude.{true, false, ◌≡◌, ◌≤◌, option_map};
+ghost use Rattle.pos_service.specs.Events.{deliverable, delivered, split, left_by, after_reply, input_error, clears_input};
+ghost use Rattle.pos_events.specs.Queue.{delivery_of};
+
+use super::EventQueue;
+use crate::delivery::{Delivery, without_scan};
+use pos_service::{Code, ErrorReply, Event, Locus};
+
+impl EventQueue {
+    /// Takes the event that may be delivered now, or gives None (common chapter, event queue). While events are frozen
+    /// (FreezeEvents) there is none. Else it is the first while data events are enabled (DataEventEnabled), and the
+    /// first that doesn't wait while they aren't: DataEvents and ErrorEvents of input wait. The reply is what the
+    /// application answers to an ErrorEvent of input: any at EL_INPUT, ER_CLEAR at EL_INPUT_DATA deletes DataEvents and
+    /// ErrorEvents of input and ends the input error state. What it does to output is left to the caller.
+    pub fn deliver(
+        &mut self,
+        data_enabled: bool,
+        frozen: bool,
+        reply: ErrorReply,
+    ) -> Option<Delivery>
+        ensures event { result ≡ option_map delivery_of (deliverable data_enabled frozen self.old.list) }
+        ensures rest { self.new.list ≡ delivered data_enabled frozen reply self.old.list }
+        ensures room { self.old.spare ≤ self.new.spare }
+    {
+        if frozen {
+            return None;
+        }
+        if data_enabled {
+            return self.take_first(reply);
+        }
+        self.take_told()
+    }
+
+    /// Takes the first event that doesn't wait.
+    fn take_told(&mut self) -> Option<Delivery>
+        ensures event { result ≡ option_map delivery_of (split false self.old.list.events).deliverable }
+        ensures rest { self.new.list ≡ record self.old.list { events = left_by false self.old.list.events } }
+        ensures room { self.old.spare ≤ self.new.spare }
+    {
+        let event = self.others.pop()?;
+        Some(event.delivery())
+    }
+
+    /// Takes the first event, and does to the others what the reply asks.
+    fn take_first(&mut self, reply: ErrorReply) -> Option<Delivery>
+        ensures event { result ≡ option_map delivery_of (split true self.old.list.events).deliverable }
+        ensures rest { let list = record self.old.list { events = left_by true self.old.list.events } in
+            self.new.list ≡ after_reply (split true self.old.list.events).deliverable reply list }
+        ensures room { self.old.spare ≤ self.new.spare }
+    {
+        if self.others.before_first() == 0 {
+            return self.take_told();
+        }
+        if self.input_data {
+            if clears_input(Locus::InputData, reply) {
+                self.clear_input();
+                return Some(input_error(Locus::InputData));
+            }
+            self.input_data = false;
+            return Some(input_error(Locus::InputData));
+        }
+        if self.scans.is_empty() {
+            self.clear_input();
+            return Some(input_error(Locus::Input));
+        }
+        self.others.one_less();
+        let scan = self.scans.pop_front();
+        Some(Delivery {
+            event: Event::Data,
+            scan,
+        })
+    }
+}
+
+/// An ErrorEvent of an input error: E_FAILURE.
+fn input_error(locus: Locus) -> Delivery
+    ensures { result ≡ delivery_of (input_error locus) }
+{
+    without_scan(Event::Error(Code::Failure, 0, locus))
+}
+
+/// Whether this reply to an ErrorEvent deletes the input that is held: always at EL_INPUT, ER_CLEAR at EL_INPUT_DATA.
+fn clears_input(locus: Locus, reply: ErrorReply) -> bool
+    ensures { result ≡ clears_input locus reply }
+{
+    match (locus, reply) {
+        (Locus::Input, _) => true,
+        (Locus::InputData, ErrorReply::Clear) => true,
+        _ => false,
+    }
+}

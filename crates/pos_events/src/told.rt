@@ -1,0 +1,43 @@
+ghost use Rattle.std.specs.Prelude.{◌≡◌};
+ghost use Rattle.pos_events.specs.Queue.{delivery_of};
+ghost use Rattle.pos_events.specs.Parts.{is_error, told_event};
+
+use crate::delivery::{Delivery, without_scan};
+use pos_service::{Code, Event, Locus};
+
+/// An event that doesn't wait for DataEventEnabled.
+#[derive(Clone, Copy, Debug, PartialEq, Eq)]
+pub(crate) enum Told {
+    /// StatusUpdateEvent, with the status.
+    Status(u32),
+    /// ErrorEvent with EL_OUTPUT, with code and extended code.
+    OutputError(Code, u32),
+    /// OutputCompleteEvent, with the OutputID.
+    Complete(u64),
+}
+
+impl Told {
+    /// Whether it is an error of output.
+    pub(crate) fn is_error(self) -> bool
+        ensures { result ≡ is_error self }
+    {
+        match self {
+            Told::Status(_) => false,
+            Told::OutputError(_, _) => true,
+            Told::Complete(_) => false,
+        }
+    }
+
+    /// The event as its application gets it.
+    pub(crate) fn delivery(self) -> Delivery
+        ensures { result ≡ delivery_of (told_event self) }
+    {
+        match self {
+            Told::Status(code) => without_scan(Event::StatusUpdate(code)),
+            Told::OutputError(code, extended) => {
+                without_scan(Event::Error(code, extended, Locus::Output))
+            }
+            Told::Complete(id) => without_scan(Event::OutputComplete(id)),
+        }
+    }
+}

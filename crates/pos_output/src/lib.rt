@@ -1,0 +1,10 @@
+//! The output that a control has still to do, oldest first (common chapter, asynchronous output).
+#![tactic(auto)]
+
+mod fault;
+mod queue;
+#[cfg(test)]
+mod tests;
+
+pub use fault::PutFault;
+pub use queue::OutputQueue;

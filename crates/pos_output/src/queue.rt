@@ -1,0 +1,133 @@
+ghost use Rattle.std.specs.Prelude.{◌≡◌, ◌==◌, ◌<◌, true, Some, length, option_map, IsSome, IfOk, IfErr};
+ghost use Rattle.pos_service.specs.Output.{last_output_id, no_output, output_deleted, request_done, request_failed};
+ghost use Rattle.pos_service.specs.Output.{request_retried, request_to_do, with_request};
+
+use crate::fault::PutFault;
+use pos_service::Order;
+use std::alloc::Global;
+use std::collections::VecDeque;
+use std::marker::Model;
+
+/// A control's outstanding output: its requests with their OutputIDs, oldest first, whether the first has failed, and
+/// the OutputID of the next (common chapter, OutputID). Contracts see these.
+#[derive(Drop)]
+pub struct OutputQueue {
+    requests: VecDeque<(u64, Order)>,
+    is_failed: bool,
+    next: u64,
+}
+
+impl Model for OutputQueue {
+    ghost use Rattle.pos_service.specs.Output.{Output};
+
+    ghost Value = { Output };
+
+    ghost view = { λ a. record { requests = a.requests.items; is_failed = a.is_failed; next = a.next } };
+}
+
+impl OutputQueue {
+    /// No output, with the OutputID that the first request gets.
+    pub fn starting(alloc: Global, next_id: u64) -> Self
+        ensures { result ≡ no_output next_id }
+    {
+        OutputQueue {
+            requests: VecDeque::new(alloc),
+            is_failed: false,
+            next: next_id,
+        }
+    }
+
+    /// Whether no request is held, whether or not the first has failed.
+    pub fn is_empty(&self) -> bool
+        ensures { result ≡ (length self.now.requests == 0) }
+    {
+        self.requests.is_empty()
+    }
+
+    /// The OutputID that the next request gets. 18446744073709551615 means that none is left.
+    pub fn next_id(&self) -> u64
+        ensures { result ≡ self.now.next }
+    {
+        self.next
+    }
+
+    /// Queues a request behind the others and gives its OutputID. A failed first request stays the first. A refusal
+    /// changes nothing and hands the order back: NoMemory, or Exhausted where no OutputID is left.
+    pub fn put(&mut self, order: Order) -> Result<u64, (PutFault, Order)>
+        ensures given { IfOk result (λ id. id ≡ self.old.next) }
+        ensures queued { IfOk result (λ _. self.new ≡ with_request order self.old) }
+        ensures left { IfOk result (λ _. self.old.next < last_output_id) }
+        ensures exhausted { IfErr result (λ back. back.0 ≡ PutFault.Exhausted → self.old.next ≡ last_output_id) }
+        ensures handed_back { IfErr result (λ back. back.1 ≡ order) }
+        ensures unchanged { IfErr result (λ _. self.new ≡ self.old) }
+    {
+        if self.requests.reserve(1).is_err() {
+            return Err((PutFault::NoMemory, order));
+        }
+        if self.next == u64::MAX {
+            return Err((PutFault::Exhausted, order));
+        }
+        let id = self.next;
+        self.requests.push_back_reserved((id, order));
+        self.next += 1;
+        Ok(id)
+    }
+
+    /// The request that is to be done now, with its OutputID: the first, or None while it has failed.
+    pub fn first(&self) -> Option<(u64, &Order)>
+        ensures { option_map (λ request. (request.0, request.1.now)) result ≡ request_to_do self.now }
+    {
+        if self.is_failed {
+            return None;
+        }
+        match self.requests.front() {
+            Some((id, order)) => Some((*id, order)),
+            None => None,
+        }
+    }
+
+    /// The request that was to be done is done: it is removed, and its OutputID is given.
+    pub fn done(&mut self) -> u64
+        requires { IsSome (request_to_do self.old) }
+        ensures id { option_map (λ request. request.0) (request_to_do self.old) ≡ Some result }
+        ensures removed { self.new ≡ request_done self.old }
+    {
+        match self.requests.pop_front() {
+            Some((id, _)) => id,
+            None => unreachable!(),
+        }
+    }
+
+    /// The request that was to be done has failed: it stays the first, and nothing is to be done until it is retried or
+    /// cleared.
+    pub fn failed(&mut self)
+        requires { IsSome (request_to_do self.old) }
+        ensures { self.new ≡ request_failed self.old }
+    {
+        self.is_failed = true;
+    }
+
+    /// Whether the first request has failed: the output error state stands (common chapter, error handling).
+    pub fn is_failed(&self) -> bool
+        ensures { result ≡ self.now.is_failed }
+    {
+        self.is_failed
+    }
+
+    /// The request that has failed is to be tried again, with the OutputID that it has (ER_RETRY).
+    pub fn retry(&mut self)
+        requires { self.old.is_failed ≡ true }
+        ensures { self.new ≡ request_retried self.old }
+    {
+        // the first request keeps its OutputID
+        self.is_failed = false;
+    }
+
+    /// Deletes all requests, and ends the error (clearOutput, ER_CLEAR). OutputIDs go on.
+    pub fn clear(&mut self)
+        ensures { self.new ≡ output_deleted self.old }
+    {
+        self.requests.clear();
+        self.is_failed = false;
+    }
+}

@@ -1,0 +1,2 @@
+pub mod StripLemmas
+pub mod PieceLemmas

@@ -1,0 +1,36 @@
+-- The calls of Hard Totals, by what they ask of the files (chapter Hard Totals).
+use Rattle.std.specs.Prelude.{ℕ, not, List, [], ◌∷◌}
+use Rattle.pos_service.specs.declared.call.Call.{Call}
+use Rattle.pos_service.specs.declared.call.Call.TheVariants as call
+use Rattle.pos_service.specs.declared.code.Code.TheVariants as code
+use Rattle.pos_service.specs.Controls.{Control}
+use Rattle.pos_service.specs.HardTotals.{Totals, Question, Find, FindByIndex, Read, Change, Create, Delete, Rename, Write, SetAll, layout_1, refusals_of_question, refusals_of_change}
+use Rattle.pos_service.specs.Refusals.{Row, when}
+
+-- a call asks about the files, or asks for a change of them; a call of another category asks nothing
+pub data FileCall : Type 0 where
+  Asks : Question → FileCall
+  Makes : Change → FileCall
+  Nothing : FileCall
+
+-- what each call asks; error detection has no effect
+abbrev pub file_call : Call → FileCall
+file_call (call.Create name size detection) = Makes (Create name size)
+file_call (call.Delete name) = Makes (Delete name)
+file_call (call.Find name) = Asks (Find name)
+file_call (call.FindByIndex index) = Asks (FindByIndex index)
+file_call (call.Read handle offset count) = Asks (Read handle offset count)
+file_call (call.Write handle offset bytes) = Makes (Write handle offset bytes)
+file_call (call.SetAll handle n) = Makes (SetAll handle n)
+file_call (call.Rename handle name) = Makes (Rename handle name)
+file_call asked = Nothing
+
+-- what the totals refuse to the control with a number
+abbrev pub file_rows : Totals → ℕ → FileCall → List Row
+file_rows totals number (Asks question) = refusals_of_question totals number question
+file_rows totals number (Makes change) = refusals_of_change layout_1 totals number change
+file_rows totals number Nothing = []
+
+-- what each call asks of its own, in order: the device enabled, and then what the totals ask
+abbrev pub totals_rows : Totals → ℕ → Control → Call → List Row
+totals_rows totals number control asked = when (not control.enabled) code.Disabled ∷ file_rows totals number (file_call asked)

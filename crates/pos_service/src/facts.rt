@@ -1,0 +1,21 @@
+use crate::signs::Signs;
+
+/// What the properties of a control tell of its device.
+#[derive(Clone, Copy, Debug, PartialEq, Eq)]
+pub struct Facts {
+    /// What the device's peripheral shows of itself, each false or good where it has none.
+    pub signs: Signs,
+    /// TotalsSize.
+    pub totals_size: usize,
+    /// What is known of the totals' files: none while the totals are off.
+    pub files: Option<FileFacts>,
+}
+
+/// What is known of the files of totals that are ready (chapter Hard Totals).
+#[derive(Clone, Copy, Debug, PartialEq, Eq)]
+pub struct FileFacts {
+    /// FreeData.
+    pub free: usize,
+    /// NumberOfFiles.
+    pub count: usize,
+}

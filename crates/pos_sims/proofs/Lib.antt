@@ -1,0 +1,5 @@
+pub mod WindowLemmas
+pub mod ScrollLemmas
+pub mod ChunkLemmas
+pub mod RequestLemmas
+pub mod TapeLemmas

@@ -1,0 +1,57 @@
+-- A text on a display's window, as it is laid character by character.
+use Rattle.std.specs.Prelude.{◌≡◌, ℕ, ◌+◌, ◌-◌, ◌*◌, ◌%◌, ◌≤◌, ◌<◌, List, [], length, get_or, nat_lt, nat_le, if◌then◌else◌}
+use Rattle.pos_service.specs.declared.display_text.DisplayCell.{DisplayCell}
+use Rattle.pos_service.specs.declared.display_text.Place.{Place}
+use Rattle.pos_sims.specs.declared.laying.Manner.{Manner}
+use Rattle.pos_service.specs.Displays.{Display, Strip, rows_above, shown_at, blank, with_text, text_from, IsWindow}
+
+-- there are cells of so many rows and columns, and the place is one where a text may begin
+pub record IsWithin (manner : Manner) (cells : List DisplayCell) (place : Place) : Type 0 where
+  pub count : length cells ≡ manner.rows * manner.columns
+  pub some : 1 ≤ manner.columns
+  pub row : place.row < manner.rows
+  pub column : place.column ≤ manner.columns
+
+-- The cells are the window at the end of the strip, the place is the strip's, and below the window the strip is blank.
+pub record Follows (manner : Manner) (old : List DisplayCell) (strip : Strip) (cells : List DisplayCell) (place : Place) :
+    Type 0 where
+  pub window : IsWindow manner.rows manner.columns manner.attribute old strip cells
+  pub below : (row column : ℕ) → manner.rows + rows_above manner.rows strip.place ≤ row → column < manner.columns →
+      shown_at manner.columns manner.attribute old strip.placed row column ≡ blank
+  pub row : place.row + rows_above manner.rows strip.place ≡ strip.place.row
+  pub column : place.column ≡ strip.place.column
+
+-- whatever strip the cells and the place follow, after these bytes they follow it with the bytes on it
+abbrev pub Lays : Manner → List DisplayCell → Place → List ℕ → List DisplayCell → Place → Type 0
+Lays manner was place bytes now reached =
+    (old : List DisplayCell) (strip : Strip) →
+    Follows manner old strip was place → Follows manner old (with_text manner.columns [] bytes strip) now reached
+
+-- over the old cells, the new ones show a text that begins at a place
+abbrev pub ShowsOver : Manner → List DisplayCell → Place → List ℕ → List DisplayCell → Type 0
+ShowsOver manner old start bytes now =
+    IsWindow manner.rows manner.columns manner.attribute old (text_from manner.columns start bytes) now
+
+-- a window's size is one that a display may have, and so many cells fill it
+pub record IsSized (rows columns cells : ℕ) : Type 0 where
+  pub some_rows : 1 ≤ rows
+  pub most_rows : rows ≤ 8
+  pub some_columns : 1 ≤ columns
+  pub most_columns : columns ≤ 80
+  pub count : cells ≡ rows * columns
+
+-- a display of this size with these cells
+abbrev pub display_of : ℕ → ℕ → List DisplayCell → Display
+display_of rows columns cells = record { rows = rows; columns = columns; cells = cells }
+
+-- within each part of so many cells, each cell is the one that stood so many places behind it, or a blank
+abbrev pub MovesToFront : ℕ → ℕ → List DisplayCell → List DisplayCell → Type 0
+MovesToFront width places old new =
+    (k : ℕ) → k < length old →
+    get_or new k blank ≡ (if nat_lt (k % width + places) width then get_or old (k + places) blank else blank)
+
+-- within each part of so many cells, each cell is the one that stood so many places before it, or a blank
+abbrev pub MovesToEnd : ℕ → ℕ → List DisplayCell → List DisplayCell → Type 0
+MovesToEnd width places old new =
+    (k : ℕ) → k < length old →
+    get_or new k blank ≡ (if nat_le places (k % width) then get_or old (k - places) blank else blank)

@@ -1,0 +1,266 @@
+ghost use Rattle.std.specs.Prelude.{◌≡◌, ◌++◌, ◌∷◌, [], ◌+◌, ◌-◌, ◌<◌, ◌≤◌, take, drop, length, replicate, vec_len, Err, OnOk, OnErr, IfOk};
+ghost use Rattle.pos_service.specs.Receipts.{characters_in, plain, pieces, pieces_in, cut_pieces};
+ghost use Rattle.pos_sims.specs.Tapes.{Adds, IsPrinted, StopsShort, add_cut, end_begun, end_full, end_line, lines_on, printed_on, put_character, step, work_after, work_of};
+
+use crate::tape::{Stop, Tape};
+use pos_service::receipt_text::{
+    Alignment, Mark, Piece, PrintedCharacter, Token, cut_of, next_token,
+};
+use std::alloc::Global;
+
+impl Tape {
+    /// Nothing is printed, and the line buffer is empty.
+    pub fn new(alloc: Global, chars: usize) -> Self
+        requires { (1 ≤ chars) × (chars ≤ 255) }
+        ensures made { printed_on result ≡ record { items = []; buffer = [] } }
+        ensures chars { result.chars ≡ chars }
+    {
+        Tape {
+            chars,
+            characters: Vec::new(alloc),
+            marks: Vec::new(alloc),
+            start: 0,
+            is_bold: false,
+            alignment: Alignment::Left,
+            used: 0,
+            limit: 0,
+        }
+    }
+
+    /// A request begins.
+    fn begin(&mut self, limit: u32)
+        ensures work { work_of self.new ≡ record { style = plain; made = printed_on self.old; used = 0 } }
+        ensures characters { self.new.characters ≡ self.old.characters }
+        ensures marks { self.new.marks ≡ self.old.marks }
+        ensures start { self.new.start ≡ self.old.start }
+        ensures chars { self.new.chars ≡ self.old.chars }
+        ensures limit { self.new.limit ≡ limit }
+    {
+        self.is_bold = false;
+        self.alignment = Alignment::Left;
+        self.used = 0;
+        self.limit = limit;
+    }
+
+    /// The line buffer is a line.
+    fn end_line(&mut self) -> Result<(), Stop>
+        ensures ok { OnOk result (work_of self.new ≡ end_line (work_of self.old)) }
+        ensures empty { OnOk result (vec_len self.new.characters ≡ self.new.start) }
+        ensures paper { StopsShort result self.old.limit (end_line (work_of self.old)).used }
+        ensures adds { Adds self.old self.new }
+    {
+        if self.used >= self.limit {
+            return Err(Stop::PaperEnd);
+        }
+        let end = self.characters.len();
+        match self
+            .marks
+            .push(Mark::Line(self.alignment, end - self.start))
+        {
+            Ok(()) => {
+                self.start = end;
+                self.used += 1;
+                Ok(())
+            }
+            Err(_) => Err(Stop::NoMemory),
+        }
+    }
+
+    /// The line buffer is a line, if it has begun.
+    fn end_begun(&mut self) -> Result<(), Stop>
+        ensures ok { OnOk result (work_of self.new ≡ end_begun (work_of self.old)) }
+        ensures paper { StopsShort result self.old.limit (end_begun (work_of self.old)).used }
+        ensures adds { Adds self.old self.new }
+    {
+        if self.characters.len() == self.start {
+            return Ok(());
+        }
+        self.end_line()
+    }
+
+    /// The line buffer is a line, if it is full.
+    fn end_full(&mut self) -> Result<(), Stop>
+        ensures ok { OnOk result (work_of self.new ≡ end_full self.old.chars (work_of self.old)) }
+        ensures room { OnOk result (vec_len self.new.characters < self.new.start + self.new.chars) }
+        ensures paper { StopsShort result self.old.limit (end_full self.old.chars (work_of self.old)).used }
+        ensures adds { Adds self.old self.new }
+    {
+        if self.characters.len() - self.start < self.chars {
+            return Ok(());
+        }
+        self.end_line()
+    }
+
+    /// A character behind the line buffer, which isn't full.
+    fn push(&mut self, character: PrintedCharacter) -> Result<(), Stop>
+        requires { vec_len self.old.characters < self.old.start + self.old.chars }
+        ensures ok { OnOk result (work_of self.new ≡ put_character character (work_of self.old)) }
+        ensures err { OnErr result (result ≡ Err Stop.NoMemory) }
+        ensures adds { Adds self.old self.new }
+    {
+        match self.characters.push(character) {
+            Ok(()) => Ok(()),
+            Err(_) => Err(Stop::NoMemory),
+        }
+    }
+
+    /// A cut behind the items.
+    fn cut(&mut self, percentage: u8) -> Result<(), Stop>
+        ensures ok { OnOk result (work_of self.new ≡ add_cut percentage (work_of self.old)) }
+        ensures err { OnErr result (result ≡ Err Stop.NoMemory) }
+        ensures adds { Adds self.old self.new }
+    {
+        match self.marks.push(Mark::Cut(percentage)) {
+            Ok(()) => Ok(()),
+            Err(_) => Err(Stop::NoMemory),
+        }
+    }
+
+    /// One piece.
+    fn lay_piece(&mut self, piece: Piece) -> Result<(), Stop>
+        ensures ok { OnOk result (work_of self.new ≡ step self.old.chars (work_of self.old) piece) }
+        ensures paper { StopsShort result self.old.limit (step self.old.chars (work_of self.old) piece).used }
+        ensures adds { Adds self.old self.new }
+    {
+        match piece {
+            Piece::Character(byte) => {
+                let is_bold = self.is_bold;
+                match self.end_full() {
+                    Ok(()) => self.push(PrintedCharacter { byte, is_bold }),
+                    Err(stop) => Err(stop),
+                }
+            }
+            Piece::LineEnd => self.end_line(),
+            Piece::Return => self.end_begun(),
+            Piece::Cut(percentage) => match self.end_begun() {
+                Ok(()) => self.cut(percentage),
+                Err(stop) => Err(stop),
+            },
+            Piece::Bold => {
+                self.is_bold = true;
+                Ok(())
+            }
+            Piece::Align(alignment) => {
+                self.alignment = alignment;
+                Ok(())
+            }
+            Piece::Normal => {
+                self.is_bold = false;
+                self.alignment = Alignment::Left;
+                Ok(())
+            }
+            Piece::OutOfRange => Ok(()),
+        }
+    }
+
+    /// So many line ends.
+    fn end_lines(&mut self, count: u8) -> Result<(), Stop>
+        ensures ok { OnOk result (work_of self.new ≡ work_after self.old (replicate count Piece.LineEnd)) }
+        ensures paper { StopsShort result self.old.limit (work_after self.old (replicate count Piece.LineEnd)).used }
+        ensures adds { Adds self.old self.new }
+    {
+        for _ in 0..count {
+            if let Err(stop) = self.end_line() {
+                return Err(stop);
+            }
+        }
+        Ok(())
+    }
+
+    /// The pieces of a token.
+    fn lay_token(&mut self, token: Token) -> Result<(), Stop>
+        ensures ok { OnOk result (work_of self.new ≡ work_after self.old (pieces_in token)) }
+        ensures paper { StopsShort result self.old.limit (work_after self.old (pieces_in token)).used }
+        ensures adds { Adds self.old self.new }
+    {
+        match token {
+            Token::Nothing => Ok(()),
+            Token::One(piece) => self.lay_piece(piece),
+            Token::LineEnds(count) => self.end_lines(count),
+        }
+    }
+
+    /// All pieces of some bytes, in one pass over them.
+    fn lay(&mut self, bytes: &[u8]) -> Result<(), Stop>
+        ensures ok { OnOk result (work_of self.new ≡ work_after self.old (pieces bytes.now)) }
+        ensures paper { StopsShort result self.old.limit (work_after self.old (pieces bytes.now)).used }
+        ensures adds { Adds self.old self.new }
+    {
+        let mut rest = bytes;
+        while !rest.is_empty() {
+            let (token, next) = next_token(rest);
+            if let Err(stop) = self.lay_token(token) {
+                return Err(stop);
+            }
+            rest = next;
+        }
+        Ok(())
+    }
+
+    /// The tape as it was when it had so many characters and marks, and its line buffer began there.
+    fn back_to(&mut self, characters: usize, marks: usize, start: usize)
+        requires covered { characters_in (take marks self.old.marks.items) ≡ start }
+        requires within { start ≤ characters }
+        requires bounded { characters ≤ start + self.old.chars }
+        requires no_more { characters ≤ vec_len self.old.characters }
+        ensures characters { self.new.characters.items ≡ take characters self.old.characters.items }
+        ensures marks { self.new.marks.items ≡ take marks self.old.marks.items }
+        ensures start { self.new.start ≡ start }
+        ensures chars { self.new.chars ≡ self.old.chars }
+    {
+        self.characters.truncate(characters);
+        self.marks.truncate(marks);
+        self.start = start;
+    }
+
+    /// A request of these bytes, which may use so many lines. It says how many it has used. A request that stops is
+    /// undone whole.
+    pub fn print(&mut self, bytes: &[u8], limit: u32) -> Result<u32, Stop>
+        ensures ok { OnOk result (IsPrinted self.old (pieces bytes.now) self.new) }
+        ensures used { IfOk result (λ used. (used ≡ lines_on self.old (pieces bytes.now)) × (used ≤ limit)) }
+        ensures paper { StopsShort result limit (lines_on self.old (pieces bytes.now)) }
+        ensures err { OnErr result (printed_on self.new ≡ printed_on self.old) }
+        ensures chars { self.new.chars ≡ self.old.chars }
+    {
+        let characters = self.characters.len();
+        let marks = self.marks.len();
+        let start = self.start;
+        self.begin(limit);
+        match self.lay(bytes) {
+            Ok(()) => Ok(self.used),
+            Err(stop) => {
+                self.back_to(characters, marks, start);
+                Err(stop)
+            }
+        }
+    }
+
+    /// A request of one cut, which may use so many lines. It says how many it has used. A request that stops is undone
+    /// whole.
+    pub fn cut_paper(&mut self, percentage: u32, limit: u32) -> Result<u32, Stop>
+        ensures ok { OnOk result (IsPrinted self.old (cut_pieces percentage) self.new) }
+        ensures used { IfOk result (λ used. (used ≡ lines_on self.old (cut_pieces percentage)) × (used ≤ limit)) }
+        ensures paper { StopsShort result limit (lines_on self.old (cut_pieces percentage)) }
+        ensures err { OnErr result (printed_on self.new ≡ printed_on self.old) }
+        ensures chars { self.new.chars ≡ self.old.chars }
+    {
+        let characters = self.characters.len();
+        let marks = self.marks.len();
+        let start = self.start;
+        self.begin(limit);
+        match self.lay_token(cut_of(percentage)) {
+            Ok(()) => Ok(self.used),
+            Err(stop) => {
+                self.back_to(characters, marks, start);
+                Err(stop)
+            }
+        }
+    }
+
+    /// The line buffer.
+    pub fn buffer(&self) -> &[PrintedCharacter]
+        ensures { result.now ≡ (printed_on self.now).buffer }
+    {
+        &self.characters.as_slice()[self.start..]
+    }
+}
