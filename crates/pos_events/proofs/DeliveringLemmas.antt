@@ -11,6 +11,8 @@ use Rattle.pos_service.specs.Events.{EventList, Enqueued, Status, Data, Error, C
 use Rattle.pos_service.specs.declared.event.Event.TheVariants as event
 use Rattle.pos_events.specs.declared.delivery.Delivery.{Delivery}
 use Rattle.pos_events.specs.Queue.{delivery_of}
+use Rattle.pos_events.specs.declared.queue.delivering.Waiting.TheVariants as waiting
+use Rattle.pos_events.specs.Waiting.{first_waiting}
 use Rattle.pos_events.specs.declared.others.Other.{Other}
 use Rattle.pos_events.specs.declared.told.Told.{Told}
 use Rattle.pos_events.specs.declared.told.Told.TheVariants as told
@@ -163,3 +165,19 @@ data_event popped list scan rest p e = rw (p, e)
 pub data_rest : (answer : ErrorReply) (input_data in_error : Bool) (scan : Scan) (scans rest : List Scan) (others after : List Other) (behind : ℕ) (list : EventList) → list ≡ list_of input_data in_error scans others → input_data ≡ false → scans ≡ scan ∷ rest → after ≡ one_less others → 0 < before_first others behind → list_of input_data in_error rest after ≡ after_first answer list
 data_rest answer input_data in_error scan scans rest others after behind list l d s a some =
     rw (l, a, d) (sym (left_after_data answer (list_of false in_error scans others) scan (weave (waiting_in rest in_error) (one_less others)) (first_is_data false in_error scan scans rest others behind refl s some)))
+
+-- what the kind of the first waiting event tells of the parts
+pub is_input_data : (input_data no_scans : Bool) → first_waiting input_data no_scans ≡ waiting.InputData → input_data ≡ true
+is_input_data true no_scans e = refl
+is_input_data false true e = cc
+is_input_data false false e = cc
+
+pub is_input : (input_data no_scans : Bool) → first_waiting input_data no_scans ≡ waiting.Input → (input_data ≡ false) × (no_scans ≡ true)
+is_input true no_scans e = cc
+is_input false true e = (refl, refl)
+is_input false false e = cc
+
+pub is_scan : (input_data no_scans : Bool) → first_waiting input_data no_scans ≡ waiting.Data → (input_data ≡ false) × (no_scans ≡ false)
+is_scan true no_scans e = cc
+is_scan false true e = cc
+is_scan false false e = (refl, refl)

@@ -89,6 +89,6 @@ failed false some (scan ∷ scans) others behind fits e =
     (ap with_input_data (weave_more (map Data (scan ∷ scans)) others (input_error locus.Input) (let f = fits.counted in omega (arith, length-map (scan ∷ scans) Data)))
     ∙ with_input_data_push (weave (map Data (scan ∷ scans)) others) (input_error locus.Input) refl)
 
-pub one_more_error : (input_data in_error some : Bool) (scans : List Scan) (others : List Other) (behind : ℕ) → Fits input_data in_error scans others behind → in_error ≡ false → some ≡ not (length scans == 0) → list_of some true scans others ≡ input_failed (list_of input_data in_error scans others)
-one_more_error input_data true some scans others behind fits none e = cc
-one_more_error input_data false some scans others behind fits none e = rw (failed input_data some scans others behind fits e)
+pub one_more_error : (input_data in_error no_scans : Bool) (count : ℕ) (scans : List Scan) (others : List Other) (behind : ℕ) → Fits input_data in_error scans others behind → in_error ≡ false → no_scans ≡ (count == 0) → count ≡ length scans → list_of (not no_scans) true scans others ≡ input_failed (list_of input_data in_error scans others)
+one_more_error input_data true no_scans count scans others behind fits none e n = cc
+one_more_error input_data false no_scans count scans others behind fits none e n = rw (failed input_data (not no_scans) scans others behind fits (ap not (e ∙ ap (λ (k : ℕ). k == 0) n)))

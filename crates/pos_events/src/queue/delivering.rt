@@ -1,6 +1,7 @@
 ghost use Rattle.std.specs.Prelude.{true, false, ◌≡◌, ◌≤◌, option_map};
 ghost use Rattle.pos_service.specs.Events.{deliverable, delivered, split, left_by, after_reply, input_error, clears_input};
 ghost use Rattle.pos_events.specs.Queue.{delivery_of};
+ghost use Rattle.pos_events.specs.Waiting.{first_waiting};
 
 use super::EventQueue;
 use crate::delivery::{Delivery, without_scan};
@@ -12,6 +13,7 @@ impl EventQueue {
     /// first that doesn't wait while they aren't: DataEvents and ErrorEvents of input wait. The reply is what the
     /// application answers to an ErrorEvent of input: any at EL_INPUT, ER_CLEAR at EL_INPUT_DATA deletes DataEvents and
     /// ErrorEvents of input and ends the input error state. What it does to output is left to the caller.
+    #[tactic(auto, using(crate::proofs::DeliveringLemmas::delivered_told))]
     pub fn deliver(
         &mut self,
         data_enabled: bool,
@@ -51,17 +53,20 @@ impl EventQueue {
         if self.others.before_first() == 0 {
             return self.take_told();
         }
-        if self.input_data {
-            if clears_input(Locus::InputData, reply) {
-                self.clear_input();
+        match first_waiting(self.input_data, self.scans.is_empty()) {
+            Waiting::InputData => {
+                if clears_input(Locus::InputData, reply) {
+                    self.clear_input();
+                    return Some(input_error(Locus::InputData));
+                }
+                self.input_data = false;
                 return Some(input_error(Locus::InputData));
             }
-            self.input_data = false;
-            return Some(input_error(Locus::InputData));
-        }
-        if self.scans.is_empty() {
-            self.clear_input();
-            return Some(input_error(Locus::Input));
+            Waiting::Input => {
+                self.clear_input();
+                return Some(input_error(Locus::Input));
+            }
+            Waiting::Data => {}
         }
         self.others.one_less();
         let scan = self.scans.pop_front();
@@ -70,6 +75,30 @@ impl EventQueue {
             scan,
         })
     }
+}
+
+/// A kind of event that waits for DataEventEnabled.
+#[derive(Clone, Copy, Debug, PartialEq, Eq)]
+pub(crate) enum Waiting {
+    /// The ErrorEvent with EL_INPUT_DATA.
+    InputData,
+    /// A DataEvent.
+    Data,
+    /// The ErrorEvent with EL_INPUT.
+    Input,
+}
+
+/// The first of the waiting events, where there is one: EL_INPUT_DATA stands before the scans, EL_INPUT behind them.
+fn first_waiting(input_data: bool, no_scans: bool) -> Waiting
+    ensures { result ≡ first_waiting input_data no_scans }
+{
+    if input_data {
+        return Waiting::InputData;
+    }
+    if no_scans {
+        return Waiting::Input;
+    }
+    Waiting::Data
 }
 
 /// An ErrorEvent of an input error: E_FAILURE.

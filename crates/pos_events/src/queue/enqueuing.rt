@@ -33,7 +33,6 @@ impl EventQueue {
     /// A scan has failed: the input error state stands from now on, with its ErrorEvents, EL_INPUT_DATA directly
     /// before the first DataEvent, where there is one, and EL_INPUT at the end. In that state nothing changes (common
     /// chapter).
-
     pub fn input_error(&mut self)
         requires { 2 ≤ self.old.spare }
         ensures enqueued { self.new.list ≡ input_failed self.old.list }
