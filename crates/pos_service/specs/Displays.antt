@@ -158,11 +158,11 @@ IsWindow rows columns attribute old strip cells =
     ≡ shown_at columns attribute old strip.placed (row + rows_above rows strip.place) column
 
 -- From the old display, a text that begins at a place leaves the new one.
-pub record ShowsText (old : Display) (start : Place) (attribute : Attribute) (bytes : List ℕ) (new : Display) : Type 0 where
+pub record ShowsText (old : Display) (start : Place) (style : Attribute) (bytes : List ℕ) (new : Display) : Type 0 where
   pub rows : new.rows ≡ old.rows
   pub columns : new.columns ≡ old.columns
   pub count : length new.cells ≡ old.rows * old.columns
-  pub window : IsWindow old.rows old.columns attribute old.cells (text_from old.columns start bytes) new.cells
+  pub window : IsWindow old.rows old.columns style old.cells (text_from old.columns start bytes) new.cells
 
 -- The cell that a scroll brings to a row and a column: the one that stood so many units against the direction, or a
 -- blank where none did.

@@ -5,6 +5,10 @@ use Rattle.pos_service.specs.declared.display_text.Place.{Place}
 use Rattle.pos_sims.specs.declared.laying.Manner.{Manner}
 use Rattle.pos_service.specs.Displays.{Display, Strip, rows_above, shown_at, blank, with_text, text_from, IsWindow}
 
+-- the cells of a display, row by row
+abbrev pub Cells : Type 0
+Cells = List DisplayCell
+
 -- there are cells of so many rows and columns, and the place is one where a text may begin
 pub record IsWithin (manner : Manner) (cells : List DisplayCell) (place : Place) : Type 0 where
   pub count : length cells ≡ manner.rows * manner.columns
@@ -13,8 +17,7 @@ pub record IsWithin (manner : Manner) (cells : List DisplayCell) (place : Place)
   pub column : place.column ≤ manner.columns
 
 -- The cells are the window at the end of the strip, the place is the strip's, and below the window the strip is blank.
-pub record Follows (manner : Manner) (old : List DisplayCell) (strip : Strip) (cells : List DisplayCell) (place : Place) :
-    Type 0 where
+pub record Follows (manner : Manner) (old : Cells) (strip : Strip) (cells : Cells) (place : Place) : Type 0 where
   pub window : IsWindow manner.rows manner.columns manner.attribute old strip cells
   pub below : (row column : ℕ) → manner.rows + rows_above manner.rows strip.place ≤ row → column < manner.columns →
       shown_at manner.columns manner.attribute old strip.placed row column ≡ blank
