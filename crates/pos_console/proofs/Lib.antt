@@ -4,3 +4,4 @@ pub mod WriteLemmas
 pub mod Sessions
 pub mod Serving
 pub mod Starting
+pub mod Readings

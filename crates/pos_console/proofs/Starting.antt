@@ -1,5 +1,5 @@
 -- A run of the program's counter, as a run of the machine from its start.
-use Rattle.std.proofs.Common.{◌≡◌, ◌∷◌, [], ℕ, List, Option, inl, refl, subst, sym, ap, arith}
+use Rattle.std.proofs.Common.{◌≡◌, ◌∙◌, ◌∷◌, [], ℕ, false, List, Option, inl, refl, subst, sym, ap, arith}
 use Rattle.std.specs.Prelude.{Result, Ok, Err}
 use Rattle.pos_disk.specs.Memory.{Memory, state_of}
 use Rattle.pos_disk.specs.State.{MayLeave}
@@ -7,11 +7,15 @@ use Rattle.pos_disk.specs.declared.device.Disk.{Ghosts as DiskGhosts}
 use Rattle.pos_disk.proofs.Moments.{rest_leaves}
 use Rattle.pos_service.specs.declared.peripheral_box.PeripheralBox.{PeripheralBox}
 use Rattle.pos_service.specs.declared.peripheral_box.HasState.{Ghosts}
+use Rattle.pos_service.specs.HardTotals.{Off}
+use Rattle.pos_sims.specs.Drawers.{drawer_state}
 use Rattle.pos_store.specs.Standing.{Standing, Stands, LeavesOneOf, StandsForOneOf}
 use Rattle.pos_counter.specs.declared.counter.Counter.{Counter}
-use Rattle.pos_counter.specs.Counters.{machine, IsRun}
+use Rattle.pos_counter.specs.Counters.{machine, states_of, Begins, IsRun}
 use Rattle.pos_counter.specs.Machine.{Machine}
-use Rattle.pos_counter.specs.Parts.{part_of, Leaves}
+use Rattle.pos_counter.specs.Parts.{machine_of, part_of, Leaves}
+use Rattle.pos_counter.specs.Profile.{profile}
+use Rattle.pos_counter.specs.Totals.{TotalsPart}
 use Rattle.pos_counter.specs.Steps.{Run}
 use Rattle.pos_console.specs.declared.run.RunFault.{RunFault}
 use Rattle.pos_console.specs.declared.run.RunFault.TheVariants as fault
@@ -78,3 +82,16 @@ pub new_disk_leaves : (disk : Memory) → IsNewDisk disk → LeavesOneOf (Stands
 new_disk_leaves disk new bytes may =
     subst (StandsForOneOf (Stands [] 1 ∷ [])) (sym (rest_leaves (state_of disk) bytes new.at_rest may))
     (inl (record { count = omega arith; size = omega arith; named = refl; distinct = refl }, new.image.image))
+
+module _ {D X : Type 0} {O : X → Type 0} (bound : DiskGhosts D) (boxes : Ghosts (PeripheralBox X O)) (list : List (PeripheralBox X O)) (disk : D) (counter : Counter D X O) (begins : Begins boxes list disk counter) where
+  -- a counter over a new disk leaves what the disk does
+  pub begun_leaves : bound.honest disk → LeavesOneOf (Stands [] 1 ∷ []) (bound.state disk) → Leaves bound counter.totals (Stands [] 1 ∷ [])
+  begun_leaves honest leaves = subst (λ v. Leaves bound v (Stands [] 1 ∷ [])) (sym begins.totals) (record { honest = honest; leaves = leaves; is_settled = refl })
+
+  -- a counter over a closed drawer and a new disk begins at the start
+  pub begins_at_start : states_of boxes list ≡ drawer_state false false ∷ [] → (bound.state disk).failures ≡ 0 → machine boxes counter (part_of bound counter.totals (Stands [] 1 ∷ [])) ≡ start
+  begins_at_start closed none =
+      begins.machine (part_of bound counter.totals (Stands [] 1 ∷ []))
+      ∙ ap (λ states. machine_of [] profile states (part_of bound counter.totals (Stands [] 1 ∷ []))) closed
+      ∙ ap (λ v. machine_of [] profile (drawer_state false false ∷ []) (part_of bound v (Stands [] 1 ∷ []))) begins.totals
+      ∙ ap (λ n. let part : TotalsPart = record { totals = record { mode = Off; next = 1 }; left = Stands [] 1 ∷ []; failures = n } in machine_of [] profile (drawer_state false false ∷ []) part) none

@@ -67,7 +67,10 @@ fn read_method<'a>(alloc: Global, name: &'a [u8], words: &[u8]) -> Result<Comman
     let Some((method, rest)) = next_word(words) else {
         return Err(LineFault::WrongShape);
     };
-    read_call(alloc, method, rest).map(|call| Command::Call(name, call))
+    match read_call(alloc, method, rest) {
+        Ok(call) => Ok(Command::Call(name, call)),
+        Err(fault) => Err(fault),
+    }
 }
 
 /// What happens at a device.

@@ -1,5 +1,7 @@
 ghost use Rattle.pos_console.specs.Lines.{words_of};
-ghost use Rattle.pos_console.specs.Arguments.{Reads};
+ghost use Rattle.pos_service.specs.declared.call.Call.TheVariants as call;
+ghost use Rattle.pos_console.specs.Arguments.{Reads, from_three};
+ghost use Rattle.pos_console.specs.Words.{bytes_shape, number_shape, truth_shape};
 ghost use Rattle.pos_console.specs.Methods.{call_in, call_of, handle_methods, totals_methods};
 
 use crate::arguments::{LineFault, read_none, read_one, read_three, read_two};
@@ -22,9 +24,7 @@ fn read_totals_call(alloc: Global, method: &[u8], words: &[u8]) -> Result<Call, 
     ensures { Reads (call_in totals_methods method.now (words_of words.now)) result }
 {
     if is(method, "create") {
-        return read_three(alloc, words).map(|(name, (size, detection))| Call::Create(
-            name, size, detection,
-        ));
+        return read_create(alloc, words);
     }
     if is(method, "delete") {
         return read_one(alloc, words).map(Call::Delete);
@@ -36,6 +36,13 @@ fn read_totals_call(alloc: Global, method: &[u8], words: &[u8]) -> Result<Call, 
         return read_one(alloc, words).map(Call::FindByIndex);
     }
     read_handle_call(alloc, method, words)
+}
+
+/// The call `create`, by the words behind it.
+fn read_create(alloc: Global, words: &[u8]) -> Result<Call, LineFault>
+    ensures { Reads (from_three bytes_shape number_shape truth_shape call.Create (words_of words.now)) result }
+{
+    read_three(alloc, words).map(|(name, (size, detection))| Call::Create(name, size, detection))
 }
 
 /// The call of a method of Hard Totals on a file by its handle.
