@@ -1,15 +1,17 @@
 //! A counter and its drawer.
 use crate::support::{TestDrawer, counter_over, end, end_all, formatted};
 use crate::{ControlFault, Counter, Ended, InputFault, Request, Response, SnapshotFault};
+use pos_disk::Disk;
 use pos_service::{
     Answer, Bytes, Call, Category, Code, ErrorReply, Event, Input, Kind, NoMemory, Peripheral,
     PeripheralBox, Plant, Property, Snapshot, Value,
 };
-use pos_disk::Disk;
 use std::alloc::AllocError;
 
 #[test]
-fn a_new_counter_or_its_refusal_gives_drawer_and_disk_back(rt: HostRuntime) -> Result<(), AllocError> {
+fn a_new_counter_or_its_refusal_gives_drawer_and_disk_back(
+    rt: HostRuntime,
+) -> Result<(), AllocError> {
     let alloc = rt.alloc();
     let disk = formatted(alloc)?;
     let drawer = Box::new(alloc, TestDrawer::new(0))?;

@@ -23,8 +23,11 @@ enum Wanted<'a> {
 }
 
 const ILLEGAL: Wanted<'static> = Wanted::Refused(Code::Illegal, 0);
+
 const DISABLED: Wanted<'static> = Wanted::Refused(Code::Disabled, 0);
+
 const FAILURE: Wanted<'static> = Wanted::Refused(Code::Failure, 0);
+
 const NO_ROOM: Wanted<'static> = Wanted::Refused(Code::Extended, 201);
 
 /// Whether a call gives what is wanted.
@@ -149,7 +152,10 @@ fn a_file_is_made_and_found_by_the_next_counter(rt: HostRuntime) -> Result<(), F
     assert!(rt; start == [0xa5, 0, 0, 0, 0, 0, 0, 0, 1, 0, 0, 0, 2, 0, 0]);
     let mut script = Script::new(alloc);
     script.ready(0, Wanted::Nothing)?;
-    script.call(Call::Create(bytes(alloc, b"A")?, 4, false), Wanted::Number(1))?;
+    script.call(
+        Call::Create(bytes(alloc, b"A")?, 4, false),
+        Wanted::Number(1),
+    )?;
     script.call(Call::Read(1, 0, 4), Wanted::Bytes(&[0, 0, 0, 0]))?;
     script.call(Call::Get(Property::TotalsSize), Wanted::Number(8_192))?;
     script.call(Call::Get(Property::FreeData), Wanted::Number(8_188))?;
@@ -173,7 +179,10 @@ fn a_file_is_made_and_found_by_the_next_counter(rt: HostRuntime) -> Result<(), F
     let mut script = Script::new(alloc);
     script.ready(0, Wanted::Nothing)?;
     script.call(Call::Find(bytes(alloc, b"A")?), Wanted::Pair(1, 4))?;
-    script.call(Call::Read(1, 0, 4), Wanted::Bytes(&[0xde, 0xad, 0xbe, 0xef]))?;
+    script.call(
+        Call::Read(1, 0, 4),
+        Wanted::Bytes(&[0xde, 0xad, 0xbe, 0xef]),
+    )?;
     script.call(Call::SetAll(1, 7), Wanted::Nothing)?;
     script.call(Call::Read(1, 1, 2), Wanted::Bytes(&[7, 7]))?;
     let (wrong, _) = script.play(disk)?;
@@ -199,7 +208,10 @@ fn names_and_sizes(rt: HostRuntime) -> Result<(), Fail> {
         script.call(Call::Create(bytes(alloc, name)?, size, false), wanted)?;
     }
     script.call(Call::Rename(3, bytes(alloc, b"D")?), Wanted::Nothing)?;
-    script.call(Call::Create(bytes(alloc, b"E")?, 0, true), Wanted::Number(4))?;
+    script.call(
+        Call::Create(bytes(alloc, b"E")?, 0, true),
+        Wanted::Number(4),
+    )?;
     script.call(Call::Delete(bytes(alloc, b"D")?), Wanted::Nothing)?;
     script.call(Call::FindByIndex(2), Wanted::Bytes(b"E"))?;
     let (wrong, _) = script.play(formatted(alloc)?)?;
@@ -272,7 +284,10 @@ fn calls_of_another_category(rt: HostRuntime) -> Result<(), Fail> {
 fn with_a_file(alloc: Global) -> Result<MemDisk, AllocError> {
     let mut script = Script::new(alloc);
     script.ready(0, Wanted::Nothing)?;
-    script.call(Call::Create(bytes(alloc, b"A")?, 4, false), Wanted::Number(1))?;
+    script.call(
+        Call::Create(bytes(alloc, b"A")?, 4, false),
+        Wanted::Number(1),
+    )?;
     let (wrong, disk) = script.play(formatted(alloc)?)?;
     match wrong {
         None => Ok(disk),
@@ -394,7 +409,7 @@ fn look<D: Disk>(counter: &mut Counter<D>) -> (bool, i128)
     }
 }
 
-/// What a call of the first control answers, once more where a growth was refused, and whether nothing had changed then.
+/// What a call of the first control answers, once more where a growth was refused, and whether nothing had changed.
 fn call_again<D: Disk>(counter: &mut Counter<D>, call: &Call) -> (Result<Answer, NoMemory>, bool)
     requires { IsCounterSound ⟦<PeripheralBox as HasState>⟧ counter.old }
     ensures { IsCounterSound ⟦<PeripheralBox as HasState>⟧ counter.new }
