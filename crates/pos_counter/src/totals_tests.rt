@@ -76,7 +76,8 @@ impl<'a> Script<'a> {
     /// A request, and what is wanted.
     fn ask(&mut self, request: Request, wanted: Wanted<'a>) -> Result<(), AllocError> {
         self.requests.push(request)?;
-        self.wanted.push(wanted)
+        self.wanted.push(wanted)?;
+        Ok(())
     }
 
     /// A call of the control with a number.
