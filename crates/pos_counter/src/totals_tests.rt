@@ -22,6 +22,8 @@ enum Wanted<'a> {
     Refused(Code, u32),
 }
 
+const NOTHING: Wanted<'static> = Wanted::Nothing;
+
 const ILLEGAL: Wanted<'static> = Wanted::Refused(Code::Illegal, 0);
 
 const DISABLED: Wanted<'static> = Wanted::Refused(Code::Disabled, 0);
@@ -56,69 +58,27 @@ fn fits(response: &Response, wanted: Wanted<'_>) -> bool {
     }
 }
 
-/// Requests, and what is to be answered to each.
-#[derive(Drop)]
-struct Script<'a> {
-    alloc: Global,
-    requests: Vec<Request>,
-    wanted: Vec<Wanted<'a>>,
+/// What is asked of a control.
+#[derive(Clone, Copy)]
+enum Step<'a> {
+    Make(Category),
+    Open(&'a [u8]),
+    Close,
+    Enable(bool),
+    Get(Property),
+    OpenDrawer,
+    Create(&'a [u8], i128),
+    Delete(&'a [u8]),
+    Find(&'a [u8]),
+    FindByIndex(i128),
+    Read(i128, i128, i128),
+    Write(i128, i128, &'a [u8]),
+    SetAll(i128, i128),
+    Rename(i128, &'a [u8]),
 }
 
-impl<'a> Script<'a> {
-    fn new(alloc: Global) -> Self {
-        Script {
-            alloc,
-            requests: Vec::new(alloc),
-            wanted: Vec::new(alloc),
-        }
-    }
-
-    /// A request, and what is wanted.
-    fn ask(&mut self, request: Request, wanted: Wanted<'a>) -> Result<(), AllocError> {
-        self.requests.push(request)?;
-        self.wanted.push(wanted)?;
-        Ok(())
-    }
-
-    /// A call of the control with a number.
-    fn call_of(&mut self, number: usize, call: Call, wanted: Wanted<'a>) -> Result<(), AllocError> {
-        self.ask(Request::CallOf(number, call), wanted)
-    }
-
-    /// A call of the first control.
-    fn call(&mut self, call: Call, wanted: Wanted<'a>) -> Result<(), AllocError> {
-        self.call_of(0, call, wanted)
-    }
-
-    /// The next control, opened.
-    fn open(&mut self, number: usize, category: Category, device: &[u8]) -> Result<(), AllocError> {
-        self.ask(Request::NewControl(category), Wanted::Made(number))?;
-        let name = bytes(self.alloc, device)?;
-        self.call_of(number, Call::Open(name), Wanted::Nothing)
-    }
-
-    /// The next control, opened for Hard Totals and to be enabled.
-    fn ready(&mut self, number: usize, wanted: Wanted<'a>) -> Result<(), AllocError> {
-        self.open(number, Category::HardTotals, b"t1")?;
-        self.call_of(number, enable(), wanted)
-    }
-
-    /// Plays it in a counter of its own over a disk: the first place that gets another answer, and the disk.
-    fn play<D: Disk + Drop>(&self, disk: D) -> Result<(Option<usize>, D), AllocError> {
-        let mut counter = counter_over(self.alloc, 0, disk)?;
-        let played = counter.perform(&self.requests);
-        let disk = end(counter);
-        let Ok(responses) = played else {
-            return Err(AllocError);
-        };
-        for (place, response) in responses.iter().enumerate() {
-            if place >= self.wanted.len() || !fits(response, self.wanted[place]) {
-                return Ok((Some(place), disk));
-            }
-        }
-        Ok((None, disk))
-    }
-}
+/// What is written over the zero bytes of the file A.
+const BEEF: [u8; 4] = [0xde, 0xad, 0xbe, 0xef];
 
 fn bytes(alloc: Global, items: &[u8]) -> Result<Bytes, AllocError> {
     match Bytes::from_slice(alloc, items) {
@@ -127,12 +87,54 @@ fn bytes(alloc: Global, items: &[u8]) -> Result<Bytes, AllocError> {
     }
 }
 
-fn enable() -> Call {
-    Call::Set(Property::DeviceEnabled, Value::Truth(true))
+/// The request of a step of a control.
+fn request_of(alloc: Global, number: usize, step: Step<'_>) -> Result<Request, AllocError> {
+    let call = match step {
+        Step::Make(category) => return Ok(Request::NewControl(category)),
+        Step::Open(name) => Call::Open(bytes(alloc, name)?),
+        Step::Close => Call::Close,
+        Step::Enable(truth) => Call::Set(Property::DeviceEnabled, Value::Truth(truth)),
+        Step::Get(property) => Call::Get(property),
+        Step::OpenDrawer => Call::OpenDrawer,
+        Step::Create(name, size) => Call::Create(bytes(alloc, name)?, size, false),
+        Step::Delete(name) => Call::Delete(bytes(alloc, name)?),
+        Step::Find(name) => Call::Find(bytes(alloc, name)?),
+        Step::FindByIndex(index) => Call::FindByIndex(index),
+        Step::Read(handle, offset, count) => Call::Read(handle, offset, count),
+        Step::Write(handle, offset, items) => Call::Write(handle, offset, bytes(alloc, items)?),
+        Step::SetAll(handle, value) => Call::SetAll(handle, value),
+        Step::Rename(handle, name) => Call::Rename(handle, bytes(alloc, name)?),
+    };
+    Ok(Request::CallOf(number, call))
 }
 
-fn disable() -> Call {
-    Call::Set(Property::DeviceEnabled, Value::Truth(false))
+/// Asks these steps of a counter of its own over a disk: the first place that gets another answer, and the disk.
+fn play<D: Disk + Drop>(
+    alloc: Global,
+    disk: D,
+    lines: &[(usize, Step<'_>, Wanted<'_>)],
+) -> Result<(Option<usize>, D), AllocError> {
+    let mut requests = Vec::with_capacity(alloc, lines.len())?;
+    for (number, step, _) in lines {
+        requests.push(request_of(alloc, *number, *step)?)?;
+    }
+    let mut counter = counter_over(alloc, 0, disk)?;
+    let played = counter.perform(&requests);
+    let disk = end(counter);
+    let Ok(responses) = played else {
+        return Err(AllocError);
+    };
+    Ok((first_wrong(&responses, lines), disk))
+}
+
+/// The first place of a response that isn't what is wanted.
+fn first_wrong(responses: &[Response], lines: &[(usize, Step<'_>, Wanted<'_>)]) -> Option<usize> {
+    for (place, response) in responses.iter().enumerate() {
+        if place >= lines.len() || !fits(response, lines[place].2) {
+            return Some(place);
+        }
+    }
+    None
 }
 
 /// What a read of a disk gives from a place on.
@@ -145,25 +147,25 @@ fn read_back(disk: &mut MemDisk, at: u64, out: &mut [u8]) -> Result<(), DiskFaul
 }
 
 #[test]
-fn a_file_is_made_and_found_by_the_next_counter(rt: HostRuntime) -> Result<(), Fail> {
+fn a_file_is_made_and_on_the_disk(rt: HostRuntime) -> Result<(), Fail> {
     let alloc = rt.alloc();
     let mut disk = formatted(alloc)?;
     let mut start = [0; 15];
     read_back(&mut disk, 0, &mut start)?;
     assert!(rt; start == [0xa5, 0, 0, 0, 0, 0, 0, 0, 1, 0, 0, 0, 2, 0, 0]);
-    let mut script = Script::new(alloc);
-    script.ready(0, Wanted::Nothing)?;
-    script.call(
-        Call::Create(bytes(alloc, b"A")?, 4, false),
-        Wanted::Number(1),
-    )?;
-    script.call(Call::Read(1, 0, 4), Wanted::Bytes(&[0, 0, 0, 0]))?;
-    script.call(Call::Get(Property::TotalsSize), Wanted::Number(8_192))?;
-    script.call(Call::Get(Property::FreeData), Wanted::Number(8_188))?;
-    script.call(Call::Get(Property::NumberOfFiles), Wanted::Number(1))?;
-    script.call(Call::FindByIndex(0), Wanted::Bytes(b"A"))?;
-    script.call(Call::FindByIndex(1), ILLEGAL)?;
-    let (wrong, mut disk) = script.play(disk)?;
+    let lines = [
+        (0, Step::Make(Category::HardTotals), Wanted::Made(0)),
+        (0, Step::Open(b"t1"), NOTHING),
+        (0, Step::Enable(true), NOTHING),
+        (0, Step::Create(b"A", 4), Wanted::Number(1)),
+        (0, Step::Read(1, 0, 4), Wanted::Bytes(&[0, 0, 0, 0])),
+        (0, Step::Get(Property::TotalsSize), Wanted::Number(8_192)),
+        (0, Step::Get(Property::FreeData), Wanted::Number(8_188)),
+        (0, Step::Get(Property::NumberOfFiles), Wanted::Number(1)),
+        (0, Step::FindByIndex(0), Wanted::Bytes(b"A")),
+        (0, Step::FindByIndex(1), ILLEGAL),
+    ];
+    let (wrong, mut disk) = play(alloc, disk, &lines)?;
     assert_eq!(rt; wrong, None);
     let mut image = [0; 25];
     read_back(&mut disk, 32_768, &mut image)?;
@@ -171,22 +173,45 @@ fn a_file_is_made_and_found_by_the_next_counter(rt: HostRuntime) -> Result<(), F
         0xa5, 0, 0, 0, 0, 0, 0, 0, 2, 0, 0, 0, 12, 0, 1, 1, 0x41, 0, 0, 0, 4, 0, 0, 0, 0,
     ];
     assert!(rt; image == wanted);
-    let mut script = Script::new(alloc);
-    script.ready(0, Wanted::Nothing)?;
-    let beef = bytes(alloc, &[0xde, 0xad, 0xbe, 0xef])?;
-    script.call(Call::Write(1, 0, beef), Wanted::Nothing)?;
-    let (wrong, disk) = script.play(disk)?;
+    Ok(())
+}
+
+/// A disk with the file A of four zero bytes.
+fn with_a_file(alloc: Global) -> Result<MemDisk, AllocError> {
+    let lines = [
+        (0, Step::Make(Category::HardTotals), Wanted::Made(0)),
+        (0, Step::Open(b"t1"), NOTHING),
+        (0, Step::Enable(true), NOTHING),
+        (0, Step::Create(b"A", 4), Wanted::Number(1)),
+    ];
+    let (wrong, disk) = play(alloc, formatted(alloc)?, &lines)?;
+    match wrong {
+        None => Ok(disk),
+        Some(_) => Err(AllocError),
+    }
+}
+
+#[test]
+fn the_next_counter_finds_what_was_written(rt: HostRuntime) -> Result<(), Fail> {
+    let alloc = rt.alloc();
+    let lines = [
+        (0, Step::Make(Category::HardTotals), Wanted::Made(0)),
+        (0, Step::Open(b"t1"), NOTHING),
+        (0, Step::Enable(true), NOTHING),
+        (0, Step::Write(1, 0, &BEEF), NOTHING),
+    ];
+    let (wrong, disk) = play(alloc, with_a_file(alloc)?, &lines)?;
     assert_eq!(rt; wrong, None);
-    let mut script = Script::new(alloc);
-    script.ready(0, Wanted::Nothing)?;
-    script.call(Call::Find(bytes(alloc, b"A")?), Wanted::Pair(1, 4))?;
-    script.call(
-        Call::Read(1, 0, 4),
-        Wanted::Bytes(&[0xde, 0xad, 0xbe, 0xef]),
-    )?;
-    script.call(Call::SetAll(1, 7), Wanted::Nothing)?;
-    script.call(Call::Read(1, 1, 2), Wanted::Bytes(&[7, 7]))?;
-    let (wrong, _) = script.play(disk)?;
+    let lines = [
+        (0, Step::Make(Category::HardTotals), Wanted::Made(0)),
+        (0, Step::Open(b"t1"), NOTHING),
+        (0, Step::Enable(true), NOTHING),
+        (0, Step::Find(b"A"), Wanted::Pair(1, 4)),
+        (0, Step::Read(1, 0, 4), Wanted::Bytes(&BEEF)),
+        (0, Step::SetAll(1, 7), NOTHING),
+        (0, Step::Read(1, 1, 2), Wanted::Bytes(&[7, 7])),
+    ];
+    let (wrong, _) = play(alloc, disk, &lines)?;
     assert_eq!(rt; wrong, None);
     Ok(())
 }
@@ -194,28 +219,23 @@ fn a_file_is_made_and_found_by_the_next_counter(rt: HostRuntime) -> Result<(), F
 #[test]
 fn names_and_sizes(rt: HostRuntime) -> Result<(), Fail> {
     let alloc = rt.alloc();
-    let mut script = Script::new(alloc);
-    script.ready(0, Wanted::Nothing)?;
-    let cases = [
-        (b"0123456789".as_slice(), 0, Wanted::Number(1)),
-        (b"01234567890".as_slice(), 0, ILLEGAL),
-        (b"".as_slice(), 0, ILLEGAL),
-        (b"B".as_slice(), 8_192, Wanted::Number(2)),
-        (b"C".as_slice(), 1, NO_ROOM),
-        (b"C".as_slice(), 0, Wanted::Number(3)),
-        (b"B".as_slice(), 0, Wanted::Refused(Code::Exists, 0)),
+    let lines = [
+        (0, Step::Make(Category::HardTotals), Wanted::Made(0)),
+        (0, Step::Open(b"t1"), NOTHING),
+        (0, Step::Enable(true), NOTHING),
+        (0, Step::Create(b"0123456789", 0), Wanted::Number(1)),
+        (0, Step::Create(b"01234567890", 0), ILLEGAL),
+        (0, Step::Create(b"", 0), ILLEGAL),
+        (0, Step::Create(b"B", 8_192), Wanted::Number(2)),
+        (0, Step::Create(b"C", 1), NO_ROOM),
+        (0, Step::Create(b"C", 0), Wanted::Number(3)),
+        (0, Step::Create(b"B", 0), Wanted::Refused(Code::Exists, 0)),
+        (0, Step::Rename(3, b"D"), NOTHING),
+        (0, Step::Create(b"E", 0), Wanted::Number(4)),
+        (0, Step::Delete(b"D"), NOTHING),
+        (0, Step::FindByIndex(2), Wanted::Bytes(b"E")),
     ];
-    for (name, size, wanted) in cases {
-        script.call(Call::Create(bytes(alloc, name)?, size, false), wanted)?;
-    }
-    script.call(Call::Rename(3, bytes(alloc, b"D")?), Wanted::Nothing)?;
-    script.call(
-        Call::Create(bytes(alloc, b"E")?, 0, true),
-        Wanted::Number(4),
-    )?;
-    script.call(Call::Delete(bytes(alloc, b"D")?), Wanted::Nothing)?;
-    script.call(Call::FindByIndex(2), Wanted::Bytes(b"E"))?;
-    let (wrong, _) = script.play(formatted(alloc)?)?;
+    let (wrong, _) = play(alloc, formatted(alloc)?, &lines)?;
     assert_eq!(rt; wrong, None);
     Ok(())
 }
@@ -229,13 +249,16 @@ fn a_disk_without_totals_leaves_the_control_disabled(rt: HostRuntime) -> Result<
         (malformed.as_slice(), FAILURE),
     ];
     for (start, wanted) in cases {
-        let mut script = Script::new(alloc);
-        script.ready(0, wanted)?;
-        script.call(Call::Get(Property::DeviceEnabled), Wanted::Truth(false))?;
-        script.call(Call::Find(bytes(alloc, b"A")?), DISABLED)?;
-        script.call(Call::Get(Property::FreeData), DISABLED)?;
-        script.call(enable(), wanted)?;
-        let (wrong, _) = script.play(disk_of(alloc, start)?)?;
+        let lines = [
+            (0, Step::Make(Category::HardTotals), Wanted::Made(0)),
+            (0, Step::Open(b"t1"), NOTHING),
+            (0, Step::Enable(true), wanted),
+            (0, Step::Get(Property::DeviceEnabled), Wanted::Truth(false)),
+            (0, Step::Find(b"A"), DISABLED),
+            (0, Step::Get(Property::FreeData), DISABLED),
+            (0, Step::Enable(true), wanted),
+        ];
+        let (wrong, _) = play(alloc, disk_of(alloc, start)?, &lines)?;
         assert_eq!(rt; wrong, None);
     }
     Ok(())
@@ -247,11 +270,14 @@ fn the_last_sequence(rt: HostRuntime) -> Result<(), Fail> {
     let last = [
         0xa5, 0xff, 0xff, 0xff, 0xff, 0xff, 0xff, 0xff, 0xff, 0, 0, 0, 8, 0, 1, 1, 0x41, 0, 0, 0, 0,
     ];
-    let mut script = Script::new(alloc);
-    script.ready(0, Wanted::Nothing)?;
-    script.call(Call::Delete(bytes(alloc, b"A")?), FAILURE)?;
-    script.call(Call::Find(bytes(alloc, b"A")?), Wanted::Pair(1, 0))?;
-    let (wrong, _) = script.play(disk_of(alloc, &last)?)?;
+    let lines = [
+        (0, Step::Make(Category::HardTotals), Wanted::Made(0)),
+        (0, Step::Open(b"t1"), NOTHING),
+        (0, Step::Enable(true), NOTHING),
+        (0, Step::Delete(b"A"), FAILURE),
+        (0, Step::Find(b"A"), Wanted::Pair(1, 0)),
+    ];
+    let (wrong, _) = play(alloc, disk_of(alloc, &last)?, &lines)?;
     assert_eq!(rt; wrong, None);
     Ok(())
 }
@@ -259,57 +285,43 @@ fn the_last_sequence(rt: HostRuntime) -> Result<(), Fail> {
 #[test]
 fn calls_of_another_category(rt: HostRuntime) -> Result<(), Fail> {
     let alloc = rt.alloc();
-    let mut script = Script::new(alloc);
-    script.open(0, Category::HardTotals, b"t1")?;
-    script.call(Call::OpenDrawer, ILLEGAL)?;
-    script.call(Call::FindByIndex(0), DISABLED)?;
-    script.call(Call::Get(Property::CapStatus), ILLEGAL)?;
-    script.call(enable(), Wanted::Nothing)?;
-    script.call(Call::OpenDrawer, ILLEGAL)?;
-    script.open(1, Category::CashDrawer, b"d1")?;
-    script.call_of(1, Call::FindByIndex(0), ILLEGAL)?;
-    script.call_of(1, Call::Get(Property::FreeData), ILLEGAL)?;
-    script.call_of(1, enable(), Wanted::Nothing)?;
-    script.call_of(1, Call::FindByIndex(0), ILLEGAL)?;
-    script.call(Call::Close, Wanted::Nothing)?;
-    script.call(Call::FindByIndex(0), Wanted::Refused(Code::Closed, 0))?;
-    let not_there = Wanted::Refused(Code::NoExist, 0);
-    script.call(Call::Open(bytes(alloc, b"d1")?), not_there)?;
-    script.call_of(1, Call::Get(Property::DeviceEnabled), Wanted::Truth(true))?;
-    let (wrong, _) = script.play(formatted(alloc)?)?;
+    let lines = [
+        (0, Step::Make(Category::HardTotals), Wanted::Made(0)),
+        (0, Step::Open(b"t1"), NOTHING),
+        (0, Step::OpenDrawer, ILLEGAL),
+        (0, Step::FindByIndex(0), DISABLED),
+        (0, Step::Get(Property::CapStatus), ILLEGAL),
+        (0, Step::Enable(true), NOTHING),
+        (0, Step::OpenDrawer, ILLEGAL),
+        (1, Step::Make(Category::CashDrawer), Wanted::Made(1)),
+        (1, Step::Open(b"d1"), NOTHING),
+        (1, Step::FindByIndex(0), ILLEGAL),
+        (1, Step::Get(Property::FreeData), ILLEGAL),
+        (1, Step::Enable(true), NOTHING),
+        (1, Step::FindByIndex(0), ILLEGAL),
+        (0, Step::Close, NOTHING),
+        (0, Step::FindByIndex(0), Wanted::Refused(Code::Closed, 0)),
+        (0, Step::Open(b"d1"), Wanted::Refused(Code::NoExist, 0)),
+        (1, Step::Get(Property::DeviceEnabled), Wanted::Truth(true)),
+    ];
+    let (wrong, _) = play(alloc, formatted(alloc)?, &lines)?;
     assert_eq!(rt; wrong, None);
     Ok(())
 }
 
-/// A disk with the file A of the bytes 0, 0, 0, 0.
-fn with_a_file(alloc: Global) -> Result<MemDisk, AllocError> {
-    let mut script = Script::new(alloc);
-    script.ready(0, Wanted::Nothing)?;
-    script.call(
-        Call::Create(bytes(alloc, b"A")?, 4, false),
-        Wanted::Number(1),
-    )?;
-    let (wrong, disk) = script.play(formatted(alloc)?)?;
-    match wrong {
-        None => Ok(disk),
-        Some(_) => Err(AllocError),
-    }
-}
-
-/// Two controls of Hard Totals, the first of which writes to the file A.
-fn writing<'a>(alloc: Global, wanted: Wanted<'a>) -> Result<Script<'a>, AllocError> {
-    let mut script = Script::new(alloc);
-    script.ready(0, Wanted::Nothing)?;
-    script.ready(1, Wanted::Nothing)?;
-    let beef = bytes(alloc, &[0xde, 0xad, 0xbe, 0xef])?;
-    script.call(Call::Write(1, 0, beef), wanted)?;
-    Ok(script)
-}
-
-/// How many disk calls a script makes on a disk like this.
-fn count_calls(script: &Script<'_>, disk: &MemDisk) -> Result<u64, AllocError> {
-    let (_, disk) = script.play(FuseDisk::new(disk.crash(Fill::New)?, 0, 0))?;
-    Ok(disk.calls())
+/// How many disk calls it takes to enable a control, and to write to the file A then.
+fn count_calls(alloc: Global, disk: &MemDisk) -> Result<(u64, u64), AllocError> {
+    let lines = [
+        (0, Step::Make(Category::HardTotals), Wanted::Made(0)),
+        (0, Step::Open(b"t1"), NOTHING),
+        (0, Step::Enable(true), NOTHING),
+        (0, Step::Write(1, 0, &BEEF), NOTHING),
+    ];
+    let whole = FuseDisk::new(disk.crash(Fill::New)?, 0, 0);
+    let (_, enabled) = play(alloc, whole, &lines[..3])?;
+    let whole = FuseDisk::new(disk.crash(Fill::New)?, 0, 0);
+    let (_, written) = play(alloc, whole, &lines)?;
+    Ok((enabled.calls(), written.calls()))
 }
 
 /// The disk after the write failed at a disk call: each control stays enabled, the totals are off until one is enabled
@@ -319,38 +331,48 @@ fn failed_at(
     disk: &MemDisk,
     pass: u64,
 ) -> Result<(Option<usize>, MemDisk), AllocError> {
-    let mut script = writing(alloc, FAILURE)?;
-    script.call(Call::Read(1, 0, 4), FAILURE)?;
-    script.call_of(1, Call::Find(bytes(alloc, b"A")?), FAILURE)?;
-    script.call_of(1, Call::Get(Property::NumberOfFiles), FAILURE)?;
-    script.call(Call::Create(bytes(alloc, b"")?, 0, false), FAILURE)?;
-    script.call(enable(), Wanted::Nothing)?;
-    script.call(Call::Read(1, 0, 4), FAILURE)?;
-    script.call(disable(), Wanted::Nothing)?;
-    script.call_of(1, Call::Get(Property::DeviceEnabled), Wanted::Truth(true))?;
-    script.call(enable(), Wanted::Nothing)?;
-    script.call(Call::Read(1, 0, 4), ILLEGAL)?;
-    script.call_of(1, Call::Find(bytes(alloc, b"A")?), Wanted::Pair(2, 4))?;
-    let (wrong, disk) = script.play(FuseDisk::new(disk.crash(Fill::New)?, pass, 1))?;
+    let lines = [
+        (0, Step::Make(Category::HardTotals), Wanted::Made(0)),
+        (0, Step::Open(b"t1"), NOTHING),
+        (0, Step::Enable(true), NOTHING),
+        (1, Step::Make(Category::HardTotals), Wanted::Made(1)),
+        (1, Step::Open(b"t1"), NOTHING),
+        (1, Step::Enable(true), NOTHING),
+        (0, Step::Write(1, 0, &BEEF), FAILURE),
+        (0, Step::Read(1, 0, 4), FAILURE),
+        (1, Step::Find(b"A"), FAILURE),
+        (1, Step::Get(Property::NumberOfFiles), FAILURE),
+        (0, Step::Create(b"", 0), FAILURE),
+        (0, Step::Enable(true), NOTHING),
+        (0, Step::Read(1, 0, 4), FAILURE),
+        (0, Step::Enable(false), NOTHING),
+        (1, Step::Get(Property::DeviceEnabled), Wanted::Truth(true)),
+        (0, Step::Enable(true), NOTHING),
+        (0, Step::Read(1, 0, 4), ILLEGAL),
+        (1, Step::Find(b"A"), Wanted::Pair(2, 4)),
+    ];
+    let fuse = FuseDisk::new(disk.crash(Fill::New)?, pass, 1);
+    let (wrong, disk) = play(alloc, fuse, &lines)?;
     Ok((wrong, disk.into_inner()))
 }
 
 /// Whether the file A is found and has these bytes, and the disk.
 fn has_bytes(alloc: Global, disk: MemDisk, wanted: &[u8]) -> Result<(bool, MemDisk), AllocError> {
-    let mut script = Script::new(alloc);
-    script.ready(0, Wanted::Nothing)?;
-    script.call(Call::Find(bytes(alloc, b"A")?), Wanted::Pair(1, 4))?;
-    script.call(Call::Read(1, 0, 4), Wanted::Bytes(wanted))?;
-    let (wrong, disk) = script.play(disk)?;
+    let lines = [
+        (0, Step::Make(Category::HardTotals), Wanted::Made(0)),
+        (0, Step::Open(b"t1"), NOTHING),
+        (0, Step::Enable(true), NOTHING),
+        (0, Step::Find(b"A"), Wanted::Pair(1, 4)),
+        (0, Step::Read(1, 0, 4), Wanted::Bytes(wanted)),
+    ];
+    let (wrong, disk) = play(alloc, disk, &lines)?;
     Ok((wrong.is_none(), disk))
 }
 
 /// Whether the bytes of A are those before the write or those after it, and the same over ten reopenings.
 fn is_decided(alloc: Global, disk: MemDisk) -> Result<bool, AllocError> {
-    let old = [0, 0, 0, 0];
-    let new = [0xde, 0xad, 0xbe, 0xef];
-    let (is_old, mut left) = has_bytes(alloc, disk, &old)?;
-    let decided = if is_old { old } else { new };
+    let (is_old, mut left) = has_bytes(alloc, disk, &[0, 0, 0, 0])?;
+    let decided = if is_old { [0, 0, 0, 0] } else { BEEF };
     for _ in 0..10u32 {
         let (is_same, disk) = has_bytes(alloc, left, &decided)?;
         if !is_same {
@@ -365,10 +387,7 @@ fn is_decided(alloc: Global, disk: MemDisk) -> Result<bool, AllocError> {
 fn a_write_fails_at_each_disk_call(rt: HostRuntime) -> Result<(), Fail> {
     let alloc = rt.alloc();
     let disk = with_a_file(alloc)?;
-    let mut before = Script::new(alloc);
-    before.ready(0, Wanted::Nothing)?;
-    let first = count_calls(&before, &disk)?;
-    let end = count_calls(&writing(alloc, Wanted::Nothing)?, &disk)?;
+    let (first, end) = count_calls(alloc, &disk)?;
     assert!(rt; first > 0 && end >= first.saturating_add(6));
     for pass in first..end {
         let (wrong, left) = failed_at(alloc, &disk, pass)?;
@@ -382,16 +401,18 @@ fn a_write_fails_at_each_disk_call(rt: HostRuntime) -> Result<(), Fail> {
 fn a_recovery_fails_at_each_disk_call(rt: HostRuntime) -> Result<(), Fail> {
     let alloc = rt.alloc();
     let disk = with_a_file(alloc)?;
-    let mut script = Script::new(alloc);
-    script.ready(0, Wanted::Nothing)?;
-    let calls = count_calls(&script, &disk)?;
+    let (calls, _) = count_calls(alloc, &disk)?;
+    let lines = [
+        (0, Step::Make(Category::HardTotals), Wanted::Made(0)),
+        (0, Step::Open(b"t1"), NOTHING),
+        (0, Step::Enable(true), FAILURE),
+        (0, Step::Get(Property::DeviceEnabled), Wanted::Truth(false)),
+        (0, Step::Enable(true), NOTHING),
+        (0, Step::Find(b"A"), Wanted::Pair(1, 4)),
+    ];
     for pass in 0..calls {
-        let mut script = Script::new(alloc);
-        script.ready(0, FAILURE)?;
-        script.call(Call::Get(Property::DeviceEnabled), Wanted::Truth(false))?;
-        script.call(enable(), Wanted::Nothing)?;
-        script.call(Call::Find(bytes(alloc, b"A")?), Wanted::Pair(1, 4))?;
-        let (wrong, _) = script.play(FuseDisk::new(disk.crash(Fill::New)?, pass, 1))?;
+        let fuse = FuseDisk::new(disk.crash(Fill::New)?, pass, 1);
+        let (wrong, _) = play(alloc, fuse, &lines)?;
         assert_eq!(rt; wrong, None);
     }
     Ok(())
@@ -430,6 +451,7 @@ fn call_again<D: Disk>(counter: &mut Counter<D>, call: &Call) -> (Result<Answer,
 fn a_refused_growth_changes_nothing(rt: HostRuntime) -> Result<(), Fail> {
     let alloc = rt.alloc();
     let open = Call::Open(bytes(alloc, b"t1")?);
+    let enable = Call::Set(Property::DeviceEnabled, Value::Truth(true));
     let create = Call::Create(bytes(alloc, b"A")?, 4, false);
     let mut counter = counter_over(alloc, 0, formatted(alloc)?)?;
     let mut made = counter.control(Category::HardTotals);
@@ -437,7 +459,7 @@ fn a_refused_growth_changes_nothing(rt: HostRuntime) -> Result<(), Fail> {
         made = counter.control(Category::HardTotals);
     }
     let (opened, is_open_whole) = call_again(&mut counter, &open);
-    let (enabled, is_enabling_whole) = call_again(&mut counter, &enable());
+    let (enabled, is_enabling_whole) = call_again(&mut counter, &enable);
     let (created, is_create_whole) = call_again(&mut counter, &create);
     let (read, is_read_whole) = call_again(&mut counter, &Call::Read(1, 0, 4));
     let (set, is_set_whole) = call_again(&mut counter, &Call::SetAll(1, 7));
