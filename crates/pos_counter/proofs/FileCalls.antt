@@ -39,11 +39,11 @@ as_call : (n : ℕ) (change : Change) (asked : Call) (old new : TotalsPart) (out
 as_call n change asked old new outcome is has takes h =
     let rows : List Row = when false code.Illegal ∷ file_rows old.totals n (Makes change) in
     subst (λ call. MatchResult outcome
-      (λ result. Decided (when (not (has_call category.HardTotals asked)) code.Illegal ∷ file_rows old.totals n call) result (new ≡ old) (TotalsDo call old n result new))
-      (λ want. IsTrue (takes_memory asked) × (first_refusal (when (not (has_call category.HardTotals asked)) code.Illegal ∷ file_rows old.totals n call) ≡ None) × (new ≡ old))) (sym is)
+    (λ result. Decided (when (not (has_call category.HardTotals asked)) code.Illegal ∷ file_rows old.totals n call) result (new ≡ old) (TotalsDo call old n result new))
+    (λ want. IsTrue (takes_memory asked) × (first_refusal (when (not (has_call category.HardTotals asked)) code.Illegal ∷ file_rows old.totals n call) ≡ None) × (new ≡ old))) (sym is)
     (subst (λ b. MatchResult outcome
-      (λ result. Decided (when (not b) code.Illegal ∷ file_rows old.totals n (Makes change)) result (new ≡ old) (TotalsDo (Makes change) old n result new))
-      (λ want. IsTrue (takes_memory asked) × (first_refusal (when (not b) code.Illegal ∷ file_rows old.totals n (Makes change)) ≡ None) × (new ≡ old))) (sym has)
+    (λ result. Decided (when (not b) code.Illegal ∷ file_rows old.totals n (Makes change)) result (new ≡ old) (TotalsDo (Makes change) old n result new))
+    (λ want. IsTrue (takes_memory asked) × (first_refusal (when (not b) code.Illegal ∷ file_rows old.totals n (Makes change)) ≡ None) × (new ≡ old))) (sym has)
     (by_outcome outcome h))
   where
     by_outcome : (o : Result Answer NoMemory) → ChangeCalled n change old o new → MatchResult o
@@ -183,12 +183,12 @@ module _ {D : Type 0} (bound : Ghosts D) (disk : D) (only : OnlyNow bound disk) 
           after = after;
           leaves = moves.0;
           answer = as_call n change asked part (part_of bound new after) (Ok result) is has takes (record {
-              outcome = match_at_none (first_refusal (table (Ready files q))) _ _ none (record {
-                  does = record { outcome = match_at_none (first_refusal (number_rows (record { mode = Ready files q; next = next }) change)) _ _ numbers (caused _ result new _ leaves.honest done) };
-                  group = puts.group;
-                  left = refl;
-                  later = puts.kept.later leaves.honest;
-              });
+            outcome = match_at_none (first_refusal (table (Ready files q))) _ _ none (record {
+              does = record { outcome = match_at_none (first_refusal (number_rows (record { mode = Ready files q; next = next }) change)) _ _ numbers (caused _ result new _ leaves.honest done) };
+              group = puts.group;
+              left = refl;
+              later = puts.kept.later leaves.honest;
+            });
           });
           any_moment = moves.1;
         }
@@ -260,9 +260,9 @@ question_calls bound view n question asked outcome only is has takes tells = rec
     told left =
         let part = part_of bound view left in
         subst (λ call. MatchResult outcome
-          (λ result. Decided (when (not (has_call category.HardTotals asked)) code.Illegal ∷ file_rows part.totals n call) result (part ≡ part) (TotalsDo call part n result part))
-          (λ want. IsTrue (takes_memory asked) × (first_refusal (when (not (has_call category.HardTotals asked)) code.Illegal ∷ file_rows part.totals n call) ≡ None) × (part ≡ part))) (sym is)
+        (λ result. Decided (when (not (has_call category.HardTotals asked)) code.Illegal ∷ file_rows part.totals n call) result (part ≡ part) (TotalsDo call part n result part))
+        (λ want. IsTrue (takes_memory asked) × (first_refusal (when (not (has_call category.HardTotals asked)) code.Illegal ∷ file_rows part.totals n call) ≡ None) × (part ≡ part))) (sym is)
         (subst (λ b. MatchResult outcome
-          (λ result. Decided (when (not b) code.Illegal ∷ rows) result (part ≡ part) (TotalsDo (Asks question) part n result part))
-          (λ want. IsTrue (takes_memory asked) × (first_refusal (when (not b) code.Illegal ∷ rows) ≡ None) × (part ≡ part))) (sym has)
+        (λ result. Decided (when (not b) code.Illegal ∷ rows) result (part ≡ part) (TotalsDo (Asks question) part n result part))
+        (λ want. IsTrue (takes_memory asked) × (first_refusal (when (not b) code.Illegal ∷ rows) ≡ None) × (part ≡ part))) (sym has)
         (by_outcome left outcome takes tells))

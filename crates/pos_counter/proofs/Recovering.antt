@@ -159,14 +159,14 @@ module _ {D : Type 0} (bound : Ghosts D) (old new : TotalsView D) (off : old.tot
           record {
             after = after;
             leaves = record {
-                honest = recovers.kept.honest.0 leaves.honest;
-                leaves = moved_leaves left new.totals.mode refl f.still (recovers.now leaves.honest);
-                is_settled = settled_twice left new.totals.mode;
+              honest = recovers.kept.honest.0 leaves.honest;
+              leaves = moved_leaves left new.totals.mode refl f.still (recovers.now leaves.honest);
+              is_settled = settled_twice left new.totals.mode;
             };
             step = match_at_some _ c _ _ at (record {
-                outcome = match_at_none (first_refusal (set_rows c p v)) _ _ (enabling_unrefused c p v asks)
-                    (subst (λ b. MatchBool b (SetsByRecovery (before left) n c p v r (machine_of (set hs n g) es ss (part_of bound new after))) (Sets (before left) n c p v r (machine_of (set hs n g) es ss (part_of bound new after)))) (sym recovering)
-                    (inl (done, record { found = f.found; left = refl; later = recovers.kept.later leaves.honest }, set_machine hs es ss n g (after_set c p v) (part_of bound old left) (part_of bound new after) is)));
+              outcome = match_at_none (first_refusal (set_rows c p v)) _ _ (enabling_unrefused c p v asks)
+                  (subst (λ b. MatchBool b (SetsByRecovery (before left) n c p v r (machine_of (set hs n g) es ss (part_of bound new after))) (Sets (before left) n c p v r (machine_of (set hs n g) es ss (part_of bound new after)))) (sym recovering)
+                  (inl (done, record { found = f.found; left = refl; later = recovers.kept.later leaves.honest }, set_machine hs es ss n g (after_set c p v) (part_of bound old left) (part_of bound new after) is)));
             });
             any_moment = weaker (bound.state old.disk) (bound.state new.disk) (StandsForOneOf left) (IsLeft left after) (λ b q. inl q) f.any_moment;
           };
@@ -210,9 +210,9 @@ module _ {D : Type 0} (bound : Ghosts D) (old new : TotalsView D) (off : old.tot
             after = left;
             leaves = failed_leaves (Err x) left recovers leaves same;
             step = match_at_some _ c _ _ at (record {
-                outcome = match_at_none (first_refusal (set_rows c p v)) _ _ (enabling_unrefused c p v asks)
-                    (subst (λ b. MatchBool b (SetsByRecovery (before left) n c p v (answer.Refused k 0) (machine_of hs es ss (part_of bound new left))) (Sets (before left) n c p v (answer.Refused k 0) (machine_of hs es ss (part_of bound new left)))) (sym recovering)
-                    (inr (why left x k recovers leaves is same, refl)));
+              outcome = match_at_none (first_refusal (set_rows c p v)) _ _ (enabling_unrefused c p v asks)
+                  (subst (λ b. MatchBool b (SetsByRecovery (before left) n c p v (answer.Refused k 0) (machine_of hs es ss (part_of bound new left))) (Sets (before left) n c p v (answer.Refused k 0) (machine_of hs es ss (part_of bound new left)))) (sym recovering)
+                  (inr (why left x k recovers leaves is same, refl)));
             });
             any_moment = failed_moments (Err x) left recovers leaves;
           };

@@ -21,10 +21,10 @@ pub controls_serve : (hs gs : List Held) (es : List Entry) (ss : List Peripheral
 controls_serve hs gs es ss q r sound step = record {
   step = step;
   sound = record {
-      machine = λ part. step_sound (machine_of hs es ss part) (machine_of gs es ss part) q r (step part) (sound.machine part);
-      unparked = sound.unparked;
-      attached = sound.attached;
-    };
+    machine = λ part. step_sound (machine_of hs es ss part) (machine_of gs es ss part) q r (step part) (sound.machine part);
+    unparked = sound.unparked;
+    attached = sound.attached;
+  };
 }
 
 -- where a peripheral that stays in service has changed too
@@ -32,10 +32,10 @@ pub station_serves : {P : Type 0} (state : P → PeripheralState) (hs gs : List 
 station_serves state hs gs es ps place p q r sound unparked step = record {
   step = step;
   sound = record {
-      machine = λ part. step_sound (machine_of hs es (map state ps) part) (machine_of gs es (map state (set ps place p)) part) q r (step part) (sound.machine part);
-      unparked = unparked_set state ps place p unparked sound.unparked;
-      attached = omega (arith, length-map (set ps place p) state, length-set ps place p, length-map ps state, sound.attached);
-    };
+    machine = λ part. step_sound (machine_of hs es (map state ps) part) (machine_of gs es (map state (set ps place p)) part) q r (step part) (sound.machine part);
+    unparked = unparked_set state ps place p unparked sound.unparked;
+    attached = omega (arith, length-map (set ps place p) state, length-set ps place p, length-map ps state, sound.attached);
+  };
 }
 
 -- a disk that isn't touched is as it was

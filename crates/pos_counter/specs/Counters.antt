@@ -24,38 +24,41 @@ states_of boxes list = map boxes.state list
 abbrev pub machine : {D X : Type 0} {O : X → Type 0} → Ghosts (PeripheralBox X O) → Counter D X O → TotalsPart → Machine
 machine boxes counter part = machine_of counter.desk counter.entries.items (states_of boxes counter.boxes.items) part
 
--- A counter as it begins over these boxed peripherals and a disk: no control, the built devices, and totals that are off.
-pub record Begins {D X : Type 0} {O : X → Type 0} (boxes : Ghosts (PeripheralBox X O)) (list : List (PeripheralBox X O)) (disk : D)
-  (counter : Counter D X O) : Type 0 where
+-- A counter as it begins over these boxed peripherals and a disk: no control, the built devices, totals that are off.
+pub record Begins {D X : Type 0} {O : X → Type 0} (boxes : Ghosts (PeripheralBox X O))
+    (list : List (PeripheralBox X O)) (disk : D) (counter : Counter D X O) : Type 0 where
   pub machine : (part : TotalsPart) → machine boxes counter part ≡ machine_of [] profile (states_of boxes list) part
   pub totals : counter.totals ≡ record { disk = disk; totals = record { mode = Off; next = 1 } }
 
 -- From an old counter to a new one, a step in which the totals have no part: the request gets this response.
 pub record IsStepBeside {D X : Type 0} {O : X → Type 0} (boxes : Ghosts (PeripheralBox X O)) (old : Counter D X O)
-  (request : Request) (response : Response) (new : Counter D X O) : Type 0 where
+    (request : Request) (response : Response) (new : Counter D X O) : Type 0 where
   pub step : (part : TotalsPart) → Step (machine boxes old part) request response (machine boxes new part)
   pub totals : new.totals ≡ old.totals
 
 -- From an old counter to a new one, a step, for all that the disk may leave before it: the request gets this response.
 pub record IsStep {D X : Type 0} {O : X → Type 0} (bound : DiskGhosts D) (boxes : Ghosts (PeripheralBox X O))
-  (old : Counter D X O) (request : Request) (response : Response) (new : Counter D X O) : Type 0 where
+    (old : Counter D X O) (request : Request) (response : Response) (new : Counter D X O) : Type 0 where
   pub steps : (left : List Standing) → Leaves bound old.totals left
       → Stepped bound left (machine boxes old) old.totals request response (machine boxes new) new.totals
   pub kept : KeepsDisk bound old.totals.disk new.totals.disk
 
 -- the bytes stand for what a crash leaves before a run, between two of its steps, or after it
-abbrev pub IsLeftDuring : (old : Machine) (steps : List (Request × Response)) (new : Machine) → Run old steps new → List ℕ → Type 0
+abbrev pub IsLeftDuring : (old : Machine) (steps : List (Request × Response)) (new : Machine)
+    → Run old steps new → List ℕ → Type 0
 IsLeftDuring old [] new run bytes = StandsForOneOf old.totals.left bytes
 IsLeftDuring old (step ∷ steps) new run bytes =
     StandsForOneOf old.totals.left bytes ⊎ IsLeftDuring run.0 steps new run.2 bytes
 
--- A run, by what the disk may leave before it: a crash at any moment leaves what may be left before or after one of its steps,
--- and a crash now what may be left after the last.
+-- A run, by what the disk may leave before it: a crash at any moment leaves what may be left before or after one of its
+-- steps, and a crash now what may be left after the last.
 pub record RunsFrom {D X : Type 0} {O : X → Type 0} (bound : DiskGhosts D) (boxes : Ghosts (PeripheralBox X O))
-  (left : List Standing) (old : Counter D X O) (steps : List (Request × Response)) (new : Counter D X O) : Type 0 where
+    (left : List Standing) (old : Counter D X O) (steps : List (Request × Response)) (new : Counter D X O)
+    : Type 0 where
   pub after : List Standing
   pub leaves : Leaves bound new.totals after
-  pub run : Run (machine boxes old (part_of bound old.totals left)) steps (machine boxes new (part_of bound new.totals after))
+  pub run : Run (machine boxes old (part_of bound old.totals left)) steps
+      (machine boxes new (part_of bound new.totals after))
   pub any_moment : LeavesOnly (bound.state old.totals.disk) (bound.state new.totals.disk)
       (IsLeftDuring (machine boxes old (part_of bound old.totals left)) steps
       (machine boxes new (part_of bound new.totals after)) run)
@@ -67,12 +70,14 @@ IsRun bound boxes old steps new =
     (left : List Standing) → Leaves bound old.totals left → RunsFrom bound boxes left old steps new
 
 -- The machine is the same, and the totals and their disk are.
-pub record Stays {D X : Type 0} {O : X → Type 0} (boxes : Ghosts (PeripheralBox X O)) (old new : Counter D X O) : Type 0 where
+pub record Stays {D X : Type 0} {O : X → Type 0} (boxes : Ghosts (PeripheralBox X O))
+    (old new : Counter D X O) : Type 0 where
   pub machine : (part : TotalsPart) → machine boxes new part ≡ machine boxes old part
   pub totals : new.totals ≡ old.totals
 
 -- What is true of every counter: its parts are sound.
-pub record IsCounterSound {D X : Type 0} {O : X → Type 0} (boxes : Ghosts (PeripheralBox X O)) (counter : Counter D X O) : Type 0 where
+pub record IsCounterSound {D X : Type 0} {O : X → Type 0} (boxes : Ghosts (PeripheralBox X O))
+    (counter : Counter D X O) : Type 0 where
   pub parts : ArePartsSound counter.desk counter.entries.items (states_of boxes counter.boxes.items)
 
 -- the boxes of a counter that is sound

@@ -64,16 +64,16 @@ pub record HandsOver (machine : Machine) (states : List PeripheralState) : Type 
   pub stations : map station_of states ≡ filter_map (λ device. device.station) machine.devices
   pub parked : All (λ state. state.is_parked ≡ true) states
 
--- What is true of the parts of every counter: their machine is sound, and each peripheral has a device and is in service.
+-- What is true of the parts of every counter: their machine is sound, each peripheral has a device and is in service.
 pub record ArePartsSound (helds : List Held) (entries : List Entry) (states : List PeripheralState) : Type 0 where
   pub machine : (part : TotalsPart) → IsSound (machine_of helds entries states part)
   pub unparked : AllUnparked states
   pub attached : length states ≤ length entries
 
--- From some parts of a counter to others, the request gets this response, whatever the totals, which have no part in it. The
--- parts are sound again.
+-- From some parts of a counter to others, the request gets this response, whatever the totals, which have no part in
+-- it. The parts are sound again.
 pub record ServesBeside (helds : List Held) (entries : List Entry) (states : List PeripheralState) (request : Request)
-  (response : Response) (new_helds : List Held) (new_states : List PeripheralState) : Type 0 where
+    (response : Response) (new_helds : List Held) (new_states : List PeripheralState) : Type 0 where
   pub step : (part : TotalsPart) →
       Step (machine_of helds entries states part) request response (machine_of new_helds entries new_states part)
   pub sound : ArePartsSound new_helds entries new_states
@@ -82,7 +82,8 @@ pub record ServesBeside (helds : List Held) (entries : List Entry) (states : Lis
 abbrev pub part_of : {D : Type 0} → Ghosts D → TotalsView D → List Standing → TotalsPart
 part_of bound view left = record { totals = view.totals; left = left; failures = (bound.state view.disk).failures }
 
--- The disk is honest, and what a crash leaves of it now stands for one of these: while the totals are ready, for their files.
+-- The disk is honest, and what a crash leaves of it now stands for one of these: while the totals are ready, for their
+-- files.
 pub record Leaves {D : Type 0} (bound : Ghosts D) (view : TotalsView D) (left : List Standing) : Type 0 where
   pub honest : bound.honest view.disk
   pub leaves : LeavesOneOf left (bound.state view.disk)
@@ -92,19 +93,20 @@ pub record Leaves {D : Type 0} (bound : Ghosts D) (view : TotalsView D) (left : 
 abbrev pub IsLeft : List Standing → List Standing → List ℕ → Type 0
 IsLeft before after bytes = StandsForOneOf before bytes ⊎ StandsForOneOf after bytes
 
--- A step, by what the disk may leave before it: a crash at any moment leaves what may be left before the step or after it, and
--- a crash now what may be left after it.
-pub record Stepped {D : Type 0} (bound : Ghosts D) (left : List Standing) (old : TotalsPart → Machine) (before : TotalsView D)
-  (request : Request) (response : Response) (new : TotalsPart → Machine) (now : TotalsView D) : Type 0 where
+-- A step, by what the disk may leave before it: a crash at any moment leaves what may be left before the step or after
+-- it, and a crash now what may be left after it.
+pub record Stepped {D : Type 0} (bound : Ghosts D) (left : List Standing) (old : TotalsPart → Machine)
+    (before : TotalsView D) (request : Request) (response : Response) (new : TotalsPart → Machine) (now : TotalsView D)
+    : Type 0 where
   pub after : List Standing
   pub leaves : Leaves bound now after
   pub step : Step (old (part_of bound before left)) request response (new (part_of bound now after))
   pub any_moment : LeavesOnly (bound.state before.disk) (bound.state now.disk) (IsLeft left after)
 
 -- From some parts of a counter to others, the request gets this response, for all that the disk may leave.
-pub record Serves {D : Type 0} (bound : Ghosts D) (helds : List Held) (entries : List Entry) (states : List PeripheralState)
-  (before : TotalsView D) (request : Request) (response : Response) (new_helds : List Held)
-  (new_states : List PeripheralState) (now : TotalsView D) : Type 0 where
+pub record Serves {D : Type 0} (bound : Ghosts D) (helds : List Held) (entries : List Entry)
+    (states : List PeripheralState) (before : TotalsView D) (request : Request) (response : Response)
+    (new_helds : List Held) (new_states : List PeripheralState) (now : TotalsView D) : Type 0 where
   pub steps : (left : List Standing) → Leaves bound before left → Stepped bound left
       (machine_of helds entries states) before request response (machine_of new_helds entries new_states) now
   pub sound : ArePartsSound new_helds entries new_states
@@ -112,7 +114,7 @@ pub record Serves {D : Type 0} (bound : Ghosts D) (helds : List Held) (entries :
 
 -- A call of the totals' own on an enabled control, by what the disk may leave before it.
 pub record FilesStepped {D : Type 0} (bound : Ghosts D) (left : List Standing) (before : TotalsView D) (number : ℕ)
-  (asked : Call) (outcome : Result Answer NoMemory) (now : TotalsView D) : Type 0 where
+    (asked : Call) (outcome : Result Answer NoMemory) (now : TotalsView D) : Type 0 where
   pub after : List Standing
   pub leaves : Leaves bound now after
   pub answer : FilesCalled number asked (part_of bound before left) outcome (part_of bound now after)
@@ -120,11 +122,13 @@ pub record FilesStepped {D : Type 0} (bound : Ghosts D) (left : List Standing) (
 
 -- What the totals do with a call of their own on an enabled control.
 pub record CallsFiles {D : Type 0} (bound : Ghosts D) (before : TotalsView D) (number : ℕ) (asked : Call)
-  (outcome : Result Answer NoMemory) (now : TotalsView D) : Type 0 where
-  pub steps : (left : List Standing) → Leaves bound before left → FilesStepped bound left before number asked outcome now
+    (outcome : Result Answer NoMemory) (now : TotalsView D) : Type 0 where
+  pub steps : (left : List Standing) → Leaves bound before left
+      → FilesStepped bound left before number asked outcome now
   pub kept : KeepsDisk bound before.disk now.disk
 
 -- setting the property of the control that a number has recovers totals of this mode
 abbrev pub IsRecovering : List Held → ℕ → Property → Value → Mode → Type 0
 IsRecovering helds number p v mode =
-    MatchOption (slice_get (controls_of helds) number) ⊥ (λ control. (asks_recovery control p v && not (is_ready mode)) ≡ true)
+    MatchOption (slice_get (controls_of helds) number) ⊥
+    (λ control. (asks_recovery control p v && not (is_ready mode)) ≡ true)

@@ -131,7 +131,8 @@ Does old number control own result new = CategoryDoes control.category old numbe
 
 -- A call on a control: by its table of refusals, and then by what it does.
 abbrev pub Called : Machine → ℕ → Control → Call → Answer → Machine → Type 0
-Called old number control call result new = Decided (refusals old number control call) result (new ≡ old) (Does old number control call result new)
+Called old number control call result new =
+    Decided (refusals old number control call) result (new ≡ old) (Does old number control call result new)
 
 -- the machine is as it was, but that a recovery which found no memory may have met a failure of the disk
 abbrev pub Stays : Machine → Control → Call → Machine → Type 0
@@ -161,7 +162,8 @@ Step old (NewControl category) OutOfMemory new = (length old.controls < most_con
 Step old (CallOf number call) (Answered result) new =
     MatchOption (slice_get old.controls number) ((result ≡ answer.Refused code.Illegal 0) × (new ≡ old))
     (λ control. Called old number control call result new)
-Step old (CallOf number call) OutOfMemory new = MatchOption (slice_get old.controls number) ⊥ (λ control. Wants old number control call new)
+Step old (CallOf number call) OutOfMemory new =
+    MatchOption (slice_get old.controls number) ⊥ (λ control. Wants old number control call new)
 Step old (InputTo name input) TakenIn new = OnStation old (place_of old.devices name) (TakesIn input) new
 Step old (InputTo name input) NoDevice new = (station_named old name ≡ None) × (new ≡ old)
 Step old (InputTo name input) WrongInput new = FindsFit (station_named old name) input false × (new ≡ old)
@@ -171,7 +173,8 @@ Step old (Deliver number reply) (Delivered event) new =
     MatchOption (slice_get old.controls number) ((event ≡ None) × (new ≡ old))
     (λ control. (event ≡ deliverable control) × (new ≡ with_control old number (delivered control)))
 Step old (Snapshot name) (Shown plant) new =
-    IfSome (station_named old name) (λ station. station.plant ≡ plant) × (is_some (station_named old name) ≡ true) × (new ≡ old)
+    IfSome (station_named old name) (λ station. station.plant ≡ plant)
+    × (is_some (station_named old name) ≡ true) × (new ≡ old)
 Step old (Snapshot name) NoDevice new = (station_named old name ≡ None) × (new ≡ old)
 Step old (Snapshot name) OutOfMemory new = (is_some (station_named old name) ≡ true) × (new ≡ old)
 -- no other response is given
@@ -192,7 +195,8 @@ IsServed category device = (serves category device.kind ≡ true) × IsTrue (is_
 
 -- The device of an open control is there, and the control's category serves it.
 abbrev pub HasItsDevice : List Device → Control → Type 0
-HasItsDevice devices control = IfSome control.device (λ place. MatchOption (slice_get devices place) ⊥ (IsServed control.category))
+HasItsDevice devices control =
+    IfSome control.device (λ place. MatchOption (slice_get devices place) ⊥ (IsServed control.category))
 
 -- What is true of every machine that a counter stands for.
 pub record IsSound (machine : Machine) : Type 0 where

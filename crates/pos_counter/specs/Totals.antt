@@ -24,7 +24,8 @@ use Rattle.pos_totals.specs.Changes.{IsOneGroup, before_or_after}
 use Rattle.pos_totals.specs.Recoveries.{HasFound, HasTooMany}
 use Rattle.pos_totals.specs.Views.{plain}
 
--- The totals: what is known of them, for what the bytes may stand that a crash leaves now, and how often their disk has failed.
+-- The totals: what is known of them, for what the bytes may stand that a crash leaves now, and how often their disk has
+-- failed.
 pub record TotalsPart : Type 0 where
   pub totals : Totals
   pub left : List Standing
@@ -45,12 +46,13 @@ abbrev pub in_doubt : TotalsPart → List Change → Mode → List Standing
 in_doubt old changes Off = old.left
 in_doubt old changes (Ready files sequence) = before_or_after old.totals.next (Ready files sequence) changes
 
--- what a crash leaves after that: the files that the totals have, or, where they are off, those before the group or after it
+-- what a crash leaves after that: the files that the totals have; where they are off, those before or after the group
 abbrev pub left_after : TotalsPart → List Change → Mode → List Standing
 left_after old changes now = settled now (in_doubt old changes old.totals.mode)
 
 -- A change is refused by a number that has run out, or is done as one group, or the disk fails in it.
-pub record ChangesTotals (old : TotalsPart) (number : ℕ) (change : Change) (result : Answer) (new : TotalsPart) : Type 0 where
+pub record ChangesTotals (old : TotalsPart) (number : ℕ) (change : Change) (result : Answer) (new : TotalsPart)
+    : Type 0 where
   pub does : DoesChange (Rises old.failures new.failures) old.totals number change result new.totals
   pub group : IsOneGroup old.totals (change ∷ [])
   pub left : new.left ≡ left_after old (change ∷ []) new.totals.mode
@@ -63,11 +65,12 @@ TotalsDo (Asks question) old number result new =
 TotalsDo (Makes change) old number result new = ChangesTotals old number change result new
 TotalsDo Nothing old number result new = ⊥
 
--- A call of the totals' own on an enabled control: by what the totals refuse, and then by what it does. Want of memory comes
--- only from a call that takes some, and changes nothing.
+-- A call of the totals' own on an enabled control: by what the totals refuse, and then by what it does. Want of memory
+-- comes only from a call that takes some, and changes nothing.
 abbrev pub FilesCalled : ℕ → Call → TotalsPart → Result Answer NoMemory → TotalsPart → Type 0
 FilesCalled number asked old outcome new =
-    let rows = when (not (has_call category.HardTotals asked)) code.Illegal ∷ file_rows old.totals number (file_call asked) in
+    let rows =
+    when (not (has_call category.HardTotals asked)) code.Illegal ∷ file_rows old.totals number (file_call asked) in
     MatchResult outcome
     (λ result. Decided rows result (new ≡ old) (TotalsDo (file_call asked) old number result new))
     (λ want. IsTrue (takes_memory asked) × (first_refusal rows ≡ None) × (new ≡ old))

@@ -22,7 +22,8 @@ pub(crate) fn open<P: HasState>(
     requires in_range { number < length controls.old }
     requires sound { ArePartsSound controls.old entries.now (map P.state peripherals.now) }
     ensures { let states = map P.state peripherals.now in
-        ServesBeside controls.old entries.now states (CallOf number (call.Open name.now)) (Answered result) controls.new states }
+        ServesBeside controls.old entries.now states (CallOf number (call.Open name.now)) (Answered result)
+        controls.new states }
 {
     let control = &mut controls[number];
     let found = find_for(control.category(), entries, peripherals, name);

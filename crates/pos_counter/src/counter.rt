@@ -26,8 +26,8 @@ const FIRST_HANDLE: u64 = 1;
 /// The controls of all applications, the devices that they share, and the totals on a disk. It is ended by `shutdown`
 /// alone.
 ///
-/// Each call is a step of the device machine that the counter stands for, so each list of calls is a run of it. What is said
-/// of the totals, and of what a crash leaves, is said over an honest disk.
+/// Each call is a step of the device machine that the counter stands for, so each list of calls is a run of it. What is
+/// said of the totals, and of what a crash leaves, is said over an honest disk.
 pub struct Counter<D: Disk> {
     desk: Desk,
     entries: Vec<Entry>,
@@ -75,7 +75,8 @@ impl<D: Disk> Counter<D> {
     /// Refused with Full where there are 4,096 controls, closed ones included. Want of memory changes nothing.
     pub fn control(&mut self, category: Category) -> Result<usize, ControlFault>
         requires sound { IsCounterSound ⟦<PeripheralBox as HasState>⟧ self.old }
-        ensures step { IsStepBeside ⟦<PeripheralBox as HasState>⟧ self.old (NewControl category) (made result) self.new }
+        ensures step { IsStepBeside ⟦<PeripheralBox as HasState>⟧ self.old
+            (NewControl category) (made result) self.new }
         ensures sound { IsCounterSound ⟦<PeripheralBox as HasState>⟧ self.new }
     {
         self.desk.control(category)
@@ -88,7 +89,8 @@ impl<D: Disk> Counter<D> {
     /// what may be left before it or after it.
     pub fn call(&mut self, number: usize, call: &Call) -> Result<Answer, NoMemory>
         requires sound { IsCounterSound ⟦<PeripheralBox as HasState>⟧ self.old }
-        ensures step { IsStep D.Disk ⟦<PeripheralBox as HasState>⟧ self.old (CallOf number call.now) (answered result) self.new }
+        ensures step { IsStep D.Disk ⟦<PeripheralBox as HasState>⟧ self.old
+            (CallOf number call.now) (answered result) self.new }
         ensures sound { IsCounterSound ⟦<PeripheralBox as HasState>⟧ self.new }
     {
         device_calls::call(
@@ -107,7 +109,8 @@ impl<D: Disk> Counter<D> {
     /// peripheral of its kind has no such input. Want of memory changes nothing.
     pub fn input(&mut self, device: &[u8], input: &Input) -> Result<(), InputFault>
         requires sound { IsCounterSound ⟦<PeripheralBox as HasState>⟧ self.old }
-        ensures step { IsStepBeside ⟦<PeripheralBox as HasState>⟧ self.old (InputTo device.now input.now) (taken_in result) self.new }
+        ensures step { IsStepBeside ⟦<PeripheralBox as HasState>⟧ self.old
+            (InputTo device.now input.now) (taken_in result) self.new }
         ensures sound { IsCounterSound ⟦<PeripheralBox as HasState>⟧ self.new }
     {
         device_calls::input(
@@ -123,7 +126,8 @@ impl<D: Disk> Counter<D> {
     /// It is None where there is none, or no control of this number.
     pub fn deliver(&mut self, number: usize, reply: ErrorReply) -> Option<Event>
         requires sound { IsCounterSound ⟦<PeripheralBox as HasState>⟧ self.old }
-        ensures step { IsStepBeside ⟦<PeripheralBox as HasState>⟧ self.old (Deliver number reply) (Delivered result) self.new }
+        ensures step { IsStepBeside ⟦<PeripheralBox as HasState>⟧ self.old
+            (Deliver number reply) (Delivered result) self.new }
         ensures sound { IsCounterSound ⟦<PeripheralBox as HasState>⟧ self.new }
     {
         self.desk.deliver(number, reply)
@@ -161,7 +165,8 @@ impl<D: Disk> Counter<D> {
     /// Carries out a request.
     fn carry_out(&mut self, request: &Request) -> Response
         requires sound { IsCounterSound ⟦<PeripheralBox as HasState>⟧ self.old }
-        ensures step { IsStep D.Disk ⟦<PeripheralBox as HasState>⟧ self.old (request_of request.now) (response_of result) self.new }
+        ensures step { IsStep D.Disk ⟦<PeripheralBox as HasState>⟧ self.old
+            (request_of request.now) (response_of result) self.new }
         ensures sound { IsCounterSound ⟦<PeripheralBox as HasState>⟧ self.new }
     {
         match request {
@@ -175,7 +180,8 @@ impl<D: Disk> Counter<D> {
         }
     }
 
-    /// Ends the counter: the disk, and the peripherals, each taken out of service and else as it is. It takes no memory.
+    /// Ends the counter: the disk, and the peripherals, each taken out of service and else as it is. It takes no
+    /// memory.
     pub fn shutdown(self) -> Ended<D>
         requires sound { IsCounterSound ⟦<PeripheralBox as HasState>⟧ self }
         ensures disk { result.disk ≡ self.totals.disk }
@@ -199,7 +205,8 @@ impl<D: Disk> Counter<D> {
 /// Takes each peripheral out of service.
 fn park_all(mut boxes: Vec<PeripheralBox>) -> Vec<PeripheralBox>
     requires { Unit {0} }
-    ensures { states_of ⟦<PeripheralBox as HasState>⟧ result.items ≡ map parked (states_of ⟦<PeripheralBox as HasState>⟧ boxes.items) }
+    ensures { states_of ⟦<PeripheralBox as HasState>⟧ result.items
+        ≡ map parked (states_of ⟦<PeripheralBox as HasState>⟧ boxes.items) }
 {
     for place in 0..boxes.len() {
         boxes[place].park();

@@ -31,8 +31,8 @@ pub(crate) fn call<D: Disk>(
 ) -> Result<Answer, NoMemory>
     requires { ArePartsSound controls.old entries.now (map ⟦<PeripheralBox as HasState>⟧.state boxes.old) }
     ensures { let state = ⟦<PeripheralBox as HasState>⟧.state in
-        Serves D.Disk controls.old entries.now (map state boxes.old) totals.old (CallOf number call.now) (answered result)
-        controls.new (map state boxes.new) totals.new }
+        Serves D.Disk controls.old entries.now (map state boxes.old) totals.old
+        (CallOf number call.now) (answered result) controls.new (map state boxes.new) totals.new }
 {
     if number >= controls.len() {
         return Ok(Answer::Refused(Code::Illegal, 0));
@@ -59,8 +59,8 @@ fn call_category<D: Disk>(
     requires own { is_common call.now ≡ false }
     requires sound { ArePartsSound controls.old entries.now (map ⟦<PeripheralBox as HasState>⟧.state boxes.old) }
     ensures { let state = ⟦<PeripheralBox as HasState>⟧.state in
-        Serves D.Disk controls.old entries.now (map state boxes.old) totals.old (CallOf number call.now) (answered result)
-        controls.new (map state boxes.new) totals.new }
+        Serves D.Disk controls.old entries.now (map state boxes.old) totals.old
+        (CallOf number call.now) (answered result) controls.new (map state boxes.new) totals.new }
 {
     let Some(place) = controls[number].device() else {
         return Ok(Answer::Refused(Code::Closed, 0));

@@ -11,8 +11,12 @@ mod faults;
 mod properties;
 mod request;
 #[cfg(test)]
+mod support;
+#[cfg(test)]
 mod tests;
 mod totals_calls;
+#[cfg(test)]
+mod totals_tests;
 
 pub use counter::{Counter, Ended};
 pub use faults::{ControlFault, InputFault, SnapshotFault};

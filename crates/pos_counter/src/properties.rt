@@ -29,7 +29,8 @@ pub(crate) fn get<P: HasState, D: Disk>(
     requires in_range { number < length controls.now }
     requires attached { length (map P.state peripherals.now) ≤ length entries.now }
     ensures { (left : List Standing) →
-        let machine = machine_of controls.now entries.now (map P.state peripherals.now) (part_of D.Disk totals.now left) in
+        let machine =
+        machine_of controls.now entries.now (map P.state peripherals.now) (part_of D.Disk totals.now left) in
         Step machine (CallOf number (call.Get property)) (Answered result) machine }
 {
     let control = &controls[number];
@@ -66,8 +67,8 @@ fn find_file_facts<D: Disk>(totals: &Totals<D>) -> Option<FileFacts>
 
 /// Sets a property. Setting DeviceEnabled to true on a control of Hard Totals recovers totals that are off.
 ///
-/// Refused as the control says; and where the totals are to be recovered, with E_NOHARDWARE where the disk has none, with
-/// E_FAILURE where it is damaged or fails, or where the handles don't suffice.
+/// Refused as the control says; and where the totals are to be recovered, with E_NOHARDWARE where the disk has none,
+/// with E_FAILURE where it is damaged or fails, or where the handles don't suffice.
 pub(crate) fn set<D: Disk>(
     controls: &mut [Control],
     totals: &mut Totals<D>,
@@ -77,8 +78,8 @@ pub(crate) fn set<D: Disk>(
 ) -> Result<Answer, NoMemory>
     requires { number < length controls.old }
     ensures { (entries : List OneEntry) (states : List PeripheralState) → ArePartsSound controls.old entries states →
-        Serves D.Disk controls.old entries states totals.old (CallOf number (call.Set property value.now)) (answered result)
-        controls.new states totals.new }
+        Serves D.Disk controls.old entries states totals.old
+        (CallOf number (call.Set property value.now)) (answered result) controls.new states totals.new }
 {
     if is_recovering(&controls[number], totals.is_ready(), property, value) {
         return set_recovered(controls, totals, number, property, value);
@@ -97,8 +98,8 @@ fn set_recovered<D: Disk>(
     requires in_range { number < length controls.old }
     requires recovers { IsRecovering controls.old number property value.now totals.old.totals.mode }
     ensures { (entries : List OneEntry) (states : List PeripheralState) → ArePartsSound controls.old entries states →
-        Serves D.Disk controls.old entries states totals.old (CallOf number (call.Set property value.now)) (answered result)
-        controls.new states totals.new }
+        Serves D.Disk controls.old entries states totals.old
+        (CallOf number (call.Set property value.now)) (answered result) controls.new states totals.new }
 {
     match totals.recover() {
         Ok(()) => Ok(controls[number].set(property, value)),
@@ -116,6 +117,9 @@ fn is_recovering(control: &Control, is_ready: bool, property: Property, value: &
     control.category() == Category::HardTotals
         && control.device().is_some()
         && !control.is_enabled()
-        && matches!((property, value), (Property::DeviceEnabled, Value::Truth(true)))
+        && matches!(
+            (property, value),
+            (Property::DeviceEnabled, Value::Truth(true))
+        )
         && !is_ready
 }

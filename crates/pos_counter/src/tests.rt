@@ -1,116 +1,28 @@
-//! A counter over one drawer, whose line fails as often as it is told.
-ghost use Rattle.std.specs.Prelude.{◌≡◌, false};
-ghost use Rattle.pos_service.specs.Peripherals.{PeripheralState};
-ghost use Rattle.pos_service.specs.declared.kind.Kind.TheVariants as kind;
-ghost use Rattle.pos_service.specs.declared.plant.Plant.TheVariants as plant;
-
-use crate::{ControlFault, Counter, InputFault, Request, Response, SnapshotFault};
+//! A counter and its drawer.
+use crate::support::{TestDrawer, counter_over, end, end_all, formatted};
+use crate::{ControlFault, Counter, Ended, InputFault, Request, Response, SnapshotFault};
+use pos_disk::Disk;
 use pos_service::{
-    Answer, Bytes, Call, Category, Code, ErrorReply, Event, Input, Kind, NoMemory, Order,
-    PaperLevel, Peripheral, PeripheralBox, Plant, Property, Reply, Signs, Snapshot, Taken, Value,
+    Answer, Bytes, Call, Category, Code, ErrorReply, Event, Input, Kind, NoMemory, Peripheral,
+    PeripheralBox, Plant, Property, Snapshot, Value,
 };
 use std::alloc::AllocError;
 
-/// A cash drawer whose line fails with the first orders.
-#[derive(Drop)]
-struct TestDrawer {
-    is_open: bool,
-    is_parked: bool,
-    faults_left: u32,
-    failures: u64,
-}
-
-impl TestDrawer {
-    fn new(faults: u32) -> Self
-        ensures { result.is_parked ≡ false }
-    {
-        TestDrawer {
-            is_open: false,
-            is_parked: false,
-            faults_left: faults,
-            failures: 0,
-        }
-    }
-}
-
-impl Peripheral for TestDrawer {
-    ghost state = { λ d.
-        let state : PeripheralState = record {
-          kind = kind.Drawer;
-          plant = plant.Drawer d.is_open;
-          is_parked = d.is_parked;
-          failures = d.failures;
-        } in state };
-
-    fn kind(&self) -> Kind {
-        Kind::Drawer
-    }
-
-    fn signs(&self) -> Signs {
-        Signs {
-            drawer_open: self.is_open,
-            cover_open: false,
-            paper: PaperLevel::Good,
-        }
-    }
-
-    fn ask(&mut self, order: &Order) -> Result<Reply, NoMemory> {
-        if self.faults_left > 0 {
-            self.faults_left -= 1;
-            self.failures = self.failures.saturating_add(1);
-            return Ok(Reply::LineFault);
-        }
-        match order {
-            Order::OpenDrawer => {
-                self.is_open = true;
-                Ok(Reply::Done)
-            }
-        }
-    }
-
-    fn feed(&mut self, input: &Input) -> Result<Taken, NoMemory> {
-        match input {
-            Input::DrawerMoved(is_open) => {
-                self.is_open = *is_open;
-                Ok(Taken::Quiet)
-            }
-        }
-    }
-
-    fn snapshot(&self) -> Result<Snapshot, NoMemory> {
-        Ok(Snapshot(Plant::Drawer(self.is_open)))
-    }
-
-    fn park(&mut self) {
-        self.is_parked = true;
-    }
-
-    fn is_parked(&self) -> bool {
-        self.is_parked
-    }
-}
-
-/// Ends peripherals, whether they are in service or not.
-fn end_all(mut boxes: Vec<PeripheralBox>)
-    requires { Unit {0} }
-{
-    while let Some(mut single) = boxes.pop() {
-        single.park();
-    }
-    boxes.destroy_empty();
-}
-
 #[test]
-fn a_new_counter_or_its_refusal_gives_the_drawer_back(rt: HostRuntime) -> Result<(), AllocError> {
+fn a_new_counter_or_its_refusal_gives_drawer_and_disk_back(
+    rt: HostRuntime,
+) -> Result<(), AllocError> {
     let alloc = rt.alloc();
+    let disk = formatted(alloc)?;
     let drawer = Box::new(alloc, TestDrawer::new(0))?;
     let mut boxes = Vec::with_capacity(alloc, 1)?;
     let drawer: Box<dyn Peripheral> = drawer;
     boxes.push_reserved(PeripheralBox::new(drawer));
-    let (boxes, is_parked) = match Counter::new(alloc, boxes) {
+    let (Ended { disk, boxes }, is_parked) = match Counter::new(alloc, boxes, disk) {
         Ok(counter) => (counter.shutdown(), true),
-        Err((NoMemory, boxes)) => (boxes, false),
+        Err((NoMemory, boxes, disk)) => (Ended { disk, boxes }, false),
     };
+    assert_eq!(rt; disk.len(), 327_680);
     assert_eq!(rt; boxes.len(), 1);
     for single in &boxes {
         assert_eq!(rt; single.is_parked(), is_parked);
@@ -126,17 +38,7 @@ fn each_call_is_answered(rt: HostRuntime) -> Result<(), AllocError> {
     let Ok(name) = Bytes::from_slice(alloc, b"d1") else {
         return Err(AllocError);
     };
-    let drawer = Box::new(alloc, TestDrawer::new(1))?;
-    let mut boxes = Vec::with_capacity(alloc, 1)?;
-    let drawer: Box<dyn Peripheral> = drawer;
-    boxes.push_reserved(PeripheralBox::new(drawer));
-    let mut counter = match Counter::new(alloc, boxes) {
-        Ok(counter) => counter,
-        Err((NoMemory, boxes)) => {
-            end_all(boxes);
-            return Err(AllocError);
-        }
-    };
+    let mut counter = counter_over(alloc, 1, formatted(alloc)?)?;
     assert_eq!(rt; counter.control(Category::CashDrawer), Ok(0));
     assert!(rt;
         matches!(
@@ -169,7 +71,7 @@ fn each_call_is_answered(rt: HostRuntime) -> Result<(), AllocError> {
     assert!(rt; matches!(counter.snapshot(b"d"), Err(SnapshotFault::NoDevice)));
     let unknown = counter.call(1, &Call::Close);
     assert!(rt; matches!(unknown, Ok(Answer::Refused(Code::Illegal, 0))));
-    end_all(counter.shutdown());
+    end(counter);
     Ok(())
 }
 
@@ -181,23 +83,13 @@ fn requests_are_performed_up_to_the_last_control(rt: HostRuntime) -> Result<(), 
         requests.push(Request::NewControl(Category::CashDrawer))?;
     }
     requests.push(Request::CallOf(4095, Call::Get(Property::State)))?;
-    let drawer = Box::new(alloc, TestDrawer::new(0))?;
-    let mut boxes = Vec::with_capacity(alloc, 1)?;
-    let drawer: Box<dyn Peripheral> = drawer;
-    boxes.push_reserved(PeripheralBox::new(drawer));
-    let mut counter = match Counter::new(alloc, boxes) {
-        Ok(counter) => counter,
-        Err((NoMemory, boxes)) => {
-            end_all(boxes);
-            return Err(AllocError);
-        }
-    };
+    let mut counter = counter_over(alloc, 0, formatted(alloc)?)?;
     let responses = counter.perform(&requests);
     assert_eq!(rt;
         counter.control(Category::CashDrawer),
         Err(ControlFault::Full)
     );
-    end_all(counter.shutdown());
+    end(counter);
     let Ok(responses) = responses else {
         return Err(AllocError);
     };

@@ -17,8 +17,8 @@ use pos_totals::Totals;
 
 /// A call of the totals' own on a control of theirs that is open.
 ///
-/// Refused with E_ILLEGAL for a call that totals don't have of their own, with E_DISABLED where the control is disabled, and
-/// then as the totals say.
+/// Refused with E_ILLEGAL for a call that totals don't have of their own, with E_DISABLED where the control is
+/// disabled, and then as the totals say.
 pub(crate) fn call_totals<D: Disk>(
     controls: &[Control],
     totals: &mut Totals<D>,
@@ -28,7 +28,8 @@ pub(crate) fn call_totals<D: Disk>(
     requires open { IsOpen category.HardTotals (controls_of controls.now) number }
     requires own { is_common call.now ≡ false }
     ensures { (entries : List OneEntry) (states : List PeripheralState) → ArePartsSound controls.now entries states →
-        Serves D.Disk controls.now entries states totals.old (CallOf number call.now) (answered result) controls.now states totals.new }
+        Serves D.Disk controls.now entries states totals.old
+        (CallOf number call.now) (answered result) controls.now states totals.new }
 {
     match controls[number].check(Need { is_enabled: true }) {
         Ok(()) => call_files(totals, number, call),

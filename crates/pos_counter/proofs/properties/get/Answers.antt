@@ -28,7 +28,7 @@ returns g c = λ left.
     let at = control_at hs n held c.requires.in_range ∙ ap (λ (h : Held). Some h.control) (sym c.index-controls-number.is) in
     let m = machine_of hs es ss (part_of g.D.Disk c.args.totals.now left) in
     let facts : c.find_facts.result ≡ facts_of m held.control = c.find_facts.ensures ∙ ap (λ o. facts_at ss o mode) c.device.ensures
-        ∙ ap (λ o. let f : Facts = record { signs = signs_in o; totals_size = layout_1.bytes; files = file_facts mode } in f) (sym (station_there es ss held.control.device c.requires.attached)) in
+    ∙ ap (λ o. let f : Facts = record { signs = signs_in o; totals_size = layout_1.bytes; files = file_facts mode } in f) (sym (station_there es ss held.control.device c.requires.attached)) in
     let asked = call.Get c.args.property in
     match_at_some (slice_get (controls_of hs) n) held.control ((c.get.result ≡ answer.Refused code.Illegal 0) × (m ≡ m)) (λ control. Called m n control asked c.get.result m) at (record {
       outcome = match_weaker (first_refusal (get_rows held.control (facts_of m held.control) c.args.property)) (c.get.result ≡ answer.Done (property_of held.control (facts_of m held.control) c.args.property))

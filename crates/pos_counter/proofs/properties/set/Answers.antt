@@ -20,7 +20,7 @@ returns g c = λ entries states sound.
     let is = get_or_default hs n c.index-controls-number-2.result h c.requires in
     let same = get_or_default hs n c.index-controls-number-2.result c.index-controls-number.result c.requires in
     let plain = subst (λ (k : Held). (asks_recovery k.control c.args.property c.args.value.now && not (is_ready view.totals.mode)) ≡ false) (sym same)
-        (ap (λ b. asks_recovery (get_or hs n c.index-controls-number.result).control c.args.property c.args.value.now && not b) (sym c.is_ready.ensures) ∙ sym c.is_recovering.ensures ∙ c.if-is_recovering.false) in
+    (ap (λ b. asks_recovery (get_or hs n c.index-controls-number.result).control c.args.property c.args.value.now && not b) (sym c.is_ready.ensures) ∙ sym c.is_recovering.ensures ∙ c.if-is_recovering.false) in
     record {
       steps = λ left leaves. rests_stepped g.D.Disk view (machine_of hs entries states) (machine_of (set hs n c.set.new.self) entries states) (CallOf n q) (Answered c.set.result) left (λ bytes honest since. g.met.D.Disk.only_now view.disk bytes honest since) leaves
           (plain_set hs entries states (part_of g.D.Disk view left) n c.set.new.self h c.args.property c.args.value.now c.set.result c.requires is plain c.set.ensures);

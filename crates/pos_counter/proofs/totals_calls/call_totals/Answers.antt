@@ -28,6 +28,6 @@ returns-in-Err g c = λ entries states sound.
     let has = sym c.has_call.ensures ∙ c.if-has_call.true in
     looks_serve g.D.Disk view hs entries states (CallOf n c.args.call.now) (Answered (answer.Refused c.in-Err.code 0)) (λ bytes h since. g.met.D.Disk.only_now view.disk bytes h since) sound
     (λ left.
-      let m = machine_of hs entries states (part_of g.D.Disk view left) in
-      refused_step m n held.control c.args.call.now (answer.Refused c.in-Err.code 0) there.0
-      (totals_refusals m n held.control c.args.call.now true false c.requires.own there.1 there.2 has was.0 ∙ ap (λ k. Some (answer.Refused k 0)) (sym was.1)))
+    let m = machine_of hs entries states (part_of g.D.Disk view left) in
+    refused_step m n held.control c.args.call.now (answer.Refused c.in-Err.code 0) there.0
+    (totals_refusals m n held.control c.args.call.now true false c.requires.own there.1 there.2 has was.0 ∙ ap (λ k. Some (answer.Refused k 0)) (sym was.1)))
