@@ -131,29 +131,6 @@ fn bold_characters_wait_in_the_line_buffer(rt: HostRuntime) -> Result<(), Fail> 
     Ok(())
 }
 
-/// ESC |, some digits, and more.
-fn numbered(rt: &HostRuntime, digit: u8, count: usize, more: &[u8]) -> Result<Vec<u8>, Fail> {
-    let mut bytes = Vec::from_slice(rt.alloc(), b"\x1b|")?;
-    bytes.resize(count + 2, digit)?;
-    bytes.extend_from_slice(more)?;
-    Ok(bytes)
-}
-
-#[test]
-fn numbers_have_any_count_of_digits(rt: HostRuntime) -> Result<(), Fail> {
-    let zeros = numbered(&rt, b'0', 4000, b"7fP")?;
-    assert!(rt; is_printable(zeros.as_slice()));
-    let nines = numbered(&rt, b'9', 4000, b"P")?;
-    assert!(rt; !is_printable(nines.as_slice()));
-    let dropped = numbered(&rt, b'9', 4000, b"bC")?;
-    assert!(rt; is_printable(dropped.as_slice()));
-    let mut roll = Roll::new(rt.alloc(), 255, 100);
-    assert_eq!(rt; roll.print(zeros.as_slice())?, Outcome::Done);
-    assert_eq!(rt; roll.print(dropped.as_slice())?, Outcome::Done);
-    assert!(rt; is(&rt, &roll, "closed 100 -:- x:7")?);
-    Ok(())
-}
-
 #[test]
 fn data_are_printable_by_their_bytes_and_numbers(rt: HostRuntime) {
     assert!(rt; !is_printable(b"\x1b|101P"));

@@ -25,19 +25,6 @@ fn shown(rt: &HostRuntime, text: &[u8]) -> Result<(Window, Place), Fail> {
 }
 
 #[test]
-fn a_full_last_row_scrolls_at_the_next_character(rt: HostRuntime) -> Result<(), Fail> {
-    let (mut window, place) = shown(&rt, b"ABCDEFGH")?;
-    assert_eq!(rt; place, Place { row: 1, column: 4 });
-    assert!(rt; shows(&window, b"ABCDEFGH", &[0; 8]));
-    window.show(place, Attribute::Reverse, b"I");
-    assert_eq!(rt; place_after(2, 4, place, b"I"), Place { row: 1, column: 1 });
-    assert!(rt; shows(&window, b"EFGHI   ", &[0, 0, 0, 0, 2, 0, 0, 0]));
-    window.clear();
-    assert!(rt; shows(&window, b"        ", &[0; 8]));
-    Ok(())
-}
-
-#[test]
 fn a_return_right_of_the_last_column_stays_in_the_row(rt: HostRuntime) -> Result<(), Fail> {
     let mut window = Window::new(rt.alloc(), 2, 4)?;
     let start = Place { row: 0, column: 4 };
@@ -64,25 +51,6 @@ fn a_line_feed_in_the_last_row_scrolls_at_once(rt: HostRuntime) -> Result<(), Fa
 }
 
 #[test]
-fn a_display_scrolls_in_four_directions(rt: HostRuntime) -> Result<(), Fail> {
-    let text = b"ABCDEFGH";
-    let (mut window, _) = shown(&rt, text)?;
-    window.scroll(Direction::Up, 1);
-    assert!(rt; shows(&window, b"EFGH    ", &[0; 8]));
-    window.scroll(Direction::Down, 1);
-    assert!(rt; shows(&window, b"    EFGH", &[0; 8]));
-    window.scroll(Direction::Left, 1);
-    assert!(rt; shows(&window, b"    FGH ", &[0; 8]));
-    window.scroll(Direction::Right, 3);
-    assert!(rt; shows(&window, b"       F", &[0; 8]));
-    window.scroll(Direction::Right, 0);
-    assert!(rt; shows(&window, b"       F", &[0; 8]));
-    window.scroll(Direction::Down, 2);
-    assert!(rt; shows(&window, b"        ", &[0; 8]));
-    Ok(())
-}
-
-#[test]
 fn one_cell_shows_the_last_character(rt: HostRuntime) -> Result<(), Fail> {
     let mut window = Window::new(rt.alloc(), 1, 1)?;
     window.show(ORIGIN, Attribute::BlinkReverse, b"ABC");
@@ -93,24 +61,5 @@ fn one_cell_shows_the_last_character(rt: HostRuntime) -> Result<(), Fail> {
     );
     window.show(ORIGIN, Attribute::Normal, b"\n");
     assert!(rt; shows(&window, b" ", &[0]));
-    Ok(())
-}
-
-#[test]
-fn the_largest_display_scrolls_by_a_row(rt: HostRuntime) -> Result<(), Fail> {
-    let mut window = Window::new(rt.alloc(), 8, 80)?;
-    let text = [b'A'; 640];
-    window.show(ORIGIN, Attribute::Normal, &text);
-    assert!(rt; shows(&window, &text, &[0; 640]));
-    let place = place_after(8, 80, ORIGIN, &text);
-    assert_eq!(rt; place, Place { row: 7, column: 80 });
-    window.show(place, Attribute::Normal, b"B");
-    let mut after = [b' '; 640];
-    for i in 0..560 {
-        after[i] = b'A';
-    }
-    after[560] = b'B';
-    assert!(rt; shows(&window, &after, &[0; 640]));
-    assert_eq!(rt; (window.rows(), window.columns()), (8, 80));
     Ok(())
 }
