@@ -2,9 +2,10 @@
 ghost use Rattle.std.specs.Prelude.{None};
 
 use crate::arguments::{LineFault, read_three, read_two};
+use crate::disk::format_disk;
 use crate::run::{RunFault, run};
-use crate::{closed_drawer, park_all, run_over_drawer, serve};
-use pos_counter::Counter;
+use crate::{closed_drawer, park_all, run_over_devices, serve};
+use pos_counter::{Counter, Ended};
 use pos_service::{Bytes, Peripheral, Plant, Snapshot};
 use pos_sims::PlainDrawer;
 use std::alloc::{AllocError, Global};
@@ -84,7 +85,7 @@ impl Write for Narrow {
 fn text_of(alloc: Global, script: &[u8]) -> Result<Vec<u8>, RunFault> {
     let mut text = Vec::new(alloc);
     let mut reader = script;
-    run_over_drawer(alloc, &mut reader, &mut text)?;
+    run_over_devices(alloc, &mut reader, &mut text)?;
     Ok(text)
 }
 
@@ -125,6 +126,18 @@ const SHARED_TEXT: &[u8] =
     b"ok\nok\nbad control\nok\nok\nok\nok\nok\nok\nok\nevent StatusUpdateEvent 1\nnone\n\
     event StatusUpdateEvent 1\nevent StatusUpdateEvent 0\nnone\nok 2\nok true\nerr 106\nerr 106\nerr 106\nok closed\n";
 
+/// The calls of Hard Totals on files, and some of their refusals.
+const TOTALS: &[u8] =
+    b"new t HardTotals\nopen t d1\nopen t t1\ncall t find 41\nset t DeviceEnabled true\ncall t create 41 16 false\n\
+    call t create 41 1 true\ncall t create 4142434445464748494a4b 1 true\ncall t create 42 8177 true\ncall t find 41\n\
+    call t write 1 0 0102\ncall t write 1 15 0102\ncall t read 1 0 4\ncall t setAll 1 255\ncall t setAll 1 256\n\
+    call t read 1 14 2\nget t TotalsSize\nget t FreeData\nget t NumberOfFiles\ncall t rename 1 42\ncall t findByIndex 0\n\
+    call t findByIndex -1\ncall t openDrawer\ncall t delete 42\ncall t find 42\ninput t1 open\nshow t1\n";
+
+const TOTALS_TEXT: &[u8] =
+    b"ok\nerr 109\nok\nerr 105\nok\nok 1\nerr 110\nerr 106\nerr 114 201\nok 1 16\nok\nerr 106\nok 01020000\nok\nerr 106\n\
+    ok ffff\nok 8192\nok 8176\nok 1\nok\nok 42\nerr 106\nerr 106\nok\nerr 109\nbad device\nbad device\n";
+
 /// Blanks, comments, and wrong shapes.
 const SHAPES: &[u8] =
     b"# \xff a comment\r\n\n   \n  new   - CashDrawer  \r\n show d1\r\r\n #x\nfrob\nnew a Drawer\n\
@@ -144,6 +157,7 @@ fn scripts_print_their_answers(rt: HostRuntime) -> Result<(), Fail> {
         (FIRST, FIRST_TEXT),
         (STATES, STATES_TEXT),
         (SHARED, SHARED_TEXT),
+        (TOTALS, TOTALS_TEXT),
         (SHAPES, SHAPES_TEXT),
         (b"".as_slice(), b"".as_slice()),
     ];
@@ -202,7 +216,7 @@ fn the_cut_of_the_input_does_not_matter(rt: HostRuntime) -> Result<(), Fail> {
             reads_left: 1000,
         };
         let mut text = Vec::new(rt.alloc());
-        run_over_drawer(rt.alloc(), &mut reader, &mut text)?;
+        run_over_devices(rt.alloc(), &mut reader, &mut text)?;
         assert_eq!(rt; text.as_slice(), STATES_TEXT);
     }
     Ok(())
@@ -217,7 +231,7 @@ fn the_input_may_come_byte_by_byte(rt: HostRuntime) -> Result<(), Fail> {
         reads_left: 2_102,
     };
     let mut text = Vec::new(rt.alloc());
-    run_over_drawer(rt.alloc(), &mut reader, &mut text)?;
+    run_over_devices(rt.alloc(), &mut reader, &mut text)?;
     assert_eq!(rt; text.as_slice(), b"ok closed\n".as_slice());
     Ok(())
 }
@@ -297,7 +311,7 @@ fn a_failed_read_writes_nothing(rt: HostRuntime) -> Result<(), Fail> {
             reads_left,
         };
         let mut text = Vec::new(rt.alloc());
-        let result = run_over_drawer(rt.alloc(), &mut reader, &mut text);
+        let result = run_over_devices(rt.alloc(), &mut reader, &mut text);
         if (reads_left as usize) < reads {
             assert_eq!(rt; result, Err(RunFault::Read));
             assert_eq!(rt; text.len(), 0);
@@ -320,7 +334,7 @@ fn a_failed_write_leaves_a_front(rt: HostRuntime) -> Result<(), Fail> {
                 end,
             };
             let mut reader = FIRST;
-            let result = run_over_drawer(rt.alloc(), &mut reader, &mut writer);
+            let result = run_over_devices(rt.alloc(), &mut reader, &mut writer);
             let taken = (writes_left as usize).min(FIRST_TEXT.len());
             assert_eq!(rt; writer.taken.as_slice(), &FIRST_TEXT[..taken]);
             if taken < FIRST_TEXT.len() {
@@ -340,13 +354,16 @@ fn drawer_after(
     script: &[u8],
     writes_left: u32,
 ) -> Result<(Result<(), RunFault>, Option<bool>), AllocError> {
+    let Ok(disk) = format_disk(alloc) else {
+        return Err(AllocError);
+    };
     let drawer = Box::new(alloc, PlainDrawer::new())?;
     let mut boxes = Vec::with_capacity(alloc, 1)?;
     let drawer: Box<dyn Peripheral> = drawer;
     boxes.push_reserved(closed_drawer(drawer));
-    let mut counter = match Counter::new(alloc, boxes) {
+    let mut counter = match Counter::new(alloc, boxes, disk) {
         Ok(counter) => counter,
-        Err((_, boxes)) => {
+        Err((_, boxes, _)) => {
             park_all(boxes);
             return Err(AllocError);
         }
@@ -363,7 +380,8 @@ fn drawer_after(
         Ok(Snapshot(Plant::Drawer(is_open))) => Some(is_open),
         Err(_) => None,
     };
-    park_all(counter.shutdown());
+    let Ended { disk: _, boxes } = counter.shutdown();
+    park_all(boxes);
     Ok((result, is_open))
 }
 

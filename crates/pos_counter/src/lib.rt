@@ -15,8 +15,6 @@ mod support;
 #[cfg(test)]
 mod tests;
 mod totals_calls;
-#[cfg(test)]
-mod totals_tests;
 
 pub use counter::{Counter, Ended};
 pub use faults::{ControlFault, InputFault, SnapshotFault};
