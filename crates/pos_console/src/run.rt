@@ -87,9 +87,9 @@ fn carry_out_lines<W: Write>(
 
 /// Reads a script whole, carries out its lines in order, and writes what each prints (docs/CONSOLE.md).
 ///
-/// At a fault of the reader, or want of memory for the input, no line was carried out and nothing is written. At a fault
-/// of the writer the earlier lines were carried out and their text is written; the line at which it came was carried out
-/// too, and no later one.
+/// At a fault of the reader, or want of memory for the input, no line was carried out and nothing is written. At a
+/// fault of the writer the earlier lines were carried out and their text is written; the line at which it came was
+/// carried out too, and no later one.
 pub fn run<R: Read, W: Write>(
     alloc: Global,
     reader: &mut R,
