@@ -20,10 +20,11 @@ pub mapped_more : (f : Control → Control) (xs : List Control) (hs : List Held)
 mapped_more f xs hs i d g lt s m n =
     map-set (λ (x : Held). x.control) hs i g ∙ ap (set (controls_of hs) i) s ∙ map_over_more f xs (controls_of hs) i (get_or hs i d).control (omega arith) m (control_at hs i d (get_or hs i d).control lt)
 
--- of the elements from a place on, the first is there, and the others stay when it is changed
+-- what each element from a place on has, the element there has
 pub first_of_rest : (P : Held → Type 0) (hs : List Held) (i : ℕ) (d : Held) → i < length hs → All P (drop i hs) → P (get_or hs i d)
 first_of_rest P hs i d lt a = All-head P (get_or hs i d) (drop (i + 1) hs) (subst (All P) (drop_more hs i d lt) a)
 
+-- what each element from a place on has, those behind it have when it is changed
 pub rest_after_set : (P : Held → Type 0) (hs : List Held) (i : ℕ) (g : Held) → i < length hs → All P (drop i hs) → All P (drop (i + 1) (set hs i g))
 rest_after_set P hs i g lt a =
     subst (All P) (sym (drop-set-lt (i + 1) hs i g (omega arith))) (All-tail P (get_or hs i g) (drop (i + 1) hs) (subst (All P) (drop_more hs i g lt) a))

@@ -10,8 +10,8 @@ use pos_service::{Answer, Call, Code, HasState, NoMemory, Order, PeripheralBox, 
 
 /// A call on a drawer's control that is open, the peripheral being the one of its device.
 ///
-/// Refused with E_ILLEGAL for a call that drawers don't have of their own, then as the call says. Want of memory changes
-/// nothing.
+/// Refused with E_ILLEGAL for a call that drawers don't have of their own, then as the call says. Want of memory
+/// changes nothing.
 pub fn call(
     controls: &mut [Control],
     caller: usize,
@@ -22,9 +22,11 @@ pub fn call(
     requires unparked { (⟦<PeripheralBox as HasState>⟧.state drawer.old).is_parked ≡ false }
     requires drawer { (⟦<PeripheralBox as HasState>⟧.state drawer.old).kind ≡ kind.Drawer }
     ensures called { let state = ⟦<PeripheralBox as HasState>⟧.state in
-        CalledBy drawer_rows DrawerDoes caller call.now result (controls_of controls.old) (station_of (state drawer.old))
+        CalledBy drawer_rows DrawerDoes caller call.now result
+        (controls_of controls.old) (station_of (state drawer.old))
         (controls_of controls.new) (station_of (state drawer.new)) }
-    ensures in_service { let state = ⟦<PeripheralBox as HasState>⟧.state in StaysInService (state drawer.old) (state drawer.new) }
+    ensures in_service { let state = ⟦<PeripheralBox as HasState>⟧.state in
+        StaysInService (state drawer.old) (state drawer.new) }
 {
     match call {
         Call::OpenDrawer => open_drawer(controls, caller, drawer),
@@ -32,8 +34,8 @@ pub fn call(
     }
 }
 
-/// `openDrawer`: the drawer opens, by one order, once there is room for what the controls will hear. Each control that has
-/// it open and enabled hears of it where it was closed.
+/// `openDrawer`: the drawer opens, by one order, once there is room for what the controls will hear. Each control that
+/// has it open and enabled hears of it where it was closed.
 ///
 /// Refused with E_DISABLED where the caller is disabled, E_FAILURE where the line to the drawer fails.
 fn open_drawer(
@@ -45,9 +47,11 @@ fn open_drawer(
     requires unparked { (⟦<PeripheralBox as HasState>⟧.state drawer.old).is_parked ≡ false }
     requires drawer { (⟦<PeripheralBox as HasState>⟧.state drawer.old).kind ≡ kind.Drawer }
     ensures called { let state = ⟦<PeripheralBox as HasState>⟧.state in
-        CalledBy drawer_rows DrawerDoes caller Call.OpenDrawer result (controls_of controls.old) (station_of (state drawer.old))
+        CalledBy drawer_rows DrawerDoes caller Call.OpenDrawer result
+        (controls_of controls.old) (station_of (state drawer.old))
         (controls_of controls.new) (station_of (state drawer.new)) }
-    ensures in_service { let state = ⟦<PeripheralBox as HasState>⟧.state in StaysInService (state drawer.old) (state drawer.new) }
+    ensures in_service { let state = ⟦<PeripheralBox as HasState>⟧.state in
+        StaysInService (state drawer.old) (state drawer.new) }
 {
     if let Err(code) = controls[caller].check(Need { is_enabled: true }) {
         return Ok(Answer::Refused(code, 0));

@@ -21,7 +21,8 @@ pub fn take_input(
     ensures taken { let state = ⟦<PeripheralBox as HasState>⟧.state in
         TakenAt input.now place result (controls_of controls.old) (station_of (state drawer.old))
         (controls_of controls.new) (station_of (state drawer.new)) }
-    ensures in_service { let state = ⟦<PeripheralBox as HasState>⟧.state in StaysInService (state drawer.old) (state drawer.new) }
+    ensures in_service { let state = ⟦<PeripheralBox as HasState>⟧.state in
+        StaysInService (state drawer.old) (state drawer.new) }
 {
     room_all(controls, place)?;
     let old = drawer.signs();

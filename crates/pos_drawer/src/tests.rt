@@ -1,42 +1,45 @@
-ghost use Rattle.std.specs.Prelude.{◌≡◌, false};
+//! A drawer whose line fails with every second order.
+ghost use Rattle.std.specs.Prelude.{◌≡◌, Some, false};
+ghost use Rattle.pos_service.specs.Peripherals.{PeripheralState};
+ghost use Rattle.pos_service.specs.Stations.{StaysInService};
+ghost use Rattle.pos_service.specs.declared.category.Category.TheVariants as category;
 ghost use Rattle.pos_service.specs.declared.kind.Kind.TheVariants as kind;
 ghost use Rattle.pos_service.specs.declared.plant.Plant.TheVariants as plant;
 
 use crate::{call, take_input};
 use pos_common::Control;
 use pos_service::{
-    Answer, Call, Category, Code, ErrorReply, Event, Input, Kind, NoMemory, Order, PaperLevel,
-    Peripheral, Plant, Property, Reply, Signs, Snapshot, Taken, Value,
+    Answer, Call, Category, Code, ErrorReply, Event, Finding, HasState, Input, Kind, NoMemory,
+    Order, PaperLevel, Peripheral, PeripheralBox, Plant, Property, Reply, Signs, Snapshot, Taken,
+    Value,
 };
 use std::alloc::Global;
 use std::test::Fail;
 
-/// A drawer whose line fails the first orders.
+/// A cash drawer whose line fails with every second order.
 #[derive(Drop)]
-struct Drawer {
+struct TestDrawer {
     is_open: bool,
     is_parked: bool,
-    faults_left: u32,
-    asks: u32,
+    fails_next: bool,
     failures: u64,
 }
 
-impl Drawer {
-    fn new(faults: u32) -> Self
-        ensures { result ≡ record { is_open = false; is_parked = false; faults_left = faults; asks = 0; failures = 0 } }
+impl TestDrawer {
+    fn new() -> Self
+        ensures { result.is_parked ≡ false }
     {
-        Drawer {
+        TestDrawer {
             is_open: false,
             is_parked: false,
-            faults_left: faults,
-            asks: 0,
+            fails_next: false,
             failures: 0,
         }
     }
 }
 
-impl Peripheral for Drawer {
-    ghost state = { λ d. record { kind = kind.Drawer; plant = plant.Drawer d.is_open; is_parked = d.is_parked; failures = d.failures } };
+impl Peripheral for TestDrawer {
+    ghost state = { λ d. let state : PeripheralState = record { kind = kind.Drawer; plant = plant.Drawer d.is_open; is_parked = d.is_parked; failures = d.failures } in state };
 
     fn kind(&self) -> Kind {
         Kind::Drawer
@@ -51,9 +54,9 @@ impl Peripheral for Drawer {
     }
 
     fn ask(&mut self, order: &Order) -> Result<Reply, NoMemory> {
-        self.asks = self.asks.saturating_add(1);
-        if self.faults_left > 0 {
-            self.faults_left -= 1;
+        let fails = self.fails_next;
+        self.fails_next = !fails;
+        if fails {
             self.failures = self.failures.saturating_add(1);
             return Ok(Reply::LineFault);
         }
@@ -88,86 +91,83 @@ impl Peripheral for Drawer {
 }
 
 /// A control that has the drawer at place 0 open, and enabled or not.
-fn control(alloc: Global, is_enabled: bool) -> Control {
+fn control(alloc: Global, is_enabled: bool) -> Control
+    ensures category { result.control.category ≡ category.CashDrawer }
+    ensures device { result.control.device ≡ Some 0 }
+{
     let mut control = Control::new(alloc, Category::CashDrawer);
-    control.open(Some(0), true, true);
+    control.open(Finding::At(0));
     control.set(Property::DeviceEnabled, &Value::Truth(is_enabled));
     control
 }
 
+/// What a control is answered to `openDrawer`, and the event that it hears then.
+fn opens(
+    alloc: Global,
+    is_enabled: bool,
+    drawer: &mut PeripheralBox,
+) -> Result<(Answer, Option<Event>), NoMemory>
+    requires unparked { (⟦<PeripheralBox as HasState>⟧.state drawer.old).is_parked ≡ false }
+    requires drawer { (⟦<PeripheralBox as HasState>⟧.state drawer.old).kind ≡ kind.Drawer }
+    ensures { let state = ⟦<PeripheralBox as HasState>⟧.state in StaysInService (state drawer.old) (state drawer.new) }
+{
+    let mut controls = [control(alloc, is_enabled)];
+    let answer = call(&mut controls, 0, drawer, &Call::OpenDrawer)?;
+    Ok((answer, controls[0].deliver(ErrorReply::Default)))
+}
+
 #[test]
-fn a_drawer_opens_and_tells_each_control_that_listens(rt: HostRuntime) -> Result<(), Fail> {
-    let mut drawer = Drawer::new(0);
+fn a_drawer_opens_and_is_shut_and_each_control_that_listens_hears(
+    rt: HostRuntime,
+) -> Result<(), Fail> {
     let mut controls = [
         control(rt.alloc(), true),
         control(rt.alloc(), false),
         control(rt.alloc(), true),
     ];
-    let answer = call(&mut controls, 0, &mut drawer, &Call::OpenDrawer)?;
-    assert!(rt; matches!(answer, Answer::Done(Value::Empty)));
-    assert!(rt; drawer.is_open);
-    assert_eq!(rt;
-        controls[0].deliver(ErrorReply::Default),
-        Some(Event::StatusUpdate(1))
-    );
-    assert_eq!(rt; controls[0].deliver(ErrorReply::Default), None);
-    assert_eq!(rt; controls[1].deliver(ErrorReply::Default), None);
-    assert_eq!(rt;
-        controls[2].deliver(ErrorReply::Default),
-        Some(Event::StatusUpdate(1))
-    );
+    let device: Box<dyn Peripheral> = Box::new(rt.alloc(), TestDrawer::new())?;
+    let mut drawer = PeripheralBox::new(device);
+    let opened = call(&mut controls, 2, &mut drawer, &Call::OpenDrawer);
+    let signs = drawer.signs();
+    let shut = take_input(&mut controls, 0, &mut drawer, &Input::DrawerMoved(false));
+    let signs_then = drawer.signs();
+    drawer.end();
+    assert!(rt; matches!(opened?, Answer::Done(Value::Empty)));
+    shut?;
+    assert!(rt; signs.drawer_open && !signs_then.drawer_open);
+    for told in [
+        Some(Event::StatusUpdate(1)),
+        Some(Event::StatusUpdate(0)),
+        None,
+    ] {
+        assert_eq!(rt; controls[0].deliver(ErrorReply::Default), told);
+        assert_eq!(rt; controls[1].deliver(ErrorReply::Default), None);
+        assert_eq!(rt; controls[2].deliver(ErrorReply::Default), told);
+    }
     Ok(())
 }
 
 #[test]
-fn an_open_drawer_is_asked_once_more_and_gives_no_event(rt: HostRuntime) -> Result<(), Fail> {
-    let mut drawer = Drawer::new(0);
-    let mut controls = [control(rt.alloc(), true)];
-    let line: &mut dyn Peripheral = &mut drawer;
-    take_input(&mut controls, 0, &mut *line, &Input::DrawerMoved(true))?;
-    let answer = call(&mut controls, 0, &mut *line, &Call::OpenDrawer)?;
-    take_input(&mut controls, 0, &mut *line, &Input::DrawerMoved(false))?;
-    assert!(rt; matches!(answer, Answer::Done(Value::Empty)));
-    assert_eq!(rt; drawer.asks, 1);
-    assert_eq!(rt;
-        controls[0].deliver(ErrorReply::Default),
-        Some(Event::StatusUpdate(1))
+fn a_call_gives_one_order_also_to_an_open_drawer_and_a_refused_call_none(
+    rt: HostRuntime,
+) -> Result<(), Fail> {
+    let device: Box<dyn Peripheral> = Box::new(rt.alloc(), TestDrawer::new())?;
+    let mut drawer = PeripheralBox::new(device);
+    let first = opens(rt.alloc(), true, &mut drawer);
+    let disabled = opens(rt.alloc(), false, &mut drawer);
+    let second = opens(rt.alloc(), true, &mut drawer);
+    let third = opens(rt.alloc(), true, &mut drawer);
+    let fourth = opens(rt.alloc(), true, &mut drawer);
+    drawer.end();
+    assert!(rt;
+        matches!(
+            first?,
+            (Answer::Done(Value::Empty), Some(Event::StatusUpdate(1)))
+        )
     );
-    assert_eq!(rt;
-        controls[0].deliver(ErrorReply::Default),
-        Some(Event::StatusUpdate(0))
-    );
-    assert_eq!(rt; controls[0].deliver(ErrorReply::Default), None);
-    Ok(())
-}
-
-#[test]
-fn refusals_come_in_their_order_and_ask_nothing(rt: HostRuntime) -> Result<(), Fail> {
-    let mut drawer = Drawer::new(0);
-    let mut controls = [
-        Control::new(rt.alloc(), Category::CashDrawer),
-        control(rt.alloc(), false),
-    ];
-    let line: &mut dyn Peripheral = &mut drawer;
-    let closed = call(&mut controls, 0, &mut *line, &Call::OpenDrawer)?;
-    let other_of_closed = call(&mut controls, 0, &mut *line, &Call::Get(Property::State))?;
-    let disabled = call(&mut controls, 1, &mut *line, &Call::OpenDrawer)?;
-    let other = call(&mut controls, 1, &mut *line, &Call::Get(Property::State))?;
-    assert!(rt; matches!(closed, Answer::Refused(Code::Closed, 0)));
-    assert!(rt; matches!(other_of_closed, Answer::Refused(Code::Closed, 0)));
-    assert!(rt; matches!(disabled, Answer::Refused(Code::Disabled, 0)));
-    assert!(rt; matches!(other, Answer::Refused(Code::Illegal, 0)));
-    assert_eq!(rt; drawer.asks, 0);
-    Ok(())
-}
-
-#[test]
-fn a_line_that_fails_opens_nothing(rt: HostRuntime) -> Result<(), Fail> {
-    let mut drawer = Drawer::new(1);
-    let mut controls = [control(rt.alloc(), true)];
-    let failed = call(&mut controls, 0, &mut drawer, &Call::OpenDrawer)?;
-    assert!(rt; matches!(failed, Answer::Refused(Code::Failure, 0)));
-    assert!(rt; !drawer.is_open);
-    assert_eq!(rt; controls[0].deliver(ErrorReply::Default), None);
+    assert!(rt; matches!(disabled?, (Answer::Refused(Code::Disabled, 0), None)));
+    assert!(rt; matches!(second?, (Answer::Refused(Code::Failure, 0), None)));
+    assert!(rt; matches!(third?, (Answer::Done(Value::Empty), None)));
+    assert!(rt; matches!(fourth?, (Answer::Refused(Code::Failure, 0), None)));
     Ok(())
 }

@@ -75,7 +75,9 @@ place_found (finding.At place) = Some place
 -- open, by what is found under the name
 abbrev pub open_rows : Control → Finding → List Row
 open_rows control found =
-    when (is_some control.device) code.Illegal ∷ when (is_not_there found) code.NoExist ∷ when (is_vacant found) code.NoService ∷ []
+    when (is_some control.device) code.Illegal
+    ∷ when (is_not_there found) code.NoExist
+    ∷ when (is_vacant found) code.NoService ∷ []
 
 abbrev pub close_rows : Control → List Row
 close_rows control = when (is_none control.device) code.Closed ∷ []

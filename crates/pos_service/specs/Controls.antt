@@ -37,7 +37,8 @@ listens place control = control.enabled && is_at control.device place
 
 -- the control with a device's events at the end of its list, where it has the device open and enabled
 abbrev pub heard : ℕ → List Event → Control → Control
-heard place events control = if listens place control then record control { events = control.events ++ events } else control
+heard place events control =
+    if listens place control then record control { events = control.events ++ events } else control
 
 -- each control that has the device open and enabled gets its events, and no other
 abbrev pub all_heard : ℕ → List Event → List Control → List Control

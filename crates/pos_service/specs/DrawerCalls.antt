@@ -20,10 +20,12 @@ drawer_rows control call.OpenDrawer = when (not control.enabled) code.Disabled �
 drawer_rows control asked = []
 
 -- The drawer opens, and each control that listens hears of it where it was closed.
-pub record DrawerOpened (place : ℕ) (old : List Control) (before : Station) (new : List Control) (after : Station) : Type 0 where
+pub record DrawerOpened (place : ℕ) (old : List Control) (before : Station) (new : List Control) (after : Station)
+    : Type 0 where
   pub plant : Performs before.kind order.OpenDrawer before.plant reply.Done after.plant
   pub station : after ≡ record before { plant = after.plant }
-  pub events : new ≡ all_heard place (status_events (signs_of before.kind before.plant) (signs_of after.kind after.plant)) old
+  pub events : new ≡
+      all_heard place (status_events (signs_of before.kind before.plant) (signs_of after.kind after.plant)) old
 
 -- The line to the device fails, and nothing else changes.
 pub record LineFailed (old : List Control) (before : Station) (new : List Control) (after : Station) : Type 0 where

@@ -59,14 +59,16 @@ input_fits (kind.Printer chars near) (input.DrawerMoved is_open) = false
 abbrev pub Rose : ℕ → ℕ → Type 0
 Rose old new = (old < new) ⊎ ((old ≡ 2 ^ 64 - 1) × (new ≡ 2 ^ 64 - 1))
 
--- Of a kind, from the old plant, an order that reaches the peripheral may get this reply and leave the new plant: a drawer opens.
+-- Of a kind, from the old plant, an order that reaches the peripheral may get this reply and leave the new plant: a
+-- drawer opens.
 abbrev pub Performs : Kind → Order → Plant → Reply → Plant → Type 0
 Performs is order.OpenDrawer (plant.Drawer was_open) reply.Done new = new ≡ plant.Drawer true
 Performs is order.OpenDrawer (plant.Drawer was_open) reply.CoverOpen new = ⊥
 Performs is order.OpenDrawer (plant.Drawer was_open) reply.PaperEnd new = ⊥
 Performs is order.OpenDrawer (plant.Drawer was_open) reply.LineFault new = ⊥
 
--- Of a kind, from the old plant, an input may be taken so and leave the new plant: a drawer is open or closed as it was moved.
+-- Of a kind, from the old plant, an input may be taken so and leave the new plant: a drawer is open or closed as it was
+-- moved.
 abbrev pub Takes : Kind → Input → Plant → Taken → Plant → Type 0
 Takes is (input.DrawerMoved is_open) (plant.Drawer was_open) taken.Quiet new = new ≡ plant.Drawer is_open
 Takes is (input.DrawerMoved is_open) (plant.Drawer was_open) taken.Scan new = ⊥
@@ -75,26 +77,33 @@ Takes is (input.DrawerMoved is_open) (plant.Drawer was_open) taken.Fault new = �
 -- A line fault changes nothing but the count of failures; with every other reply the line has not failed.
 abbrev pub Replies : PeripheralState → Order → Reply → PeripheralState → Type 0
 Replies old order reply.LineFault new = (new.plant ≡ old.plant) × Rose old.failures new.failures
-Replies old order reply.Done new = Performs old.kind order old.plant reply.Done new.plant × (new.failures ≡ old.failures)
-Replies old order reply.CoverOpen new = Performs old.kind order old.plant reply.CoverOpen new.plant × (new.failures ≡ old.failures)
-Replies old order reply.PaperEnd new = Performs old.kind order old.plant reply.PaperEnd new.plant × (new.failures ≡ old.failures)
+Replies old order reply.Done new =
+    Performs old.kind order old.plant reply.Done new.plant × (new.failures ≡ old.failures)
+Replies old order reply.CoverOpen new =
+    Performs old.kind order old.plant reply.CoverOpen new.plant × (new.failures ≡ old.failures)
+Replies old order reply.PaperEnd new =
+    Performs old.kind order old.plant reply.PaperEnd new.plant × (new.failures ≡ old.failures)
 
 -- plant and count are as they were
 abbrev pub IsUntouched : PeripheralState → PeripheralState → Type 0
 IsUntouched old new = (new.plant ≡ old.plant) × (new.failures ≡ old.failures)
 
 -- An order was given: it got a reply, or found no memory and did nothing.
-pub record Asked (old : PeripheralState) (order : Order) (outcome : Result Reply NoMemory) (new : PeripheralState) : Type 0 where
+pub record Asked (old : PeripheralState) (order : Order) (outcome : Result Reply NoMemory) (new : PeripheralState)
+    : Type 0 where
   pub kind : new.kind ≡ old.kind
   pub unparked : new.is_parked ≡ false
   pub answer : MatchResult outcome (λ reply. Replies old order reply new) (λ want. IsUntouched old new)
 
 -- An input was handed in: it was taken, or found no memory and did nothing. The line has no part in it.
-pub record Fed (old : PeripheralState) (input : Input) (outcome : Result Taken NoMemory) (new : PeripheralState) : Type 0 where
+pub record Fed (old : PeripheralState) (input : Input) (outcome : Result Taken NoMemory) (new : PeripheralState)
+    : Type 0 where
   pub kind : new.kind ≡ old.kind
   pub unparked : new.is_parked ≡ false
   pub failures : new.failures ≡ old.failures
-  pub answer : MatchResult outcome (λ taken. Takes old.kind input old.plant taken new.plant) (λ want. new.plant ≡ old.plant)
+  pub answer : MatchResult outcome
+      (λ taken. Takes old.kind input old.plant taken new.plant)
+      (λ want. new.plant ≡ old.plant)
 
 -- A peripheral is out of service, and else as it was.
 abbrev pub Parks : PeripheralState → PeripheralState → Type 0

@@ -34,7 +34,8 @@ signs_in (Some station) = signs_of station.kind station.plant
 -- The control that a number has is of this category, and open.
 abbrev pub IsOpen : Category → List Control → ℕ → Type 0
 IsOpen category controls number =
-    MatchOption (slice_get controls number) ⊥ (λ control. (control.category ≡ category) × IsTrue (is_some control.device))
+    MatchOption (slice_get controls number) ⊥
+    (λ control. (control.category ≡ category) × IsTrue (is_some control.device))
 
 -- Controls and station are as they were.
 pub record SameStation (old : List Control) (before : Station) (new : List Control) (after : Station) : Type 0 where
@@ -45,16 +46,17 @@ pub record SameStation (old : List Control) (before : Station) (new : List Contr
 abbrev pub Effect : Type 1
 Effect = List Control → Station → List Control → Station → Type 0
 
--- A call at a station is answered by its table, and then by what it does. Want of memory comes only from a call that takes
--- some, behind the table, and changes nothing.
+-- A call at a station is answered by its table, and then by what it does. Want of memory comes only from a call that
+-- takes some, behind the table, and changes nothing.
 abbrev pub CalledAt : Call → List Row → (Answer → Effect) → Result Answer NoMemory → Effect
 CalledAt asked rows Does outcome old before new after = MatchResult outcome
     (λ result. Decided rows result (SameStation old before new after) (Does result old before new after))
     (λ want. IsTrue (takes_memory asked) × (first_refusal rows ≡ None) × SameStation old before new after)
 
--- A call on the control with a number, which is open, at the station of its device: by a category's table, and by what the
--- call does there.
-abbrev pub CalledBy : (Control → Call → List Row) → (Call → ℕ → Answer → Effect) → ℕ → Call → Result Answer NoMemory → Effect
+-- A call on the control with a number, which is open, at the station of its device: by a category's table, and by what
+-- the call does there.
+abbrev pub CalledBy :
+    (Control → Call → List Row) → (Call → ℕ → Answer → Effect) → ℕ → Call → Result Answer NoMemory → Effect
 CalledBy rows Does number asked outcome old before new after =
     MatchOption (slice_get old number) ⊥ (λ control. IfSome control.device (λ place.
     CalledAt asked (own_rows control asked (rows control asked)) (Does asked place) outcome old before new after))
@@ -65,11 +67,13 @@ pub record StaysInService (old new : PeripheralState) : Type 0 where
   pub kind : new.kind ≡ old.kind
 
 -- An input changes the plant, and each control that listens hears of it.
-pub record TakesIn (input : Input) (place : ℕ) (old : List Control) (before : Station) (new : List Control) (after : Station) : Type 0 where
+pub record TakesIn (input : Input) (place : ℕ)
+    (old : List Control) (before : Station) (new : List Control) (after : Station) : Type 0 where
   pub fits : input_fits before.kind input ≡ true
   pub plant : Takes before.kind input before.plant taken.Quiet after.plant
   pub station : after ≡ record before { plant = after.plant }
-  pub events : new ≡ all_heard place (status_events (signs_of before.kind before.plant) (signs_of after.kind after.plant)) old
+  pub events : new ≡
+      all_heard place (status_events (signs_of before.kind before.plant) (signs_of after.kind after.plant)) old
 
 -- An input is taken in, or finds no memory and changes nothing.
 abbrev pub TakenAt : Input → ℕ → Result (Unit {0}) NoMemory → Effect

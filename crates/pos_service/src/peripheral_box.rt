@@ -71,7 +71,8 @@ impl PeripheralBox {
     pub fn ask(&mut self, order: &Order) -> Result<Reply, NoMemory>
         requires unparked { (⟦<PeripheralBox as HasState>⟧.state self.old).is_parked ≡ false }
         requires fits { order_fits (⟦<PeripheralBox as HasState>⟧.state self.old).kind order.now ≡ true }
-        ensures { let state = ⟦<PeripheralBox as HasState>⟧.state in Asked (state self.old) order.now result (state self.new) }
+        ensures { let state = ⟦<PeripheralBox as HasState>⟧.state in
+            Asked (state self.old) order.now result (state self.new) }
     {
         self.device.ask(order)
     }
@@ -80,7 +81,8 @@ impl PeripheralBox {
     pub fn feed(&mut self, input: &Input) -> Result<Taken, NoMemory>
         requires unparked { (⟦<PeripheralBox as HasState>⟧.state self.old).is_parked ≡ false }
         requires fits { input_fits (⟦<PeripheralBox as HasState>⟧.state self.old).kind input.now ≡ true }
-        ensures { let state = ⟦<PeripheralBox as HasState>⟧.state in Fed (state self.old) input.now result (state self.new) }
+        ensures { let state = ⟦<PeripheralBox as HasState>⟧.state in
+            Fed (state self.old) input.now result (state self.new) }
     {
         self.device.feed(input)
     }

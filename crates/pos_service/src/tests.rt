@@ -1,9 +1,7 @@
-ghost use Rattle.std.specs.Prelude.{◌≡◌};
-
-use crate::{Bytes, Category, Code, Input, Kind, Locus, NoMemory, Order};
+use crate::{Bytes, Code, Locus, NoMemory};
 
 #[test]
-fn codes_have_the_numbers_of_the_standard(rt: HostRuntime) {
+fn codes_and_loci_have_the_numbers_of_the_standard(rt: HostRuntime) {
     let codes = [
         (Code::Success, 0),
         (Code::Closed, 101),
@@ -23,29 +21,9 @@ fn codes_have_the_numbers_of_the_standard(rt: HostRuntime) {
     for (code, number) in codes {
         assert_eq!(rt; code.number(), number);
     }
-}
-
-#[test]
-fn loci_have_the_numbers_of_the_standard(rt: HostRuntime) {
-    assert_eq!(rt; Locus::Output.number(), 1);
-    assert_eq!(rt; Locus::Input.number(), 2);
-    assert_eq!(rt; Locus::InputData.number(), 3);
-}
-
-#[test]
-fn a_drawer_fits_its_category_order_and_input(rt: HostRuntime) {
-    assert!(rt; Category::CashDrawer.serves(Some(Kind::Drawer)));
-    assert!(rt; !Category::CashDrawer.serves(Some(Kind::Scanner)));
-    assert!(rt; !Category::CashDrawer.serves(None));
-    assert!(rt; Order::OpenDrawer.fits(Kind::Drawer));
-    assert!(rt; !Order::OpenDrawer.fits(Kind::Printer { chars: 8, near: 2 }));
-    assert!(rt; Input::DrawerMoved(true).fits(Kind::Drawer));
-    assert!(rt;
-        !Input::DrawerMoved(true).fits(Kind::Display {
-            rows: 2,
-            columns: 4
-        })
-    );
+    for (locus, number) in [(Locus::Output, 1), (Locus::Input, 2), (Locus::InputData, 3)] {
+        assert_eq!(rt; locus.number(), number);
+    }
 }
 
 #[test]

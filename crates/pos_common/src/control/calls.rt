@@ -12,10 +12,11 @@ use pos_service::{Answer, Code, Finding, Property, Signs, Value};
 impl Control {
     /// `open`: it is for the device that was found from now on (common chapter).
     ///
-    /// Refused with E_ILLEGAL where it is open, E_NOEXIST where there is no such device, E_NOSERVICE where nothing stands
-    /// behind it.
+    /// Refused with E_ILLEGAL where it is open, E_NOEXIST where there is no such device, E_NOSERVICE where nothing
+    /// stands behind it.
     pub fn open(&mut self, found: Finding) -> Answer
-        ensures { TurnsInto (open_rows self.old.control found) result self.old self.new (opened self.old.control (place_found found)) }
+        ensures { TurnsInto (open_rows self.old.control found) result self.old self.new
+            (opened self.old.control (place_found found)) }
     {
         if self.device.is_some() {
             return Answer::Refused(Code::Illegal, 0);
