@@ -296,8 +296,8 @@ DoesChange DiskFailed old control change result new =
 abbrev pub Changed : TotalsLimits → Type 0 → Totals → ℕ → Change → Result Answer NoMemory → Totals → Type 0
 Changed limits DiskFailed old control change outcome new = MatchResult outcome
     (λ result.
-        Decided (refusals_of_change limits old control change) result (new ≡ old)
-        (DoesChange DiskFailed old control change result new))
+    Decided (refusals_of_change limits old control change) result (new ≡ old)
+    (DoesChange DiskFailed old control change result new))
     (λ want. (first_refusal (refusals_of_change limits old control change) ≡ None) × (new ≡ old))
 
 -- the group of changes that a change puts on the disk: none where it is refused
