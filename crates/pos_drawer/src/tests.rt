@@ -39,7 +39,12 @@ impl TestDrawer {
 }
 
 impl Peripheral for TestDrawer {
-    ghost state = { λ d. let state : PeripheralState = record { kind = kind.Drawer; plant = plant.Drawer d.is_open; is_parked = d.is_parked; failures = d.failures } in state };
+    ghost state = { λ d. let state : PeripheralState = record {
+      kind = kind.Drawer;
+      plant = plant.Drawer d.is_open;
+      is_parked = d.is_parked;
+      failures = d.failures;
+    } in state };
 
     fn kind(&self) -> Kind {
         Kind::Drawer
