@@ -18,7 +18,7 @@ abbrev pub first_refusal : List Row → Option Answer
 first_refusal [] = None
 first_refusal (row ∷ rows) = if row.applies then Some row.answer else first_refusal rows
 
--- The answer is that of the first condition that holds, and then nothing changes. Where none holds, the call does what it
--- does.
+-- The answer is that of the first condition that holds, and then nothing changes. Where none holds, the call does what
+-- it does.
 pub record Decided (rows : List Row) (result : Answer) (Same : Type 0) (Done : Type 0) : Type 0 where
   pub outcome : MatchOption (first_refusal rows) Done (λ refusal. (result ≡ refusal) × Same)

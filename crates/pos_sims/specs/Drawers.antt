@@ -7,7 +7,12 @@ use Rattle.pos_sims.specs.declared.plain_drawer.PlainDrawer.{PlainDrawer}
 
 -- a drawer that is open or not, out of service or not, and whose line never fails
 abbrev pub drawer_state : Bool → Bool → PeripheralState
-drawer_state is_open is_parked = record { kind = kind.Drawer; plant = plant.Drawer is_open; is_parked = is_parked; failures = 0 }
+drawer_state is_open is_parked = record {
+  kind = kind.Drawer;
+  plant = plant.Drawer is_open;
+  is_parked = is_parked;
+  failures = 0;
+}
 
 -- what contracts see of a plain drawer
 abbrev pub state_of : PlainDrawer → PeripheralState
