@@ -1,7 +1,7 @@
 use crate::PlainDrawer;
 use pos_service::{
-    Input, Kind, NoMemory, Order, PaperLevel, Peripheral, PeripheralBox, Plant, Reply, Signs,
-    Snapshot, Stated, Taken,
+    HasState, Input, Kind, NoMemory, Order, PaperLevel, Peripheral, PeripheralBox, Plant, Reply,
+    Signs, Snapshot, Taken,
 };
 use std::test::Fail;
 
