@@ -17,7 +17,8 @@ use Rattle.pos_service.specs.Refusals.{Row, Decided, first_refusal, when}
 use Rattle.pos_service.specs.TotalsCalls.{Asks, Makes, file_call, file_rows}
 use Rattle.pos_store.specs.Standing.{Standing, Stands, LeavesOneOf, StandsForOneOf}
 use Rattle.pos_totals.specs.Changes.{Changes, PutsGroup, HasFailed, IsDone, IsOneGroup, IsBeforeOrAfter, before_or_after}
-use Rattle.pos_totals.specs.Views.{TotalsView, KeepsDisk, TurnsOff, LeavesTheirFiles, plain}
+use Rattle.pos_disk.specs.Keeps.{KeepsDisk}
+use Rattle.pos_totals.specs.Views.{TotalsView, TurnsOff, LeavesTheirFiles, plain}
 use Rattle.pos_counter.specs.Parts.{CallsFiles, FilesStepped, IsLeft, Leaves, part_of}
 use Rattle.pos_counter.specs.Totals.{TotalsPart, TotalsDo, ChangesTotals, FilesCalled, settled, left_after}
 use Rattle.pos_counter.proofs.Lifts.{match_cases, match_weaker, match_at_none, match_at_some}

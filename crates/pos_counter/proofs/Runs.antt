@@ -9,7 +9,8 @@ use Rattle.pos_disk.proofs.Moments.{started, followed_by, weaker}
 use Rattle.pos_service.specs.declared.peripheral_box.PeripheralBox.{PeripheralBox}
 use Rattle.pos_service.specs.declared.peripheral_box.HasState.{Ghosts}
 use Rattle.pos_store.specs.Standing.{Standing, StandsForOneOf}
-use Rattle.pos_totals.specs.Views.{TotalsView, KeepsDisk}
+use Rattle.pos_disk.specs.Keeps.{KeepsDisk}
+use Rattle.pos_totals.specs.Views.{TotalsView}
 use Rattle.pos_counter.specs.declared.counter.Counter.{Counter}
 use Rattle.pos_counter.specs.Counters.{machine as machine_of_counter, IsLeftDuring, IsRun, IsStep, IsStepBeside, RunsFrom}
 use Rattle.pos_counter.specs.Parts.{part_of, IsLeft, Leaves, Stepped}

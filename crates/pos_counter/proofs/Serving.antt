@@ -7,7 +7,8 @@ use Rattle.pos_disk.proofs.Moments.{started}
 use Rattle.pos_service.specs.Peripherals.{PeripheralState}
 use Rattle.pos_common.specs.Held.{Held}
 use Rattle.pos_store.specs.Standing.{Standing}
-use Rattle.pos_totals.specs.Views.{TotalsView, KeepsDisk}
+use Rattle.pos_disk.specs.Keeps.{KeepsDisk}
+use Rattle.pos_totals.specs.Views.{TotalsView}
 use Rattle.pos_counter.specs.declared.entry.Entry.{Entry}
 use Rattle.pos_counter.specs.Machine.{Machine}
 use Rattle.pos_counter.specs.Parts.{machine_of, part_of, ArePartsSound, IsLeft, Leaves, Serves, ServesBeside, Stepped}

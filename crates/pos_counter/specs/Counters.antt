@@ -7,7 +7,7 @@ use Rattle.pos_service.specs.declared.peripheral_box.HasState.{Ghosts}
 use Rattle.pos_service.specs.HardTotals.{Off}
 use Rattle.pos_service.specs.Peripherals.{PeripheralState}
 use Rattle.pos_store.specs.Standing.{Standing, StandsForOneOf}
-use Rattle.pos_totals.specs.Views.{KeepsDisk}
+use Rattle.pos_disk.specs.Keeps.{KeepsDisk}
 use Rattle.pos_counter.specs.declared.counter.Counter.{Counter}
 use Rattle.pos_counter.specs.Machine.{Machine}
 use Rattle.pos_counter.specs.Parts.{machine_of, part_of, ArePartsSound, Leaves, Stepped}

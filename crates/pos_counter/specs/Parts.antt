@@ -12,7 +12,8 @@ use Rattle.pos_common.specs.Held.{Held, controls_of}
 use Rattle.pos_disk.specs.State.{LeavesOnly}
 use Rattle.pos_disk.specs.declared.device.Disk.{Ghosts}
 use Rattle.pos_store.specs.Standing.{Standing, LeavesOneOf, StandsForOneOf}
-use Rattle.pos_totals.specs.Views.{TotalsView, KeepsDisk}
+use Rattle.pos_disk.specs.Keeps.{KeepsDisk}
+use Rattle.pos_totals.specs.Views.{TotalsView}
 use Rattle.pos_counter.specs.Machine.{Device, Machine}
 use Rattle.pos_counter.specs.Steps.{Request, Response, Step, IsSound}
 use Rattle.pos_service.specs.declared.answer.Value.{Value}

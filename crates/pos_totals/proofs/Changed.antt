@@ -12,6 +12,7 @@ use Rattle.pos_dir.specs.declared.file.File.{File as PlainFile}
 use Rattle.pos_dir.specs.declared.limits.TheConstants.{LAYOUT_1}
 use Rattle.pos_disk.proofs.Moments.{started, weaker}
 use Rattle.pos_disk.specs.State.{DiskState, MayLeave}
+use Rattle.pos_disk.specs.Keeps.{KeepsDisk}
 use Rattle.pos_disk.specs.declared.device.Disk.{Ghosts}
 use Rattle.pos_service.specs.declared.answer.Answer.{Answer}
 use Rattle.pos_service.specs.declared.answer.Answer.TheVariants as answer
@@ -35,7 +36,7 @@ use Rattle.pos_totals.specs.Checks.{ChecksAt, file_change_of, answer_of}
 use Rattle.pos_totals.specs.declared.request.Checked.{Checked}
 use Rattle.pos_totals.specs.Groups.{file_change, group_of}
 use Rattle.pos_totals.specs.Numbering.{lacks, HasPlace, given_after, following, value_after}
-use Rattle.pos_totals.specs.Views.{TotalsView, KeepsDisk, plain, handles_of, stored, mode_of, view_of, with_handles, AreDistinct, AreHandles, HasHandles, HasDirectory, TurnsOff, LeavesTheirFiles, HasItsFiles}
+use Rattle.pos_totals.specs.Views.{TotalsView, plain, handles_of, stored, mode_of, view_of, with_handles, AreDistinct, AreHandles, HasHandles, HasDirectory, TurnsOff, LeavesTheirFiles, HasItsFiles}
 
 -- ---- tables
 
@@ -206,7 +207,7 @@ module _ {D : Type 0} (bound : Ghosts D) (disk : D) (only : bound.honest disk 鈫
           any_moment = 位 h. weaker (bound.state disk) (bound.state new.disk) _ _ (位 c among. subst (位 (cs : List Standing). StandsForOneOf cs c) candidates among) (commits.any_moment h);
           now = 位 h. subst (位 (s : State). LeavesItsFiles s (bound.state new.disk)) down.1 (commits.now h);
           in_doubt = 位 h turns. absurd turns;
-          kept = record { size = commits.keeps.size; honest = commits.keeps.honest; later = commits.keeps.later };
+          kept = commits.keeps;
         });
       }
 
@@ -265,7 +266,7 @@ module _ {D : Type 0} (bound : Ghosts D) (disk : D) (only : bound.honest disk 鈫
             any_moment = 位 h. weaker (bound.state disk) (bound.state new.disk) _ _ (位 c among. subst (位 (cs : List Standing). StandsForOneOf cs c) candidates among) (commits.any_moment h);
             now = 位 h. tt;
             in_doubt = 位 h turns bytes may. subst (位 (cs : List Standing). StandsForOneOf cs bytes) candidates (commits.in_doubt h refl bytes may);
-            kept = record { size = commits.keeps.size; honest = commits.keeps.honest; later = commits.keeps.later };
+            kept = commits.keeps;
           });
         },
         tt,

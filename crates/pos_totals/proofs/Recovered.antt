@@ -29,6 +29,7 @@ ready_recovers bound disk (StoreReady files sequence) handles next sound other r
   ready = (refl, refl);
   answer = tt;
   one_of = λ h. tt;
+  reading = λ h. refl;
   now = λ h. their_files handles (StoreReady files sequence) next (bound.state disk) sound (leaves h);
   device = λ is. absurd cc;
   kept = keeps bound disk;
@@ -83,9 +84,10 @@ off_recovers bound disk handles next result mid told new recovers same finds dev
   ready = tt;
   answer = finds _ recovers.answer;
   one_of = λ h candidates leaves. let one = recovers.one_of h candidates leaves in record { found = finds _ one.found; any_moment = one.any_moment; still = one.still };
+  reading = recovers.reading;
   now = now;
   device = λ is h. recovers.device h (device h is);
-  kept = record { size = recovers.keeps.size; honest = recovers.keeps.honest; later = recovers.keeps.later };
+  kept = recovers.keeps;
 })
 
 -- ---- the same for a store in any state

@@ -1,5 +1,6 @@
 -- What a change of the totals answers, and what a crash during it may leave.
 use Rattle.std.specs.Prelude.{◌≡◌, ◌⊎◌, ℕ, List, [], ◌∷◌, map, Result, Ok, Err, ⊤}
+use Rattle.pos_disk.specs.Keeps.{KeepsDisk}
 use Rattle.pos_disk.specs.State.{DiskState, LeavesOnly, MayLeave, Rises}
 use Rattle.pos_disk.specs.declared.device.Disk.{Ghosts}
 use Rattle.pos_dir.specs.Changes.{outcome_of_all}
@@ -10,7 +11,7 @@ use Rattle.pos_service.specs.declared.memory.NoMemory.{NoMemory}
 use Rattle.pos_service.specs.HardTotals.{Mode, Off, Ready, Totals, Change, files_of, files_after_all, next_sequences, layout_1, Changed, group_by_change}
 use Rattle.pos_store.specs.Standing.{Standing, Stands, StandsForOneOf, LeavesOneOf}
 use Rattle.pos_totals.specs.Groups.{group_of}
-use Rattle.pos_totals.specs.Views.{TotalsView, plain, TurnsOff, LeavesTheirFiles, KeepsDisk}
+use Rattle.pos_totals.specs.Views.{TotalsView, plain, TurnsOff, LeavesTheirFiles}
 
 -- the files before a group of changes, and those after the whole of it with each of the next sequences
 abbrev pub before_or_after : ℕ → Mode → List Change → List Standing

@@ -1,5 +1,6 @@
 -- What a recovery of the totals answers, and what a crash during it may leave.
 use Rattle.std.specs.Prelude.{◌≡◌, ◌≤◌, ◌+◌, ℕ, List, [], ◌∷◌, length, Option, Some, None, Result, Ok, Err, IsErrOf}
+use Rattle.pos_disk.specs.Keeps.{KeepsDisk}
 use Rattle.pos_disk.specs.State.{DiskState, LeavesOnly}
 use Rattle.pos_disk.specs.declared.device.Disk.{Ghosts}
 use Rattle.pos_dir.specs.declared.file.File.{File as PlainFile}
@@ -10,7 +11,7 @@ use Rattle.pos_store.specs.Standing.{Standing, Unformatted, Damaged, Stands, IsO
 use Rattle.pos_store.specs.declared.fault.StoreFault.{StoreFault}
 use Rattle.pos_store.specs.declared.fault.StoreFault.TheVariants as store
 use Rattle.pos_totals.specs.Changes.{HasFailed}
-use Rattle.pos_totals.specs.Views.{TotalsView, called, WhenOff, WhenReady, LeavesTheirFiles, KeepsDisk}
+use Rattle.pos_totals.specs.Views.{TotalsView, called, WhenOff, WhenReady, LeavesTheirFiles}
 use Rattle.pos_totals.specs.declared.fault.RecoveryFault.{RecoveryFault}
 use Rattle.pos_totals.specs.declared.fault.RecoveryFault.TheVariants as fault
 
@@ -73,6 +74,8 @@ pub record Recovers {D : Type 0} (bound : Ghosts D) (old : TotalsView D) (result
   pub answer : WhenOff old.totals.mode (FindsFiles (ReadsAs bound old.disk) old.totals result new.totals)
   pub one_of : bound.honest old.disk → WhenOff old.totals.mode
       (RecoversAny (bound.state old.disk) (bound.state new.disk) old.totals result new.totals)
+  -- whatever it answers, the bytes of the disk are what they were
+  pub reading : bound.honest old.disk → (bound.state new.disk).reading ≡ (bound.state old.disk).reading
   -- a crash now leaves the files that were found alone
   pub now : bound.honest old.disk → LeavesTheirFiles new.totals.mode (bound.state new.disk)
   pub device : IsErrOf result fault.Device → HasFailed bound old.disk new.disk

@@ -1,8 +1,7 @@
 -- What contracts see of the totals.
-use Rattle.std.specs.Prelude.{◌≡◌, ◌↔◌, ◌≤◌, ℕ, ◌<◌, List, [], ◌∷◌, length, map, ⊤}
+use Rattle.std.specs.Prelude.{◌≡◌, ℕ, ◌<◌, List, [], ◌∷◌, length, map, ⊤}
 use Rattle.std.specs.List.{AllByRecursion}
 use Rattle.pos_disk.specs.State.{DiskState}
-use Rattle.pos_disk.specs.declared.device.Disk.{Ghosts}
 use Rattle.pos_dir.specs.Files.{IsDirectory}
 use Rattle.pos_dir.specs.declared.file.File.{File as PlainFile}
 use Rattle.pos_dir.specs.declared.limits.TheConstants.{LAYOUT_1}
@@ -116,9 +115,3 @@ pub record AreTheirFiles (files : List File) (next : ℕ) : Type 0 where
 -- where the totals are ready, so are their files
 abbrev pub HasItsFiles : Totals → Type 0
 HasItsFiles totals = WhenReady totals.mode (AreTheirFiles (files_of totals.mode) totals.next)
-
--- What each call keeps of a disk: its size and whether it is honest. Its count of failures never falls.
-pub record KeepsDisk {D : Type 0} (bound : Ghosts D) (old new : D) : Type 0 where
-  pub size : bound.size new ≡ bound.size old
-  pub honest : bound.honest old ↔ bound.honest new
-  pub later : bound.honest old → (bound.state old).failures ≤ (bound.state new).failures

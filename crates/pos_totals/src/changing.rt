@@ -29,7 +29,6 @@ pub fn change<D: Disk>(
     ensures changes { Changes D.Disk (view_with store.old handles.old) control (change_of request.entry) result
         (view_with store.new handles.new) }
 {
-    let _control = control;
     leaves_its_files(store);
     let checked = match check_request(store, handles, &request) {
         Ok(checked) => checked,

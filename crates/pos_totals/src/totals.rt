@@ -157,19 +157,19 @@ impl<D: Disk> Totals<D> {
     /// `find`: the handle and the size of the file with a name. It takes no memory.
     ///
     /// Refused with E_NOEXIST where no file has the name.
-    pub fn find(&self, _control: usize, name: &[u8]) -> Answer
-        ensures { Tells self.now.totals _control (Find name.now) result }
+    pub fn find(&self, control: usize, name: &[u8]) -> Answer
+        ensures { Tells self.now.totals control (Find name.now) result }
     {
-        find(&self.store, &self.handles, _control, name)
+        find(&self.store, &self.handles, control, name)
     }
 
     /// `findByIndex`: the name of the file at an index, counted from 0 in the order of creation.
     ///
     /// Refused with E_ILLEGAL where no file has the index.
-    pub fn find_by_index(&self, _control: usize, index: i128) -> Result<Answer, NoMemory>
-        ensures { MayTell self.now.totals _control (FindByIndex index) result }
+    pub fn find_by_index(&self, control: usize, index: i128) -> Result<Answer, NoMemory>
+        ensures { MayTell self.now.totals control (FindByIndex index) result }
     {
-        find_by_index(self.alloc, &self.store, &self.handles, _control, index)
+        find_by_index(self.alloc, &self.store, &self.handles, control, index)
     }
 
     /// `read`: so many bytes of a file from an offset on.
