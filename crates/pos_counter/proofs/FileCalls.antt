@@ -20,7 +20,7 @@ use Rattle.pos_totals.specs.Changes.{Changes, PutsGroup, HasFailed, IsDone, IsOn
 use Rattle.pos_disk.specs.Keeps.{KeepsDisk}
 use Rattle.pos_totals.specs.Views.{TotalsView, TurnsOff, LeavesTheirFiles, plain}
 use Rattle.pos_counter.specs.Parts.{CallsFiles, FilesStepped, IsLeft, Leaves, part_of}
-use Rattle.pos_counter.specs.Totals.{TotalsPart, TotalsDo, ChangesTotals, FilesCalled, settled, left_after}
+use Rattle.pos_counter.specs.Totals.{TotalsPart, TotalsDo, ChangesTotals, FilesCalled, settled, left_after, is_change}
 use Rattle.pos_counter.proofs.Lifts.{match_cases, match_weaker, match_at_none, match_at_some}
 use Rattle.pos_counter.proofs.Serving.{kept_disk}
 
@@ -228,10 +228,18 @@ module _ {D : Type 0} (bound : Ghosts D) (disk : D) (only : OnlyNow bound disk) 
     pub change_steps : (mode : Mode) (outcome : Result Answer NoMemory) (new : TotalsView D) → Changes bound (before mode) n change outcome new → Leaves bound (before mode) left → FilesStepped bound left (before mode) n asked outcome new
     change_steps mode outcome new changes leaves = by_table mode outcome new changes leaves (first_refusal (table mode)) refl
 
+-- a call that asks for a change isn't one that asks for none
+changes_files : (asked : Call) (change : Change) → file_call asked ≡ Makes change → is_change (file_call asked) ≡ false → ⊥
+changes_files asked change is spares =
+    let changing : is_change (file_call asked) ≡ true = ap is_change is in
+    let none : ⊥ = cc in
+    none
+
 -- a call that asks for a change
 pub change_calls : {D : Type 0} (bound : Ghosts D) (view new : TotalsView D) (n : ℕ) (change : Change) (asked : Call) (outcome : Result Answer NoMemory) → OnlyNow bound view.disk → file_call asked ≡ Makes change → has_call category.HardTotals asked ≡ true → takes_memory asked ≡ true → Changes bound view n change outcome new → CallsFiles bound view n asked outcome new
 change_calls bound view new n change asked outcome only is has takes changes = record {
   steps = λ left leaves. change_steps bound view.disk only view.totals.next n change left asked is has takes view.totals.mode outcome new changes leaves;
+  alone = λ spares. absurd (changes_files asked change is spares);
   kept = changes.disk.kept;
 }
 
@@ -239,6 +247,7 @@ change_calls bound view new n change asked outcome only is has takes changes = r
 pub question_calls : {D : Type 0} (bound : Ghosts D) (view : TotalsView D) (n : ℕ) (question : Question) (asked : Call) (outcome : Result Answer NoMemory) → OnlyNow bound view.disk → file_call asked ≡ Asks question → has_call category.HardTotals asked ≡ true → (takes_memory asked ≡ true) ⊎ ((a : Answer) × (outcome ≡ Ok a)) → MayTell view.totals n question outcome → CallsFiles bound view n asked outcome view
 question_calls bound view n question asked outcome only is has takes tells = record {
   steps = λ left leaves. rests bound view left n asked outcome only leaves (told left);
+  alone = λ spares. refl;
   kept = kept_disk bound view.disk;
 }
   where

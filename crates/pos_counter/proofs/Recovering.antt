@@ -2,7 +2,7 @@
 use Rattle.std.proofs.Common.{◌≡◌, ◌⊎◌, inl, inr, ℕ, List, [], ◌∷◌, Option, Some, None, Result, Ok, Err, Bool, true, false, not, ◌&&◌, set, get_or, length, ◌<◌, arith, refl, sym, ap, ◌∙◌, subst}
 use Rattle.std.specs.Bool.{MatchBool}
 use Rattle.std.specs.Result.{result_ok}
-use Rattle.std.specs.Prelude.{MatchOption, IsTrue, is_some, is_none, slice_get}
+use Rattle.std.specs.Prelude.{MatchOption, IsTrue, is_some, is_none, slice_get, ⊤}
 use Rattle.std.proofs.lemmas.List.{length-map, map-set, set-get_or}
 use Rattle.std.proofs.lemmas.Option.{slice_get_within}
 use Rattle.pos_disk.specs.State.{LeavesOnly}
@@ -33,7 +33,7 @@ use Rattle.pos_totals.specs.Recoveries.{Recovers as DiskRecovers, RecoversOneOf,
 use Rattle.pos_totals.specs.Views.{TotalsView, WhenOff, LeavesTheirFiles}
 use Rattle.pos_counter.specs.declared.entry.Entry.{Entry}
 use Rattle.pos_counter.specs.Machine.{Machine, with_control}
-use Rattle.pos_counter.specs.Parts.{machine_of, devices_of, over, part_of, ArePartsSound, IsRecovering, IsLeft, Leaves, Serves, Stepped}
+use Rattle.pos_counter.specs.Parts.{machine_of, devices_of, over, part_of, ArePartsSound, IsRecovering, IsLeft, Leaves, Serves, SparesDisk, Stepped}
 use Rattle.pos_counter.specs.Responses.{answered}
 use Rattle.pos_counter.specs.Steps.{CallOf, Answered, IsSound, Step, Sets, SetsByRecovery}
 use Rattle.pos_counter.specs.Totals.{TotalsPart, Recovered, Recovers, Rests, asks_recovery, recovers, is_enabling, is_totals, settled}
@@ -150,6 +150,13 @@ module _ {D : Type 0} (bound : Ghosts D) (old new : TotalsView D) (off : old.tot
     abbrev before : List Standing → Machine
     before left = machine_of hs es ss (part_of bound old left)
 
+    -- the call may use the disk
+    uses : SparesDisk hs (CallOf n (call.Set p v)) → ⊥
+    uses spares =
+        let rests : asks_recovery c p v ≡ false = subst (λ (o : Option Control). MatchOption o ⊤ (λ control. asks_recovery control p v ≡ false)) at spares in
+        let none : ⊥ = cc in
+        none
+
     -- the totals are recovered, and the control is enabled
     pub recovered_serves : (g : Held) (r : Answer) → DiskRecovers bound old (Ok tt) new → r ≡ answer.Done value.Empty → g.control ≡ after_set c p v → Serves bound hs es ss old (CallOf n (call.Set p v)) (Answered r) (set hs n g) ss new
     recovered_serves g r recovers done is = record {
@@ -171,6 +178,7 @@ module _ {D : Type 0} (bound : Ghosts D) (old new : TotalsView D) (off : old.tot
             any_moment = weaker (bound.state old.disk) (bound.state new.disk) (StandsForOneOf left) (IsLeft left after) (λ b q. inl q) f.any_moment;
           };
       sound = set_sound hs es ss n g c p v at is sound;
+      alone = λ spares. absurd (uses spares);
       kept = recovers.kept;
     }
 
@@ -217,6 +225,7 @@ module _ {D : Type 0} (bound : Ghosts D) (old new : TotalsView D) (off : old.tot
             any_moment = failed_moments (Err x) left recovers leaves;
           };
       sound = sound;
+      alone = λ spares. absurd (uses spares);
       kept = recovers.kept;
     }
 

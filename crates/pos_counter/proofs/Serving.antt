@@ -61,6 +61,7 @@ pub beside_serves : {D : Type 0} (bound : Ghosts D) (view : TotalsView D) (hs gs
 beside_serves bound view hs gs es ss ts q r only serves = record {
   steps = λ left leaves. rests_stepped bound view (machine_of hs es ss) (machine_of gs es ts) q r left only leaves (serves.step (part_of bound view left));
   sound = serves.sound;
+  alone = λ h. refl;
   kept = kept_disk bound view.disk;
 }
 
@@ -71,5 +72,6 @@ pub looks_serve : {D : Type 0} (bound : Ghosts D) (view : TotalsView D) (hs : Li
 looks_serve bound view hs es ss q r only sound step = record {
   steps = λ left leaves. rests_stepped bound view (machine_of hs es ss) (machine_of hs es ss) q r left only leaves (step left);
   sound = sound;
+  alone = λ h. refl;
   kept = kept_disk bound view.disk;
 }

@@ -1,12 +1,13 @@
 -- A call of the totals' own as a step of the machine.
 use Rattle.std.proofs.Common.{◌≡◌, ◌<◌, ℕ, List, [], ◌∷◌, length, get_or, arith, Option, Some, None, Result, Ok, Err, Bool, true, false, cond, not, refl, sym, ap, ◌∙◌, subst}
-use Rattle.std.specs.Prelude.{MatchOption, MatchResult, IsTrue, is_none, is_some, slice_get}
+use Rattle.std.specs.Prelude.{MatchOption, MatchResult, IsTrue, is_none, is_some, slice_get, ⊤}
 use Rattle.std.proofs.lemmas.List.{length-map}
 use Rattle.std.proofs.lemmas.Option.{slice_get_within}
 use Rattle.pos_disk.specs.declared.device.Disk.{Ghosts}
 use Rattle.pos_service.specs.declared.answer.Answer.{Answer}
 use Rattle.pos_service.specs.declared.answer.Answer.TheVariants as answer
 use Rattle.pos_service.specs.declared.call.Call.{Call}
+use Rattle.pos_service.specs.declared.call.Call.TheVariants as call
 use Rattle.pos_service.specs.declared.category.Category.{Category}
 use Rattle.pos_service.specs.declared.category.Category.TheVariants as category
 use Rattle.pos_service.specs.declared.code.Code.{Code}
@@ -26,7 +27,7 @@ use Rattle.pos_counter.specs.Machine.{Machine}
 use Rattle.pos_counter.specs.Parts.{machine_of, part_of, ArePartsSound, CallsFiles, Leaves, Serves, Stepped}
 use Rattle.pos_counter.specs.Responses.{answered}
 use Rattle.pos_counter.specs.Steps.{CallOf, Answered, Step, CategoryDoes, refusals}
-use Rattle.pos_counter.specs.Totals.{TotalsPart, FilesCalled}
+use Rattle.pos_counter.specs.Totals.{TotalsPart, FilesCalled, is_change, uses_disk}
 use Rattle.pos_counter.proofs.Lifts.{control_at, match_at_some, match_by, match_weaker}
 use Rattle.pos_counter.proofs.Stations.{own_does, own_takes, own_stays, open_refusals}
 
@@ -62,6 +63,14 @@ called_step m part n c asked (Err want) own at is device able h =
       own_stays m (record m { totals = part }) c asked own (ap (λ (p : TotalsPart). let o : Machine = record m { totals = p } in o) h.2),
     )
 
+-- a call of the totals' own that doesn't use the disk asks for no change
+spares_own : (c : Control) (asked : Call) → is_common asked ≡ false → c.category ≡ category.HardTotals → uses_disk c asked ≡ false → is_change (file_call asked) ≡ false
+spares_own c asked own is spares = by_call asked own (subst (λ k. uses_disk (record c { category = k }) asked ≡ false) is spares)
+  where
+    by_call : (asked : Call) → is_common asked ≡ false → uses_disk (record c { category = category.HardTotals }) asked ≡ false → is_change (file_call asked) ≡ false
+    by_call (call.Set p v) own spares = cc
+    by_call asked own spares = spares
+
 -- a call of the totals' own on an enabled control
 pub files_serve : {D : Type 0} (bound : Ghosts D) (view new : TotalsView D) (hs : List Held) (es : List Entry) (ss : List PeripheralState) (n : ℕ) (c : Control) (asked : Call) (outcome : Result Answer NoMemory)
     → is_common asked ≡ false → slice_get (controls_of hs) n ≡ Some c → c.category ≡ category.HardTotals → IsTrue (is_some c.device) → c.enabled ≡ true
@@ -76,6 +85,7 @@ files_serve bound view new hs es ss n c asked outcome own at is device able call
         any_moment = f.any_moment;
       };
   sound = sound;
+  alone = λ spares. calls.alone (spares_own c asked own is (subst (λ (o : Option Control). MatchOption o ⊤ (λ control. uses_disk control asked ≡ false)) at spares));
   kept = calls.kept;
 }
 

@@ -10,7 +10,7 @@ use Rattle.pos_store.specs.Standing.{Standing, StandsForOneOf}
 use Rattle.pos_disk.specs.Keeps.{KeepsDisk}
 use Rattle.pos_counter.specs.declared.counter.Counter.{Counter}
 use Rattle.pos_counter.specs.Machine.{Machine}
-use Rattle.pos_counter.specs.Parts.{machine_of, part_of, ArePartsSound, Leaves, Stepped}
+use Rattle.pos_counter.specs.Parts.{machine_of, part_of, ArePartsSound, Leaves, SparesDisk, Stepped}
 use Rattle.pos_counter.specs.Profile.{profile}
 use Rattle.pos_counter.specs.Steps.{Request, Response, Step, Run}
 use Rattle.pos_counter.specs.Totals.{TotalsPart}
@@ -41,6 +41,8 @@ pub record IsStep {D X : Type 0} {O : X → Type 0} (bound : DiskGhosts D) (boxe
     (old : Counter D X O) (request : Request) (response : Response) (new : Counter D X O) : Type 0 where
   pub steps : (left : List Standing) → Leaves bound old.totals left
       → Stepped bound left (machine boxes old) old.totals request response (machine boxes new) new.totals
+  -- a request that doesn't use the disk leaves it and the totals alone
+  pub alone : SparesDisk old.desk request → new.totals ≡ old.totals
   pub kept : KeepsDisk bound old.totals.disk new.totals.disk
 
 -- the bytes stand for what a crash leaves before a run, between two of its steps, or after it

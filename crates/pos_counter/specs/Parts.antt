@@ -1,5 +1,5 @@
 -- The machine that a counter's parts stand for.
-use Rattle.std.specs.Prelude.{◌≡◌, ◌≤◌, ◌⊎◌, ◌&&◌, not, ℕ, true, false, List, [], ◌∷◌, Option, Some, None, MatchOption, Result, All, length, map, option_map, slice_get}
+use Rattle.std.specs.Prelude.{◌≡◌, ◌≤◌, ◌⊎◌, ◌&&◌, not, ℕ, true, false, List, [], ◌∷◌, Option, Some, None, MatchOption, Result, All, length, map, option_map, slice_get, ⊤}
 use Rattle.std.specs.List.{filter_map}
 use Rattle.pos_service.specs.declared.answer.Answer.{Answer}
 use Rattle.pos_service.specs.declared.call.Call.{Call}
@@ -8,6 +8,7 @@ use Rattle.pos_service.specs.declared.memory.NoMemory.{NoMemory}
 use Rattle.pos_service.specs.HardTotals.{Mode, layout_1, is_ready}
 use Rattle.pos_service.specs.Peripherals.{PeripheralState}
 use Rattle.pos_service.specs.Stations.{Station, station_of, signs_in}
+use Rattle.pos_service.specs.TotalsCalls.{file_call}
 use Rattle.pos_common.specs.Held.{Held, controls_of}
 use Rattle.pos_disk.specs.State.{LeavesOnly}
 use Rattle.pos_disk.specs.declared.device.Disk.{Ghosts}
@@ -15,10 +16,10 @@ use Rattle.pos_store.specs.Standing.{Standing, LeavesOneOf, StandsForOneOf}
 use Rattle.pos_disk.specs.Keeps.{KeepsDisk}
 use Rattle.pos_totals.specs.Views.{TotalsView}
 use Rattle.pos_counter.specs.Machine.{Device, Machine}
-use Rattle.pos_counter.specs.Steps.{Request, Response, Step, IsSound}
+use Rattle.pos_counter.specs.Steps.{Request, CallOf, Response, Step, IsSound}
 use Rattle.pos_service.specs.declared.answer.Value.{Value}
 use Rattle.pos_service.specs.declared.property.Property.{Property}
-use Rattle.pos_counter.specs.Totals.{TotalsPart, settled, file_facts, FilesCalled, asks_recovery}
+use Rattle.pos_counter.specs.Totals.{TotalsPart, settled, file_facts, FilesCalled, asks_recovery, is_change, uses_disk}
 use Rattle.pos_counter.specs.declared.entry.Entry.{Entry}
 
 -- a device of the profile, and what stands at it
@@ -104,13 +105,21 @@ pub record Stepped {D : Type 0} (bound : Ghosts D) (left : List Standing) (old :
   pub step : Step (old (part_of bound before left)) request response (new (part_of bound now after))
   pub any_moment : LeavesOnly (bound.state before.disk) (bound.state now.disk) (IsLeft left after)
 
--- From some parts of a counter to others, the request gets this response, for all that the disk may leave.
+-- a request that doesn't use the disk: it isn't the call of a control that may
+abbrev pub SparesDisk : List Held → Request → Type 0
+SparesDisk helds (CallOf number asked) =
+    MatchOption (slice_get (controls_of helds) number) ⊤ (λ control. uses_disk control asked ≡ false)
+SparesDisk helds other = ⊤
+
+-- From some parts of a counter to others, the request gets this response, for all that the disk may leave. A request
+-- that doesn't use the disk leaves it and the totals alone.
 pub record Serves {D : Type 0} (bound : Ghosts D) (helds : List Held) (entries : List Entry)
     (states : List PeripheralState) (before : TotalsView D) (request : Request) (response : Response)
     (new_helds : List Held) (new_states : List PeripheralState) (now : TotalsView D) : Type 0 where
   pub steps : (left : List Standing) → Leaves bound before left → Stepped bound left
       (machine_of helds entries states) before request response (machine_of new_helds entries new_states) now
   pub sound : ArePartsSound new_helds entries new_states
+  pub alone : SparesDisk helds request → now ≡ before
   pub kept : KeepsDisk bound before.disk now.disk
 
 -- A call of the totals' own on an enabled control, by what the disk may leave before it.
@@ -126,6 +135,7 @@ pub record CallsFiles {D : Type 0} (bound : Ghosts D) (before : TotalsView D) (n
     (outcome : Result Answer NoMemory) (now : TotalsView D) : Type 0 where
   pub steps : (left : List Standing) → Leaves bound before left
       → FilesStepped bound left before number asked outcome now
+  pub alone : is_change (file_call asked) ≡ false → now ≡ before
   pub kept : KeepsDisk bound before.disk now.disk
 
 -- setting the property of the control that a number has recovers totals of this mode

@@ -15,6 +15,8 @@ mod support;
 #[cfg(test)]
 mod tests;
 mod totals_calls;
+#[cfg(test)]
+mod totals_tests;
 
 pub use counter::{Counter, Ended};
 pub use faults::{ControlFault, InputFault, SnapshotFault};

@@ -1,4 +1,4 @@
-use Rattle.std.proofs.Common.{◌≡◌, ◌∙◌, ◌&&◌, not, ap, get_or, set, subst, sym, true, false}
+use Rattle.std.proofs.Common.{◌≡◌, ◌∙◌, ◌&&◌, not, ap, get_or, set, subst, sym, true, false, refl}
 use Rattle.pos_service.specs.HardTotals.{is_ready}
 use Rattle.pos_common.specs.Held.{Held}
 use Rattle.pos_counter.specs.Totals.{asks_recovery}
@@ -25,5 +25,6 @@ returns g c = λ entries states sound.
       steps = λ left leaves. rests_stepped g.D.Disk view (machine_of hs entries states) (machine_of (set hs n c.set.new.self) entries states) (CallOf n q) (Answered c.set.result) left (λ bytes honest since. g.met.D.Disk.only_now view.disk bytes honest since) leaves
           (plain_set hs entries states (part_of g.D.Disk view left) n c.set.new.self h c.args.property c.args.value.now c.set.result c.requires is plain c.set.ensures);
       sound = plain_sound hs entries states n c.set.new.self h c.args.property c.args.value.now c.set.result c.requires is c.set.ensures sound;
+      alone = λ h. refl;
       kept = kept_disk g.D.Disk view.disk;
     }
