@@ -23,23 +23,16 @@ abbrev pub is_held_by_another : Option ℕ → ℕ → Bool
 is_held_by_another None number = false
 is_held_by_another (Some holder) number = not (nat_eq holder number)
 
--- the table, once the control with a number holds the device at a place
-abbrev pub with_holder : List (Option ℕ) → ℕ → ℕ → List (Option ℕ)
-with_holder claims place number = slice_set claims place (Some number)
-
--- the table, once nobody holds the device at a place
-abbrev pub without_holder : List (Option ℕ) → ℕ → List (Option ℕ)
-without_holder claims place = slice_set claims place None
-
--- the table, once the control with a number claims its device, or releases it
+-- the table, once the control with a number has claimed its device
 abbrev pub claimed_by : List (Option ℕ) → Option ℕ → ℕ → List (Option ℕ)
 claimed_by claims None number = claims
-claimed_by claims (Some place) number = with_holder claims place number
+claimed_by claims (Some place) number = slice_set claims place (Some number)
 
+-- the table, once the control with a number has released or closed its device: nobody holds it where the control did
 abbrev pub released_by : List (Option ℕ) → Option ℕ → ℕ → List (Option ℕ)
 released_by claims None number = claims
 released_by claims (Some place) number =
-    if is_held_by (slice_index_or claims place None) number then without_holder claims place else claims
+    if is_held_by (slice_index_or claims place None) number then slice_set claims place None else claims
 
 -- the time for which a claim may be waited for: any number of milliseconds, or -1 for no end
 abbrev pub is_timeout : ℤ → Bool
