@@ -5,16 +5,18 @@ ghost use Rattle.pos_service.specs.DrawerCalls.{drawer_rows, DrawerDoes};
 ghost use Rattle.pos_service.specs.Stations.{station_of, IsOpen, CalledBy, StaysInService};
 ghost use Rattle.pos_common.specs.Held.{controls_of};
 
-use pos_common::{Control, Need, hear_all, room_all};
+use pos_common::{ClaimNeed, Claims, Control, Need, hear_all, room_all};
 use pos_service::{Answer, Call, Code, HasState, NoMemory, Order, PeripheralBox, Reply, Value};
 
-/// A call on a drawer's control that is open, the peripheral being the one of its device.
+/// A call on a drawer's control that is open. The claims are those of all devices, the peripheral is that of the
+/// caller's device.
 ///
 /// Refused with E_ILLEGAL for a call that drawers don't have of their own, then as the call says. Want of memory
 /// changes nothing.
 pub fn call(
     controls: &mut [Control],
     caller: usize,
+    claims: &Claims,
     drawer: &mut PeripheralBox,
     call: &Call,
 ) -> Result<Answer, NoMemory>
@@ -22,14 +24,14 @@ pub fn call(
     requires unparked { (⟦<PeripheralBox as HasState>⟧.state drawer.old).is_parked ≡ false }
     requires drawer { (⟦<PeripheralBox as HasState>⟧.state drawer.old).kind ≡ kind.Drawer }
     ensures called { let state = ⟦<PeripheralBox as HasState>⟧.state in
-        CalledBy drawer_rows DrawerDoes caller call.now result
+        CalledBy (drawer_rows claims.now caller) DrawerDoes caller call.now result
         (controls_of controls.old) (station_of (state drawer.old))
         (controls_of controls.new) (station_of (state drawer.new)) }
     ensures in_service { let state = ⟦<PeripheralBox as HasState>⟧.state in
         StaysInService (state drawer.old) (state drawer.new) }
 {
     match call {
-        Call::OpenDrawer => open_drawer(controls, caller, drawer),
+        Call::OpenDrawer => open_drawer(controls, caller, claims, drawer),
         _ => Ok(Answer::Refused(Code::Illegal, 0)),
     }
 }
@@ -37,23 +39,30 @@ pub fn call(
 /// `openDrawer`: the drawer opens, by one order, once there is room for what the controls will hear. Each control that
 /// has it open and enabled hears of it where it was closed.
 ///
-/// Refused with E_DISABLED where the caller is disabled, E_FAILURE where the line to the drawer fails.
+/// Refused with E_CLAIMED where another control holds the drawer, E_DISABLED where the caller is disabled, E_FAILURE
+/// where the line to the drawer fails.
 fn open_drawer(
     controls: &mut [Control],
     caller: usize,
+    claims: &Claims,
     drawer: &mut PeripheralBox,
 ) -> Result<Answer, NoMemory>
     requires open { IsOpen category.CashDrawer (controls_of controls.old) caller }
     requires unparked { (⟦<PeripheralBox as HasState>⟧.state drawer.old).is_parked ≡ false }
     requires drawer { (⟦<PeripheralBox as HasState>⟧.state drawer.old).kind ≡ kind.Drawer }
     ensures called { let state = ⟦<PeripheralBox as HasState>⟧.state in
-        CalledBy drawer_rows DrawerDoes caller Call.OpenDrawer result
+        CalledBy (drawer_rows claims.now caller) DrawerDoes caller Call.OpenDrawer result
         (controls_of controls.old) (station_of (state drawer.old))
         (controls_of controls.new) (station_of (state drawer.new)) }
     ensures in_service { let state = ⟦<PeripheralBox as HasState>⟧.state in
         StaysInService (state drawer.old) (state drawer.new) }
 {
-    if let Err(code) = controls[caller].check(Need { is_enabled: true }) {
+    let need = Need {
+        claim: ClaimNeed::NoOther,
+        is_enabled: true,
+    };
+    let holder = claims.holder(controls[caller].device());
+    if let Err(code) = controls[caller].check(caller, holder, need) {
         return Ok(Answer::Refused(code, 0));
     }
     let place = controls[caller].place();

@@ -7,7 +7,7 @@ ghost use Rattle.pos_service.specs.declared.kind.Kind.TheVariants as kind;
 ghost use Rattle.pos_service.specs.declared.plant.Plant.TheVariants as plant;
 
 use crate::{call, take_input};
-use pos_common::Control;
+use pos_common::{Claims, Control};
 use pos_service::{
     Answer, Call, Category, Code, ErrorReply, Event, Finding, HasState, Input, Kind, NoMemory,
     Order, PaperLevel, Peripheral, PeripheralBox, Plant, Property, Reply, Signs, Snapshot, Taken,
@@ -106,10 +106,12 @@ fn control(alloc: Global, is_enabled: bool) -> Control
     control
 }
 
-/// What a control is answered to `openDrawer`, and the event that it hears then.
+/// What the control with the number 0 is answered to `openDrawer`, where the drawer has this holder, and the event that
+/// it hears then.
 fn opens(
     alloc: Global,
     is_enabled: bool,
+    holder: Option<usize>,
     drawer: &mut PeripheralBox,
 ) -> Result<(Answer, Option<Event>), NoMemory>
     requires unparked { (⟦<PeripheralBox as HasState>⟧.state drawer.old).is_parked ≡ false }
@@ -117,7 +119,11 @@ fn opens(
     ensures { let state = ⟦<PeripheralBox as HasState>⟧.state in StaysInService (state drawer.old) (state drawer.new) }
 {
     let mut controls = [control(alloc, is_enabled)];
-    let answer = call(&mut controls, 0, drawer, &Call::OpenDrawer)?;
+    let mut claims = Claims::new(alloc, 1)?;
+    if let Some(number) = holder {
+        claims.claim(0, number);
+    }
+    let answer = call(&mut controls, 0, &claims, drawer, &Call::OpenDrawer)?;
     Ok((answer, controls[0].deliver(ErrorReply::Default)))
 }
 
@@ -130,9 +136,11 @@ fn a_drawer_opens_and_is_shut_and_each_control_that_listens_hears(
         control(rt.alloc(), false),
         control(rt.alloc(), true),
     ];
+    let mut claims = Claims::new(rt.alloc(), 1)?;
+    claims.claim(0, 2);
     let device: Box<dyn Peripheral> = Box::new(rt.alloc(), TestDrawer::new())?;
     let mut drawer = PeripheralBox::new(device);
-    let opened = call(&mut controls, 2, &mut drawer, &Call::OpenDrawer);
+    let opened = call(&mut controls, 2, &claims, &mut drawer, &Call::OpenDrawer);
     let signs = drawer.signs();
     let shut = take_input(&mut controls, 0, &mut drawer, &Input::DrawerMoved(false));
     let signs_then = drawer.signs();
@@ -158,11 +166,11 @@ fn a_call_gives_one_order_also_to_an_open_drawer_and_a_refused_call_none(
 ) -> Result<(), Fail> {
     let device: Box<dyn Peripheral> = Box::new(rt.alloc(), TestDrawer::new())?;
     let mut drawer = PeripheralBox::new(device);
-    let first = opens(rt.alloc(), true, &mut drawer);
-    let disabled = opens(rt.alloc(), false, &mut drawer);
-    let second = opens(rt.alloc(), true, &mut drawer);
-    let third = opens(rt.alloc(), true, &mut drawer);
-    let fourth = opens(rt.alloc(), true, &mut drawer);
+    let first = opens(rt.alloc(), true, None, &mut drawer);
+    let disabled = opens(rt.alloc(), false, None, &mut drawer);
+    let second = opens(rt.alloc(), true, None, &mut drawer);
+    let third = opens(rt.alloc(), true, None, &mut drawer);
+    let fourth = opens(rt.alloc(), true, None, &mut drawer);
     drawer.end();
     assert!(rt;
         matches!(
@@ -174,5 +182,26 @@ fn a_call_gives_one_order_also_to_an_open_drawer_and_a_refused_call_none(
     assert!(rt; matches!(second?, (Answer::Refused(Code::Failure, 0), None)));
     assert!(rt; matches!(third?, (Answer::Done(Value::Empty), None)));
     assert!(rt; matches!(fourth?, (Answer::Refused(Code::Failure, 0), None)));
+    Ok(())
+}
+
+#[test]
+fn a_claimed_drawer_is_opened_by_its_holder_alone(rt: HostRuntime) -> Result<(), Fail> {
+    let device: Box<dyn Peripheral> = Box::new(rt.alloc(), TestDrawer::new())?;
+    let mut drawer = PeripheralBox::new(device);
+    let kept_out = opens(rt.alloc(), true, Some(1), &mut drawer);
+    let disabled = opens(rt.alloc(), false, Some(1), &mut drawer);
+    let signs = drawer.signs();
+    let opened = opens(rt.alloc(), true, Some(0), &mut drawer);
+    drawer.end();
+    assert!(rt; matches!(kept_out?, (Answer::Refused(Code::Claimed, 0), None)));
+    assert!(rt; matches!(disabled?, (Answer::Refused(Code::Claimed, 0), None)));
+    assert!(rt; !signs.drawer_open);
+    assert!(rt;
+        matches!(
+            opened?,
+            (Answer::Done(Value::Empty), Some(Event::StatusUpdate(1)))
+        )
+    );
     Ok(())
 }

@@ -32,6 +32,8 @@ serves category.HardTotals (Some k) = false
 abbrev pub is_common : Call → Bool
 is_common (call.Open name) = true
 is_common call.Close = true
+is_common (call.Claim timeout) = true
+is_common call.Release = true
 is_common (call.Set p v) = true
 is_common (call.Get p) = true
 is_common asked = false
@@ -47,6 +49,11 @@ has_call category.HardTotals (call.Read handle offset count) = true
 has_call category.HardTotals (call.Write handle offset bytes) = true
 has_call category.HardTotals (call.SetAll handle n) = true
 has_call category.HardTotals (call.Rename handle name) = true
+has_call category.HardTotals (call.ClaimFile handle timeout) = true
+has_call category.HardTotals (call.ReleaseFile handle) = true
+has_call category.HardTotals call.BeginTrans = true
+has_call category.HardTotals call.CommitTrans = true
+has_call category.HardTotals call.Rollback = true
 has_call c asked = false
 
 -- the calls of a category's own that may want memory
@@ -59,17 +66,20 @@ takes_memory (call.Read handle offset count) = true
 takes_memory (call.Write handle offset bytes) = true
 takes_memory (call.SetAll handle n) = true
 takes_memory (call.Rename handle name) = true
+takes_memory call.CommitTrans = true
 takes_memory asked = false
 
 -- the category has the property
 abbrev pub has_property : Category → Property → Bool
 has_property c property.State = true
+has_property c property.Claimed = true
 has_property c property.DeviceEnabled = true
 has_property category.CashDrawer property.CapStatus = true
 has_property category.CashDrawer property.DrawerOpened = true
 has_property category.HardTotals property.TotalsSize = true
 has_property category.HardTotals property.FreeData = true
 has_property category.HardTotals property.NumberOfFiles = true
+has_property category.HardTotals property.TransactionInProgress = true
 has_property category.HardTotals property.CapTransactions = true
 has_property category.HardTotals property.CapSingleFile = true
 has_property category.HardTotals property.CapErrorDetection = true
@@ -163,15 +173,17 @@ abbrev pub told_of_files : Option FileFacts → (FileFacts → ℕ) → Value
 told_of_files None tell = value.Empty
 told_of_files (Some files) tell = value.Number (pos (tell files))
 
--- the value of a property, by what is known of the control's device
+-- the value of a property, by what is known of the control and its device
 abbrev pub property_of : Control → Facts → Property → Value
 property_of control facts property.State = value.Number (pos (state_of control))
+property_of control facts property.Claimed = value.Truth facts.is_claimed
 property_of control facts property.DeviceEnabled = value.Truth control.enabled
 property_of control facts property.CapStatus = value.Truth true
 property_of control facts property.DrawerOpened = value.Truth facts.signs.drawer_open
 property_of control facts property.TotalsSize = value.Number (pos facts.totals_size)
 property_of control facts property.FreeData = told_of_files facts.files (λ files. files.free)
 property_of control facts property.NumberOfFiles = told_of_files facts.files (λ files. files.count)
+property_of control facts property.TransactionInProgress = value.Truth facts.in_transaction
 property_of control facts property.CapTransactions = value.Truth true
 property_of control facts property.CapSingleFile = value.Truth false
 property_of control facts property.CapErrorDetection = value.Truth false

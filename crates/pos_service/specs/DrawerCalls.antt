@@ -1,5 +1,5 @@
 -- The calls of a cash drawer (chapter Cash Drawer).
-use Rattle.std.specs.Prelude.{◌≡◌, ℕ, not, List, [], ◌∷◌, ◌⊎◌}
+use Rattle.std.specs.Prelude.{◌≡◌, ℕ, not, List, [], ◌∷◌, Option, ◌⊎◌}
 use Rattle.pos_service.specs.declared.answer.Answer.{Answer}
 use Rattle.pos_service.specs.declared.answer.Answer.TheVariants as answer
 use Rattle.pos_service.specs.declared.answer.Value.TheVariants as value
@@ -8,16 +8,19 @@ use Rattle.pos_service.specs.declared.call.Call.{Call}
 use Rattle.pos_service.specs.declared.call.Call.TheVariants as call
 use Rattle.pos_service.specs.declared.order.Order.TheVariants as order
 use Rattle.pos_service.specs.declared.order.Reply.TheVariants as reply
+use Rattle.pos_service.specs.Claims.{holder_at, is_held_by_another}
 use Rattle.pos_service.specs.Controls.{Control, all_heard}
 use Rattle.pos_service.specs.Peripherals.{Performs, Rose, signs_of}
 use Rattle.pos_service.specs.Refusals.{Row, when}
 use Rattle.pos_service.specs.Stations.{Station, Effect}
 use Rattle.pos_service.specs.Statuses.{status_events}
 
--- what each call asks of its own, in order
-abbrev pub drawer_rows : Control → Call → List Row
-drawer_rows control call.OpenDrawer = when (not control.enabled) code.Disabled ∷ []
-drawer_rows control asked = []
+-- what each call of the control with a number asks of its own, in order, by who holds each device
+abbrev pub drawer_rows : List (Option ℕ) → ℕ → Control → Call → List Row
+drawer_rows claims number control call.OpenDrawer =
+    when (is_held_by_another (holder_at claims control.device) number) code.Claimed
+    ∷ when (not control.enabled) code.Disabled ∷ []
+drawer_rows claims number control asked = []
 
 -- The drawer opens, and each control that listens hears of it where it was closed.
 pub record DrawerOpened (place : ℕ) (old : List Control) (before : Station) (new : List Control) (after : Station)

@@ -8,6 +8,7 @@ pub mod Output
 pub mod Controls
 pub mod Refusals
 pub mod Calls
+pub mod Claims
 pub mod Stations
 pub mod DrawerCalls
 pub mod HardTotals

@@ -9,6 +9,11 @@ pub enum Call {
     Open(Bytes),
     /// `close`: the control is for no device any more (common chapter).
     Close,
+    /// `claim` with a timeout in milliseconds, -1 for one without end: other controls are kept from the device from now
+    /// on (common chapter).
+    Claim(i128),
+    /// `release`: other controls aren't kept from the device any more (common chapter).
+    Release,
     /// Sets a property.
     Set(Property, Value),
     /// Gets a property.
@@ -32,4 +37,14 @@ pub enum Call {
     SetAll(i128, i128),
     /// `rename` with the file's handle and its new name.
     Rename(i128, Bytes),
+    /// `claimFile` with the file's handle and a timeout in milliseconds, -1 for one without end.
+    ClaimFile(i128, i128),
+    /// `releaseFile` with the file's handle.
+    ReleaseFile(i128),
+    /// `beginTrans`.
+    BeginTrans,
+    /// `commitTrans`.
+    CommitTrans,
+    /// `rollback`.
+    Rollback,
 }

@@ -30,7 +30,7 @@ impl Category {
         ensures { result ≡ has_property self property }
     {
         match property {
-            Property::State | Property::DeviceEnabled => true,
+            Property::State | Property::Claimed | Property::DeviceEnabled => true,
             Property::CapStatus | Property::DrawerOpened => self == Category::CashDrawer,
             _ => self == Category::HardTotals,
         }
@@ -52,6 +52,11 @@ impl Category {
                     | Call::Write(_, _, _)
                     | Call::SetAll(_, _)
                     | Call::Rename(_, _)
+                    | Call::ClaimFile(_, _)
+                    | Call::ReleaseFile(_)
+                    | Call::BeginTrans
+                    | Call::CommitTrans
+                    | Call::Rollback
             ),
         }
     }

@@ -1,8 +1,12 @@
 use crate::signs::Signs;
 
-/// What the properties of a control tell of its device.
+/// What the properties of a control tell, besides what is its own.
 #[derive(Clone, Copy, Debug, PartialEq, Eq)]
 pub struct Facts {
+    /// Whether the control holds its device by a claim.
+    pub is_claimed: bool,
+    /// Whether the control is in a transaction of the totals.
+    pub in_transaction: bool,
     /// What the device's peripheral shows of itself, each false or good where it has none.
     pub signs: Signs,
     /// TotalsSize.

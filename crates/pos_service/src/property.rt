@@ -6,6 +6,8 @@ ghost use Rattle.pos_service.specs.Calls.{needs_open, needs_enabled};
 pub enum Property {
     /// What the control is at: closed 1, idle 2, busy 3, in error 4.
     State,
+    /// Whether the control holds the device by a claim.
+    Claimed,
     /// Whether the device is in operation for this control.
     DeviceEnabled,
     /// Whether the drawer can tell if it is open.
@@ -18,6 +20,8 @@ pub enum Property {
     FreeData,
     /// How many files there are.
     NumberOfFiles,
+    /// Whether the control is in a transaction.
+    TransactionInProgress,
     /// Whether changes can be made together as a transaction.
     CapTransactions,
     /// Whether there is one file alone.

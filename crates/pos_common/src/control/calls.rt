@@ -1,12 +1,14 @@
 ghost use Rattle.std.specs.Prelude.{◌≡◌, ◌&&◌, ◌∷◌, [], ⊤, MatchResult, None, Some, is_none};
 ghost use Rattle.pos_service.specs.Calls.{needs_files, place_found, open_rows, close_rows, set_rows, after_set, get_rows, property_of};
+ghost use Rattle.pos_service.specs.Claims.{is_held_by, is_held_by_another, claim_rows, release_rows, after_release};
 ghost use Rattle.pos_service.specs.Controls.{opened, closed};
 ghost use Rattle.pos_service.specs.Refusals.{Decided, first_refusal, when};
 ghost use Rattle.pos_common.specs.Held.{TurnsInto};
 ghost use Rattle.pos_common.specs.Needs.{need_rows};
 
 use super::Control;
-use crate::need::Need;
+use crate::claims::is_held_by_another;
+use crate::need::{ClaimNeed, Need};
 use pos_service::{Answer, Code, Facts, Finding, Property, Value};
 
 impl Control {
@@ -51,6 +53,45 @@ impl Control {
         self.device = place;
         self.is_enabled = false;
         self.events.clear();
+    }
+
+    /// `claim`: whether it may hold its device, by its number and the number of the control that holds the device now,
+    /// if any (common chapter). The timeout is in milliseconds, -1 for one without end; nothing is waited for.
+    ///
+    /// Refused with E_CLOSED where it is closed, E_ILLEGAL for a timeout below -1, E_TIMEOUT where another control holds
+    /// the device.
+    pub fn claim(&self, number: usize, holder: Option<usize>, timeout: i128) -> Answer
+        ensures { Decided (claim_rows self.now.control (is_held_by_another holder number) timeout) result ⊤
+            (result ≡ Answer.Done Value.Empty) }
+    {
+        if self.device.is_none() {
+            return Answer::Refused(Code::Closed, 0);
+        }
+        if timeout < -1 {
+            return Answer::Refused(Code::Illegal, 0);
+        }
+        if is_held_by_another(holder, number) {
+            return Answer::Refused(Code::Timeout, 0);
+        }
+        Answer::Done(Value::Empty)
+    }
+
+    /// `release`: what it is once it has released its device, by its number and the number of the control that holds
+    /// the device now, if any (common chapter). The control of a sharable device stays as it is.
+    ///
+    /// Refused with E_CLOSED where it is closed, E_ILLEGAL where it doesn't hold the device.
+    pub fn release(&mut self, number: usize, holder: Option<usize>) -> Answer
+        ensures { let control = self.old.control in
+            TurnsInto (release_rows control (is_held_by holder number)) result self.old self.new
+            (after_release control.category control) }
+    {
+        if self.device.is_none() {
+            return Answer::Refused(Code::Closed, 0);
+        }
+        if holder != Some(number) {
+            return Answer::Refused(Code::Illegal, 0);
+        }
+        Answer::Done(Value::Empty)
     }
 
     /// Sets a property (common chapter). The value that it has is checked like any other.
@@ -104,8 +145,10 @@ impl Control {
         match property {
             Property::State if self.device.is_none() => Answer::Done(Value::Number(1)),
             Property::State => Answer::Done(Value::Number(2)),
+            Property::Claimed => Answer::Done(Value::Truth(facts.is_claimed)),
             Property::DeviceEnabled => Answer::Done(Value::Truth(self.is_enabled)),
             Property::CapStatus | Property::CapTransactions => Answer::Done(Value::Truth(true)),
+            Property::TransactionInProgress => Answer::Done(Value::Truth(facts.in_transaction)),
             Property::CapSingleFile | Property::CapErrorDetection => {
                 Answer::Done(Value::Truth(false))
             }
@@ -124,12 +167,16 @@ impl Control {
 
     /// Whether it is as a call of its category asks an open control to be.
     ///
-    /// Refused with E_DISABLED where the call needs the device enabled and it isn't.
-    pub fn check(&self, need: Need) -> Result<(), Code>
+    /// Refused with E_CLAIMED where the call needs that no other control than this one, which has the number, holds the
+    /// device, and one does; then with E_DISABLED where it needs the device enabled and it isn't.
+    pub fn check(&self, number: usize, holder: Option<usize>, need: Need) -> Result<(), Code>
         ensures { MatchResult result
-            (λ _. first_refusal (need_rows self.now.control need) ≡ None)
-            (λ code. first_refusal (need_rows self.now.control need) ≡ Some (Answer.Refused code 0)) }
+            (λ _. first_refusal (need_rows self.now.control number holder need) ≡ None)
+            (λ code. first_refusal (need_rows self.now.control number holder need) ≡ Some (Answer.Refused code 0)) }
     {
+        if need.claim == ClaimNeed::NoOther && is_held_by_another(holder, number) {
+            return Err(Code::Claimed);
+        }
         if need.is_enabled && !self.is_enabled {
             return Err(Code::Disabled);
         }

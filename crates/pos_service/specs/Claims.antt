@@ -1,0 +1,59 @@
+-- Claims: which control holds each device (common chapter, methods claim and release).
+use Rattle.std.specs.Prelude.{ℕ, ℤ, pos, negsuc, Bool, true, false, not, nat_eq, List, [], ◌∷◌, Option, Some, None, is_none, slice_index_or, slice_set, if◌then◌else◌}
+use Rattle.pos_service.specs.declared.category.Category.{Category}
+use Rattle.pos_service.specs.declared.category.Category.TheVariants as category
+use Rattle.pos_service.specs.declared.code.Code.TheVariants as code
+use Rattle.pos_service.specs.Controls.{Control}
+use Rattle.pos_service.specs.Refusals.{Row, when}
+
+-- The table of claims has the control that holds each device, by the devices' places; None is nobody.
+
+-- the control that holds a control's device: nobody where the control is closed
+abbrev pub holder_at : List (Option ℕ) → Option ℕ → Option ℕ
+holder_at claims None = None
+holder_at claims (Some place) = slice_index_or claims place None
+
+-- the holder is the control with this number
+abbrev pub is_held_by : Option ℕ → ℕ → Bool
+is_held_by None number = false
+is_held_by (Some holder) number = nat_eq holder number
+
+-- the holder is a control, and another than the one with this number
+abbrev pub is_held_by_another : Option ℕ → ℕ → Bool
+is_held_by_another None number = false
+is_held_by_another (Some holder) number = not (nat_eq holder number)
+
+-- the table, once the control with a number has claimed its device
+abbrev pub claimed_by : List (Option ℕ) → Option ℕ → ℕ → List (Option ℕ)
+claimed_by claims None number = claims
+claimed_by claims (Some place) number = slice_set claims place (Some number)
+
+-- the table, once the control with a number has released or closed its device: nobody holds it where the control did
+abbrev pub released_by : List (Option ℕ) → Option ℕ → ℕ → List (Option ℕ)
+released_by claims None number = claims
+released_by claims (Some place) number =
+    if is_held_by (slice_index_or claims place None) number then slice_set claims place None else claims
+
+-- the time for which a claim may be waited for: any number of milliseconds, or -1 for no end
+abbrev pub is_timeout : ℤ → Bool
+is_timeout (pos n) = true
+is_timeout (negsuc n) = nat_eq n 0
+
+-- claim, where the device is taken by another control or not
+abbrev pub claim_rows : Control → Bool → ℤ → List Row
+claim_rows control is_taken timeout =
+    when (is_none control.device) code.Closed
+    ∷ when (not (is_timeout timeout)) code.Illegal
+    ∷ when is_taken code.Timeout ∷ []
+
+-- release, where the control holds the device or not
+abbrev pub release_rows : Control → Bool → List Row
+release_rows control is_held =
+    when (is_none control.device) code.Closed
+    ∷ when (not is_held) code.Illegal ∷ []
+
+-- A control of each category, once it has released its device. A release of a sharable device changes the table alone:
+-- the control is as it was, enabled or not, with its events.
+abbrev pub after_release : Category → Control → Control
+after_release category.CashDrawer control = control
+after_release category.HardTotals control = control
