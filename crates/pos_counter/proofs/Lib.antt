@@ -6,6 +6,7 @@ pub mod Stations
 pub mod Runs
 pub mod Parking
 pub mod Serving
+pub mod Claiming
 pub mod FileCalls
 pub mod TotalsSteps
 pub mod Recovering

@@ -7,16 +7,15 @@ use Rattle.pos_service.specs.declared.answer.Answer.{Answer}
 use Rattle.pos_service.specs.declared.event.Event.{Event}
 use Rattle.pos_service.specs.declared.event.ErrorReply.{ErrorReply}
 use Rattle.pos_service.specs.Controls.{Control, deliverable, delivered}
-use Rattle.pos_counter.specs.Machine.{Device, Machine, with_control}
+use Rattle.pos_counter.specs.Machine.{Device, Machine, Shared, with_control}
 use Rattle.pos_service.specs.Refusals.{Row, Decided, first_refusal}
 use Rattle.pos_counter.specs.Steps.{Step, Deliver, Delivered}
 use Rattle.pos_common.specs.Held.{Held, controls_of}
 use Rattle.pos_counter.specs.Parts.{over}
-use Rattle.pos_counter.specs.Totals.{TotalsPart}
 
 -- the machine of some controls, devices and totals
-abbrev with_controls : List Control → List Device → TotalsPart → Machine
-with_controls controls devices part = record { controls = controls; devices = devices; totals = part }
+abbrev with_controls : List Control → List Device → Shared → Machine
+with_controls controls devices shared = record { controls = controls; devices = devices; claims = shared.claims; totals = shared.totals }
 
 -- a match was of none, or of some
 pub match_cases : {A : Type 0} (o : Option A) (P : Type 0) (R : A → Type 0) → MatchOption o P R → ((o ≡ None) × P) ⊎ ((a : A) × (o ≡ Some a) × R a)
@@ -45,20 +44,20 @@ pub control_at : (hs : List Held) (n : ℕ) (d : Held) → n < length hs → sli
 control_at hs n d lt = slice_get-map (λ (h : Held). h.control) hs n ∙ ap (option_map (λ (h : Held). h.control)) (slice_get-get_or hs n d lt)
 
 -- the machine with other controls
-over_same : (cs ds : List Control) (devices : List Device) (part : TotalsPart) → cs ≡ ds → with_controls cs devices part ≡ with_controls ds devices part
-over_same cs ds devices part e = ap (λ (c : List Control). with_controls c devices part) e
+over_same : (cs ds : List Control) (devices : List Device) (shared : Shared) → cs ≡ ds → with_controls cs devices shared ≡ with_controls ds devices shared
+over_same cs ds devices shared e = ap (λ (c : List Control). with_controls c devices shared) e
 
 -- a call that is decided on one control is decided on the machine
-pub decided_at : (hs : List Held) (ds : List Device) (part : TotalsPart) (n : ℕ) (g h : Held) (rows : List Row) (r : Answer) (Done : Type 0) (c : Control) → h ≡ get_or hs n h → Decided rows r (g ≡ h) (Done × (g.control ≡ c)) → Decided rows r (over (set hs n g) ds part ≡ over hs ds part) (Done × (over (set hs n g) ds part ≡ with_control (over hs ds part) n c))
-decided_at hs ds part n g h rows r Done c e x = record {
+pub decided_at : (hs : List Held) (ds : List Device) (shared : Shared) (n : ℕ) (g h : Held) (rows : List Row) (r : Answer) (Done : Type 0) (c : Control) → h ≡ get_or hs n h → Decided rows r (g ≡ h) (Done × (g.control ≡ c)) → Decided rows r (over (set hs n g) ds shared ≡ over hs ds shared) (Done × (over (set hs n g) ds shared ≡ with_control (over hs ds shared) n c))
+decided_at hs ds shared n g h rows r Done c e x = record {
   outcome = match_weaker (first_refusal rows) _ _ _ _
-      (λ y. (y.0, over_same _ _ ds part (map-set (λ (k : Held). k.control) hs n g ∙ ap (set (controls_of hs) n) y.1)))
-      (λ refusal y. (y.0, ap (λ (ks : List Held). over ks ds part) (ap (set hs n) (y.1 ∙ e) ∙ set-get_or hs n h)))
+      (λ y. (y.0, over_same _ _ ds shared (map-set (λ (k : Held). k.control) hs n g ∙ ap (set (controls_of hs) n) y.1)))
+      (λ refusal y. (y.0, ap (λ (ks : List Held). over ks ds shared) (ap (set hs n) (y.1 ∙ e) ∙ set-get_or hs n h)))
       x.outcome;
 }
 
 -- a delivery to a control is a step
-pub deliver_step : (hs : List Held) (ds : List Device) (part : TotalsPart) (n : ℕ) (reply : ErrorReply) (event : Option Event) (g h : Held) → n < length hs → h ≡ get_or hs n h → event ≡ deliverable h.control → g.control ≡ delivered h.control → Step (over hs ds part) (Deliver n reply) (Delivered event) (over (set hs n g) ds part)
-deliver_step hs ds part n reply event g h lt is first rest =
+pub deliver_step : (hs : List Held) (ds : List Device) (shared : Shared) (n : ℕ) (reply : ErrorReply) (event : Option Event) (g h : Held) → n < length hs → h ≡ get_or hs n h → event ≡ deliverable h.control → g.control ≡ delivered h.control → Step (over hs ds shared) (Deliver n reply) (Delivered event) (over (set hs n g) ds shared)
+deliver_step hs ds shared n reply event g h lt is first rest =
     match_at_some _ h.control _ _ (control_at hs n h lt ∙ ap (λ (k : Held). Some k.control) (sym is))
-    (first, over_same _ _ ds part (map-set (λ (k : Held). k.control) hs n g ∙ ap (set (controls_of hs) n) rest))
+    (first, over_same _ _ ds shared (map-set (λ (k : Held). k.control) hs n g ∙ ap (set (controls_of hs) n) rest))

@@ -33,7 +33,7 @@ use Rattle.pos_totals.specs.Recoveries.{Recovers as DiskRecovers, RecoversOneOf,
 use Rattle.pos_totals.specs.Views.{TotalsView, WhenOff, LeavesTheirFiles}
 use Rattle.pos_counter.specs.declared.entry.Entry.{Entry}
 use Rattle.pos_counter.specs.Machine.{Machine, with_control}
-use Rattle.pos_counter.specs.Parts.{machine_of, devices_of, over, part_of, ArePartsSound, IsRecovering, IsLeft, Leaves, Serves, SparesDisk, Stepped}
+use Rattle.pos_counter.specs.Parts.{machine_of, machine_with, devices_of, over, part_of, ArePartsSound, IsRecovering, IsLeft, Leaves, Serves, SparesDisk, Stepped}
 use Rattle.pos_counter.specs.Responses.{answered}
 use Rattle.pos_counter.specs.Steps.{CallOf, Answered, IsSound, Step, Sets, SetsByRecovery}
 use Rattle.pos_counter.specs.Totals.{TotalsPart, Recovered, Recovers, Rests, asks_recovery, recovers, is_enabling, is_totals, settled}
@@ -84,29 +84,29 @@ enabling_unrefused c p v e =
         by_parts (Some i) k d is = subst (λ (j : Category). first_refusal (when false code.Closed ∷ when (not (has_property j property.DeviceEnabled && true)) code.Illegal ∷ when false code.Illegal ∷ []) ≡ None) (sym is) refl
 
 -- the machine with one control in the place of another, and other totals
-set_machine : (hs : List Held) (es : List Entry) (ss : List PeripheralState) (n : ℕ) (g : Held) (c : Control) (old new : TotalsPart) → g.control ≡ c → machine_of (set hs n g) es ss new ≡ record (with_control (machine_of hs es ss old) n c) { totals = new }
-set_machine hs es ss n g c old new e =
-    ap (λ (cs : List Control). let m : Machine = record { controls = cs; devices = devices_of es ss; totals = new } in m) (map-set (λ (h : Held). h.control) hs n g ∙ ap (set (controls_of hs) n) e)
+set_machine : (hs : List Held) (cl : List (Option ℕ)) (es : List Entry) (ss : List PeripheralState) (n : ℕ) (g : Held) (c : Control) (old new : TotalsPart) → g.control ≡ c → machine_with (set hs n g) cl es ss new ≡ record (with_control (machine_with hs cl es ss old) n c) { totals = new }
+set_machine hs cl es ss n g c old new e =
+    ap (λ (cs : List Control). let m : Machine = record { controls = cs; devices = devices_of es ss; claims = cl; totals = new } in m) (map-set (λ (h : Held). h.control) hs n g ∙ ap (set (controls_of hs) n) e)
 
 -- a control with a property set keeps the parts sound
 set_sound : (hs : List Held) (es : List Entry) (ss : List PeripheralState) (n : ℕ) (g : Held) (c : Control) (p : Property) (v : Value) → slice_get (controls_of hs) n ≡ Some c → g.control ≡ after_set c p v → ArePartsSound hs es ss → ArePartsSound (set hs n g) es ss
 set_sound hs es ss n g c p v at e sound = record {
-  machine = λ part.
-      let m = machine_of hs es ss part in
-      let there = with_control_sound m n (after_set c p v) (seated m n c (sound.machine part) at) (sound.machine part) in
-      subst IsSound (sym (set_machine hs es ss n g (after_set c p v) part part e)) (record { kinds = there.kinds; places = there.places });
+  machine = λ shared.
+      let m = machine_of hs es ss shared in
+      let there = with_control_sound m n (after_set c p v) (seated m n c (sound.machine shared) at) (sound.machine shared) in
+      subst IsSound (sym (set_machine hs shared.claims es ss n g (after_set c p v) shared.totals shared.totals e)) (record { kinds = there.kinds; places = there.places });
   unparked = sound.unparked;
   attached = sound.attached;
 }
 
 -- a property is set, and nothing is recovered
-pub plain_set : (hs : List Held) (es : List Entry) (ss : List PeripheralState) (part : TotalsPart) (n : ℕ) (g h : Held) (p : Property) (v : Value) (r : Answer) → n < length hs → h ≡ get_or hs n h → recovers part h.control p v ≡ false → TurnsInto (set_rows h.control p v) r h g (after_set h.control p v)
-    → Step (machine_of hs es ss part) (CallOf n (call.Set p v)) (Answered r) (machine_of (set hs n g) es ss part)
-plain_set hs es ss part n g h p v r lt is plain turns =
-    let d = decided_at hs (devices_of es ss) part n g h (set_rows h.control p v) r _ (after_set h.control p v) is turns in
+pub plain_set : (hs : List Held) (cl : List (Option ℕ)) (es : List Entry) (ss : List PeripheralState) (part : TotalsPart) (n : ℕ) (g h : Held) (p : Property) (v : Value) (r : Answer) → n < length hs → h ≡ get_or hs n h → recovers part h.control p v ≡ false → TurnsInto (set_rows h.control p v) r h g (after_set h.control p v)
+    → Step (machine_with hs cl es ss part) (CallOf n (call.Set p v)) (Answered r) (machine_with (set hs n g) cl es ss part)
+plain_set hs cl es ss part n g h p v r lt is plain turns =
+    let d = decided_at hs (devices_of es ss) (record { claims = cl; totals = part }) n g h (set_rows h.control p v) r _ (after_set h.control p v) is turns in
     match_at_some _ h.control _ _ (control_at hs n h lt ∙ ap (λ (k : Held). Some k.control) (sym is)) (record {
       outcome = match_weaker (first_refusal (set_rows h.control p v)) _ _ _ _
-          (λ y. subst (λ b. MatchBool b (SetsByRecovery (machine_of hs es ss part) n h.control p v r (machine_of (set hs n g) es ss part)) (Sets (machine_of hs es ss part) n h.control p v r (machine_of (set hs n g) es ss part))) (sym plain) y)
+          (λ y. subst (λ b. MatchBool b (SetsByRecovery (machine_with hs cl es ss part) n h.control p v r (machine_with (set hs n g) cl es ss part)) (Sets (machine_with hs cl es ss part) n h.control p v r (machine_with (set hs n g) cl es ss part))) (sym plain) y)
           (λ refusal y. y)
           d.outcome;
     })
@@ -146,9 +146,9 @@ module _ {D : Type 0} (bound : Ghosts D) (old new : TotalsView D) (off : old.tot
   settled_twice left Off = refl
   settled_twice left (Ready files q) = refl
 
-  module _ (hs : List Held) (es : List Entry) (ss : List PeripheralState) (sound : ArePartsSound hs es ss) (n : ℕ) (c : Control) (p : Property) (v : Value) (at : slice_get (controls_of hs) n ≡ Some c) (asks : asks_recovery c p v ≡ true) (recovering : (asks_recovery c p v && not (is_ready old.totals.mode)) ≡ true) where
+  module _ (hs : List Held) (cl : List (Option ℕ)) (es : List Entry) (ss : List PeripheralState) (sound : ArePartsSound hs es ss) (n : ℕ) (c : Control) (p : Property) (v : Value) (at : slice_get (controls_of hs) n ≡ Some c) (asks : asks_recovery c p v ≡ true) (recovering : (asks_recovery c p v && not (is_ready old.totals.mode)) ≡ true) where
     abbrev before : List Standing → Machine
-    before left = machine_of hs es ss (part_of bound old left)
+    before left = machine_with hs cl es ss (part_of bound old left)
 
     -- the call may use the disk
     uses : SparesDisk hs (CallOf n (call.Set p v)) → ⊥
@@ -158,7 +158,7 @@ module _ {D : Type 0} (bound : Ghosts D) (old new : TotalsView D) (off : old.tot
         none
 
     -- the totals are recovered, and the control is enabled
-    pub recovered_serves : (g : Held) (r : Answer) → DiskRecovers bound old (Ok tt) new → r ≡ answer.Done value.Empty → g.control ≡ after_set c p v → Serves bound hs es ss old (CallOf n (call.Set p v)) (Answered r) (set hs n g) ss new
+    pub recovered_serves : (g : Held) (r : Answer) → DiskRecovers bound old (Ok tt) new → r ≡ answer.Done value.Empty → g.control ≡ after_set c p v → Serves bound hs cl es ss old (CallOf n (call.Set p v)) (Answered r) (set hs n g) cl ss new
     recovered_serves g r recovers done is = record {
       steps = λ left leaves.
           let f = found_one (Ok tt) left recovers leaves in
@@ -172,12 +172,13 @@ module _ {D : Type 0} (bound : Ghosts D) (old new : TotalsView D) (off : old.tot
             };
             step = match_at_some _ c _ _ at (record {
               outcome = match_at_none (first_refusal (set_rows c p v)) _ _ (enabling_unrefused c p v asks)
-                  (subst (λ b. MatchBool b (SetsByRecovery (before left) n c p v r (machine_of (set hs n g) es ss (part_of bound new after))) (Sets (before left) n c p v r (machine_of (set hs n g) es ss (part_of bound new after)))) (sym recovering)
-                  (inl (done, record { found = f.found; left = refl; later = recovers.kept.later leaves.honest }, set_machine hs es ss n g (after_set c p v) (part_of bound old left) (part_of bound new after) is)));
+                  (subst (λ b. MatchBool b (SetsByRecovery (before left) n c p v r (machine_with (set hs n g) cl es ss (part_of bound new after))) (Sets (before left) n c p v r (machine_with (set hs n g) cl es ss (part_of bound new after)))) (sym recovering)
+                  (inl (done, record { found = f.found; left = refl; later = recovers.kept.later leaves.honest }, set_machine hs cl es ss n g (after_set c p v) (part_of bound old left) (part_of bound new after) is)));
             });
             any_moment = weaker (bound.state old.disk) (bound.state new.disk) (StandsForOneOf left) (IsLeft left after) (λ b q. inl q) f.any_moment;
           };
       sound = set_sound hs es ss n g c p v at is sound;
+      covers = refl;
       alone = λ spares. absurd (uses spares);
       kept = recovers.kept;
     }
@@ -210,7 +211,7 @@ module _ {D : Type 0} (bound : Ghosts D) (old new : TotalsView D) (off : old.tot
         by_fault fault.Device h = h
 
     -- the recovery fails, and the control stays as it is
-    pub failed_serves : (x : RecoveryFault) (k : Code) → DiskRecovers bound old (Err x) new → Some k ≡ code_of x → Serves bound hs es ss old (CallOf n (call.Set p v)) (Answered (answer.Refused k 0)) hs ss new
+    pub failed_serves : (x : RecoveryFault) (k : Code) → DiskRecovers bound old (Err x) new → Some k ≡ code_of x → Serves bound hs cl es ss old (CallOf n (call.Set p v)) (Answered (answer.Refused k 0)) hs cl ss new
     failed_serves x k recovers is = record {
       steps = λ left leaves.
           let same = kept_totals x recovers in
@@ -219,12 +220,13 @@ module _ {D : Type 0} (bound : Ghosts D) (old new : TotalsView D) (off : old.tot
             leaves = failed_leaves (Err x) left recovers leaves same;
             step = match_at_some _ c _ _ at (record {
               outcome = match_at_none (first_refusal (set_rows c p v)) _ _ (enabling_unrefused c p v asks)
-                  (subst (λ b. MatchBool b (SetsByRecovery (before left) n c p v (answer.Refused k 0) (machine_of hs es ss (part_of bound new left))) (Sets (before left) n c p v (answer.Refused k 0) (machine_of hs es ss (part_of bound new left)))) (sym recovering)
+                  (subst (λ b. MatchBool b (SetsByRecovery (before left) n c p v (answer.Refused k 0) (machine_with hs cl es ss (part_of bound new left))) (Sets (before left) n c p v (answer.Refused k 0) (machine_with hs cl es ss (part_of bound new left)))) (sym recovering)
                   (inr (why left x k recovers leaves is same, refl)));
             });
             any_moment = failed_moments (Err x) left recovers leaves;
           };
       sound = sound;
+      covers = refl;
       alone = λ spares. absurd (uses spares);
       kept = recovers.kept;
     }

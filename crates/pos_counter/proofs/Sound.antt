@@ -16,11 +16,12 @@ use Rattle.pos_service.specs.declared.call.Call.{Call}
 use Rattle.pos_service.specs.declared.call.Call.TheVariants as call
 use Rattle.pos_service.specs.Controls.{Control, new_control, closed, delivered, heard, listens, all_heard}
 use Rattle.pos_service.specs.Refusals.{Row, Decided, first_refusal}
-use Rattle.pos_service.specs.Calls.{serves, place_found, after_set, set_rows, get_rows}
+use Rattle.pos_service.specs.Calls.{serves, place_found, after_set, close_rows, set_rows, get_rows}
+use Rattle.pos_service.specs.Claims.{after_release}
 use Rattle.pos_service.specs.Stations.{Station, Effect, TakesIn}
 use Rattle.pos_service.specs.DrawerCalls.{DrawerOpens, DrawerDoes}
 use Rattle.pos_counter.specs.Machine.{Device, Machine, device_at, place_of, found_at, with_control}
-use Rattle.pos_counter.specs.Steps.{Request, NewControl, CallOf, InputTo, Deliver, Snapshot, Response, Made, Full, Answered, TakenIn, NoDevice, WrongInput, Delivered, Shown, OutOfMemory, OnStation, Step, Called, Stays, Sets, SetsByRecovery, CategoryDoes, facts_of, refusals, IsSound, IsServed, HasItsKind, HasItsDevice}
+use Rattle.pos_counter.specs.Steps.{Request, NewControl, CallOf, InputTo, Deliver, Snapshot, Response, Made, Full, Answered, TakenIn, NoDevice, WrongInput, Delivered, Shown, OutOfMemory, OnStation, Step, Called, Stays, Sets, SetsByRecovery, CategoryDoes, claimed, released, dropped, facts_of, refusals, IsSound, IsServed, HasItsKind, HasItsDevice}
 use Rattle.pos_counter.specs.Totals.{recovers}
 use Rattle.pos_counter.proofs.Lifts.{match_cases}
 
@@ -163,15 +164,50 @@ set_sound m m' n c p v r true e (inl h) s =
     same_machine _ m' h.2 (record { kinds = there.kinds; places = there.places })
 set_sound m m' n c p v r true e (inr h) s = other_totals m m' h.1 s
 
+-- claims that have changed leave all else as it was
+other_claims : (m : Machine) (claims : List (Option ℕ)) → IsSound m → IsSound (record m { claims = claims })
+other_claims m claims s = record { kinds = s.kinds; places = s.places }
+
+claimed_sound : (k : Category) (m : Machine) (n : ℕ) (c : Control) → IsSound m → IsSound (claimed k m n c)
+claimed_sound category.CashDrawer m n c s = other_claims m _ s
+claimed_sound category.HardTotals m n c s = s
+
+released_sound : (k : Category) (m : Machine) (n : ℕ) (c : Control) → IsSound m → IsSound (released k m n c)
+released_sound category.CashDrawer m n c s = other_claims m _ s
+released_sound category.HardTotals m n c s = s
+
+dropped_sound : (k : Category) (m : Machine) (n : ℕ) (c : Control) → IsSound m → IsSound (dropped k m n c)
+dropped_sound category.CashDrawer m n c s = other_claims m _ s
+dropped_sound category.HardTotals m n c s = s
+
+-- a control that has released its device still has it open
+released_seat : (ds : List Device) (k : Category) (c : Control) → HasItsDevice ds c → HasItsDevice ds (after_release k c)
+released_seat ds category.CashDrawer c h = h
+released_seat ds category.HardTotals c h = h
+
 called_sound : (m m' : Machine) (n : ℕ) (c : Control) (q : Call) (r : Answer) → slice_get m.controls n ≡ Some c → Called m n c q r m' → IsSound m → IsSound m'
 called_sound m m' n c (call.Open name) r e h s = decided_sound _ r m m' n _ _ (λ none. found_seat m.devices c.category (place_of m.devices name)) h s
-called_sound m m' n c call.Close r e h s = decided_sound _ r m m' n (closed c) _ (λ none. tt) h s
+called_sound m m' n c call.Close r e h s =
+    elim (match_cases (first_refusal (close_rows c)) _ _ h.outcome) [
+      | inl x ↦ same_machine _ m' x.1.1 (dropped_sound c.category (with_control m n (closed c)) n c (with_control_sound m n (closed c) tt s))
+      | inr x ↦ same_machine m m' x.2.1 s
+    ]
+called_sound m m' n c (call.Claim timeout) r e h s =
+    elim (match_cases (first_refusal (refusals m n c (call.Claim timeout))) _ _ h.outcome) [
+      | inl x ↦ same_machine _ m' x.1.1 (claimed_sound c.category m n c s)
+      | inr x ↦ same_machine m m' x.2.1 s
+    ]
+called_sound m m' n c call.Release r e h s =
+    elim (match_cases (first_refusal (refusals m n c call.Release)) _ _ h.outcome) [
+      | inl x ↦ same_machine _ m' x.1.1 (released_sound c.category (with_control m n (after_release c.category c)) n c (with_control_sound m n (after_release c.category c) (released_seat m.devices c.category c (seated m n c s e)) s))
+      | inr x ↦ same_machine m m' x.2.1 s
+    ]
 called_sound m m' n c (call.Set p v) r e h s =
     elim (match_cases (first_refusal (set_rows c p v)) _ _ h.outcome) [
       | inl x ↦ set_sound m m' n c p v r (recovers m.totals c p v) e x.1 s
       | inr x ↦ same_machine m m' x.2.1 s
     ]
-called_sound m m' n c (call.Get p) r e h s = elim (match_cases (first_refusal (get_rows c (facts_of m c) p)) _ _ h.outcome) [ inl x ↦ same_machine m m' x.1.1 s | inr x ↦ same_machine m m' x.2.1 s ]
+called_sound m m' n c (call.Get p) r e h s = elim (match_cases (first_refusal (get_rows c (facts_of m n c) p)) _ _ h.outcome) [ inl x ↦ same_machine m m' x.1.1 s | inr x ↦ same_machine m m' x.2.1 s ]
 called_sound m m' n c own r e h s =
     elim (match_cases (first_refusal (refusals m n c own)) _ _ h.outcome) [
       | inl x ↦ category_sound c.category m m' n c own r x.1 s

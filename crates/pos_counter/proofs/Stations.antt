@@ -23,11 +23,10 @@ use Rattle.pos_service.specs.Refusals.{Row, Decided, first_refusal, when}
 use Rattle.pos_service.specs.Stations.{Station, Effect, station_of, CalledAt, CalledBy, IsOpen}
 use Rattle.pos_common.specs.Held.{Held, controls_of}
 use Rattle.pos_counter.specs.declared.entry.Entry.{Entry}
-use Rattle.pos_counter.specs.Machine.{Device, Machine, station_in, station_named, device_at, place_of}
+use Rattle.pos_counter.specs.Machine.{Device, Machine, Shared, station_in, station_named, device_at, place_of}
 use Rattle.pos_counter.specs.Parts.{over, machine_of, devices_of, device_of, AllUnparked}
 use Rattle.pos_counter.specs.Responses.{answered}
 use Rattle.pos_counter.specs.Steps.{OnStation, Step, CallOf, Answered, Called, Wants, Does, CategoryDoes, Stays, category_rows, refusals, takes_memory, FindsFit, IsSound, IsServed, HasItsKind}
-use Rattle.pos_counter.specs.Totals.{TotalsPart}
 use Rattle.pos_counter.proofs.DeviceLists.{device_there, devices_set, devices_same, station_there}
 use Rattle.pos_counter.proofs.Lifts.{match_cases, match_at_some, match_by, match_weaker}
 use Rattle.pos_counter.proofs.Sound.{seated, Served}
@@ -42,15 +41,15 @@ state_at : {P : Type 0} (state : P → PeripheralState) (ps : List P) (place : �
 state_at state ps place p at = slice_get-map state ps place ∙ ap (option_map state) at
 
 -- the station of a device that a name finds
-pub named_there : {P : Type 0} (state : P → PeripheralState) (hs : List Held) (es : List Entry) (ps : List P) (part : TotalsPart) (name : List ℕ) (place : ℕ) (p : P) → length (map state ps) ≤ length es → Some place ≡ place_of (devices_of es (map state ps)) name → slice_get ps place ≡ Some p → station_named (machine_of hs es (map state ps) part) name ≡ Some (station_of (state p))
-named_there state hs es ps part name place p whole finds at =
+pub named_there : {P : Type 0} (state : P → PeripheralState) (hs : List Held) (es : List Entry) (ps : List P) (shared : Shared) (name : List ℕ) (place : ℕ) (p : P) → length (map state ps) ≤ length es → Some place ≡ place_of (devices_of es (map state ps)) name → slice_get ps place ≡ Some p → station_named (machine_of hs es (map state ps) shared) name ≡ Some (station_of (state p))
+named_there state hs es ps shared name place p whole finds at =
     ap (λ o. station_in (device_at (devices_of es (map state ps)) o)) (sym finds)
     ∙ station_there es (map state ps) (Some place) whole
     ∙ ap (option_map station_of) (state_at state ps place p at)
 
 -- behind the last peripheral nothing stands at the device that a name finds
-pub nothing_named : (hs : List Held) (es : List Entry) (ss : List PeripheralState) (part : TotalsPart) (name : List ℕ) (place : ℕ) → length ss ≤ length es → Some place ≡ place_of (devices_of es ss) name → length ss ≤ place → station_named (machine_of hs es ss part) name ≡ None
-nothing_named hs es ss part name place whole finds beyond =
+pub nothing_named : (hs : List Held) (es : List Entry) (ss : List PeripheralState) (shared : Shared) (name : List ℕ) (place : ℕ) → length ss ≤ length es → Some place ≡ place_of (devices_of es ss) name → length ss ≤ place → station_named (machine_of hs es ss shared) name ≡ None
+nothing_named hs es ss shared name place whole finds beyond =
     ap (λ o. station_in (device_at (devices_of es ss) o)) (sym finds)
     ∙ station_there es ss (Some place) whole
     ∙ ap (option_map station_of) (behind ss place beyond)
@@ -62,8 +61,8 @@ nothing_named hs es ss part name place whole finds beyond =
     behind (s ∷ ss) (suc i) le = behind ss i (omega arith)
 
 -- what is done with the peripheral at a place is done at the device's station
-pub on_station : {P : Type 0} (state : P → PeripheralState) (hs gs : List Held) (es : List Entry) (ps : List P) (part : TotalsPart) (place : ℕ) (p q : P) (o : Option ℕ) (Does : ℕ → Effect) → length (map state ps) ≤ length es → slice_get ps place ≡ Some p → o ≡ Some place → Does place (controls_of hs) (station_of (state p)) (controls_of gs) (station_of (state q)) → OnStation (machine_of hs es (map state ps) part) o Does (machine_of gs es (map state (set ps place q)) part)
-on_station state hs gs es ps part place p q o Does whole at is does =
+pub on_station : {P : Type 0} (state : P → PeripheralState) (hs gs : List Held) (es : List Entry) (ps : List P) (shared : Shared) (place : ℕ) (p q : P) (o : Option ℕ) (Does : ℕ → Effect) → length (map state ps) ≤ length es → slice_get ps place ≡ Some p → o ≡ Some place → Does place (controls_of hs) (station_of (state p)) (controls_of gs) (station_of (state q)) → OnStation (machine_of hs es (map state ps) shared) o Does (machine_of gs es (map state (set ps place q)) shared)
+on_station state hs gs es ps shared place p q o Does whole at is does =
     let within : place < length (map state ps) = slice_get_within (map state ps) place (state p) (state_at state ps place p at) in
     let entry = entry_within es place (omega arith) in record {
       place = place;
@@ -75,14 +74,14 @@ on_station state hs gs es ps part place p q o Does whole at is does =
       is_device = device_there es (map state ps) place ∙ ap (option_map (λ e. device_of e (option_map station_of (slice_get (map state ps) place)))) entry.1 ∙ ap (λ s. Some (device_of entry.0 (option_map station_of s))) (state_at state ps place p at);
       is_attached = refl;
       does = does;
-      machine = ap (λ ds. over gs ds part) (ap (devices_of es) (map-set state ps place q) ∙ devices_set es (map state ps) place entry.0 (state q) entry.1 within);
+      machine = ap (λ ds. over gs ds shared) (ap (devices_of es) (map-set state ps place q) ∙ devices_set es (map state ps) place entry.0 (state q) entry.1 within);
     }
 
 -- a peripheral that did nothing leaves the machine as it was
-pub unchanged : {P : Type 0} (state : P → PeripheralState) (hs gs : List Held) (es : List Entry) (ps : List P) (part : TotalsPart) (place : ℕ) (p q : P) → slice_get ps place ≡ Some p → controls_of gs ≡ controls_of hs → station_of (state q) ≡ station_of (state p) → machine_of gs es (map state (set ps place q)) part ≡ machine_of hs es (map state ps) part
-unchanged state hs gs es ps part place p q at controls station =
-    ap (λ (cs : List Control). let m : Machine = record { controls = cs; devices = devices_of es (map state (set ps place q)); totals = part } in m) controls
-    ∙ ap (λ ds. over hs ds part) (ap (devices_of es) (map-set state ps place q) ∙ devices_same es (map state ps) place (state p) (state q) (state_at state ps place p at) station)
+pub unchanged : {P : Type 0} (state : P → PeripheralState) (hs gs : List Held) (es : List Entry) (ps : List P) (shared : Shared) (place : ℕ) (p q : P) → slice_get ps place ≡ Some p → controls_of gs ≡ controls_of hs → station_of (state q) ≡ station_of (state p) → machine_of gs es (map state (set ps place q)) shared ≡ machine_of hs es (map state ps) shared
+unchanged state hs gs es ps shared place p q at controls station =
+    ap (λ (cs : List Control). let m : Machine = record { controls = cs; devices = devices_of es (map state (set ps place q)); claims = shared.claims; totals = shared.totals } in m) controls
+    ∙ ap (λ ds. over hs ds shared) (ap (devices_of es) (map-set state ps place q) ∙ devices_same es (map state ps) place (state p) (state q) (state_at state ps place p at) station)
 
 -- all peripherals are in service, so the one at a place is
 pub unparked_at : {P : Type 0} (state : P → PeripheralState) (ps : List P) (place : ℕ) (p : P) → slice_get ps place ≡ Some p → AllUnparked (map state ps) → (state p).is_parked ≡ false
@@ -100,10 +99,10 @@ pub record ServedAt {P : Type 0} (state : P → PeripheralState) (ps : List P) (
   pub is_served : (d : P) → serves category (Some (state (get_or ps place d)).kind) ≡ true
 
 -- an open control's device has a peripheral, where its category serves no device without one
-pub served_there : {P : Type 0} (state : P → PeripheralState) (hs : List Held) (es : List Entry) (ps : List P) (part : TotalsPart) (n : ℕ) (c : Control) (place : ℕ) → IsSound (machine_of hs es (map state ps) part) → length (map state ps) ≤ length es → slice_get (controls_of hs) n ≡ Some c → c.device ≡ Some place → serves c.category None ≡ false → ServedAt state ps c.category place
-served_there {P = P} state hs es ps part n c place sound whole at is peripheral =
+pub served_there : {P : Type 0} (state : P → PeripheralState) (hs : List Held) (es : List Entry) (ps : List P) (shared : Shared) (n : ℕ) (c : Control) (place : ℕ) → IsSound (machine_of hs es (map state ps) shared) → length (map state ps) ≤ length es → slice_get (controls_of hs) n ≡ Some c → c.device ≡ Some place → serves c.category None ≡ false → ServedAt state ps c.category place
+served_there {P = P} state hs es ps shared n c place sound whole at is peripheral =
     let ds = devices_of es (map state ps) in
-    let seat = subst (λ (o : Option ℕ). IfSome o (λ k. Served c.category (slice_get ds k))) is (seated (machine_of hs es (map state ps) part) n c sound at) in
+    let seat = subst (λ (o : Option ℕ). IfSome o (λ k. Served c.category (slice_get ds k))) is (seated (machine_of hs es (map state ps) shared) n c sound at) in
     elim (match_cases (slice_get ds place) _ _ seat) [
       | inl x ↦ absurd x.1
       | inr x ↦ by_peripheral x.0 x.1 x.2.0 x.2.1 (slice_get ps place) refl
@@ -129,10 +128,10 @@ served_there {P = P} state hs es ps part n c place sound whole at is peripheral 
         }
 
 -- a name finds a device whose peripheral has an input, or hasn't
-pub finds_fit : {P : Type 0} (state : P → PeripheralState) (hs : List Held) (es : List Entry) (ps : List P) (part : TotalsPart) (name : List ℕ) (place : ℕ) (p : P) (input : Input) (fits : Bool) → length (map state ps) ≤ length es → Some place ≡ place_of (devices_of es (map state ps)) name → slice_get ps place ≡ Some p → input_fits (state p).kind input ≡ fits → FindsFit (station_named (machine_of hs es (map state ps) part) name) input fits
-finds_fit state hs es ps part name place p input fits whole finds at fit = record {
+pub finds_fit : {P : Type 0} (state : P → PeripheralState) (hs : List Held) (es : List Entry) (ps : List P) (shared : Shared) (name : List ℕ) (place : ℕ) (p : P) (input : Input) (fits : Bool) → length (map state ps) ≤ length es → Some place ≡ place_of (devices_of es (map state ps)) name → slice_get ps place ≡ Some p → input_fits (state p).kind input ≡ fits → FindsFit (station_named (machine_of hs es (map state ps) shared) name) input fits
+finds_fit state hs es ps shared name place p input fits whole finds at fit = record {
   before = station_of (state p);
-  is_attached = named_there state hs es ps part name place p whole finds at;
+  is_attached = named_there state hs es ps shared name place p whole finds at;
   fit = fit;
 }
 
@@ -150,6 +149,8 @@ drawer_kind c k is h = of_drawer k (subst (λ (j : Category). serves j (Some k) 
 own_refusals : (m : Machine) (n : ℕ) (c : Control) (asked : Call) → is_common asked ≡ false → refusals m n c asked ≡ when (is_none c.device) code.Closed ∷ own_rows c asked (category_rows c.category m n c asked)
 own_refusals m n c (call.Open name) own = cc
 own_refusals m n c call.Close own = cc
+own_refusals m n c (call.Claim timeout) own = cc
+own_refusals m n c call.Release own = cc
 own_refusals m n c (call.Set p v) own = cc
 own_refusals m n c (call.Get p) own = cc
 own_refusals m n c asked own = refl
@@ -157,6 +158,8 @@ own_refusals m n c asked own = refl
 pub own_does : (m : Machine) (n : ℕ) (c : Control) (asked : Call) (r : Answer) (m' : Machine) → is_common asked ≡ false → CategoryDoes c.category m n c asked r m' → Does m n c asked r m'
 own_does m n c (call.Open name) r m' own h = cc
 own_does m n c call.Close r m' own h = cc
+own_does m n c (call.Claim timeout) r m' own h = cc
+own_does m n c call.Release r m' own h = cc
 own_does m n c (call.Set p v) r m' own h = cc
 own_does m n c (call.Get p) r m' own h = cc
 own_does m n c asked r m' own h = h
@@ -164,6 +167,8 @@ own_does m n c asked r m' own h = h
 pub own_takes : (m : Machine) (c : Control) (asked : Call) → is_common asked ≡ false → IsTrue (own_takes_memory asked) → IsTrue (takes_memory m c asked)
 own_takes m c (call.Open name) own h = refl
 own_takes m c call.Close own h = cc
+own_takes m c (call.Claim timeout) own h = cc
+own_takes m c call.Release own h = cc
 own_takes m c (call.Set p v) own h = cc
 own_takes m c (call.Get p) own h = cc
 own_takes m c asked own h = h
@@ -171,6 +176,8 @@ own_takes m c asked own h = h
 pub own_stays : (m m' : Machine) (c : Control) (asked : Call) → is_common asked ≡ false → m' ≡ m → Stays m c asked m'
 own_stays m m' c (call.Open name) own h = h
 own_stays m m' c call.Close own h = h
+own_stays m m' c (call.Claim timeout) own h = h
+own_stays m m' c call.Release own h = h
 own_stays m m' c (call.Set p v) own h = cc
 own_stays m m' c (call.Get p) own h = h
 own_stays m m' c asked own h = h
@@ -205,32 +212,32 @@ open_refusals m n c k asked own is device =
     is_there (Some i) h = refl
 
 -- a call of a drawer's own on an open control is a step
-pub drawer_step : {P : Type 0} (state : P → PeripheralState) (hs gs : List Held) (es : List Entry) (ps : List P) (part : TotalsPart) (n place : ℕ) (p q : P) (c : Control) (asked : Call) (r : Result Answer NoMemory)
+pub drawer_step : {P : Type 0} (state : P → PeripheralState) (hs gs : List Held) (es : List Entry) (ps : List P) (shared : Shared) (n place : ℕ) (p q : P) (c : Control) (asked : Call) (r : Result Answer NoMemory)
     → is_common asked ≡ false → slice_get (controls_of hs) n ≡ Some c → c.category ≡ category.CashDrawer → c.device ≡ Some place → length (map state ps) ≤ length es → slice_get ps place ≡ Some p
-    → CalledBy drawer_rows DrawerDoes n asked r (controls_of hs) (station_of (state p)) (controls_of gs) (station_of (state q))
-    → Step (machine_of hs es (map state ps) part) (CallOf n asked) (answered r) (machine_of gs es (map state (set ps place q)) part)
-drawer_step state hs gs es ps part n place p q c asked r own at is device whole there called =
-    let Q : Control → ℕ → Type 0 = λ control place. CalledAt asked (own_rows control asked (drawer_rows control asked)) (DrawerDoes asked place) r (controls_of hs) (station_of (state p)) (controls_of gs) (station_of (state q)) in
+    → CalledBy (drawer_rows shared.claims n) DrawerDoes n asked r (controls_of hs) (station_of (state p)) (controls_of gs) (station_of (state q))
+    → Step (machine_of hs es (map state ps) shared) (CallOf n asked) (answered r) (machine_of gs es (map state (set ps place q)) shared)
+drawer_step state hs gs es ps shared n place p q c asked r own at is device whole there called =
+    let Q : Control → ℕ → Type 0 = λ control place. CalledAt asked (own_rows control asked (drawer_rows shared.claims n control asked)) (DrawerDoes asked place) r (controls_of hs) (station_of (state p)) (controls_of gs) (station_of (state q)) in
     by_outcome r (called_there _ c place Q at device called)
   where
     m : Machine
-    m = machine_of hs es (map state ps) part
+    m = machine_of hs es (map state ps) shared
 
     m' : Machine
-    m' = machine_of gs es (map state (set ps place q)) part
+    m' = machine_of gs es (map state (set ps place q)) shared
 
-    by_outcome : (o : Result Answer NoMemory) → CalledAt asked (own_rows c asked (drawer_rows c asked)) (DrawerDoes asked place) o (controls_of hs) (station_of (state p)) (controls_of gs) (station_of (state q)) → Step m (CallOf n asked) (answered o) m'
+    by_outcome : (o : Result Answer NoMemory) → CalledAt asked (own_rows c asked (drawer_rows shared.claims n c asked)) (DrawerDoes asked place) o (controls_of hs) (station_of (state p)) (controls_of gs) (station_of (state q)) → Step m (CallOf n asked) (answered o) m'
     by_outcome (Ok result) h =
         match_at_some _ c _ _ at (record {
           outcome = match_by _ _ _ _ (open_refusals m n c category.CashDrawer asked own is (ap is_some device)) (
-              match_weaker (first_refusal (own_rows c asked (drawer_rows c asked))) _ _ _ _
-              (λ does. own_does m n c asked result m' own (subst (λ k. CategoryDoes k m n c asked result m') (sym is) (on_station state hs gs es ps part place p q c.device _ whole there device does)))
-              (λ refusal y. (y.0, unchanged state hs gs es ps part place p q there y.1.controls y.1.station))
+              match_weaker (first_refusal (own_rows c asked (drawer_rows shared.claims n c asked))) _ _ _ _
+              (λ does. own_does m n c asked result m' own (subst (λ k. CategoryDoes k m n c asked result m') (sym is) (on_station state hs gs es ps shared place p q c.device _ whole there device does)))
+              (λ refusal y. (y.0, unchanged state hs gs es ps shared place p q there y.1.controls y.1.station))
               h.outcome);
         })
     by_outcome (Err want) h =
         match_at_some _ c _ _ at (
           own_takes m c asked own h.0,
           open_refusals m n c category.CashDrawer asked own is (ap is_some device) ∙ h.1,
-          own_stays m m' c asked own (unchanged state hs gs es ps part place p q there h.2.controls h.2.station),
+          own_stays m m' c asked own (unchanged state hs gs es ps shared place p q there h.2.controls h.2.station),
         )

@@ -24,7 +24,7 @@ use Rattle.pos_store.specs.Standing.{Standing}
 use Rattle.pos_totals.specs.Views.{TotalsView}
 use Rattle.pos_counter.specs.declared.entry.Entry.{Entry}
 use Rattle.pos_counter.specs.Machine.{Machine}
-use Rattle.pos_counter.specs.Parts.{machine_of, part_of, ArePartsSound, CallsFiles, Leaves, Serves, Stepped}
+use Rattle.pos_counter.specs.Parts.{machine_with, part_of, ArePartsSound, CallsFiles, Leaves, Serves, Stepped}
 use Rattle.pos_counter.specs.Responses.{answered}
 use Rattle.pos_counter.specs.Steps.{CallOf, Answered, Step, CategoryDoes, refusals}
 use Rattle.pos_counter.specs.Totals.{TotalsPart, FilesCalled, is_change, uses_disk}
@@ -72,20 +72,21 @@ spares_own c asked own is spares = by_call asked own (subst (λ k. uses_disk (re
     by_call asked own spares = spares
 
 -- a call of the totals' own on an enabled control
-pub files_serve : {D : Type 0} (bound : Ghosts D) (view new : TotalsView D) (hs : List Held) (es : List Entry) (ss : List PeripheralState) (n : ℕ) (c : Control) (asked : Call) (outcome : Result Answer NoMemory)
+pub files_serve : {D : Type 0} (bound : Ghosts D) (view new : TotalsView D) (hs : List Held) (cl : List (Option ℕ)) (es : List Entry) (ss : List PeripheralState) (n : ℕ) (c : Control) (asked : Call) (outcome : Result Answer NoMemory)
     → is_common asked ≡ false → slice_get (controls_of hs) n ≡ Some c → c.category ≡ category.HardTotals → IsTrue (is_some c.device) → c.enabled ≡ true
-    → CallsFiles bound view n asked outcome new → ArePartsSound hs es ss → Serves bound hs es ss view (CallOf n asked) (answered outcome) hs ss new
-files_serve bound view new hs es ss n c asked outcome own at is device able calls sound = record {
+    → CallsFiles bound view n asked outcome new → ArePartsSound hs es ss → Serves bound hs cl es ss view (CallOf n asked) (answered outcome) hs cl ss new
+files_serve {D = D} bound view new hs cl es ss n c asked outcome own at is device able calls sound = record {
   steps = λ left leaves.
       let f = calls.steps left leaves in
       record {
         after = f.after;
         leaves = f.leaves;
-        step = called_step (machine_of hs es ss (part_of bound view left)) (part_of bound new f.after) n c asked outcome own at is device able f.answer;
+        step = called_step (machine_with hs cl es ss (part_of bound view left)) (part_of bound new f.after) n c asked outcome own at is device able f.answer;
         any_moment = f.any_moment;
       };
   sound = sound;
-  alone = λ spares. calls.alone (spares_own c asked own is (subst (λ (o : Option Control). MatchOption o ⊤ (λ control. uses_disk control asked ≡ false)) at spares));
+  covers = refl;
+  alone = λ spares. ap (λ (v : TotalsView D). v.disk) (calls.alone (spares_own c asked own is (subst (λ (o : Option Control). MatchOption o ⊤ (λ control. uses_disk control asked ≡ false)) at spares)));
   kept = calls.kept;
 }
 

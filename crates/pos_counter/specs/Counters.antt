@@ -1,5 +1,5 @@
 -- The machine that a counter over boxes and a disk stands for.
-use Rattle.std.specs.Prelude.{◌≡◌, ◌⊎◌, ◌≤◌, ℕ, List, [], ◌∷◌, map}
+use Rattle.std.specs.Prelude.{◌≡◌, ◌⊎◌, ◌≤◌, ℕ, List, [], ◌∷◌, Option, None, length, map, replicate}
 use Rattle.pos_disk.specs.State.{LeavesOnly}
 use Rattle.pos_disk.specs.declared.device.Disk.{Ghosts as DiskGhosts}
 use Rattle.pos_service.specs.declared.peripheral_box.PeripheralBox.{PeripheralBox}
@@ -10,7 +10,7 @@ use Rattle.pos_store.specs.Standing.{Standing, StandsForOneOf}
 use Rattle.pos_disk.specs.Keeps.{KeepsDisk}
 use Rattle.pos_counter.specs.declared.counter.Counter.{Counter}
 use Rattle.pos_counter.specs.Machine.{Machine}
-use Rattle.pos_counter.specs.Parts.{machine_of, part_of, ArePartsSound, Leaves, SparesDisk, Stepped}
+use Rattle.pos_counter.specs.Parts.{machine_with, part_of, ArePartsSound, Leaves, SparesDisk, Stepped}
 use Rattle.pos_counter.specs.Profile.{profile}
 use Rattle.pos_counter.specs.Steps.{Request, Response, Step, Run}
 use Rattle.pos_counter.specs.Totals.{TotalsPart}
@@ -22,12 +22,14 @@ states_of boxes list = map boxes.state list
 
 -- the machine that a counter stands for, by what its totals are
 abbrev pub machine : {D X : Type 0} {O : X → Type 0} → Ghosts (PeripheralBox X O) → Counter D X O → TotalsPart → Machine
-machine boxes counter part = machine_of counter.desk counter.entries.items (states_of boxes counter.boxes.items) part
+machine boxes counter part =
+    machine_with counter.desk counter.claims counter.entries.items (states_of boxes counter.boxes.items) part
 
 -- A counter as it begins over these boxed peripherals and a disk: no control, the built devices, totals that are off.
 pub record Begins {D X : Type 0} {O : X → Type 0} (boxes : Ghosts (PeripheralBox X O))
     (list : List (PeripheralBox X O)) (disk : D) (counter : Counter D X O) : Type 0 where
-  pub machine : (part : TotalsPart) → machine boxes counter part ≡ machine_of [] profile (states_of boxes list) part
+  pub machine : (part : TotalsPart) → machine boxes counter part
+      ≡ machine_with [] (replicate (length profile) None) profile (states_of boxes list) part
   pub totals : counter.totals ≡ record { disk = disk; totals = record { mode = Off; next = 1 } }
 
 -- From an old counter to a new one, a step in which the totals have no part: the request gets this response.
@@ -41,8 +43,8 @@ pub record IsStep {D X : Type 0} {O : X → Type 0} (bound : DiskGhosts D) (boxe
     (old : Counter D X O) (request : Request) (response : Response) (new : Counter D X O) : Type 0 where
   pub steps : (left : List Standing) → Leaves bound old.totals left
       → Stepped bound left (machine boxes old) old.totals request response (machine boxes new) new.totals
-  -- a request that doesn't use the disk leaves it and the totals alone
-  pub alone : SparesDisk old.desk request → new.totals ≡ old.totals
+  -- a request that doesn't use the disk leaves it alone
+  pub alone : SparesDisk old.desk request → new.totals.disk ≡ old.totals.disk
   pub kept : KeepsDisk bound old.totals.disk new.totals.disk
 
 -- the bytes stand for what a crash leaves before a run, between two of its steps, or after it
@@ -77,10 +79,11 @@ pub record Stays {D X : Type 0} {O : X → Type 0} (boxes : Ghosts (PeripheralBo
   pub machine : (part : TotalsPart) → machine boxes new part ≡ machine boxes old part
   pub totals : new.totals ≡ old.totals
 
--- What is true of every counter: its parts are sound.
+-- What is true of every counter: its parts are sound, and there is a claim for each device.
 pub record IsCounterSound {D X : Type 0} {O : X → Type 0} (boxes : Ghosts (PeripheralBox X O))
     (counter : Counter D X O) : Type 0 where
   pub parts : ArePartsSound counter.desk counter.entries.items (states_of boxes counter.boxes.items)
+  pub covers : length counter.claims ≡ length counter.entries.items
 
 -- the boxes of a counter that is sound
 abbrev pub boxes_of : {D X : Type 0} {O : X → Type 0} {boxes : Ghosts (PeripheralBox X O)} {counter : Counter D X O}

@@ -1,10 +1,12 @@
 -- The state of the device machine: the controls of all applications, and the devices of the profile.
 use Rattle.std.specs.Prelude.{ℕ, ◌+◌, Bool, ◌||◌, List, [], ◌∷◌, Option, Some, None, is_none, is_some, slice_get, slice_set, bytes_eq, if◌then◌else◌}
 use Rattle.pos_service.specs.declared.category.Category.{Category}
+use Rattle.pos_service.specs.declared.category.Category.TheVariants as category
 use Rattle.pos_service.specs.declared.finding.Finding.{Finding}
 use Rattle.pos_service.specs.declared.finding.Finding.TheVariants as finding
 use Rattle.pos_service.specs.declared.kind.Kind.{Kind}
 use Rattle.pos_service.specs.Calls.{serves}
+use Rattle.pos_service.specs.Claims.{holder_at}
 use Rattle.pos_service.specs.Controls.{Control}
 use Rattle.pos_service.specs.Stations.{Station}
 use Rattle.pos_counter.specs.Totals.{TotalsPart}
@@ -15,9 +17,16 @@ pub record Device : Type 0 where
   pub kind : Option Kind
   pub station : Option Station
 
+-- What the controls share beside the devices: the claims, which name the control that holds each device by the devices'
+-- places, and the totals, which know who holds their own (the area).
+pub record Shared : Type 0 where
+  pub claims : List (Option ℕ)
+  pub totals : TotalsPart
+
 pub record Machine : Type 0 where
   pub controls : List Control
   pub devices : List Device
+  pub claims : List (Option ℕ)
   pub totals : TotalsPart
 
 -- the place, from this one on, of the first device with a name
@@ -65,3 +74,11 @@ with_station machine controls place device station = record machine {
   controls = controls;
   devices = slice_set machine.devices place (record device { station = Some station });
 }
+
+-- the control that holds a device of a category: of Hard Totals, the one that holds the area
+abbrev pub holder_in : Category → List (Option ℕ) → Option ℕ → Option ℕ
+holder_in category.CashDrawer claims device = holder_at claims device
+holder_in category.HardTotals claims device = None
+
+abbrev pub holder_of : Machine → Control → Option ℕ
+holder_of machine control = holder_in control.category machine.claims control.device

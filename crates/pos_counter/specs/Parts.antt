@@ -1,5 +1,5 @@
 -- The machine that a counter's parts stand for.
-use Rattle.std.specs.Prelude.{◌≡◌, ◌≤◌, ◌⊎◌, ◌&&◌, not, ℕ, true, false, List, [], ◌∷◌, Option, Some, None, MatchOption, Result, All, length, map, option_map, slice_get, ⊤}
+use Rattle.std.specs.Prelude.{◌≡◌, ◌≤◌, ◌<◌, ◌⊎◌, ◌&&◌, not, ℕ, Bool, true, false, List, [], ◌∷◌, Option, Some, None, MatchOption, IfSome, Result, All, length, map, option_map, slice_get, ⊤}
 use Rattle.std.specs.List.{filter_map}
 use Rattle.pos_service.specs.declared.answer.Answer.{Answer}
 use Rattle.pos_service.specs.declared.call.Call.{Call}
@@ -15,7 +15,7 @@ use Rattle.pos_disk.specs.declared.device.Disk.{Ghosts}
 use Rattle.pos_store.specs.Standing.{Standing, LeavesOneOf, StandsForOneOf}
 use Rattle.pos_disk.specs.Keeps.{KeepsDisk}
 use Rattle.pos_totals.specs.Views.{TotalsView}
-use Rattle.pos_counter.specs.Machine.{Device, Machine}
+use Rattle.pos_counter.specs.Machine.{Device, Machine, Shared}
 use Rattle.pos_counter.specs.Steps.{Request, CallOf, Response, Step, IsSound}
 use Rattle.pos_service.specs.declared.answer.Value.{Value}
 use Rattle.pos_service.specs.declared.property.Property.{Property}
@@ -32,26 +32,32 @@ devices_of [] states = []
 devices_of (entry ∷ entries) [] = device_of entry None ∷ devices_of entries []
 devices_of (entry ∷ entries) (state ∷ states) = device_of entry (Some (station_of state)) ∷ devices_of entries states
 
--- the machine of these controls over any devices and totals
-abbrev pub over : List Held → List Device → TotalsPart → Machine
-over helds devices part = record { controls = controls_of helds; devices = devices; totals = part }
+-- the machine of these controls over any devices, claims and totals
+abbrev pub over : List Held → List Device → Shared → Machine
+over helds devices shared = record {
+  controls = controls_of helds;
+  devices = devices;
+  claims = shared.claims;
+  totals = shared.totals;
+}
 
--- the machine of these controls, devices and totals
-abbrev pub machine_of : List Held → List Entry → List PeripheralState → TotalsPart → Machine
-machine_of helds entries states part = over helds (devices_of entries states) part
+-- the machine of these controls and devices, over any claims and totals
+abbrev pub machine_of : List Held → List Entry → List PeripheralState → Shared → Machine
+machine_of helds entries states shared = over helds (devices_of entries states) shared
+
+-- the machine of these controls, claims and devices, over any totals
+abbrev pub machine_with : List Held → List (Option ℕ) → List Entry → List PeripheralState → TotalsPart → Machine
+machine_with helds claims entries states part =
+    machine_of helds entries states (record { claims = claims; totals = part })
 
 -- what stands at a place
 abbrev pub standing_at : List PeripheralState → Option ℕ → Option Station
 standing_at states None = None
 standing_at states (Some place) = option_map station_of (slice_get states place)
 
--- what is known of the device at a place, as properties tell it
-abbrev pub facts_at : List PeripheralState → Option ℕ → Mode → Facts
-facts_at states place mode = record {
-  signs = signs_in (standing_at states place);
-  totals_size = layout_1.bytes;
-  files = file_facts mode;
-}
+-- the device of each open control has its place among the claims
+abbrev pub AreCovered : List Held → List (Option ℕ) → Type 0
+AreCovered helds claims = All (λ control. IfSome control.device (λ place. place < length claims)) (controls_of helds)
 
 -- no peripheral is out of service
 abbrev pub AllUnparked : List PeripheralState → Type 0
@@ -68,16 +74,16 @@ pub record HandsOver (machine : Machine) (states : List PeripheralState) : Type 
 
 -- What is true of the parts of every counter: their machine is sound, each peripheral has a device and is in service.
 pub record ArePartsSound (helds : List Held) (entries : List Entry) (states : List PeripheralState) : Type 0 where
-  pub machine : (part : TotalsPart) → IsSound (machine_of helds entries states part)
+  pub machine : (shared : Shared) → IsSound (machine_of helds entries states shared)
   pub unparked : AllUnparked states
   pub attached : length states ≤ length entries
 
--- From some parts of a counter to others, the request gets this response, whatever the totals, which have no part in
--- it. The parts are sound again.
+-- From some parts of a counter to others, the request gets this response, whatever the claims and totals, which have
+-- no part in it. The parts are sound again.
 pub record ServesBeside (helds : List Held) (entries : List Entry) (states : List PeripheralState) (request : Request)
     (response : Response) (new_helds : List Held) (new_states : List PeripheralState) : Type 0 where
-  pub step : (part : TotalsPart) →
-      Step (machine_of helds entries states part) request response (machine_of new_helds entries new_states part)
+  pub step : (shared : Shared) →
+      Step (machine_of helds entries states shared) request response (machine_of new_helds entries new_states shared)
   pub sound : ArePartsSound new_helds entries new_states
 
 -- what totals and their disk are to the machine, where a crash may leave bytes that stand for these
@@ -112,14 +118,17 @@ SparesDisk helds (CallOf number asked) =
 SparesDisk helds other = ⊤
 
 -- From some parts of a counter to others, the request gets this response, for all that the disk may leave. A request
--- that doesn't use the disk leaves it and the totals alone.
-pub record Serves {D : Type 0} (bound : Ghosts D) (helds : List Held) (entries : List Entry)
+-- that doesn't use the disk leaves it alone.
+pub record Serves {D : Type 0} (bound : Ghosts D) (helds : List Held) (claims : List (Option ℕ)) (entries : List Entry)
     (states : List PeripheralState) (before : TotalsView D) (request : Request) (response : Response)
-    (new_helds : List Held) (new_states : List PeripheralState) (now : TotalsView D) : Type 0 where
+    (new_helds : List Held) (new_claims : List (Option ℕ)) (new_states : List PeripheralState) (now : TotalsView D)
+    : Type 0 where
   pub steps : (left : List Standing) → Leaves bound before left → Stepped bound left
-      (machine_of helds entries states) before request response (machine_of new_helds entries new_states) now
+      (machine_with helds claims entries states) before request response
+      (machine_with new_helds new_claims entries new_states) now
   pub sound : ArePartsSound new_helds entries new_states
-  pub alone : SparesDisk helds request → now ≡ before
+  pub covers : length new_claims ≡ length claims
+  pub alone : SparesDisk helds request → now.disk ≡ before.disk
   pub kept : KeepsDisk bound before.disk now.disk
 
 -- A call of the totals' own on an enabled control, by what the disk may leave before it.

@@ -15,6 +15,7 @@ use Rattle.pos_service.specs.declared.answer.Value.TheVariants as value
 use Rattle.pos_service.specs.declared.code.Code.TheVariants as code
 use Rattle.pos_service.specs.Peripherals.{input_fits}
 use Rattle.pos_service.specs.Controls.{Control, new_control, opened, closed, deliverable, delivered}
+use Rattle.pos_service.specs.Claims.{is_held_by, is_held_by_another, holder_at, claimed_by, released_by, claim_rows, release_rows, after_release}
 use Rattle.pos_service.specs.Refusals.{Row, Decided, first_refusal, when}
 use Rattle.pos_service.specs.Calls.{takes_memory as own_takes_memory}
 use Rattle.pos_service.specs.Calls.{serves, own_rows, place_found, open_rows, close_rows, set_rows, after_set, get_rows, property_of}
@@ -26,7 +27,7 @@ use Rattle.pos_service.specs.declared.facts.Facts.{Facts}
 use Rattle.pos_service.specs.HardTotals.{layout_1}
 use Rattle.pos_service.specs.TotalsCalls.{file_call, totals_rows}
 use Rattle.pos_counter.specs.Totals.{TotalsDo, Recovered, Recovers, Rests, recovers, file_facts}
-use Rattle.pos_counter.specs.Machine.{Device, Machine, place_of, device_at, station_in, station_named, found_under, with_control, with_station}
+use Rattle.pos_counter.specs.Machine.{Device, Machine, place_of, device_at, station_in, station_named, found_under, holder_of, with_control, with_station}
 
 -- what may be asked of the machine: controls by their numbers, devices by their names
 pub data Request : Type 0 where
@@ -48,12 +49,14 @@ pub data Response : Type 0 where
   Shown : Plant → Response
   OutOfMemory : Response
 
--- what is known of a control's device, as properties tell it
-abbrev pub facts_of : Machine → Control → Facts
-facts_of machine control = record {
+-- what is known of the control with a number and of its device, as properties tell it
+abbrev pub facts_of : Machine → ℕ → Control → Facts
+facts_of machine number control = record {
   signs = signs_in (station_in (device_at machine.devices control.device));
   totals_size = layout_1.bytes;
   files = file_facts machine.totals.totals.mode;
+  is_claimed = is_held_by (holder_of machine control) number;
+  in_transaction = false;
 }
 
 -- how many controls there may be
@@ -77,13 +80,15 @@ pub record OnStation (old : Machine) (at : Option ℕ) (Does : ℕ → Effect) (
 abbrev pub takes_memory : Machine → Control → Call → Bool
 takes_memory machine control (call.Open name) = true
 takes_memory machine control call.Close = false
+takes_memory machine control (call.Claim timeout) = false
+takes_memory machine control call.Release = false
 takes_memory machine control (call.Set property v) = recovers machine.totals control property v
 takes_memory machine control (call.Get property) = false
 takes_memory machine control own = own_takes_memory own
 
 -- what each call of a category's own asks, in order
 abbrev pub category_rows : Category → Machine → ℕ → Control → Call → List Row
-category_rows category.CashDrawer machine number control own = drawer_rows control own
+category_rows category.CashDrawer machine number control own = drawer_rows machine.claims number control own
 category_rows category.HardTotals machine number control own = totals_rows machine.totals.totals number control own
 
 -- what each call of a category's own does, where nothing refuses it: at its device's station, or with the totals
@@ -93,12 +98,39 @@ CategoryDoes category.CashDrawer old number control own result new =
 CategoryDoes category.HardTotals old number control own result new =
     TotalsDo (file_call own) old.totals number result new.totals × (new ≡ record old { totals = new.totals })
 
+-- another control keeps a device of a category from the control with a number
+abbrev pub is_taken : Category → Machine → ℕ → Option ℕ → Bool
+is_taken category.CashDrawer machine number device = is_held_by_another (holder_at machine.claims device) number
+is_taken category.HardTotals machine number device = false
+
+-- the machine, once the control with a number holds its device
+abbrev pub claimed : Category → Machine → ℕ → Control → Machine
+claimed category.CashDrawer machine number control =
+    record machine { claims = claimed_by machine.claims control.device number }
+claimed category.HardTotals machine number control = machine
+
+-- the machine, once the control with a number has released its device
+abbrev pub released : Category → Machine → ℕ → Control → Machine
+released category.CashDrawer machine number control =
+    record machine { claims = released_by machine.claims control.device number }
+released category.HardTotals machine number control = machine
+
+-- the machine, once the control with a number has nothing any more
+abbrev pub dropped : Category → Machine → ℕ → Control → Machine
+dropped category.CashDrawer machine number control =
+    record machine { claims = released_by machine.claims control.device number }
+dropped category.HardTotals machine number control = machine
+
 -- The refusals of the call of the control with a number, in their order.
 abbrev pub refusals : Machine → ℕ → Control → Call → List Row
 refusals machine number control (call.Open name) = open_rows control (found_under machine control.category name)
 refusals machine number control call.Close = close_rows control
+refusals machine number control (call.Claim timeout) =
+    claim_rows control (is_taken control.category machine number control.device) timeout
+refusals machine number control call.Release =
+    release_rows control (is_held_by (holder_of machine control) number)
 refusals machine number control (call.Set property v) = set_rows control property v
-refusals machine number control (call.Get property) = get_rows control (facts_of machine control) property
+refusals machine number control (call.Get property) = get_rows control (facts_of machine number control) property
 refusals machine number control own =
     when (is_none control.device) code.Closed
     ∷ own_rows control own (category_rows control.category machine number control own)
@@ -121,12 +153,17 @@ Does old number control (call.Open name) result new =
     (result ≡ answer.Done value.Empty)
     × (new ≡ with_control old number (opened control (place_found (found_under old control.category name))))
 Does old number control call.Close result new =
-    (result ≡ answer.Done value.Empty) × (new ≡ with_control old number (closed control))
+    (result ≡ answer.Done value.Empty) × (new ≡ dropped control.category (with_control old number (closed control)) number control)
+Does old number control (call.Claim timeout) result new =
+    (result ≡ answer.Done value.Empty) × (new ≡ claimed control.category old number control)
+Does old number control call.Release result new =
+    (result ≡ answer.Done value.Empty)
+    × (new ≡ released control.category (with_control old number (after_release control.category control)) number control)
 Does old number control (call.Set property v) result new =
     MatchBool (recovers old.totals control property v) (SetsByRecovery old number control property v result new)
     (Sets old number control property v result new)
 Does old number control (call.Get property) result new =
-    (result ≡ answer.Done (property_of control (facts_of old control) property)) × (new ≡ old)
+    (result ≡ answer.Done (property_of control (facts_of old number control) property)) × (new ≡ old)
 Does old number control own result new = CategoryDoes control.category old number control own result new
 
 -- A call on a control: by its table of refusals, and then by what it does.

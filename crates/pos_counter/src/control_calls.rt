@@ -1,15 +1,19 @@
 //! The calls that every category has.
-ghost use Rattle.std.specs.Prelude.{◌<◌, List, length, map};
+ghost use Rattle.std.specs.Prelude.{◌≡◌, ◌<◌, List, IfSome, length, map};
 ghost use Rattle.pos_service.specs.declared.call.Call.TheVariants as call;
+ghost use Rattle.pos_service.specs.Claims.{holder_at, is_held_by, is_held_by_another, claim_rows, claimed_by, release_rows, released_by, after_release};
 ghost use Rattle.pos_service.specs.Peripherals.{PeripheralState};
+ghost use Rattle.pos_service.specs.Refusals.{Decided};
 ghost use Rattle.pos_counter.specs.declared.entry.Entry.{Entry as OneEntry};
-ghost use Rattle.pos_counter.specs.Parts.{ArePartsSound, ServesBeside};
+ghost use Rattle.pos_counter.specs.Parts.{AreCovered, ArePartsSound, Serves, ServesBeside};
 ghost use Rattle.pos_counter.specs.Steps.{CallOf, Answered};
 
 use crate::devices::find_for;
 use crate::entry::Entry;
-use pos_common::Control;
-use pos_service::{Answer, HasState};
+use pos_common::{Claims, Control};
+use pos_disk::Disk;
+use pos_service::{Answer, Category, Code, HasState, Value};
+use pos_totals::Totals;
 
 /// `open`, of the first device with a name (common chapter).
 pub(crate) fn open<P: HasState>(
@@ -30,11 +34,102 @@ pub(crate) fn open<P: HasState>(
     control.open(found)
 }
 
-/// `close` (common chapter).
-pub(crate) fn close(controls: &mut [Control], number: usize) -> Answer
+/// `close`: what the control holds is free again (common chapter).
+pub(crate) fn close<D: Disk>(
+    controls: &mut [Control],
+    claims: &mut Claims,
+    totals: &mut Totals<D>,
+    number: usize,
+) -> Answer
     requires { number < length controls.old }
-    ensures { (entries : List OneEntry) (states : List PeripheralState) → ArePartsSound controls.old entries states
-        → ServesBeside controls.old entries states (CallOf number call.Close) (Answered result) controls.new states }
+    ensures { (entries : List OneEntry) (states : List PeripheralState) → ArePartsSound controls.old entries states →
+        Serves D.Disk controls.old claims.old entries states totals.old
+        (CallOf number call.Close) (Answered result) controls.new claims.new states totals.new }
 {
-    controls[number].close()
+    let device = controls[number].device();
+    if device.is_none() {
+        return Answer::Refused(Code::Closed, 0);
+    }
+    match controls[number].category() {
+        Category::CashDrawer => {
+            claims.release(device, number);
+            controls[number].close()
+        }
+        Category::HardTotals => controls[number].close(),
+    }
+}
+
+/// `claim` (common chapter).
+pub(crate) fn claim<D: Disk>(
+    controls: &[Control],
+    claims: &mut Claims,
+    totals: &mut Totals<D>,
+    number: usize,
+    timeout: i128,
+) -> Answer
+    requires in_range { number < length controls.now }
+    requires covers { AreCovered controls.now claims.old }
+    ensures { (entries : List OneEntry) (states : List PeripheralState) → ArePartsSound controls.now entries states →
+        Serves D.Disk controls.now claims.old entries states totals.old
+        (CallOf number (call.Claim timeout)) (Answered result) controls.now claims.new states totals.new }
+{
+    let control = &controls[number];
+    match control.category() {
+        Category::CashDrawer => claim_device(control, claims, number, timeout),
+        Category::HardTotals => control.claim(number, None, timeout),
+    }
+}
+
+/// `claim` of a peripheral.
+fn claim_device(control: &Control, claims: &mut Claims, number: usize, timeout: i128) -> Answer
+    requires { IfSome control.now.control.device (λ place. place < length claims.old) }
+    ensures { let device = control.now.control.device in
+        Decided (claim_rows control.now.control (is_held_by_another (holder_at claims.old device) number) timeout)
+        result (claims.new ≡ claims.old)
+        ((result ≡ Answer.Done Value.Empty) × (claims.new ≡ claimed_by claims.old device number)) }
+{
+    let Some(place) = control.device() else {
+        return Answer::Refused(Code::Closed, 0);
+    };
+    match control.claim(number, claims.holder(Some(place)), timeout) {
+        Answer::Done(value) => {
+            claims.claim(place, number);
+            Answer::Done(value)
+        }
+        refusal => refusal,
+    }
+}
+
+/// `release` (common chapter).
+pub(crate) fn release<D: Disk>(
+    controls: &mut [Control],
+    claims: &mut Claims,
+    totals: &mut Totals<D>,
+    number: usize,
+) -> Answer
+    requires { number < length controls.old }
+    ensures { (entries : List OneEntry) (states : List PeripheralState) → ArePartsSound controls.old entries states →
+        Serves D.Disk controls.old claims.old entries states totals.old
+        (CallOf number call.Release) (Answered result) controls.new claims.new states totals.new }
+{
+    let control = &mut controls[number];
+    match control.category() {
+        Category::CashDrawer => release_device(control, claims, number),
+        Category::HardTotals => control.release(number, None),
+    }
+}
+
+/// `release` of a peripheral.
+fn release_device(control: &mut Control, claims: &mut Claims, number: usize) -> Answer
+    ensures { let device = control.old.control.device in
+        Decided (release_rows control.old.control (is_held_by (holder_at claims.old device) number)) result
+        ((control.new ≡ control.old) × (claims.new ≡ claims.old))
+        ((result ≡ Answer.Done Value.Empty)
+        × (control.new.control ≡ after_release control.old.control.category control.old.control)
+        × (claims.new ≡ released_by claims.old device number)) }
+{
+    let device = control.device();
+    let answer = control.release(number, claims.holder(device));
+    claims.release(device, number);
+    answer
 }

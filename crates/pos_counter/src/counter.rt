@@ -13,6 +13,7 @@ use crate::device_calls;
 use crate::entry::{Entry, build_entries};
 use crate::faults::{ControlFault, InputFault, SnapshotFault};
 use crate::request::{Request, Response};
+use pos_common::Claims;
 use pos_disk::Disk;
 use pos_service::{
     Answer, Call, Category, ErrorReply, Event, HasState, Input, NoMemory, PeripheralBox, Snapshot,
@@ -30,6 +31,7 @@ const FIRST_HANDLE: u64 = 1;
 /// said of the totals, and of what a crash leaves, is said over an honest disk.
 pub struct Counter<D: Disk> {
     desk: Desk,
+    claims: Claims,
     entries: Vec<Entry>,
     boxes: Vec<PeripheralBox>,
     totals: Totals<D>,
@@ -59,9 +61,14 @@ impl<D: Disk> Counter<D> {
         ensures sound { IfOk result (λ counter. IsCounterSound ⟦<PeripheralBox as HasState>⟧ counter) }
         ensures handed_back { IfErr result (λ refusal. (refusal.1.items ≡ boxes.items) × (refusal.2 ≡ disk)) }
     {
-        match build_entries(alloc) {
-            Ok(entries) => Ok(Counter {
+        let entries = match build_entries(alloc) {
+            Ok(entries) => entries,
+            Err(want) => return Err((want, boxes, disk)),
+        };
+        match Claims::new(alloc, entries.len()) {
+            Ok(claims) => Ok(Counter {
                 desk: Desk::new(alloc),
+                claims,
                 entries,
                 boxes,
                 totals: Totals::new(alloc, disk, FIRST_HANDLE),
@@ -95,6 +102,7 @@ impl<D: Disk> Counter<D> {
     {
         device_calls::call(
             &mut self.desk.controls,
+            &mut self.claims,
             &self.entries,
             &mut self.boxes,
             &mut self.totals,
@@ -191,6 +199,7 @@ impl<D: Disk> Counter<D> {
     {
         let Counter {
             desk: _,
+            claims: _,
             entries: _,
             boxes,
             totals,

@@ -1,9 +1,8 @@
 ghost use Rattle.std.specs.Prelude.{◌≡◌, [], List};
-ghost use Rattle.pos_counter.specs.Machine.{Device};
+ghost use Rattle.pos_counter.specs.Machine.{Device, Shared};
 ghost use Rattle.pos_counter.specs.Steps.{Step, NewControl, Deliver, Delivered};
 ghost use Rattle.pos_counter.specs.Parts.{over};
 ghost use Rattle.pos_counter.specs.Responses.{made};
-ghost use Rattle.pos_counter.specs.Totals.{TotalsPart};
 
 use crate::faults::ControlFault;
 use pos_common::Control;
@@ -48,8 +47,8 @@ impl Desk {
 
     /// A new control of a category: its number.
     pub(crate) fn control(&mut self, category: Category) -> Result<usize, ControlFault>
-        ensures { (devices : List Device) (part : TotalsPart) →
-            Step (over self.old devices part) (NewControl category) (made result) (over self.new devices part) }
+        ensures { (devices : List Device) (shared : Shared) →
+            Step (over self.old devices shared) (NewControl category) (made result) (over self.new devices shared) }
     {
         let number = self.controls.len();
         if number >= MOST_CONTROLS {
@@ -63,8 +62,9 @@ impl Desk {
 
     /// Takes the event that may be delivered to a control. A control that isn't there has none.
     pub(crate) fn deliver(&mut self, number: usize, reply: ErrorReply) -> Option<Event>
-        ensures { (devices : List Device) (part : TotalsPart) →
-            Step (over self.old devices part) (Deliver number reply) (Delivered result) (over self.new devices part) }
+        ensures { (devices : List Device) (shared : Shared) →
+            Step (over self.old devices shared) (Deliver number reply) (Delivered result)
+            (over self.new devices shared) }
     {
         if number >= self.controls.len() {
             return None;

@@ -5,15 +5,15 @@ ghost use Rattle.pos_common.specs.Held.{Held};
 ghost use Rattle.pos_counter.specs.Parts.{ArePartsSound, Serves, ServesBeside, machine_of};
 ghost use Rattle.pos_counter.specs.Responses.{answered, taken_in, shown};
 ghost use Rattle.pos_counter.specs.Steps.{Step, CallOf, InputTo, Snapshot as SnapshotOf};
-ghost use Rattle.pos_counter.specs.Totals.{TotalsPart};
+ghost use Rattle.pos_counter.specs.Machine.{Shared};
 
-use crate::control_calls::{close, open};
+use crate::control_calls::{claim, close, open, release};
 use crate::devices::find;
 use crate::entry::Entry;
 use crate::faults::{InputFault, SnapshotFault};
 use crate::properties::{get, set};
 use crate::totals_calls::call_totals;
-use pos_common::Control;
+use pos_common::{Claims, Control};
 use pos_disk::Disk;
 use pos_service::{
     Answer, Call, Category, Code, HasState, Input, NoMemory, PeripheralBox, Snapshot,
@@ -23,32 +23,39 @@ use pos_totals::Totals;
 /// A call of an application on a control.
 pub(crate) fn call<D: Disk>(
     controls: &mut [Control],
+    claims: &mut Claims,
     entries: &[Entry],
     boxes: &mut [PeripheralBox],
     totals: &mut Totals<D>,
     number: usize,
     call: &Call,
 ) -> Result<Answer, NoMemory>
-    requires { ArePartsSound controls.old entries.now (map ⟦<PeripheralBox as HasState>⟧.state boxes.old) }
+    requires sound { ArePartsSound controls.old entries.now (map ⟦<PeripheralBox as HasState>⟧.state boxes.old) }
+    requires covers { length claims.old ≡ length entries.now }
     ensures { let state = ⟦<PeripheralBox as HasState>⟧.state in
-        Serves D.Disk controls.old entries.now (map state boxes.old) totals.old
-        (CallOf number call.now) (answered result) controls.new (map state boxes.new) totals.new }
+        Serves D.Disk controls.old claims.old entries.now (map state boxes.old) totals.old
+        (CallOf number call.now) (answered result) controls.new claims.new (map state boxes.new) totals.new }
 {
     if number >= controls.len() {
         return Ok(Answer::Refused(Code::Illegal, 0));
     }
     match call {
         Call::Open(name) => Ok(open(controls, entries, boxes, number, name.as_slice())),
-        Call::Close => Ok(close(controls, number)),
+        Call::Close => Ok(close(controls, claims, totals, number)),
+        Call::Claim(timeout) => Ok(claim(controls, claims, totals, number, *timeout)),
+        Call::Release => Ok(release(controls, claims, totals, number)),
         Call::Set(property, value) => set(controls, totals, number, *property, value),
-        Call::Get(property) => Ok(get(controls, entries, boxes, totals, number, *property)),
-        _ => call_category(controls, entries, boxes, totals, number, call),
+        Call::Get(property) => Ok(get(
+            controls, claims, entries, boxes, totals, number, *property,
+        )),
+        _ => call_category(controls, claims, entries, boxes, totals, number, call),
     }
 }
 
 /// A call of a category's own, which the crate of the control's category answers.
 fn call_category<D: Disk>(
     controls: &mut [Control],
+    claims: &Claims,
     entries: &[Entry],
     boxes: &mut [PeripheralBox],
     totals: &mut Totals<D>,
@@ -59,15 +66,15 @@ fn call_category<D: Disk>(
     requires own { is_common call.now ≡ false }
     requires sound { ArePartsSound controls.old entries.now (map ⟦<PeripheralBox as HasState>⟧.state boxes.old) }
     ensures { let state = ⟦<PeripheralBox as HasState>⟧.state in
-        Serves D.Disk controls.old entries.now (map state boxes.old) totals.old
-        (CallOf number call.now) (answered result) controls.new (map state boxes.new) totals.new }
+        Serves D.Disk controls.old claims.now entries.now (map state boxes.old) totals.old
+        (CallOf number call.now) (answered result) controls.new claims.now (map state boxes.new) totals.new }
 {
     let Some(place) = controls[number].device() else {
         return Ok(Answer::Refused(Code::Closed, 0));
     };
     match controls[number].category() {
-        Category::CashDrawer => pos_drawer::call(controls, number, &mut boxes[place], call),
-        Category::HardTotals => call_totals(controls, totals, number, call),
+        Category::CashDrawer => pos_drawer::call(controls, number, claims, &mut boxes[place], call),
+        Category::HardTotals => call_totals(controls, claims, totals, number, call),
     }
 }
 
@@ -106,8 +113,8 @@ pub(crate) fn snapshot<P: HasState>(
     name: &[u8],
 ) -> Result<Snapshot, SnapshotFault>
     requires { length (map P.state peripherals.now) ≤ length entries.now }
-    ensures { (helds : List Held) (part : TotalsPart) →
-        let machine = machine_of helds entries.now (map P.state peripherals.now) part in
+    ensures { (helds : List Held) (shared : Shared) →
+        let machine = machine_of helds entries.now (map P.state peripherals.now) shared in
         Step machine (SnapshotOf name.now) (shown result) machine }
 {
     let Some(place) = find(entries, name) else {

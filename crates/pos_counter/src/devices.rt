@@ -2,9 +2,8 @@
 ghost use Rattle.std.specs.Prelude.{◌≡◌, ◌<◌, ◌≤◌, ◌||◌, List, [], is_none, is_some, slice_get, length, map, IfSome};
 ghost use Rattle.pos_service.specs.Peripherals.{PeripheralState};
 ghost use Rattle.pos_service.specs.Stations.{signs_in};
-ghost use Rattle.pos_counter.specs.Machine.{place_of, found_under};
+ghost use Rattle.pos_counter.specs.Machine.{Shared, place_of, found_under};
 ghost use Rattle.pos_counter.specs.Parts.{devices_of, machine_of, standing_at};
-ghost use Rattle.pos_counter.specs.Totals.{TotalsPart};
 
 use crate::entry::Entry;
 use pos_service::{Category, Finding, HasState, Kind, PaperLevel, Signs};
@@ -30,8 +29,8 @@ pub(crate) fn find_for<P: HasState>(
     name: &[u8],
 ) -> Finding
     requires { length peripherals.now ≤ length entries.now }
-    ensures { (part : TotalsPart) →
-        result ≡ found_under (machine_of [] entries.now (map P.state peripherals.now) part) category name.now }
+    ensures { (shared : Shared) →
+        result ≡ found_under (machine_of [] entries.now (map P.state peripherals.now) shared) category name.now }
 {
     let Some(place) = find(entries, name) else {
         return Finding::NotThere;

@@ -1,10 +1,11 @@
 //! The properties of a control, by what is known of its device (common chapter, and those of the categories).
-ghost use Rattle.std.specs.Prelude.{◌≡◌, ◌<◌, ◌≤◌, ◌&&◌, List, length, map, not};
+ghost use Rattle.std.specs.Prelude.{◌≡◌, ◌<◌, ◌≤◌, ◌&&◌, ℕ, List, Option, length, map, not};
 ghost use Rattle.pos_service.specs.declared.call.Call.TheVariants as call;
 ghost use Rattle.pos_service.specs.Peripherals.{PeripheralState};
 ghost use Rattle.pos_store.specs.Standing.{Standing};
 ghost use Rattle.pos_counter.specs.declared.entry.Entry.{Entry as OneEntry};
-ghost use Rattle.pos_counter.specs.Parts.{ArePartsSound, Serves, machine_of, part_of, facts_at};
+ghost use Rattle.pos_counter.specs.Parts.{ArePartsSound, Serves, machine_with, part_of};
+ghost use Rattle.pos_counter.specs.Machine.{holder_in};
 ghost use Rattle.pos_counter.specs.Responses.{answered};
 ghost use Rattle.pos_counter.specs.Steps.{Step, CallOf, Answered};
 ghost use Rattle.pos_counter.specs.Parts.{IsRecovering};
@@ -12,7 +13,7 @@ ghost use Rattle.pos_counter.specs.Totals.{asks_recovery, file_facts};
 
 use crate::devices::signs_at;
 use crate::entry::Entry;
-use pos_common::Control;
+use pos_common::{Claims, Control};
 use pos_disk::Disk;
 use pos_service::{Answer, Category, Facts, FileFacts, HasState, NoMemory, Property, Value};
 use pos_totals::Totals;
@@ -20,6 +21,7 @@ use pos_totals::Totals;
 /// Gets a property.
 pub(crate) fn get<P: HasState, D: Disk>(
     controls: &[Control],
+    claims: &Claims,
     entries: &[Entry],
     peripherals: &[P],
     totals: &Totals<D>,
@@ -29,26 +31,28 @@ pub(crate) fn get<P: HasState, D: Disk>(
     requires in_range { number < length controls.now }
     requires attached { length (map P.state peripherals.now) ≤ length entries.now }
     ensures { (left : List Standing) →
-        let machine =
-        machine_of controls.now entries.now (map P.state peripherals.now) (part_of D.Disk totals.now left) in
+        let states = map P.state peripherals.now in
+        let machine = machine_with controls.now claims.now entries.now states (part_of D.Disk totals.now left) in
         Step machine (CallOf number (call.Get property)) (Answered result) machine }
 {
     let control = &controls[number];
-    control.get(property, &find_facts(peripherals, control.device(), totals))
-}
-
-/// What is known of the device at a place.
-fn find_facts<P: HasState, D: Disk>(
-    peripherals: &[P],
-    place: Option<usize>,
-    totals: &Totals<D>,
-) -> Facts
-    ensures { result ≡ facts_at (map P.state peripherals.now) place totals.now.totals.mode }
-{
-    Facts {
-        signs: signs_at(peripherals, place),
+    let facts = Facts {
+        is_claimed: find_holder(control, claims) == Some(number),
+        in_transaction: false,
+        signs: signs_at(peripherals, control.device()),
         totals_size: totals.size(),
         files: find_file_facts(totals),
+    };
+    control.get(property, &facts)
+}
+
+/// The control that holds a control's device.
+fn find_holder(control: &Control, claims: &Claims) -> Option<usize>
+    ensures { result ≡ holder_in control.now.control.category claims.now control.now.control.device }
+{
+    match control.category() {
+        Category::CashDrawer => claims.holder(control.device()),
+        Category::HardTotals => None,
     }
 }
 
@@ -77,9 +81,9 @@ pub(crate) fn set<D: Disk>(
     value: &Value,
 ) -> Result<Answer, NoMemory>
     requires { number < length controls.old }
-    ensures { (entries : List OneEntry) (states : List PeripheralState) → ArePartsSound controls.old entries states →
-        Serves D.Disk controls.old entries states totals.old
-        (CallOf number (call.Set property value.now)) (answered result) controls.new states totals.new }
+    ensures { (claims : List (Option ℕ)) (entries : List OneEntry) (states : List PeripheralState) →
+        ArePartsSound controls.old entries states → Serves D.Disk controls.old claims entries states totals.old
+        (CallOf number (call.Set property value.now)) (answered result) controls.new claims states totals.new }
 {
     if is_recovering(&controls[number], totals.is_ready(), property, value) {
         return set_recovered(controls, totals, number, property, value);
@@ -97,9 +101,9 @@ fn set_recovered<D: Disk>(
 ) -> Result<Answer, NoMemory>
     requires in_range { number < length controls.old }
     requires recovers { IsRecovering controls.old number property value.now totals.old.totals.mode }
-    ensures { (entries : List OneEntry) (states : List PeripheralState) → ArePartsSound controls.old entries states →
-        Serves D.Disk controls.old entries states totals.old
-        (CallOf number (call.Set property value.now)) (answered result) controls.new states totals.new }
+    ensures { (claims : List (Option ℕ)) (entries : List OneEntry) (states : List PeripheralState) →
+        ArePartsSound controls.old entries states → Serves D.Disk controls.old claims entries states totals.old
+        (CallOf number (call.Set property value.now)) (answered result) controls.new claims states totals.new }
 {
     match totals.recover() {
         Ok(()) => Ok(controls[number].set(property, value)),

@@ -10,7 +10,7 @@ ghost use Rattle.pos_counter.specs.Parts.{ArePartsSound, Serves, CallsFiles};
 ghost use Rattle.pos_counter.specs.Responses.{answered};
 ghost use Rattle.pos_counter.specs.Steps.{CallOf};
 
-use pos_common::{Control, Need};
+use pos_common::{ClaimNeed, Claims, Control, Need};
 use pos_disk::Disk;
 use pos_service::{Answer, Call, Category, Code, NoMemory};
 use pos_totals::Totals;
@@ -21,6 +21,7 @@ use pos_totals::Totals;
 /// disabled, and then as the totals say.
 pub(crate) fn call_totals<D: Disk>(
     controls: &[Control],
+    claims: &Claims,
     totals: &mut Totals<D>,
     number: usize,
     call: &Call,
@@ -28,10 +29,14 @@ pub(crate) fn call_totals<D: Disk>(
     requires open { IsOpen category.HardTotals (controls_of controls.now) number }
     requires own { is_common call.now ≡ false }
     ensures { (entries : List OneEntry) (states : List PeripheralState) → ArePartsSound controls.now entries states →
-        Serves D.Disk controls.now entries states totals.old
-        (CallOf number call.now) (answered result) controls.now states totals.new }
+        Serves D.Disk controls.now claims.now entries states totals.old
+        (CallOf number call.now) (answered result) controls.now claims.now states totals.new }
 {
-    match controls[number].check(Need { is_enabled: true }) {
+    let need = Need {
+        claim: ClaimNeed::Any,
+        is_enabled: true,
+    };
+    match controls[number].check(number, None, need) {
         Ok(()) => call_files(totals, number, call),
         Err(code) if Category::HardTotals.has_call(call) => Ok(Answer::Refused(code, 0)),
         Err(_) => Ok(Answer::Refused(Code::Illegal, 0)),

@@ -13,5 +13,5 @@ returns c = λ entries states sound.
     let n = c.args.number in
     let held = c.index-controls-number.result in
     controls_serve hs (set hs n c.close.new.self) entries states (CallOf n call.Close) (Answered c.close.result) sound
-    (λ part. match_at_some _ _ _ _ (control_at hs n held c.requires)
-    (decided_at hs (devices_of entries states) part n c.close.new.self (get_or hs n held) _ _ _ _ (get_or_default hs n held _ c.requires) c.close.ensures))
+    (λ shared. match_at_some _ _ _ _ (control_at hs n held c.requires)
+    (decided_at hs (devices_of entries states) shared n c.close.new.self (get_or hs n held) _ _ _ _ (get_or_default hs n held _ c.requires) c.close.ensures))

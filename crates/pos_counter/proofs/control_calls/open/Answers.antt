@@ -15,5 +15,5 @@ returns g c =
     let n = c.args.number in
     let held = c.index-controls-number.result in
     controls_serve hs (set hs n c.open.new.self) es ss (CallOf n (call.Open c.args.name.now)) (Answered c.open.result) c.requires.sound
-    (λ part. match_at_some _ _ _ _ (control_at hs n held c.requires.in_range)
-    (decided_at hs (devices_of es ss) part n c.open.new.self (get_or hs n held) _ _ _ _ (get_or_default hs n held _ c.requires.in_range) (simp (c.find_for-found.ensures part, c.category.ensures) at c.open.ensures)))
+    (λ shared. match_at_some _ _ _ _ (control_at hs n held c.requires.in_range)
+    (decided_at hs (devices_of es ss) shared n c.open.new.self (get_or hs n held) _ _ _ _ (get_or_default hs n held _ c.requires.in_range) (simp (c.find_for-found.ensures shared, c.category.ensures) at c.open.ensures)))

@@ -9,9 +9,11 @@ use Rattle.pos_service.specs.Calls.{serves}
 use Rattle.pos_common.specs.Held.{Held, controls_of}
 use Rattle.pos_counter.specs.Responses.{answered}
 use Rattle.pos_counter.specs.Steps.{CallOf}
+use Rattle.pos_counter.specs.Machine.{Shared}
+use Rattle.pos_counter.specs.Parts.{part_of}
 use Rattle.pos_counter.specs.Totals.{TotalsPart}
 use Rattle.pos_counter.proofs.Lifts.{control_at}
-use Rattle.pos_counter.proofs.Serving.{beside_serves, station_serves}
+use Rattle.pos_counter.proofs.Serving.{parts_serve, station_sound}
 use Rattle.pos_counter.proofs.Stations.{ServedAt, drawer_kind, drawer_step, is_open_there, served_there, unparked_at}
 use Rattle.pos_counter.proofs.device_calls.call_category.Goals as goal
 
@@ -29,8 +31,8 @@ bounds-boxes-place g c =
     let one = (get_or hs n d).control in
     let is = ap (λ (h : Held). h.control.category) (get_or_default hs n d c.index-controls-number-2.result c.requires.in_range) ∙ sym c.category.ensures ∙ c.in-CashDrawer.is in
     let at = control_at hs n d c.requires.in_range in
-    let part : TotalsPart = record { totals = c.args.totals.now.totals; left = []; failures = 0 } in
-    let there = served_there boxes.state hs c.args.entries.now bs part n one c.in-Some.place (c.requires.sound.machine part) c.requires.sound.attached at (sym c.in-Some.ensures) (has_kind _ is) in
+    let shared : Shared = record { claims = c.args.claims.now; totals = part_of g.D.Disk c.args.totals.now [] } in
+    let there = served_there boxes.state hs c.args.entries.now bs shared n one c.in-Some.place (c.requires.sound.machine shared) c.requires.sound.attached at (sym c.in-Some.ensures) (has_kind _ is) in
     there.within
 
 pub offset_bounds-boxes-place : goal.offset_bounds-boxes-place
@@ -43,8 +45,8 @@ offset_bounds-boxes-place g c =
     let one = (get_or hs n d).control in
     let is = ap (λ (h : Held). h.control.category) (get_or_default hs n d c.index-controls-number-2.result c.requires.in_range) ∙ sym c.category.ensures ∙ c.in-CashDrawer.is in
     let at = control_at hs n d c.requires.in_range in
-    let part : TotalsPart = record { totals = c.args.totals.now.totals; left = []; failures = 0 } in
-    let there = served_there boxes.state hs c.args.entries.now bs part n one c.in-Some.place (c.requires.sound.machine part) c.requires.sound.attached at (sym c.in-Some.ensures) (has_kind _ is) in
+    let shared : Shared = record { claims = c.args.claims.now; totals = part_of g.D.Disk c.args.totals.now [] } in
+    let there = served_there boxes.state hs c.args.entries.now bs shared n one c.in-Some.place (c.requires.sound.machine shared) c.requires.sound.attached at (sym c.in-Some.ensures) (has_kind _ is) in
     let within : c.in-Some.place < length bs = there.within in
     search rules
 
@@ -69,8 +71,8 @@ call-requires-clause-unparked g c =
     let one = (get_or hs n d).control in
     let is = ap (λ (h : Held). h.control.category) (get_or_default hs n d c.index-controls-number-2.result c.requires.in_range) ∙ sym c.category.ensures ∙ c.in-CashDrawer.is in
     let at = control_at hs n d c.requires.in_range in
-    let part : TotalsPart = record { totals = c.args.totals.now.totals; left = []; failures = 0 } in
-    let there = served_there boxes.state hs c.args.entries.now bs part n one c.in-Some.place (c.requires.sound.machine part) c.requires.sound.attached at (sym c.in-Some.ensures) (has_kind _ is) in
+    let shared : Shared = record { claims = c.args.claims.now; totals = part_of g.D.Disk c.args.totals.now [] } in
+    let there = served_there boxes.state hs c.args.entries.now bs shared n one c.in-Some.place (c.requires.sound.machine shared) c.requires.sound.attached at (sym c.in-Some.ensures) (has_kind _ is) in
     unparked_at boxes.state bs c.in-Some.place _ (slice_get-get_or bs c.in-Some.place c.index-boxes-place.result there.within) c.requires.sound.unparked
 
 pub call-requires-clause-drawer : goal.call-requires-clause-drawer
@@ -83,8 +85,8 @@ call-requires-clause-drawer g c =
     let one = (get_or hs n d).control in
     let is = ap (λ (h : Held). h.control.category) (get_or_default hs n d c.index-controls-number-2.result c.requires.in_range) ∙ sym c.category.ensures ∙ c.in-CashDrawer.is in
     let at = control_at hs n d c.requires.in_range in
-    let part : TotalsPart = record { totals = c.args.totals.now.totals; left = []; failures = 0 } in
-    let there = served_there boxes.state hs c.args.entries.now bs part n one c.in-Some.place (c.requires.sound.machine part) c.requires.sound.attached at (sym c.in-Some.ensures) (has_kind _ is) in
+    let shared : Shared = record { claims = c.args.claims.now; totals = part_of g.D.Disk c.args.totals.now [] } in
+    let there = served_there boxes.state hs c.args.entries.now bs shared n one c.in-Some.place (c.requires.sound.machine shared) c.requires.sound.attached at (sym c.in-Some.ensures) (has_kind _ is) in
     drawer_kind _ _ is (there.is_served c.index-boxes-place.result)
 
 pub returns-in-CashDrawer : goal.returns-in-CashDrawer
@@ -97,13 +99,14 @@ returns-in-CashDrawer g c =
     let one = (get_or hs n d).control in
     let is = ap (λ (h : Held). h.control.category) (get_or_default hs n d c.index-controls-number-2.result c.requires.in_range) ∙ sym c.category.ensures ∙ c.in-CashDrawer.is in
     let at = control_at hs n d c.requires.in_range in
-    let part : TotalsPart = record { totals = c.args.totals.now.totals; left = []; failures = 0 } in
-    let there = served_there boxes.state hs c.args.entries.now bs part n one c.in-Some.place (c.requires.sound.machine part) c.requires.sound.attached at (sym c.in-Some.ensures) (has_kind _ is) in
+    let shared : Shared = record { claims = c.args.claims.now; totals = part_of g.D.Disk c.args.totals.now [] } in
+    let there = served_there boxes.state hs c.args.entries.now bs shared n one c.in-Some.place (c.requires.sound.machine shared) c.requires.sound.attached at (sym c.in-Some.ensures) (has_kind _ is) in
     let es = c.args.entries.now in
     let gs = c.call.new.controls in
     let box = c.call.new.drawer in
     let view = c.args.totals.now in
     let place = c.in-Some.place in
-    beside_serves g.D.Disk view hs gs es (map boxes.state bs) _ (CallOf n c.args.call.now) (answered c.call.result) (λ bytes honest since. g.met.D.Disk.only_now view.disk bytes honest since)
-    (station_serves boxes.state hs gs es bs place box (CallOf n c.args.call.now) (answered c.call.result) c.requires.sound c.call.ensures.in_service.unparked
-    (λ part. drawer_step boxes.state hs gs es bs part n place _ box one c.args.call.now c.call.result c.requires.own at is (sym c.in-Some.ensures) c.requires.sound.attached (slice_get-get_or bs place c.index-boxes-place.result there.within) c.call.ensures.called))
+    let step = λ (part : TotalsPart). drawer_step boxes.state hs gs es bs (record { claims = c.args.claims.now; totals = part }) n place _ box one c.args.call.now c.call.result c.requires.own at is (sym c.in-Some.ensures) c.requires.sound.attached (slice_get-get_or bs place c.index-boxes-place.result there.within) c.call.ensures.called in
+    parts_serve g.D.Disk view hs gs c.args.claims.now c.args.claims.now es (map boxes.state bs) _ (CallOf n c.args.call.now) (answered c.call.result) (λ bytes honest since. g.met.D.Disk.only_now view.disk bytes honest since)
+    (station_sound boxes.state hs gs es bs place box shared (CallOf n c.args.call.now) (answered c.call.result) c.requires.sound c.call.ensures.in_service.unparked (step shared.totals)) refl
+    (λ left. step (part_of g.D.Disk view left))

@@ -16,7 +16,7 @@ returns-then-place-boxes g c =
     let ss = map boxes.state c.args.boxes.now in
     let beyond : length ss ≤ c.in-Some.place = omega (arith, length-map c.args.boxes.now boxes.state) in
     controls_serve hs hs es ss (InputTo c.args.name.now c.args.input.now) NoDevice c.requires
-    (λ part. (nothing_named hs es ss part c.args.name.now c.in-Some.place c.requires.attached (c.in-Some.ensures.place ss) beyond, refl))
+    (λ shared. (nothing_named hs es ss shared c.args.name.now c.in-Some.place c.requires.attached (c.in-Some.ensures.place ss) beyond, refl))
 
 pub take_input-requires-clause-unparked : goal.take_input-requires-clause-unparked
 take_input-requires-clause-unparked g c =
@@ -35,7 +35,7 @@ returns-in-Ok g c =
     let gs = c.take_input.new.controls in
     let box = c.take_input.new.drawer in
     station_serves boxes.state hs gs es bs place box (InputTo c.args.name.now c.args.input.now) TakenIn c.requires c.in-Ok.ensures.in_service.unparked
-    (λ part. on_station boxes.state hs gs es bs part place _ box _ _ c.requires.attached (slice_get-get_or bs place c.index-boxes-place-2.result within) (sym (c.in-Some.ensures.place _)) c.in-Ok.ensures.taken)
+    (λ shared. on_station boxes.state hs gs es bs shared place _ box _ _ c.requires.attached (slice_get-get_or bs place c.index-boxes-place-2.result within) (sym (c.in-Some.ensures.place _)) c.in-Ok.ensures.taken)
 
 pub returns-in-Err : goal.returns-in-Err
 returns-in-Err g c =
@@ -48,7 +48,7 @@ returns-in-Err g c =
     let gs = c.take_input.new.controls in
     let box = c.take_input.new.drawer in
     let fit = ap (λ k. input_fits k c.args.input.now) (sym c.kind.ensures.kind) ∙ sym c.fits.ensures ∙ c.if-not-fits.false in
-    station_serves boxes.state hs gs es bs place box (InputTo c.args.name.now c.args.input.now) OutOfMemory c.requires c.in-Err.ensures.in_service.unparked (λ part. (
-      finds_fit boxes.state hs es bs part c.args.name.now place (get_or bs place c.index-boxes-place.result) c.args.input.now true c.requires.attached (c.in-Some.ensures.place _) (slice_get-get_or bs place c.index-boxes-place.result within) fit,
-      unchanged boxes.state hs gs es bs part place _ box (slice_get-get_or bs place c.index-boxes-place-2.result within) c.in-Err.ensures.taken.controls c.in-Err.ensures.taken.station,
+    station_serves boxes.state hs gs es bs place box (InputTo c.args.name.now c.args.input.now) OutOfMemory c.requires c.in-Err.ensures.in_service.unparked (λ shared. (
+      finds_fit boxes.state hs es bs shared c.args.name.now place (get_or bs place c.index-boxes-place.result) c.args.input.now true c.requires.attached (c.in-Some.ensures.place _) (slice_get-get_or bs place c.index-boxes-place.result within) fit,
+      unchanged boxes.state hs gs es bs shared place _ box (slice_get-get_or bs place c.index-boxes-place-2.result within) c.in-Err.ensures.taken.controls c.in-Err.ensures.taken.station,
     ))

@@ -4,14 +4,14 @@ use Rattle.pos_common.specs.Held.{Held}
 use Rattle.pos_counter.specs.Totals.{asks_recovery}
 use Rattle.std.proofs.lemmas.List.{get_or_default}
 use Rattle.pos_service.specs.declared.call.Call.TheVariants as call
-use Rattle.pos_counter.specs.Parts.{machine_of, part_of}
+use Rattle.pos_counter.specs.Parts.{machine_with, part_of}
 use Rattle.pos_counter.specs.Steps.{CallOf, Answered}
 use Rattle.pos_counter.proofs.Recovering.{plain_set, plain_sound}
 use Rattle.pos_counter.proofs.Serving.{kept_disk, rests_stepped}
 use Rattle.pos_counter.proofs.properties.set.Goals as goal
 
 pub returns : goal.returns
-returns g c = λ entries states sound.
+returns g c = λ claims entries states sound.
     let hs = c.args.controls.now in
     let n = c.args.number in
     let view = c.args.totals.now in
@@ -22,9 +22,10 @@ returns g c = λ entries states sound.
     let plain = subst (λ (k : Held). (asks_recovery k.control c.args.property c.args.value.now && not (is_ready view.totals.mode)) ≡ false) (sym same)
     (ap (λ b. asks_recovery (get_or hs n c.index-controls-number.result).control c.args.property c.args.value.now && not b) (sym c.is_ready.ensures) ∙ sym c.is_recovering.ensures ∙ c.if-is_recovering.false) in
     record {
-      steps = λ left leaves. rests_stepped g.D.Disk view (machine_of hs entries states) (machine_of (set hs n c.set.new.self) entries states) (CallOf n q) (Answered c.set.result) left (λ bytes honest since. g.met.D.Disk.only_now view.disk bytes honest since) leaves
-          (plain_set hs entries states (part_of g.D.Disk view left) n c.set.new.self h c.args.property c.args.value.now c.set.result c.requires is plain c.set.ensures);
+      steps = λ left leaves. rests_stepped g.D.Disk view (machine_with hs claims entries states) (machine_with (set hs n c.set.new.self) claims entries states) (CallOf n q) (Answered c.set.result) left (λ bytes honest since. g.met.D.Disk.only_now view.disk bytes honest since) leaves
+          (plain_set hs claims entries states (part_of g.D.Disk view left) n c.set.new.self h c.args.property c.args.value.now c.set.result c.requires is plain c.set.ensures);
       sound = plain_sound hs entries states n c.set.new.self h c.args.property c.args.value.now c.set.result c.requires is c.set.ensures sound;
+      covers = refl;
       alone = λ h. refl;
       kept = kept_disk g.D.Disk view.disk;
     }

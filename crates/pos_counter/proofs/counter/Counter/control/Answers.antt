@@ -11,4 +11,4 @@ returns-clause-sound g c =
     let es = c.args.self.now.entries.items in
     let ss = states_of boxes c.args.self.now.boxes.items in
     let served = controls_serve c.args.self.now.desk c.control.new.self es ss (NewControl c.args.category) (made c.control.result) c.requires.sound.parts (c.control.ensures (devices_of es ss)) in
-    record { parts = served.sound }
+    record { parts = served.sound; covers = c.requires.sound.covers }

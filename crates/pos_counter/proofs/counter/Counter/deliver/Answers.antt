@@ -10,4 +10,4 @@ returns-clause-sound g c =
     let es = c.args.self.now.entries.items in
     let ss = states_of boxes c.args.self.now.boxes.items in
     let served = controls_serve c.args.self.now.desk c.deliver.new.self es ss (Deliver c.args.number c.args.reply) (Delivered c.deliver.result) c.requires.sound.parts (c.deliver.ensures (devices_of es ss)) in
-    record { parts = served.sound }
+    record { parts = served.sound; covers = c.requires.sound.covers }

@@ -1,0 +1,123 @@
+-- Claims, releases and closes as steps of the machine.
+use Rattle.std.proofs.Common.{◌≡◌, ◌∙◌, ◌<◌, ◌≤◌, ◌∷◌, [], ℕ, ℤ, zero, suc, List, Option, Some, None, Bool, true, false, inl, inr, cond, get_or, set, length, map, ap, sym, subst, refl, arith}
+use Rattle.std.specs.Prelude.{IfSome, IsTrue, MatchOption, All, slice_get, slice_set, is_none, is_some}
+use Rattle.std.proofs.lemmas.List.{map-set, length-set, set-get_or}
+use Rattle.std.proofs.lemmas.List.Elements.{All-get_or, All-weaker}
+use Rattle.std.proofs.lemmas.Option.{slice_get_within, get_or_from_slice_get}
+use Rattle.pos_service.specs.declared.answer.Answer.{Answer}
+use Rattle.pos_service.specs.declared.answer.Answer.TheVariants as answer
+use Rattle.pos_service.specs.declared.answer.Value.TheVariants as value
+use Rattle.pos_service.specs.declared.call.Call.{Call}
+use Rattle.pos_service.specs.declared.call.Call.TheVariants as call
+use Rattle.pos_service.specs.declared.category.Category.{Category}
+use Rattle.pos_service.specs.declared.category.Category.TheVariants as category
+use Rattle.pos_service.specs.declared.code.Code.TheVariants as code
+use Rattle.pos_service.specs.Calls.{close_rows}
+use Rattle.pos_service.specs.Claims.{is_held_by, is_held_by_another, holder_at, claim_rows, claimed_by, release_rows, released_by, after_release}
+use Rattle.pos_service.specs.Controls.{Control, closed}
+use Rattle.pos_service.specs.Peripherals.{PeripheralState}
+use Rattle.pos_service.specs.Refusals.{Row, Decided, first_refusal, when}
+use Rattle.pos_common.specs.Held.{Held, TurnsInto, controls_of}
+use Rattle.pos_disk.specs.declared.device.Disk.{Ghosts}
+use Rattle.pos_totals.specs.Views.{TotalsView}
+use Rattle.pos_counter.specs.declared.entry.Entry.{Entry}
+use Rattle.pos_counter.specs.Machine.{Device, Machine, Shared, holder_in, with_control}
+use Rattle.pos_counter.specs.Parts.{machine_of, machine_with, devices_of, part_of, AreCovered, ArePartsSound, Serves}
+use Rattle.pos_counter.specs.Steps.{CallOf, Answered, Step, Called, Does, claimed, dropped, released, is_taken, refusals, HasItsDevice, IsServed}
+use Rattle.pos_counter.specs.Totals.{TotalsPart}
+use Rattle.pos_counter.proofs.Lifts.{match_at_some, match_at_none, match_by, match_cases, match_weaker, control_at}
+use Rattle.pos_counter.proofs.Serving.{OnlyNow, any_shared, parts_serve}
+use Rattle.pos_counter.proofs.Sound.{Served, step_sound}
+
+-- there are as many devices as entries
+length_devices : (es : List Entry) (ss : List PeripheralState) → length (devices_of es ss) ≡ length es
+length_devices [] ss = refl
+length_devices (e ∷ es) [] = ap suc (length_devices es [])
+length_devices (e ∷ es) (s ∷ ss) = ap suc (length_devices es ss)
+
+-- where there is a claim for each device, the device of each open control has one
+pub covered : (hs : List Held) (es : List Entry) (ss : List PeripheralState) (cl : List (Option ℕ)) (shared : Shared) → ArePartsSound hs es ss → length cl ≡ length es → AreCovered hs cl
+covered hs es ss cl shared sound covers =
+    All-weaker (HasItsDevice (devices_of es ss)) (λ control. IfSome control.device (λ place. place < length cl)) (λ control seat. by_place control control.device seat) (controls_of hs) (sound.machine shared).places
+  where
+    within : (k : Category) (place : ℕ) → Served k (slice_get (devices_of es ss) place) → place < length cl
+    within k place served = elim (match_cases (slice_get (devices_of es ss) place) _ _ served) [
+      | inl x ↦ absurd x.1
+      | inr x ↦ let there = slice_get_within (devices_of es ss) place x.0 x.1 in omega (arith, there, length_devices es ss, covers)
+    ]
+
+    by_place : (control : Control) (o : Option ℕ) → IfSome o (λ place. Served control.category (slice_get (devices_of es ss) place)) → IfSome o (λ place. place < length cl)
+    by_place control None seat = tt
+    by_place control (Some place) seat = within control.category place seat
+
+-- the machine with one control in the place of another, and other claims
+pub claims_machine : (hs : List Held) (cl dl : List (Option ℕ)) (es : List Entry) (ss : List PeripheralState) (n : ℕ) (g : Held) (c : Control) (part : TotalsPart) → g.control ≡ c → machine_with (set hs n g) dl es ss part ≡ record (with_control (machine_with hs cl es ss part) n c) { claims = dl }
+claims_machine hs cl dl es ss n g c part e =
+    ap (λ (cs : List Control). let m : Machine = record { controls = cs; devices = devices_of es ss; claims = dl; totals = part } in m) (map-set (λ (h : Held). h.control) hs n g ∙ ap (set (controls_of hs) n) e)
+
+-- ---- close
+
+-- a close of a closed control is refused
+pub close_refused : (m : Machine) (n : ℕ) (c : Control) → slice_get m.controls n ≡ Some c → is_none c.device ≡ true → Step m (CallOf n call.Close) (Answered (answer.Refused code.Closed 0)) m
+close_refused m n c at closed =
+    match_at_some _ c _ _ at (record {
+      outcome = match_at_some (first_refusal (close_rows c)) (answer.Refused code.Closed 0) _ _ (ap (λ b. first_refusal (when b code.Closed ∷ [])) closed) (refl, refl);
+    })
+
+-- what a decided call does where nothing refuses it
+done_by : (rows : List Row) (r : Answer) (h g : Held) (c : Control) → first_refusal rows ≡ None → TurnsInto rows r h g c → (r ≡ answer.Done value.Empty) × (g.control ≡ c)
+done_by rows r h g c none turns = subst (λ o. MatchOption o ((r ≡ answer.Done value.Empty) × (g.control ≡ c)) (λ refusal. (r ≡ refusal) × (g ≡ h))) none turns.outcome
+
+-- a close of a control of a device with a peripheral frees what it holds
+pub close_device : (hs : List Held) (cl dl : List (Option ℕ)) (es : List Entry) (ss : List PeripheralState) (part : TotalsPart) (n : ℕ) (c : Control) (h g : Held) (r : Answer)
+    → slice_get (controls_of hs) n ≡ Some c → c.category ≡ category.CashDrawer → is_none c.device ≡ false → TurnsInto (close_rows c) r h g (closed c) → dl ≡ released_by cl c.device n
+    → Step (machine_with hs cl es ss part) (CallOf n call.Close) (Answered r) (machine_with (set hs n g) dl es ss part)
+close_device hs cl dl es ss part n c h g r at is there turns free =
+    let none : first_refusal (close_rows c) ≡ None = ap (λ b. first_refusal (when b code.Closed ∷ [])) there in
+    let done = done_by (close_rows c) r h g (closed c) none turns in
+    let m : Machine = machine_with hs cl es ss part in
+    match_at_some _ c _ _ at (record {
+      outcome = match_at_none (first_refusal (close_rows c)) _ _ none (
+        done.0,
+        subst (λ k. machine_with (set hs n g) dl es ss part ≡ dropped k (with_control m n (closed c)) n c) (sym is)
+        (claims_machine hs cl dl es ss n g (closed c) part done.1 ∙ ap (λ claims. let o : Machine = record (with_control m n (closed c)) { claims = claims } in o) free),
+      );
+    })
+
+-- ---- claim and release
+
+-- a claim of a device with a peripheral
+pub claim_device : (hs : List Held) (cl dl : List (Option ℕ)) (es : List Entry) (ss : List PeripheralState) (part : TotalsPart) (n : ℕ) (c : Control) (timeout : ℤ) (r : Answer)
+    → slice_get (controls_of hs) n ≡ Some c → c.category ≡ category.CashDrawer
+    → Decided (claim_rows c (is_held_by_another (holder_at cl c.device) n) timeout) r (dl ≡ cl) ((r ≡ answer.Done value.Empty) × (dl ≡ claimed_by cl c.device n))
+    → Step (machine_with hs cl es ss part) (CallOf n (call.Claim timeout)) (Answered r) (machine_with hs dl es ss part)
+claim_device hs cl dl es ss part n c timeout r at is d =
+    let m : Machine = machine_with hs cl es ss part in
+    let rows = subst (λ k. first_refusal (refusals m n c (call.Claim timeout)) ≡ first_refusal (claim_rows c (taken k) timeout)) is refl in
+    match_at_some _ c _ _ at (record {
+      outcome = match_by (first_refusal (refusals m n c (call.Claim timeout))) _ _ _ rows
+          (match_weaker (first_refusal (claim_rows c (is_held_by_another (holder_at cl c.device) n) timeout)) _ _ _ _
+          (λ y. (y.0, subst (λ k. machine_with hs dl es ss part ≡ claimed k m n c) (sym is) (ap (λ claims. let o : Machine = record m { claims = claims } in o) y.1)))
+          (λ refusal y. (y.0, ap (λ claims. let o : Machine = record m { claims = claims } in o) y.1))
+          d.outcome);
+    })
+  where
+    taken : Category → Bool
+    taken k = is_taken k (machine_with hs cl es ss part) n c.device
+
+-- a release of a device with a peripheral
+pub release_device : (hs : List Held) (cl dl : List (Option ℕ)) (es : List Entry) (ss : List PeripheralState) (part : TotalsPart) (n : ℕ) (c : Control) (h g : Held) (r : Answer)
+    → slice_get (controls_of hs) n ≡ Some c → c.category ≡ category.CashDrawer → h ≡ get_or hs n h
+    → Decided (release_rows c (is_held_by (holder_at cl c.device) n)) r ((g ≡ h) × (dl ≡ cl)) ((r ≡ answer.Done value.Empty) × (g.control ≡ after_release c.category c) × (dl ≡ released_by cl c.device n))
+    → Step (machine_with hs cl es ss part) (CallOf n call.Release) (Answered r) (machine_with (set hs n g) dl es ss part)
+release_device hs cl dl es ss part n c h g r at is here d =
+    let m : Machine = machine_with hs cl es ss part in
+    let rows = subst (λ k. first_refusal (refusals m n c call.Release) ≡ first_refusal (release_rows c (is_held_by (holder_in k cl c.device) n))) is refl in
+    match_at_some _ c _ _ at (record {
+      outcome = match_by (first_refusal (refusals m n c call.Release)) _ _ _ rows
+          (match_weaker (first_refusal (release_rows c (is_held_by (holder_at cl c.device) n))) _ _ _ _
+          (λ y. (y.0, subst (λ k. machine_with (set hs n g) dl es ss part ≡ released k (with_control m n (after_release c.category c)) n c) (sym is)
+          (claims_machine hs cl dl es ss n g (after_release c.category c) part y.1 ∙ ap (λ claims. let o : Machine = record (with_control m n (after_release c.category c)) { claims = claims } in o) y.2)))
+          (λ refusal y. (y.0, ap (λ (ks : List Held). machine_with ks dl es ss part) (ap (set hs n) (y.1 ∙ here) ∙ set-get_or hs n h) ∙ ap (λ claims. let o : Machine = record m { claims = claims } in o) y.2))
+          d.outcome);
+    })
