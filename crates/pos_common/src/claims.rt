@@ -29,7 +29,8 @@ impl Claims {
         Ok(Claims { holders })
     }
 
-    /// The number of the control that holds a control's device, by the device's place: none where the control is closed.
+    /// The number of the control that holds a control's device, by the device's place: none where nobody does, and
+    /// where the control is closed.
     pub fn holder(&self, device: Option<usize>) -> Option<usize>
         ensures { result ≡ holder_at self.now device }
     {

@@ -1,6 +1,6 @@
 use crate::signs::Signs;
 
-/// What the properties of a control tell, besides what is its own.
+/// What the properties of a control tell that the control itself doesn't keep.
 #[derive(Clone, Copy, Debug, PartialEq, Eq)]
 pub struct Facts {
     /// Whether the control holds its device by a claim.

@@ -58,8 +58,8 @@ impl Control {
     /// `claim`: whether it may hold its device, by its number and the number of the control that holds the device now,
     /// if any (common chapter). The timeout is in milliseconds, -1 for one without end; nothing is waited for.
     ///
-    /// Refused with E_CLOSED where it is closed, E_ILLEGAL for a timeout below -1, E_TIMEOUT where another control holds
-    /// the device.
+    /// Refused with E_CLOSED where it is closed, E_ILLEGAL for a timeout below -1, E_TIMEOUT where another control
+    /// holds the device.
     pub fn claim(&self, number: usize, holder: Option<usize>, timeout: i128) -> Answer
         ensures { Decided (claim_rows self.now.control (is_held_by_another holder number) timeout) result ⊤
             (result ≡ Answer.Done Value.Empty) }
