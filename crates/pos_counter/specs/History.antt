@@ -19,8 +19,8 @@ abbrev pub Group : Type 0
 Group = List FileChange
 
 -- The files for which the disk stood at the start; the groups that are settled, in order, each acknowledged to its
--- caller or kept by a recovery; and the group in doubt, if there is one: the disk failed in it, and no recovery has found
--- files since.
+-- caller or kept by a recovery; and the group in doubt, if there is one: the disk failed in it, and no recovery has
+-- found files since.
 pub record History : Type 0 where
   pub start : List PlainFile
   pub settled : List Group
