@@ -54,7 +54,7 @@ during_last a b c [] q r run step bytes (inr h) = inr h
 during_last a b c (s ∷ steps) q r run step bytes h = inr (during_last run.0 b c steps q r run.2 step bytes h)
 
 -- one run after another
-pub run_append : (a b c : Machine) (steps more : List (machine.Request × machine.Response)) → Run a steps b → Run b more c → Run a (steps ++ more) c
+unfoldable pub run_append : (a b c : Machine) (steps more : List (machine.Request × machine.Response)) → Run a steps b → Run b more c → Run a (steps ++ more) c
 run_append a b c [] more run rest = subst (λ m. Run m more c) run rest
 run_append a b c (s ∷ steps) more run rest = (run.0, run.1, run_append run.0 b c steps more run.2 rest)
 
