@@ -23,11 +23,6 @@ sound_leaves state images sound c may =
     subst (HasImage images.body images.sequence (log_of state.reading)) (sym (rest_leaves state c sound.at_rest may))
     (image_here images.slot state.reading images.body images.sequence sound.current)
 
--- before the first disk call
-pub at_start : {D : Type 0} (state : DiskState) (images : View D) → IsSound state images → ((c : List ℕ) → state.left_since state.moment c → MayLeave state c)
-    → LeavesOnly state state (HasImage images.body images.sequence (log_of state.reading))
-at_start state images sound only = started state (HasImage images.body images.sequence (log_of state.reading)) (λ c left. sound_leaves state images sound c (only c left))
-
 -- sound images are ready
 pub ready : {D : Type 0} (bound : Ghosts D) (images : View D) → 327680 ≤ bound.size images.disk → images.sequence < 2 ^ 64 → (bound.honest images.disk → IsSound (bound.state images.disk) images) → IsReady bound images
 ready bound images large counted sound = record {

@@ -34,19 +34,9 @@ pub where_ok : {T E : Type 0} (r : Result T E) (P : Type 0) → P → OnOk r P
 where_ok (Ok x) P holds = holds
 where_ok (Err e) P holds = tt
 
--- what a read of a gate says
-pub gate_read : (bytes out : List ℕ) (at : ℕ) → at + 1 ≤ length bytes → length out ≡ 1 → out ≡ part at (length out) bytes → get_or out 0 0 ≡ get_or bytes at 0
-gate_read bytes out at fits one is =
-    let here : at + 0 ≡ at = omega arith in
-    ap (λ (l : List ℕ). get_or l 0 0) is ∙ get_or-part at (length out) bytes 0 (omega arith) ∙ ap (λ (k : ℕ). get_or bytes k 0) here
-
 -- a gate that holds 0xA5 is open
 pub gate_open : (bytes : List ℕ) (at : ℕ) → get_or bytes at 0 ≡ 165 → is_open bytes at ≡ true
 gate_open bytes at is = grind (arith, nat_tests)
-
--- and one that holds another byte is closed
-pub gate_closed : (bytes : List ℕ) (at : ℕ) → get_or bytes at 0 ≢ 165 → is_open bytes at ≡ false
-gate_closed bytes at is = grind (arith, nat_tests)
 
 -- a fact follows from another where a call succeeded
 pub so_ok : {T E : Type 0} (r : Result T E) (P Q : Type 0) → (P → Q) → OnOk r P → OnOk r Q
