@@ -3,7 +3,7 @@ use Rattle.std.proofs.Common.{◌≡◌, inl, inr, ℕ, ◌+◌, ◌≤◌, ◌<
 use Rattle.std.specs.Prelude.{⊤, MatchOption}
 use Rattle.std.proofs.lemmas.Bool.{cases_Bool}
 use Rattle.pos_disk.specs.State.{DiskState, MayLeave, LeavesOnly, splice, part}
-use Rattle.pos_disk.proofs.Moments.{started, weaker, rest_leaves}
+use Rattle.pos_disk.proofs.Moments.{weaker, rest_leaves}
 use Rattle.pos_disk.proofs.Bytes.{length-splice, splice_elsewhere, part-splice, get_or-part}
 use Rattle.pos_disk.specs.declared.device.Disk.{Ghosts}
 use Rattle.pos_disk.specs.Within.{SameBut}

@@ -1,8 +1,8 @@
 -- What the steps of a change leave.
 use Rattle.std.proofs.lemmas.Bool.Decides.{nat_tests}
-use Rattle.std.proofs.Common.{◌≡◌, ◌≢◌, ℕ, ◌+◌, ◌≤◌, ◌<◌, ◌^◌, List, [], ◌∷◌, ◌++◌, length, get_or, sym, ap, ◌∙◌, arith, Result, Ok, Err, true, false, OnOk}
+use Rattle.std.proofs.Common.{◌≡◌, ℕ, ◌+◌, ◌≤◌, ◌<◌, ◌^◌, List, [], ◌∷◌, ◌++◌, length, get_or, sym, ap, ◌∙◌, arith, Result, Ok, Err, true, OnOk}
 use Rattle.pos_disk.specs.State.{splice, part}
-use Rattle.pos_disk.proofs.Bytes.{get_or-part, part-splice, same_part, length-splice, splice_elsewhere}
+use Rattle.pos_disk.proofs.Bytes.{part-splice, same_part, length-splice, splice_elsewhere}
 use Rattle.byteorder.specs.Endian.{big_bytes}
 use Rattle.pos_image.specs.Layout.{is_open}
 use Rattle.pos_image.specs.Slots.{HasFields}

@@ -1,4 +1,4 @@
-use Rattle.std.proofs.Common.{◌≡◌, ◌+◌, ℕ, List, [], ◌∷◌, Option, Some, sym, ◌∙◌, ap, subst, arith, true}
+use Rattle.std.proofs.Common.{◌≡◌, ◌+◌, ℕ, [], ◌∷◌, Option, Some, sym, ◌∙◌, ap, subst, arith, true}
 use Rattle.std.specs.Prelude.{⊤, MatchOption}
 use Rattle.pos_disk.specs.State.{LeavesOnly, splice}
 use Rattle.pos_disk.specs.Within.{SameBut}
