@@ -224,12 +224,6 @@ pub stage_stops : (outlines : List Outline) (changes : List Change) (i : ℕ) (c
 stage_stops outlines changes i change fault total lt at stopped stage =
     sym (ap result_err (stops LAYOUT_1 stage.0 changes i change fault total lt at (stopped stage.0 stage.2) stage.3))
 
--- behind the last change there is no fault
-pub stage_ends : (outlines : List Outline) (changes : List Change) (i : ℕ) (total : Result (List File) DirectoryFault) → length changes ≤ i → IsStage outlines (drop i changes) total → None ≡ result_err total
-stage_ends outlines changes i total le stage =
-    let none : drop i changes ≡ [] = nil_from_length (drop i changes) (omega (arith, length-drop i changes)) in
-    ap result_err (ap (outcome_of_all LAYOUT_1 stage.0) (sym none) ∙ stage.3)
-
 -- at each stage the sizes fit
 pub stage_room : (outlines : List Outline) (rest : List Change) (total : Result (List File) DirectoryFault) → IsStage outlines rest total → sum_by (λ outline. outline.size) outlines ≤ LAYOUT_1.bytes
 stage_room outlines rest total stage = omega (arith, same_total outlines stage.0 stage.2, stage.1.size)
