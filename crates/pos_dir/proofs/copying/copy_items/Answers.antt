@@ -1,4 +1,4 @@
-use Rattle.std.proofs.Common.{◌≡◌, ◌∙◌, ◌∷◌, ◌++◌, [], sym}
+use Rattle.std.proofs.Common.{sym}
 use Rattle.pos_dir.specs.Reading.{items_at}
 use Rattle.pos_dir.proofs.Items.{kept_more, must_read, kept_all}
 use Rattle.pos_dir.proofs.copying.copy_items.Goals as goal

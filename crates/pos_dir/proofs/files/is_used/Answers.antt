@@ -1,5 +1,4 @@
-use Rattle.std.proofs.Common.{◌≡◌, ◌∙◌, sym, ap, subst, Option, Bool, true, false, refl}
-use Rattle.std.specs.Prelude.{IfSome}
+use Rattle.std.proofs.Common.{◌∙◌, sym, ap, true, false, refl}
 use Rattle.pos_dir.specs.Files.{has_name}
 use Rattle.pos_dir.specs.Reading.{file_at, items_at}
 use Rattle.pos_dir.proofs.Items.{one_more, none_more, no_more}
