@@ -30,6 +30,7 @@ module _ {D X : Type 0} {O : X → Type 0} (bound : DiskGhosts D) (boxes : Ghost
   begins_with : (counter : Counter D X O) → BeginsOver bound boxes start sequence counter → StartsWith start sequence (part_of bound counter.totals (Stands start sequence ∷ []))
   begins_with counter is = record { off = ap (λ (v : TotalsView D). v.totals.mode) is.begins.totals; left = refl }
 
+  -- it has run through nothing
   pub has_begun : (counter : Counter D X O) → BeginsOver bound boxes start sequence counter → HasBegun bound boxes start sequence counter
   has_begun counter is = record {
     past = record { first = counter; begins = is; left = Stands start sequence ∷ []; leaves = begins_leaves counter is; run = refl };
@@ -43,6 +44,7 @@ module _ {D X : Type 0} {O : X → Type 0} (bound : DiskGhosts D) (boxes : Ghost
       run_fits (begun start) (machine boxes past.first from) steps (machine_now past) past.run
       (fits_begun start sequence from (begins_with past.first past.begins))
 
+  -- requests after others
   pub leaves_prefixes : (steps more : List (Request × Response)) (old new : Counter D X O) (past : HasRun bound boxes start sequence steps old) → IsRun bound boxes old more new → LeavesPrefixes bound boxes start sequence steps old past more new
   leaves_prefixes steps more old new past runs =
       let f = runs past.left past.leaves in

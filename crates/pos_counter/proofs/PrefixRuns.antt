@@ -56,14 +56,17 @@ module _ (start : List PlainFile) (sequence : ℕ) (first last : Machine) (steps
   fits_last : Fits (history_of start first steps last run) last.totals
   fits_last = run_fits (begun start) first steps last run (fits_begun start sequence first.totals is)
 
+  -- after the run
   pub law_after : LeavesPrefix (history_of start first steps last run) last.totals
   law_after = fits_leaves (history_of start first steps last run) last.totals fits_last
 
+  -- inside one more step
   pub law_inside : (q : Request) (r : Response) (new : Machine) → Step last q r new → LeavesPrefixInside (history_of start first steps last run) last.totals (history_with (history_of start first steps last run) last q r new) new.totals
   law_inside q r new step =
       let history = history_of start first steps last run in
       fits_inside history last.totals (event_of last q r new) new.totals fits_last (step_told last q r new (fits_settled history last.totals fits_last) step)
 
+  -- never damage, nor a disk without totals
   pub law_files : (left : Standing) → IsOneOf last.totals.left left → IsFiles left
   law_files left one =
       let history = history_of start first steps last run in
