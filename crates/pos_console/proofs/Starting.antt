@@ -17,6 +17,7 @@ use Rattle.pos_counter.specs.Parts.{machine_of, part_of, Leaves}
 use Rattle.pos_counter.specs.Profile.{profile}
 use Rattle.pos_counter.specs.Totals.{TotalsPart}
 use Rattle.pos_counter.specs.Steps.{Run}
+use Rattle.pos_counter.proofs.Runs.{runs_from}
 use Rattle.pos_console.specs.declared.run.RunFault.{RunFault}
 use Rattle.pos_console.specs.declared.run.RunFault.TheVariants as fault
 use Rattle.pos_console.specs.Running.{Finishes, IsNewDisk, RunsScript, RunsFromStart, ScriptLeaves, Stops, start}
@@ -29,7 +30,7 @@ module _ {D X : Type 0} {O : X → Type 0} (bound : DiskGhosts D) (boxes : Ghost
   -- what a run over a counter leaves, over its machine
   script_leaves : (bytes : List ℕ) (before after : Option (List ℕ)) (result : Result (Unit {0}) RunFault) (new : Counter D X O) → ScriptLeaves (IsRun bound boxes) old bytes before after result new → (end : Machine) × ScriptLeaves Run begun bytes before after result end
   script_leaves bytes before after (Ok u) new h =
-      let r = h.transcript.run left leaves in (
+      let r = runs_from bound boxes old _ h.transcript.steps left leaves h.transcript.run in (
         machine boxes new (part_of bound new.totals r.after),
         record {
           text = h.text;
@@ -40,8 +41,8 @@ module _ {D X : Type 0} {O : X → Type 0} (bound : DiskGhosts D) (boxes : Ghost
       )
   script_leaves bytes before after (Err fault.Read) new h = (begun, (refl, h.1))
   script_leaves bytes before after (Err fault.Write) new h =
-      let r = h.transcript.run left leaves in
-      let s = h.carried.run r.after r.leaves in (
+      let r = runs_from bound boxes old _ h.transcript.steps left leaves h.transcript.run in
+      let s = runs_from bound boxes h.mid new h.carried.steps r.after r.leaves h.carried.run in (
         machine boxes new (part_of bound new.totals s.after),
         record {
           earlier = h.earlier;

@@ -11,7 +11,8 @@ use Rattle.pos_totals.specs.Recoveries.{HasTooMany}
 use Rattle.pos_counter.specs.Counters.{IsLeftDuring}
 use Rattle.pos_counter.specs.History.{History, begun, event_of, history_with, history_along, history_of}
 use Rattle.pos_counter.specs.Machine.{Machine}
-use Rattle.pos_counter.specs.Prefixes.{IsFiles, IsPrefixOf, IsPrefixAlong, LeavesPrefix, LeavesPrefixInside, StandsForSome, StartsWith}
+use Rattle.pos_counter.specs.Parts.{IsLeft}
+use Rattle.pos_counter.specs.Prefixes.{IsFiles, IsPrefixInside, IsPrefixOf, IsPrefixAlong, LeavesPrefix, LeavesPrefixInside, StandsForSome, StartsWith}
 use Rattle.pos_counter.specs.Steps.{Request, Response, Step, Run}
 use Rattle.pos_counter.specs.Totals.{TotalsPart, Recovers}
 use Rattle.pos_counter.proofs.Prefixes.{Fits, fits_settled, fits_leaves, fits_next, fits_begun, fits_inside, prefix_files}
@@ -50,20 +51,32 @@ bytes_along history old (s ∷ steps) new run fits bytes (inr is) =
     some_weaker (IsPrefixAlong next run.0 steps new run.2) (IsPrefixAlong history old (s ∷ steps) new run) bytes (λ standing has. inr has)
     (bytes_along next run.0 steps new run.2 (step_fits history old s.0 s.1 run.0 fits run.1) bytes is)
 
+-- what bytes that are left before a step or after it stand for
+pub bytes_inside : (history : History) (old : Machine) (q : Request) (r : Response) (new : Machine) (bytes : List ℕ) → Fits history old.totals → Step old q r new → IsLeft old.totals.left new.totals.left bytes → StandsForSome (IsPrefixInside history (history_with history old q r new)) bytes
+bytes_inside history old q r new bytes fits step h =
+    let inside = fits_inside history old.totals (event_of old q r new) new.totals fits (step_told old q r new (fits_settled history old.totals fits) step) in
+    elim h [
+      | inl x ↦ some_left (IsPrefixInside history (history_with history old q r new)) old.totals.left bytes (λ standing one. inside standing (inl one)) x
+      | inr x ↦ some_left (IsPrefixInside history (history_with history old q r new)) new.totals.left bytes (λ standing one. inside standing (inr one)) x
+    ]
+
 -- ---- the law
 
 module _ (start : List PlainFile) (sequence : ℕ) (first last : Machine) (steps : List (Request × Response)) (run : Run first steps last) (is : StartsWith start sequence first.totals) where
   fits_last : Fits (history_of start first steps last run) last.totals
   fits_last = run_fits (begun start) first steps last run (fits_begun start sequence first.totals is)
 
+  -- after the run
   pub law_after : LeavesPrefix (history_of start first steps last run) last.totals
   law_after = fits_leaves (history_of start first steps last run) last.totals fits_last
 
+  -- inside one more step
   pub law_inside : (q : Request) (r : Response) (new : Machine) → Step last q r new → LeavesPrefixInside (history_of start first steps last run) last.totals (history_with (history_of start first steps last run) last q r new) new.totals
   law_inside q r new step =
       let history = history_of start first steps last run in
       fits_inside history last.totals (event_of last q r new) new.totals fits_last (step_told last q r new (fits_settled history last.totals fits_last) step)
 
+  -- never damage, nor a disk without totals
   pub law_files : (left : Standing) → IsOneOf last.totals.left left → IsFiles left
   law_files left one =
       let history = history_of start first steps last run in

@@ -226,6 +226,7 @@ prefix_files history held left is = subst IsFiles (sym is.stands) tt
 
 -- ---- steps
 
+-- what happens keeps the history fitting
 pub fits_next : (history : History) (old : TotalsPart) (event : FilesEvent) (new : TotalsPart) → Fits history old → Happens old event new → Fits (told history event) new
 fits_next history old (GroupAccepted group) new fits h =
     let was = fits_from history old (Ready h.before h.sequence) h.ready fits in
@@ -241,11 +242,11 @@ fits_next history old (FilesFound found) new fits h =
     (decided_fits history history.doubt was.0 found h.now h.sequence refl was.1 h.files (was.2 (Stands found h.sequence) h.candidate))
 fits_next history old NothingDone new fits h = fits_at history new old.totals.mode old.left h.mode h.left fits
 
+-- the history at the start fits
 pub fits_begun : (start : List PlainFile) (sequence : ℕ) (totals : TotalsPart) → StartsWith start sequence totals → Fits (begun start) totals
 fits_begun start sequence totals is =
     fits_at (begun start) totals Off (Stands start sequence ∷ []) is.off is.left (start, refl, λ left one. elim one [ inl e ↦ inl (sequence, e) | inr e ↦ absurd e ])
 
--- nothing alters the settled groups
 decided_grows : (history : History) (doubt : Option Group) (found : List PlainFile) → BeginsWith (decided history doubt found).settled history.settled
 decided_grows history None found = ([], sym (append-nil history.settled))
 decided_grows history (Some group) found = by (has_made (after_groups history.start (history.settled ++ group ∷ [])) found)
@@ -254,6 +255,7 @@ decided_grows history (Some group) found = by (has_made (after_groups history.st
     by true = (group ∷ [], refl)
     by false = ([], sym (append-nil history.settled))
 
+-- nothing alters the settled groups
 pub grows : (history : History) (event : FilesEvent) → BeginsWith (told history event).settled history.settled
 grows history (GroupAccepted group) = (group ∷ [], refl)
 grows history (GroupInDoubt group) = ([], sym (append-nil history.settled))

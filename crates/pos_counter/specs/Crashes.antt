@@ -6,13 +6,13 @@ use Rattle.pos_disk.specs.declared.device.Disk.{Ghosts as DiskGhosts}
 use Rattle.pos_service.specs.declared.peripheral_box.HasState.{Ghosts}
 use Rattle.pos_service.specs.declared.peripheral_box.PeripheralBox.{PeripheralBox}
 use Rattle.pos_store.specs.Standing.{Standing, Stands, StandsFor}
-use Rattle.pos_counter.specs.Counters.{machine, Begins}
+use Rattle.pos_counter.specs.Counters.{machine, Begins, IsRun}
 use Rattle.pos_counter.specs.declared.counter.Counter.{Counter}
-use Rattle.pos_counter.specs.History.{History, begun, history_along, history_of}
+use Rattle.pos_counter.specs.History.{History, begun, history_of, history_with}
 use Rattle.pos_counter.specs.Machine.{Machine}
 use Rattle.pos_counter.specs.Parts.{part_of, Leaves}
-use Rattle.pos_counter.specs.Prefixes.{IsPrefixAlong, IsPrefixOf, StandsForSome}
-use Rattle.pos_counter.specs.Steps.{Request, Response, Run}
+use Rattle.pos_counter.specs.Prefixes.{IsPrefixInside, IsPrefixOf, StandsForSome}
+use Rattle.pos_counter.specs.Steps.{Request, Response, Step, Run}
 
 -- A counter as it begins over a disk that is honest, at rest, and stands for these files with this sequence.
 pub record BeginsOver {D X : Type 0} {O : X → Type 0} (bound : DiskGhosts D) (boxes : Ghosts (PeripheralBox X O))
@@ -57,19 +57,29 @@ pub record HasBegun {D X : Type 0} {O : X → Type 0} (bound : DiskGhosts D) (bo
   pub past : HasRun bound boxes start sequence [] counter
   pub history : history_until past ≡ begun start
 
--- What a crash leaves in requests that a counter carries out after others, whose history goes on by them. At any moment
--- of them it is the files after a prefix of the history before or after one of their steps, which holds each group that
--- was settled before that step. After them it is those after a prefix that holds each settled group.
-pub record LeavesPrefixes {D X : Type 0} {O : X → Type 0} (bound : DiskGhosts D) (boxes : Ghosts (PeripheralBox X O))
+-- What a crash leaves in one more request, whose step the history goes on by. At any moment of it: the files after a
+-- prefix of the history before it or after it, which holds each group that was settled before it. After it: those after a
+-- prefix that holds each settled group.
+pub record KeepsPrefix {D X : Type 0} {O : X → Type 0} (bound : DiskGhosts D) (boxes : Ghosts (PeripheralBox X O))
     (start : List PlainFile) (sequence : ℕ) (steps : List (Request × Response)) (old : Counter D X O)
-    (past : HasRun bound boxes start sequence steps old) (more : List (Request × Response)) (new : Counter D X O)
+    (past : HasRun bound boxes start sequence steps old) (request : Request) (response : Response) (new : Counter D X O)
     : Type 0 where
-  pub next : HasRun bound boxes start sequence (steps ++ more) new
-  pub run : Run (machine_now past) more (machine_now next)
+  pub next : HasRun bound boxes start sequence (steps ++ (request, response) ∷ []) new
+  pub step : Step (machine_now past) request response (machine_now next)
   pub history : history_until next
-      ≡ history_along (history_until past) (machine_now past) more (machine_now next) run
+      ≡ history_with (history_until past) (machine_now past) request response (machine_now next)
   pub any_moment : (bytes : List ℕ)
       → (bound.state new.totals.disk).left_since (bound.state old.totals.disk).moment bytes
-      → StandsForSome (IsPrefixAlong (history_until past) (machine_now past) more (machine_now next) run) bytes
+      → StandsForSome (IsPrefixInside (history_until past) (history_until next)) bytes
   pub now : (bytes : List ℕ) → MayLeave (bound.state new.totals.disk) bytes
       → StandsForSome (IsPrefixOf (history_until next)) bytes
+
+-- the same of each request of a list, one after another
+abbrev pub KeepsPrefixes : {D X : Type 0} {O : X → Type 0} (bound : DiskGhosts D) (boxes : Ghosts (PeripheralBox X O))
+    (start : List PlainFile) (sequence : ℕ) (steps : List (Request × Response)) (old : Counter D X O)
+    → HasRun bound boxes start sequence steps old → (more : List (Request × Response)) (new : Counter D X O)
+    → IsRun bound boxes old more new → Type 0
+KeepsPrefixes bound boxes start sequence steps old past [] new run = Unit {0}
+KeepsPrefixes bound boxes start sequence steps old past (step ∷ more) new run =
+    (one : KeepsPrefix bound boxes start sequence steps old past step.0 step.1 run.0)
+    × KeepsPrefixes bound boxes start sequence (steps ++ (step.0, step.1) ∷ []) run.0 one.next more new run.2

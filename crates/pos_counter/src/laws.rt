@@ -8,7 +8,7 @@ ghost use Rattle.pos_service.specs.declared.code.Code.TheVariants.{Failure};
 ghost use Rattle.pos_store.specs.Standing.{Standing, IsOneOf};
 ghost use Rattle.pos_totals.specs.Recoveries.{HasTooMany};
 ghost use Rattle.pos_counter.specs.Counters.{IsLeftDuring, IsRun, IsStep, IsStepBeside};
-ghost use Rattle.pos_counter.specs.Crashes.{BeginsOver, HasBegun, HasRun, LeavesPrefixes};
+ghost use Rattle.pos_counter.specs.Crashes.{BeginsOver, HasBegun, HasRun, KeepsPrefix, KeepsPrefixes};
 ghost use Rattle.pos_counter.specs.Examples.{MayHave, new_machine, steps_into_doubt, steps_through_doubt, a_group};
 ghost use Rattle.pos_counter.specs.History.{History, FilesEvent, begun, told, history_of, history_with};
 ghost use Rattle.pos_counter.specs.Machine.{Machine};
@@ -62,19 +62,22 @@ pub fn crash_leaves_a_prefix<D: Disk>(counter: &Counter<D>)
     ensures begins { (start : List File) (sequence : ℕ)
         → BeginsOver D.Disk ⟦<PeripheralBox as HasState>⟧ start sequence counter.now
         → HasBegun D.Disk ⟦<PeripheralBox as HasState>⟧ start sequence counter.now }
-    // requests after others
+    // a call, after others
+    ensures call { (start : List File) (sequence : ℕ) (steps : List (Request × Response)) (old : _)
+        (past : HasRun D.Disk ⟦<PeripheralBox as HasState>⟧ start sequence steps old)
+        (request : Request) (response : Response)
+        → IsStep D.Disk ⟦<PeripheralBox as HasState>⟧ old request response counter.now
+        → KeepsPrefix D.Disk ⟦<PeripheralBox as HasState>⟧ start sequence steps old past
+        request response counter.now }
+    // a list of requests
     ensures list { (start : List File) (sequence : ℕ) (steps more : List (Request × Response)) (old : _)
         (past : HasRun D.Disk ⟦<PeripheralBox as HasState>⟧ start sequence steps old)
-        → IsRun D.Disk ⟦<PeripheralBox as HasState>⟧ old more counter.now
-        → LeavesPrefixes D.Disk ⟦<PeripheralBox as HasState>⟧ start sequence steps old past more counter.now }
-    // a call is a list of one request
-    ensures call { (old : _) (request : Request) (response : Response)
-        → IsStep D.Disk ⟦<PeripheralBox as HasState>⟧ old request response counter.now
-        → IsRun D.Disk ⟦<PeripheralBox as HasState>⟧ old ((request, response) ∷ []) counter.now }
-    // and so is one in which the totals have no part
+        (run : IsRun D.Disk ⟦<PeripheralBox as HasState>⟧ old more counter.now)
+        → KeepsPrefixes D.Disk ⟦<PeripheralBox as HasState>⟧ start sequence steps old past more counter.now run }
+    // a call in which the totals have no part is one for all that the disk may leave
     ensures beside { (old : _) (request : Request) (response : Response)
         → IsStepBeside ⟦<PeripheralBox as HasState>⟧ old request response counter.now
-        → IsRun D.Disk ⟦<PeripheralBox as HasState>⟧ old ((request, response) ∷ []) counter.now }
+        → IsStep D.Disk ⟦<PeripheralBox as HasState>⟧ old request response counter.now }
 {}
 
 /// An example. The disk fails in a group; the next recovery keeps it or drops it, by the files that it finds, and it is
