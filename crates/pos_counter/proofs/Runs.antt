@@ -1,17 +1,18 @@
 -- A run goes on by one more step.
-use Rattle.std.proofs.Common.{sym, ◌≡◌, ℕ, ◌+◌, ◌<◌, ◌∷◌, ◌++◌, [], List, zero, suc, length, take, get_or, ap, ◌∙◌, subst, refl, arith}
+use Rattle.std.proofs.Common.{inl, inr, sym, ◌≡◌, ℕ, ◌+◌, ◌<◌, ◌∷◌, ◌++◌, [], List, zero, suc, length, take, get_or, ap, ◌∙◌, subst, refl, arith}
 use Rattle.pos_counter.specs.Machine.{Machine}
 use Rattle.pos_counter.specs.Steps as machine
 use Rattle.pos_disk.specs.State.{MayLeave}
 use Rattle.pos_disk.specs.declared.device.Disk.{Ghosts as DiskGhosts}
+use Rattle.pos_disk.proofs.Moments.{started, followed_by, weaker}
 use Rattle.pos_service.specs.declared.peripheral_box.PeripheralBox.{PeripheralBox}
 use Rattle.pos_service.specs.declared.peripheral_box.HasState.{Ghosts}
-use Rattle.pos_store.specs.Standing.{Standing}
+use Rattle.pos_store.specs.Standing.{Standing, StandsForOneOf}
 use Rattle.pos_disk.specs.Keeps.{KeepsDisk}
 use Rattle.pos_totals.specs.Views.{TotalsView}
 use Rattle.pos_counter.specs.declared.counter.Counter.{Counter}
-use Rattle.pos_counter.specs.Counters.{machine as machine_of_counter, IsRun, IsStep, IsStepBeside, RunsFrom}
-use Rattle.pos_counter.specs.Parts.{part_of, Leaves, Stepped}
+use Rattle.pos_counter.specs.Counters.{machine as machine_of_counter, IsLeftDuring, IsRun, IsStep, IsStepBeside, RunsFrom}
+use Rattle.pos_counter.specs.Parts.{part_of, IsLeft, Leaves, Stepped}
 use Rattle.pos_counter.specs.Steps.{Step, Run}
 use Rattle.pos_counter.specs.declared.request.Request.{Request}
 use Rattle.pos_counter.specs.declared.request.Response.{Response}
@@ -36,6 +37,16 @@ steps_push qs rs i d r lt same =
 unfoldable pub run_append : (a b c : Machine) (steps more : List (machine.Request × machine.Response)) → Run a steps b → Run b more c → Run a (steps ++ more) c
 run_append a b c [] more run rest = subst (λ m. Run m more c) run rest
 run_append a b c (s ∷ steps) more run rest = (run.0, run.1, run_append run.0 b c steps more run.2 rest)
+
+-- what is left before a run is left during it
+left_first : (a c : Machine) (more : List (machine.Request × machine.Response)) (run : Run a more c) (bytes : List ℕ) → StandsForOneOf a.totals.left bytes → IsLeftDuring a more c run bytes
+left_first a c [] run bytes h = h
+left_first a c (s ∷ more) run bytes h = inl h
+
+-- and so is what is left before or after its first step
+left_beside : (a b c : Machine) (s : machine.Request × machine.Response) (more : List (machine.Request × machine.Response)) (step : Step a s.0 s.1 b) (run : Run b more c) (bytes : List ℕ) → IsLeft a.totals.left b.totals.left bytes → IsLeftDuring a (s ∷ more) c (b, step, run) bytes
+left_beside a b c s more step run bytes (inl h) = inl h
+left_beside a b c s more step run bytes (inr h) = inr (left_first b c more run bytes h)
 
 module _ {D X : Type 0} {O : X → Type 0} (bound : DiskGhosts D) (boxes : Ghosts (PeripheralBox X O)) where
   -- a step in which the totals have no part is a step for all that the disk may leave
@@ -66,13 +77,43 @@ module _ {D X : Type 0} {O : X → Type 0} (bound : DiskGhosts D) (boxes : Ghost
   runs_join a b c [] more first second = subst (λ m. IsRun bound boxes m more c) first second
   runs_join a b c (s ∷ steps) more first second = (first.0, first.1, runs_join first.0 b c steps more first.2 second)
 
-  -- what a run does, by what the disk may leave before it
-  pub runs_from : (a b : Counter D X O) (steps : List (machine.Request × machine.Response)) (left : List Standing) → Leaves bound a.totals left → IsRun bound boxes a steps b → RunsFrom bound boxes left a steps b
-  runs_from a b [] left leaves run = subst (λ n. RunsFrom bound boxes left a [] n) (sym run) (record { after = left; leaves = leaves; run = refl })
-  runs_from a b (s ∷ steps) left leaves run =
+  -- the machine's run, and what the disk may leave after it
+  abbrev pub MachineRuns : List Standing → Counter D X O → List (machine.Request × machine.Response) → Counter D X O → Type 0
+  MachineRuns left a steps b =
+      (after : List Standing) × Leaves bound b.totals after
+      × Run (machine_of_counter boxes a (part_of bound a.totals left)) steps (machine_of_counter boxes b (part_of bound b.totals after))
+
+  pub machine_runs : (a b : Counter D X O) (steps : List (machine.Request × machine.Response)) (left : List Standing) → Leaves bound a.totals left → IsRun bound boxes a steps b → MachineRuns left a steps b
+  machine_runs a b [] left leaves run = subst (λ n. MachineRuns left a [] n) (sym run) (left, leaves, refl)
+  machine_runs a b (s ∷ steps) left leaves run =
       let first = run.1.steps left leaves in
-      let rest = runs_from run.0 b steps first.after first.leaves run.2 in
-      record { after = rest.after; leaves = rest.leaves; run = (machine_of_counter boxes run.0 (part_of bound run.0.totals first.after), first.step, rest.run) }
+      let rest = machine_runs run.0 b steps first.after first.leaves run.2 in
+      (rest.0, rest.1, (machine_of_counter boxes run.0 (part_of bound run.0.totals first.after), first.step, rest.2))
+
+  -- what a run does, by what the disk may leave before it: each moment of it is one of a step
+  pub runs_from : (a b : Counter D X O) (steps : List (machine.Request × machine.Response)) (left : List Standing) → ((disk : D) (bytes : List ℕ) → bound.honest disk → (bound.state disk).left_since (bound.state disk).moment bytes → MayLeave (bound.state disk) bytes) → Leaves bound a.totals left → IsRun bound boxes a steps b → RunsFrom bound boxes left a steps b
+  runs_from a b [] left only leaves run = subst (λ n. RunsFrom bound boxes left a [] n) (sym run) (record {
+    after = left;
+    leaves = leaves;
+    run = refl;
+    any_moment = started (bound.state a.totals.disk) (StandsForOneOf left) (λ bytes since. leaves.leaves bytes (only a.totals.disk bytes leaves.honest since));
+  })
+  runs_from a c (s ∷ steps) left only leaves run =
+      let b = run.0 in
+      let first = run.1.steps left leaves in
+      let rest = runs_from b c steps first.after only first.leaves run.2 in
+      let A = machine_of_counter boxes a (part_of bound a.totals left) in
+      let B = machine_of_counter boxes b (part_of bound b.totals first.after) in
+      let C = machine_of_counter boxes c (part_of bound c.totals rest.after) in
+      let P : List ℕ → Type 0 = IsLeftDuring A (s ∷ steps) C (B, first.step, rest.run) in
+      record {
+        after = rest.after;
+        leaves = rest.leaves;
+        run = (B, first.step, rest.run);
+        any_moment = followed_by (bound.state a.totals.disk) (bound.state b.totals.disk) (bound.state c.totals.disk) P
+            (weaker (bound.state a.totals.disk) (bound.state b.totals.disk) (IsLeft left first.after) P (left_beside A B C s steps first.step rest.run) first.any_moment)
+            (weaker (bound.state b.totals.disk) (bound.state c.totals.disk) (IsLeftDuring B steps C rest.run) P (λ bytes h. inr h) rest.any_moment);
+      }
 
   -- so is one in which the totals have no part
   pub one_beside : (a b : Counter D X O) (q : machine.Request) (r : machine.Response) → ((bytes : List ℕ) → bound.honest a.totals.disk → (bound.state a.totals.disk).left_since (bound.state a.totals.disk).moment bytes → MayLeave (bound.state a.totals.disk) bytes) → IsStepBeside boxes a q r b → IsRun bound boxes a ((q, r) ∷ []) b

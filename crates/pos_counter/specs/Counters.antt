@@ -1,5 +1,6 @@
 -- The machine that a counter over boxes and a disk stands for.
 use Rattle.std.specs.Prelude.{◌≡◌, ◌⊎◌, ℕ, List, [], ◌∷◌, map}
+use Rattle.pos_disk.specs.State.{LeavesOnly}
 use Rattle.pos_disk.specs.declared.device.Disk.{Ghosts as DiskGhosts}
 use Rattle.pos_service.specs.declared.peripheral_box.PeripheralBox.{PeripheralBox}
 use Rattle.pos_service.specs.declared.peripheral_box.HasState.{Ghosts}
@@ -51,7 +52,8 @@ IsLeftDuring old [] new run bytes = StandsForOneOf old.totals.left bytes
 IsLeftDuring old (step ∷ steps) new run bytes =
     StandsForOneOf old.totals.left bytes ⊎ IsLeftDuring run.0 steps new run.2 bytes
 
--- A run of the machine, by what the disk may leave before it, and what it may leave after it.
+-- A run of the machine, by what the disk may leave before it: a crash at any moment leaves what may be left before or
+-- after one of its steps, and a crash now what may be left after the last.
 pub record RunsFrom {D X : Type 0} {O : X → Type 0} (bound : DiskGhosts D) (boxes : Ghosts (PeripheralBox X O))
     (left : List Standing) (old : Counter D X O) (steps : List (Request × Response)) (new : Counter D X O)
     : Type 0 where
@@ -59,6 +61,9 @@ pub record RunsFrom {D X : Type 0} {O : X → Type 0} (bound : DiskGhosts D) (bo
   pub leaves : Leaves bound new.totals after
   pub run : Run (machine boxes old (part_of bound old.totals left)) steps
       (machine boxes new (part_of bound new.totals after))
+  pub any_moment : LeavesOnly (bound.state old.totals.disk) (bound.state new.totals.disk)
+      (IsLeftDuring (machine boxes old (part_of bound old.totals left)) steps
+      (machine boxes new (part_of bound new.totals after)) run)
 
 -- from an old counter to a new one, a run: each request gets its response in a step of its own, one after another
 abbrev pub IsRun : {D X : Type 0} {O : X → Type 0} → DiskGhosts D → Ghosts (PeripheralBox X O)

@@ -7,11 +7,12 @@ ghost use Rattle.pos_service.specs.declared.answer.Answer.TheVariants.{Refused};
 ghost use Rattle.pos_service.specs.declared.code.Code.TheVariants.{Failure};
 ghost use Rattle.pos_store.specs.Standing.{Standing, IsOneOf};
 ghost use Rattle.pos_totals.specs.Recoveries.{HasTooMany};
-ghost use Rattle.pos_counter.specs.Counters.{IsLeftDuring, IsRun, IsStep, IsStepBeside};
+ghost use Rattle.pos_counter.specs.Counters.{IsLeftDuring, IsRun, IsStep, IsStepBeside, RunsFrom};
 ghost use Rattle.pos_counter.specs.Crashes.{BeginsOver, HasBegun, HasRun, KeepsPrefix, KeepsPrefixes};
 ghost use Rattle.pos_counter.specs.Examples.{MayHave, new_machine, steps_into_doubt, steps_through_doubt, a_group};
 ghost use Rattle.pos_counter.specs.History.{History, FilesEvent, begun, told, history_of, history_with};
 ghost use Rattle.pos_counter.specs.Machine.{Machine};
+ghost use Rattle.pos_counter.specs.Parts.{Leaves};
 ghost use Rattle.pos_counter.specs.Prefixes.{BeginsWith, IsFiles, IsPrefixAlong, StandsForSome, StartsWith};
 ghost use Rattle.pos_counter.specs.Prefixes.{LeavesPrefix, LeavesPrefixInside};
 ghost use Rattle.pos_counter.specs.Steps.{Request, Response, Step, Run};
@@ -74,6 +75,11 @@ pub fn crash_leaves_a_prefix<D: Disk>(counter: &Counter<D>)
         (past : HasRun D.Disk ⟦<PeripheralBox as HasState>⟧ start sequence steps old)
         (run : IsRun D.Disk ⟦<PeripheralBox as HasState>⟧ old more counter.now)
         → KeepsPrefixes D.Disk ⟦<PeripheralBox as HasState>⟧ start sequence steps old past more counter.now run }
+    // each moment of a list lies in one of its requests
+    ensures moments { (left : List Standing) (steps : List (Request × Response)) (old : _)
+        → Leaves D.Disk old.totals left
+        → IsRun D.Disk ⟦<PeripheralBox as HasState>⟧ old steps counter.now
+        → RunsFrom D.Disk ⟦<PeripheralBox as HasState>⟧ left old steps counter.now }
     // a call in which the totals have no part is one for all that the disk may leave
     ensures beside { (old : _) (request : Request) (response : Response)
         → IsStepBeside ⟦<PeripheralBox as HasState>⟧ old request response counter.now
