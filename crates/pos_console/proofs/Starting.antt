@@ -17,6 +17,7 @@ use Rattle.pos_counter.specs.Parts.{machine_of, part_of, Leaves}
 use Rattle.pos_counter.specs.Profile.{profile}
 use Rattle.pos_counter.specs.Totals.{TotalsPart}
 use Rattle.pos_counter.specs.Steps.{Run}
+use Rattle.pos_counter.proofs.Runs.{machine_runs}
 use Rattle.pos_console.specs.declared.run.RunFault.{RunFault}
 use Rattle.pos_console.specs.declared.run.RunFault.TheVariants as fault
 use Rattle.pos_console.specs.Running.{Finishes, IsNewDisk, RunsScript, RunsFromStart, ScriptLeaves, Stops, start}
@@ -29,34 +30,34 @@ module _ {D X : Type 0} {O : X → Type 0} (bound : DiskGhosts D) (boxes : Ghost
   -- what a run over a counter leaves, over its machine
   script_leaves : (bytes : List ℕ) (before after : Option (List ℕ)) (result : Result (Unit {0}) RunFault) (new : Counter D X O) → ScriptLeaves (IsRun bound boxes) old bytes before after result new → (end : Machine) × ScriptLeaves Run begun bytes before after result end
   script_leaves bytes before after (Ok u) new h =
-      let r = h.transcript.run left leaves in (
-        machine boxes new (part_of bound new.totals r.after),
+      let r = machine_runs bound boxes old _ h.transcript.steps left leaves h.transcript.run in (
+        machine boxes new (part_of bound new.totals r.0),
         record {
           text = h.text;
           names = h.names;
-          transcript = record { steps = h.transcript.steps; run = r.run; prints = h.transcript.prints };
+          transcript = record { steps = h.transcript.steps; run = r.2; prints = h.transcript.prints };
           written = h.written;
         },
       )
   script_leaves bytes before after (Err fault.Read) new h = (begun, (refl, h.1))
   script_leaves bytes before after (Err fault.Write) new h =
-      let r = h.transcript.run left leaves in
-      let s = h.carried.run r.after r.leaves in (
-        machine boxes new (part_of bound new.totals s.after),
+      let r = machine_runs bound boxes old _ h.transcript.steps left leaves h.transcript.run in
+      let s = machine_runs bound boxes h.mid new h.carried.steps r.0 r.1 h.carried.run in (
+        machine boxes new (part_of bound new.totals s.0),
         record {
           earlier = h.earlier;
           line = h.line;
           later = h.later;
           text = h.text;
           names = h.names;
-          mid = machine boxes h.mid (part_of bound h.mid.totals r.after);
+          mid = machine boxes h.mid (part_of bound h.mid.totals r.0);
           reply = h.reply;
           names_after = h.names_after;
           front = h.front;
           back = h.back;
           split = h.split;
-          transcript = record { steps = h.transcript.steps; run = r.run; prints = h.transcript.prints };
-          carried = record { steps = h.carried.steps; run = s.run; becomes = h.carried.becomes };
+          transcript = record { steps = h.transcript.steps; run = r.2; prints = h.transcript.prints };
+          carried = record { steps = h.carried.steps; run = s.2; becomes = h.carried.becomes };
           cut = h.cut;
           unwritten = h.unwritten;
           written = h.written;

@@ -80,7 +80,8 @@ printed None = []
 printed (Some reply) = reply ++ 10 ∷ []
 
 -- From some names of controls to others: the lines ask these steps of the machine and print this text, in their order.
-abbrev pub LinesPrint : ControlNames → List (List ℕ) → List (Request × Response) → List ℕ → ControlNames → Type 0
+abbrev pub LinesPrint : ControlNames → List (List ℕ) → List (Request × Response) → List ℕ → ControlNames
+    → Type 0
 LinesPrint names [] steps text after = (steps ≡ []) × (text ≡ []) × (after ≡ names)
 LinesPrint names (line ∷ lines) steps text after =
     (outcome : Outcome) × (more : List (Request × Response)) × (rest : List ℕ)
@@ -91,9 +92,10 @@ LinesPrint names (line ∷ lines) steps text after =
 abbrev pub Leads : Type 0 → Type 1
 Leads C = C → List (Request × Response) → C → Type 0
 
--- From one state to another: what the lines ask is a run, this is its text, and these are the names of the controls then. No
--- control has a name at first.
-pub record Transcript {C : Type 0} (Runs : Leads C) (old : C) (lines : List (List ℕ)) (text : List ℕ) (names : ControlNames)
+-- From one state to another: what the lines ask is a run, this is its text, and these are the names of the controls
+-- then. No control has a name at first.
+pub record Transcript {C : Type 0} (Runs : Leads C) (old : C) (lines : List (List ℕ)) (text : List ℕ)
+    (names : ControlNames)
     (new : C) : Type 0 where
   pub steps : List (Request × Response)
   pub run : Runs old steps new

@@ -92,7 +92,8 @@ fn input_device<D: Disk>(counter: &mut Counter<D>, name: &[u8], input: &Input) -
 /// What a device is physically.
 fn show_device<D: Disk>(counter: &Counter<D>, name: &[u8]) -> Reply
     requires sound { IsCounterSound ⟦<PeripheralBox as HasState>⟧ counter.now }
-    ensures { CarriesOutAtDevice D.Disk ⟦<PeripheralBox as HasState>⟧ counter.now (ShowLine name.now) result counter.now }
+    ensures { CarriesOutAtDevice D.Disk ⟦<PeripheralBox as HasState>⟧ counter.now
+        (ShowLine name.now) result counter.now }
 {
     match counter.snapshot(name) {
         Ok(snapshot) => Reply::Shown(snapshot),

@@ -10,3 +10,8 @@ pub mod Claiming
 pub mod FileCalls
 pub mod TotalsSteps
 pub mod Recovering
+pub mod Prefixes
+pub mod PrefixSteps
+pub mod PrefixRuns
+pub mod PrefixCounters
+pub mod PrefixExamples

@@ -1,5 +1,4 @@
 -- A run goes on by one more step.
-use Rattle.std.proofs.Math.Path.{path_j, subst_refl}
 use Rattle.std.proofs.Common.{inl, inr, sym, ◌≡◌, ℕ, ◌+◌, ◌<◌, ◌∷◌, ◌++◌, [], List, zero, suc, length, take, get_or, ap, ◌∙◌, subst, refl, arith}
 use Rattle.pos_counter.specs.Machine.{Machine}
 use Rattle.pos_counter.specs.Steps as machine
@@ -20,11 +19,6 @@ use Rattle.pos_counter.specs.declared.request.Response.{Response}
 use Rattle.pos_counter.specs.Responses.{request_of, response_of, steps_of}
 use Rattle.pos_counter.proofs.Serving.{kept_disk, rests_stepped}
 
--- a run and a step after it are a run
-pub one_more : (a b c : Machine) (steps : List (machine.Request × machine.Response)) (q : machine.Request) (r : machine.Response) → Run a steps b → Step b q r c → Run a (steps ++ (q, r) ∷ []) c
-one_more a b c [] q r run step = (c, subst (λ m. Step m q r c) run step, refl)
-one_more a b c (s ∷ steps) q r run step = (run.0, run.1, one_more run.0 b c steps q r run.2 step)
-
 -- the steps with one more request and its response
 steps_suc : (qs : List Request) (rs : List Response) (i : ℕ) (d : Request) (r : Response) → i < length qs → length rs ≡ i → steps_of (take (suc i) qs) (rs ++ r ∷ []) ≡ steps_of (take i qs) rs ++ (request_of (get_or qs i d), response_of r) ∷ []
 steps_suc [] rs i d r lt same = absurd (omega arith)
@@ -39,22 +33,8 @@ steps_push qs rs i d r lt same =
     let next : i + 1 ≡ suc i = omega arith in
     ap (λ k. steps_of (take k qs) (rs ++ r ∷ [])) next ∙ steps_suc qs rs i d r lt same
 
--- ---- what a crash leaves during a run that goes on
-
-during_more : (a b c : Machine) (steps : List (machine.Request × machine.Response)) (q : machine.Request) (r : machine.Response) (run : Run a steps b) (step : Step b q r c) (bytes : List ℕ) → IsLeftDuring a steps b run bytes → IsLeftDuring a (steps ++ (q, r) ∷ []) c (one_more a b c steps q r run step) bytes
-unfolding one_more
-during_more a b c [] q r run step bytes h = inl h
-during_more a b c (s ∷ steps) q r run step bytes (inl h) = inl h
-during_more a b c (s ∷ steps) q r run step bytes (inr h) = inr (during_more run.0 b c steps q r run.2 step bytes h)
-
-during_last : (a b c : Machine) (steps : List (machine.Request × machine.Response)) (q : machine.Request) (r : machine.Response) (run : Run a steps b) (step : Step b q r c) (bytes : List ℕ) → IsLeft b.totals.left c.totals.left bytes → IsLeftDuring a (steps ++ (q, r) ∷ []) c (one_more a b c steps q r run step) bytes
-unfolding one_more
-during_last a b c [] q r run step bytes (inl h) = inl (subst (λ (m : Machine). StandsForOneOf m.totals.left bytes) run h)
-during_last a b c [] q r run step bytes (inr h) = inr h
-during_last a b c (s ∷ steps) q r run step bytes h = inr (during_last run.0 b c steps q r run.2 step bytes h)
-
 -- one run after another
-pub run_append : (a b c : Machine) (steps more : List (machine.Request × machine.Response)) → Run a steps b → Run b more c → Run a (steps ++ more) c
+unfoldable pub run_append : (a b c : Machine) (steps more : List (machine.Request × machine.Response)) → Run a steps b → Run b more c → Run a (steps ++ more) c
 run_append a b c [] more run rest = subst (λ m. Run m more c) run rest
 run_append a b c (s ∷ steps) more run rest = (run.0, run.1, run_append run.0 b c steps more run.2 rest)
 
@@ -63,33 +43,12 @@ left_first : (a c : Machine) (more : List (machine.Request × machine.Response))
 left_first a c [] run bytes h = h
 left_first a c (s ∷ more) run bytes h = inl h
 
-during_first : (a b c : Machine) (steps more : List (machine.Request × machine.Response)) (run : Run a steps b) (rest : Run b more c) (bytes : List ℕ) → IsLeftDuring a steps b run bytes → IsLeftDuring a (steps ++ more) c (run_append a b c steps more run rest) bytes
-unfolding run_append
-during_first a b c [] more run rest bytes h = left_first a c more (subst (λ m. Run m more c) run rest) bytes h
-during_first a b c (s ∷ steps) more run rest bytes (inl h) = inl h
-during_first a b c (s ∷ steps) more run rest bytes (inr h) = inr (during_first run.0 b c steps more run.2 rest bytes h)
-
-during_second : (a b c : Machine) (steps more : List (machine.Request × machine.Response)) (run : Run a steps b) (rest : Run b more c) (bytes : List ℕ) → IsLeftDuring b more c rest bytes → IsLeftDuring a (steps ++ more) c (run_append a b c steps more run rest) bytes
-unfolding run_append
-during_second a b c [] more run rest bytes h =
-    path_j (λ m e. IsLeftDuring m more c (subst (λ m. Run m more c) e rest) bytes)
-    (subst (λ r. IsLeftDuring b more c r bytes) (sym (subst_refl (λ m. Run m more c) rest)) h) run
-during_second a b c (s ∷ steps) more run rest bytes h = inr (during_second run.0 b c steps more run.2 rest bytes h)
+-- and so is what is left before or after its first step
+left_beside : (a b c : Machine) (s : machine.Request × machine.Response) (more : List (machine.Request × machine.Response)) (step : Step a s.0 s.1 b) (run : Run b more c) (bytes : List ℕ) → IsLeft a.totals.left b.totals.left bytes → IsLeftDuring a (s ∷ more) c (b, step, run) bytes
+left_beside a b c s more step run bytes (inl h) = inl h
+left_beside a b c s more step run bytes (inr h) = inr (left_first b c more run bytes h)
 
 module _ {D X : Type 0} {O : X → Type 0} (bound : DiskGhosts D) (boxes : Ghosts (PeripheralBox X O)) where
-  -- before the first request
-  pub no_step : (old : Counter D X O) (left : List Standing) → ((bytes : List ℕ) → bound.honest old.totals.disk → (bound.state old.totals.disk).left_since (bound.state old.totals.disk).moment bytes → MayLeave (bound.state old.totals.disk) bytes) → Leaves bound old.totals left → RunsFrom bound boxes left old [] old
-  no_step old left only leaves = record {
-    after = left;
-    leaves = leaves;
-    run = refl;
-    any_moment = started (bound.state old.totals.disk) (StandsForOneOf left) (λ bytes since. leaves.leaves bytes (only bytes leaves.honest since));
-  }
-
-  -- no request
-  pub no_run : (old : Counter D X O) → ((bytes : List ℕ) → bound.honest old.totals.disk → (bound.state old.totals.disk).left_since (bound.state old.totals.disk).moment bytes → MayLeave (bound.state old.totals.disk) bytes) → IsRun bound boxes old [] old
-  no_run old only left leaves = no_step old left only leaves
-
   -- a step in which the totals have no part is a step for all that the disk may leave
   pub beside_is_step : (old new : Counter D X O) (q : machine.Request) (r : machine.Response) → ((bytes : List ℕ) → bound.honest old.totals.disk → (bound.state old.totals.disk).left_since (bound.state old.totals.disk).moment bytes → MayLeave (bound.state old.totals.disk) bytes) → IsStepBeside boxes old q r new → IsStep bound boxes old q r new
   beside_is_step old new q r only beside = record {
@@ -105,51 +64,55 @@ module _ {D X : Type 0} {O : X → Type 0} (bound : DiskGhosts D) (boxes : Ghost
       subst (λ s. IsStep bound boxes old asked s new) (sym gives) (subst (λ p. IsStep bound boxes old p r new) (sym is) (beside_is_step old new q r only beside))
 
   -- a run with one step more
-  pub runs_more : (a b c : Counter D X O) (left : List Standing) (steps : List (machine.Request × machine.Response)) (q : machine.Request) (r : machine.Response) → RunsFrom bound boxes left a steps b → IsStep bound boxes b q r c → RunsFrom bound boxes left a (steps ++ (q, r) ∷ []) c
-  runs_more a b c left steps q r runs next =
-      let s = next.steps runs.after runs.leaves in
-      let A = machine_of_counter boxes a (part_of bound a.totals left) in
-      let B = machine_of_counter boxes b (part_of bound b.totals runs.after) in
-      let C = machine_of_counter boxes c (part_of bound c.totals s.after) in
-      let P : List ℕ → Type 0 = IsLeftDuring A (steps ++ (q, r) ∷ []) C (one_more A B C steps q r runs.run s.step) in
-      record {
-        after = s.after;
-        leaves = s.leaves;
-        run = one_more A B C steps q r runs.run s.step;
-        any_moment = followed_by (bound.state a.totals.disk) (bound.state b.totals.disk) (bound.state c.totals.disk) P
-            (weaker (bound.state a.totals.disk) (bound.state b.totals.disk) (IsLeftDuring A steps B runs.run) P (during_more A B C steps q r runs.run s.step) runs.any_moment)
-            (weaker (bound.state b.totals.disk) (bound.state c.totals.disk) (IsLeft runs.after s.after) P (during_last A B C steps q r runs.run s.step) s.any_moment);
-      }
+  pub runs_more : (a b c : Counter D X O) (steps : List (machine.Request × machine.Response)) (q : machine.Request) (r : machine.Response) → IsRun bound boxes a steps b → IsStep bound boxes b q r c → IsRun bound boxes a (steps ++ (q, r) ∷ []) c
+  runs_more a b c [] q r run next = (c, subst (λ m. IsStep bound boxes m q r c) run next, refl)
+  runs_more a b c (s ∷ steps) q r run next = (run.0, run.1, runs_more run.0 b c steps q r run.2 next)
 
   -- a step is a run
   pub one_step : (a b : Counter D X O) (q : machine.Request) (r : machine.Response) → IsStep bound boxes a q r b → IsRun bound boxes a ((q, r) ∷ []) b
-  one_step a b q r next left leaves =
-      let s = next.steps left leaves in
-      let A = machine_of_counter boxes a (part_of bound a.totals left) in
-      let B = machine_of_counter boxes b (part_of bound b.totals s.after) in
-      record {
-        after = s.after;
-        leaves = s.leaves;
-        run = (B, s.step, refl);
-        any_moment = s.any_moment;
-      }
+  one_step a b q r next = (b, next, refl)
 
   -- one run after another is a run
   pub runs_join : (a b c : Counter D X O) (steps more : List (machine.Request × machine.Response)) → IsRun bound boxes a steps b → IsRun bound boxes b more c → IsRun bound boxes a (steps ++ more) c
-  runs_join a b c steps more first second left leaves =
-      let f = first left leaves in
-      let s = second f.after f.leaves in
+  runs_join a b c [] more first second = subst (λ m. IsRun bound boxes m more c) first second
+  runs_join a b c (s ∷ steps) more first second = (first.0, first.1, runs_join first.0 b c steps more first.2 second)
+
+  -- the machine's run, and what the disk may leave after it
+  abbrev pub MachineRuns : List Standing → Counter D X O → List (machine.Request × machine.Response) → Counter D X O → Type 0
+  MachineRuns left a steps b =
+      (after : List Standing) × Leaves bound b.totals after
+      × Run (machine_of_counter boxes a (part_of bound a.totals left)) steps (machine_of_counter boxes b (part_of bound b.totals after))
+
+  pub machine_runs : (a b : Counter D X O) (steps : List (machine.Request × machine.Response)) (left : List Standing) → Leaves bound a.totals left → IsRun bound boxes a steps b → MachineRuns left a steps b
+  machine_runs a b [] left leaves run = subst (λ n. MachineRuns left a [] n) (sym run) (left, leaves, refl)
+  machine_runs a b (s ∷ steps) left leaves run =
+      let first = run.1.steps left leaves in
+      let rest = machine_runs run.0 b steps first.after first.leaves run.2 in
+      (rest.0, rest.1, (machine_of_counter boxes run.0 (part_of bound run.0.totals first.after), first.step, rest.2))
+
+  -- what a run does, by what the disk may leave before it: each moment of it is one of a step
+  pub runs_from : (a b : Counter D X O) (steps : List (machine.Request × machine.Response)) (left : List Standing) → ((disk : D) (bytes : List ℕ) → bound.honest disk → (bound.state disk).left_since (bound.state disk).moment bytes → MayLeave (bound.state disk) bytes) → Leaves bound a.totals left → IsRun bound boxes a steps b → RunsFrom bound boxes left a steps b
+  runs_from a b [] left only leaves run = subst (λ n. RunsFrom bound boxes left a [] n) (sym run) (record {
+    after = left;
+    leaves = leaves;
+    run = refl;
+    any_moment = started (bound.state a.totals.disk) (StandsForOneOf left) (λ bytes since. leaves.leaves bytes (only a.totals.disk bytes leaves.honest since));
+  })
+  runs_from a c (s ∷ steps) left only leaves run =
+      let b = run.0 in
+      let first = run.1.steps left leaves in
+      let rest = runs_from b c steps first.after only first.leaves run.2 in
       let A = machine_of_counter boxes a (part_of bound a.totals left) in
-      let B = machine_of_counter boxes b (part_of bound b.totals f.after) in
-      let C = machine_of_counter boxes c (part_of bound c.totals s.after) in
-      let P : List ℕ → Type 0 = IsLeftDuring A (steps ++ more) C (run_append A B C steps more f.run s.run) in
+      let B = machine_of_counter boxes b (part_of bound b.totals first.after) in
+      let C = machine_of_counter boxes c (part_of bound c.totals rest.after) in
+      let P : List ℕ → Type 0 = IsLeftDuring A (s ∷ steps) C (B, first.step, rest.run) in
       record {
-        after = s.after;
-        leaves = s.leaves;
-        run = run_append A B C steps more f.run s.run;
+        after = rest.after;
+        leaves = rest.leaves;
+        run = (B, first.step, rest.run);
         any_moment = followed_by (bound.state a.totals.disk) (bound.state b.totals.disk) (bound.state c.totals.disk) P
-            (weaker (bound.state a.totals.disk) (bound.state b.totals.disk) (IsLeftDuring A steps B f.run) P (during_first A B C steps more f.run s.run) f.any_moment)
-            (weaker (bound.state b.totals.disk) (bound.state c.totals.disk) (IsLeftDuring B more C s.run) P (during_second A B C steps more f.run s.run) s.any_moment);
+            (weaker (bound.state a.totals.disk) (bound.state b.totals.disk) (IsLeft left first.after) P (left_beside A B C s steps first.step rest.run) first.any_moment)
+            (weaker (bound.state b.totals.disk) (bound.state c.totals.disk) (IsLeftDuring B steps C rest.run) P (λ bytes h. inr h) rest.any_moment);
       }
 
   -- so is one in which the totals have no part

@@ -1,5 +1,5 @@
 -- The machine that a counter over boxes and a disk stands for.
-use Rattle.std.specs.Prelude.{◌≡◌, ◌⊎◌, ◌≤◌, ℕ, List, [], ◌∷◌, Option, None, length, map, replicate}
+use Rattle.std.specs.Prelude.{◌≡◌, ◌⊎◌, ℕ, List, [], ◌∷◌, Option, None, length, map, replicate}
 use Rattle.pos_disk.specs.State.{LeavesOnly}
 use Rattle.pos_disk.specs.declared.device.Disk.{Ghosts as DiskGhosts}
 use Rattle.pos_service.specs.declared.peripheral_box.PeripheralBox.{PeripheralBox}
@@ -54,8 +54,8 @@ IsLeftDuring old [] new run bytes = StandsForOneOf old.totals.left bytes
 IsLeftDuring old (step ∷ steps) new run bytes =
     StandsForOneOf old.totals.left bytes ⊎ IsLeftDuring run.0 steps new run.2 bytes
 
--- A run, by what the disk may leave before it: a crash at any moment leaves what may be left before or after one of its
--- steps, and a crash now what may be left after the last.
+-- A run of the machine, by what the disk may leave before it: a crash at any moment leaves what may be left before or
+-- after one of its steps, and a crash now what may be left after the last.
 pub record RunsFrom {D X : Type 0} {O : X → Type 0} (bound : DiskGhosts D) (boxes : Ghosts (PeripheralBox X O))
     (left : List Standing) (old : Counter D X O) (steps : List (Request × Response)) (new : Counter D X O)
     : Type 0 where
@@ -67,11 +67,12 @@ pub record RunsFrom {D X : Type 0} {O : X → Type 0} (bound : DiskGhosts D) (bo
       (IsLeftDuring (machine boxes old (part_of bound old.totals left)) steps
       (machine boxes new (part_of bound new.totals after)) run)
 
--- from an old counter to a new one, a run, for all that the disk may leave before it
+-- from an old counter to a new one, a run: each request gets its response in a step of its own, one after another
 abbrev pub IsRun : {D X : Type 0} {O : X → Type 0} → DiskGhosts D → Ghosts (PeripheralBox X O)
     → Counter D X O → List (Request × Response) → Counter D X O → Type 0
-IsRun bound boxes old steps new =
-    (left : List Standing) → Leaves bound old.totals left → RunsFrom bound boxes left old steps new
+IsRun {D = D} {X = X} {O = O} bound boxes old [] new = new ≡ old
+IsRun {D = D} {X = X} {O = O} bound boxes old (step ∷ steps) new =
+    (mid : Counter D X O) × IsStep bound boxes old step.0 step.1 mid × IsRun bound boxes mid steps new
 
 -- The machine is the same, and the totals and their disk are.
 pub record Stays {D X : Type 0} {O : X → Type 0} (boxes : Ghosts (PeripheralBox X O))

@@ -5,3 +5,7 @@ pub mod Profile
 pub mod Parts
 pub mod Responses
 pub mod Counters
+pub mod History
+pub mod Prefixes
+pub mod Crashes
+pub mod Examples

@@ -8,6 +8,7 @@ mod device_calls;
 mod devices;
 mod entry;
 mod faults;
+pub mod laws;
 mod properties;
 mod request;
 #[cfg(test)]

@@ -1,7 +1,7 @@
 -- What a group does not do: no change is refused for memory.
-use Rattle.std.proofs.Common.{◌≡◌, ◌+◌, ℕ, Bool, true, false, ◌&&◌, cond, List, [], ◌∷◌, length, Option, Some, None, Result, Ok, Err, refl, sym}
-use Rattle.std.specs.Prelude.{slice_get, slice_set, remove, replicate, nat_lt, nat_le, IsSome, IsOk}
-use Rattle.std.specs.Result.{result_ok, result_err}
+use Rattle.std.proofs.Common.{◌≡◌, ◌+◌, Bool, true, false, ◌&&◌, cond, List, [], ◌∷◌, length, Option, Some, None, Result, Ok, Err, refl, sym}
+use Rattle.std.specs.Prelude.{slice_get, slice_set, remove, replicate, nat_lt, nat_le}
+use Rattle.std.specs.Result.{result_err}
 use Rattle.pos_dir.specs.declared.file.File.{File}
 use Rattle.pos_dir.specs.declared.limits.Limits.{Limits}
 use Rattle.pos_dir.specs.declared.change.Change.{Change}
@@ -10,7 +10,7 @@ use Rattle.pos_dir.specs.declared.fault.DirectoryFault.{DirectoryFault}
 use Rattle.pos_dir.specs.declared.fault.DirectoryFault.TheVariants.{NoFile, Exists, Range, NoRoom, BadName, NoMemory, Malformed}
 use Rattle.pos_dir.specs.Calls.{Applies}
 use Rattle.pos_dir.specs.Files.{has_name, total_size}
-use Rattle.pos_dir.specs.Changes.{splice, with_file, outcome, and_then, outcome_of_all, after, fault_of}
+use Rattle.pos_dir.specs.Changes.{splice, with_file, outcome, and_then, outcome_of_all, fault_of}
 
 never_chosen : (b : Bool) (x y : Result (List File) DirectoryFault) → (x ≡ Err NoMemory → ⊥) → (y ≡ Err NoMemory → ⊥) → cond b x y ≡ Err NoMemory → ⊥
 never_chosen true x y never_x never_y = never_x

@@ -179,11 +179,6 @@ one_group_spelling changes others h g same =
 
 -- ---- the walk over a group, without memory
 
--- bytes without a count spell no group
-pub group_none : (bytes : List ℕ) → None ≡ number_at w16 bytes → group_at bytes ≡ None
-unfolding group_at
-group_none bytes e = ap (λ (o : Option (ℕ × List ℕ)). o >>= λ count. items_at change_at count.0 count.1 >>= λ x. cond (is_end x.1) (Some x.0) None) (sym e)
-
 ends : (read : Option (List Change × List ℕ)) (end : List ℕ) → Some end ≡ option_map (λ x. x.1) read → end ≡ []
     → (changes : List Change) × ((read >>= λ x. cond (is_end x.1) (Some x.0) None) ≡ Some changes) × (read ≡ Some (changes, []))
 ends None end at none = absurd cc

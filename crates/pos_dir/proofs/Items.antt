@@ -88,13 +88,17 @@ pub kept_more : {A : Type 0} (read : List ℕ → Option (A × List ℕ)) (front
 kept_more read front count i bytes x after total lt e so_far =
     sym (front-first front x (items_at read (count - (i + 1)) after)) ∙ ap (with_front front) (sym (one_more read count i bytes x after lt (sym e))) ∙ so_far
 
+not_none : {X : Type 0} (o : Option X) → (None ≡ o → ⊥) → IsSome o
+not_none None never = absurd (never refl)
+not_none (Some x) never = refl
+
 -- where some items are to be read, the next is
-pub must_read : {A : Type 0} (read : List ℕ → Option (A × List ℕ)) (front : List A) (count i : ℕ) (bytes : List ℕ) (total : Option (List A × List ℕ)) → i < count → None ≡ read bytes
-    → with_front front (items_at read (count - i) bytes) ≡ total → IsSome total → ⊥
-must_read {A = A} read front count i bytes total lt e so_far some =
+pub must_read : {A : Type 0} (read : List ℕ → Option (A × List ℕ)) (front : List A) (count i : ℕ) (bytes : List ℕ) (total : Option (List A × List ℕ)) → i < count
+    → with_front front (items_at read (count - i) bytes) ≡ total → IsSome total → IsSome (read bytes)
+must_read {A = A} read front count i bytes total lt so_far some = not_none (read bytes) (λ e.
     let none : with_front front (items_at read (count - i) bytes) ≡ None = ap (with_front front) (none_more read count i bytes lt (sym e)) in
     let never : IsSome {T = List A × List ℕ} None = subst (λ (o : Option (List A × List ℕ)). IsSome o) (sym so_far ∙ none) some in
-    false≢true never
+    false≢true never)
 
 -- where none is left to read, those that were kept are all
 pub kept_all : {A : Type 0} (read : List ℕ → Option (A × List ℕ)) (front : List A) (count i : ℕ) (bytes : List ℕ) (total : Option (List A × List ℕ)) → count ≤ i

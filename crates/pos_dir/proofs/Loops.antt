@@ -48,15 +48,10 @@ end_now room rest = ap (λ b. cond b (Some rest) None) (le-leb 0 room (omega ari
 abbrev pub tell : (List File → Bool) → Read → Option Bool
 tell test read = option_map (λ files. test files.0) read
 
--- a test of what is read, told of the files
-pub told : (test : List File → Bool) (read : Read) (answer : Bool) → IfSome (tell test read) (λ b. answer ≡ b) → IfSome read (λ files. answer ≡ test files.0)
-told test None answer h = tt
-told test (Some x) answer h = h
-
--- and the other way round
-pub untold : (test : List File → Bool) (read : Read) (answer : Bool) → IfSome read (λ files. answer ≡ test files.0) → IfSome (tell test read) (λ b. answer ≡ b)
-untold test None answer h = tt
-untold test (Some x) answer h = h
+-- a test of what is left to read, told of all files: it says the same of both
+pub told : (test : List File → Bool) (left known all : Read) (answer : Bool) → left ≡ known → tell test left ≡ tell test all → IfSome (tell test known) (λ b. answer ≡ b) → IfSome all (λ files. answer ≡ test files.0)
+told test left known None answer is same h = tt
+told test left known (Some x) answer is same h = subst (λ (o : Option Bool). IfSome o (λ b. answer ≡ b)) (ap (tell test) (sym is) ∙ same) h
 
 -- what was answered is what the test says
 pub answered : (test : List File → Bool) (read : Read) (answer value : Bool) → answer ≡ value → IfSome read (λ files. answer ≡ test files.0) → IfSome read (λ files. value ≡ test files.0)

@@ -1,12 +1,12 @@
 -- A check over names and sizes answers as the change of the files that have them.
-use Rattle.std.proofs.Common.{◌≡◌, ℕ, zero, suc, ◌+◌, ◌<◌, ◌≤◌, Bool, true, false, ◌&&◌, ◌||◌, cond, List, [], ◌∷◌, ◌++◌, length, drop, get_or, set, map, Option, Some, None, Result, Ok, Err, refl, sym, ap, subst, ◌∙◌, arith}
-use Rattle.std.specs.Prelude.{slice_get, slice_set, insert, remove, replicate, sum_by, nat_lt, nat_le, IsOk}
+use Rattle.std.proofs.Common.{◌≡◌, ℕ, zero, suc, ◌+◌, ◌<◌, ◌≤◌, Bool, true, false, ◌&&◌, ◌||◌, cond, List, [], ◌∷◌, ◌++◌, length, drop, get_or, set, map, Option, Some, None, Result, Ok, Err, refl, sym, ap, ◌∙◌, arith}
+use Rattle.std.specs.Prelude.{slice_get, slice_set, insert, remove, replicate, sum_by, nat_lt, nat_le}
 use Rattle.std.specs.List.{list_any}
 use Rattle.std.specs.Option.{option_map}
 use Rattle.std.specs.Result.{result_err}
 use Rattle.std.specs.Str.{bytes_eq}
 use Rattle.std.proofs.lemmas.Bool.{and_from, and_left, and_right, cond-true, cond-false, lt-ltb, le-ltb, le-leb, lt-leb}
-use Rattle.std.proofs.lemmas.List.{map-set, map_push, length-map, length-replicate, length-drop, nil_from_length}
+use Rattle.std.proofs.lemmas.List.{map-set, map_push, length-map, length-replicate}
 use Rattle.std.proofs.lemmas.List.Sums.{sum_by-cons}
 use Rattle.std.proofs.lemmas.Option.{slice_get-map, slice_get_within}
 use Rattle.std.proofs.Math.Seq.{take-nil, drop-nil}
@@ -223,12 +223,6 @@ pub stage_stops : (outlines : List Outline) (changes : List Change) (i : ℕ) (c
     → ((files : List File) → AreOutlines outlines files → outcome LAYOUT_1 files change ≡ Err fault) → IsStage outlines (drop i changes) total → Some fault ≡ result_err total
 stage_stops outlines changes i change fault total lt at stopped stage =
     sym (ap result_err (stops LAYOUT_1 stage.0 changes i change fault total lt at (stopped stage.0 stage.2) stage.3))
-
--- behind the last change there is no fault
-pub stage_ends : (outlines : List Outline) (changes : List Change) (i : ℕ) (total : Result (List File) DirectoryFault) → length changes ≤ i → IsStage outlines (drop i changes) total → None ≡ result_err total
-stage_ends outlines changes i total le stage =
-    let none : drop i changes ≡ [] = nil_from_length (drop i changes) (omega (arith, length-drop i changes)) in
-    ap result_err (ap (outcome_of_all LAYOUT_1 stage.0) (sym none) ∙ stage.3)
 
 -- at each stage the sizes fit
 pub stage_room : (outlines : List Outline) (rest : List Change) (total : Result (List File) DirectoryFault) → IsStage outlines rest total → sum_by (λ outline. outline.size) outlines ≤ LAYOUT_1.bytes

@@ -6,6 +6,7 @@ ghost use Rattle.pos_dir.specs.Reading.{create_at, delete_at, rename_at, write_a
 
 use crate::bytes::{Bytes, Name};
 use crate::change::Change;
+use crate::copying::Item;
 use crate::fault::DirectoryFault;
 use crate::fields::{read_byte, read_name, read_text, read_u16, read_u32};
 use crate::group::WRITE_LIMIT;
@@ -150,6 +151,17 @@ fn copy_change(alloc: Global, text: &ChangeText<'_>) -> Result<Change, Directory
     }
 }
 
+impl Item for Change {
+    ghost item_at = { change_at };
+
+    fn copy_first(alloc: Global, bytes: &[u8]) -> Result<(Self, &[u8]), DirectoryFault> {
+        let Some((change, rest)) = read_change(bytes) else {
+            unreachable!()
+        };
+        Ok((copy_change(alloc, &change)?, rest))
+    }
+}
+
 /// The bytes behind so many changes.
 fn skip_changes(count: u16, bytes: &[u8]) -> Option<&[u8]>
     ensures { option_map (λ x. x.now) result ≡ option_map (λ x. x.1) (items_at change_at count bytes.now) }
@@ -174,26 +186,4 @@ pub(crate) fn locate_changes(bytes: &[u8]) -> Option<(u16, &[u8])>
         return None;
     }
     Some((count, rest))
-}
-
-/// So many changes in memory of their own.
-pub(crate) fn copy_changes(
-    alloc: Global,
-    count: u16,
-    bytes: &[u8],
-) -> Result<Vec<Change>, DirectoryFault>
-    requires { IsSome (items_at change_at count bytes.now) }
-    ensures { MatchResult result (λ changes. IfSome (items_at change_at count bytes.now) (λ x. changes.items ≡ x.0))
-        (λ fault. fault ≡ DirectoryFault.NoMemory) }
-{
-    let mut changes = Vec::with_capacity(alloc, count as usize)?;
-    let mut rest = bytes;
-    for _ in 0..count {
-        let Some((change, after)) = read_change(rest) else {
-            unreachable!()
-        };
-        changes.push(copy_change(alloc, &change)?)?;
-        rest = after;
-    }
-    Ok(changes)
 }

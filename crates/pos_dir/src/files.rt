@@ -6,6 +6,7 @@ ghost use Rattle.pos_dir.specs.Files.{has_name, are_distinct};
 ghost use Rattle.pos_dir.specs.Reading.{file_at, items_at, end_within, directory_at, Locates};
 
 use crate::bytes::{Bytes, Name};
+use crate::copying::Item;
 use crate::fault::DirectoryFault;
 use crate::fields::{read_name, read_text, read_u16};
 use crate::file::File;
@@ -37,6 +38,17 @@ fn copy_file(alloc: Global, text: &FileText<'_>) -> Result<File, DirectoryFault>
         name: Name::from_vec(Vec::from_slice(alloc, text.name)?),
         bytes: Bytes::from_vec(Vec::from_slice(alloc, text.bytes)?),
     })
+}
+
+impl Item for File {
+    ghost item_at = { file_at };
+
+    fn copy_first(alloc: Global, bytes: &[u8]) -> Result<(Self, &[u8]), DirectoryFault> {
+        let Some((file, rest)) = read_file(bytes) else {
+            unreachable!()
+        };
+        Ok((copy_file(alloc, &file)?, rest))
+    }
 }
 
 /// The bytes behind so many files, whose sizes are at most the room in sum.
@@ -104,26 +116,4 @@ pub(crate) fn locate_files(limits: Limits, bytes: &[u8]) -> Option<(u16, &[u8])>
         return None;
     }
     Some((count, rest))
-}
-
-/// So many files in memory of their own.
-pub(crate) fn copy_files(
-    alloc: Global,
-    count: u16,
-    bytes: &[u8],
-) -> Result<Vec<File>, DirectoryFault>
-    requires { IsSome (items_at file_at count bytes.now) }
-    ensures { MatchResult result (λ files. IfSome (items_at file_at count bytes.now) (λ x. files.items ≡ x.0))
-        (λ fault. fault ≡ DirectoryFault.NoMemory) }
-{
-    let mut files = Vec::with_capacity(alloc, count as usize)?;
-    let mut rest = bytes;
-    for _ in 0..count {
-        let Some((file, after)) = read_file(rest) else {
-            unreachable!()
-        };
-        files.push(copy_file(alloc, &file)?)?;
-        rest = after;
-    }
-    Ok(files)
 }

@@ -6,6 +6,7 @@ mod applying;
 mod bytes;
 mod change;
 mod changes;
+mod copying;
 mod directory;
 mod fault;
 mod fields;

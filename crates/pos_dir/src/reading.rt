@@ -1,9 +1,10 @@
 ghost use Rattle.pos_dir.specs.Calls.{Decodes, DecodesGroup};
 
-use crate::changes::{copy_changes, locate_changes};
+use crate::changes::locate_changes;
+use crate::copying::copy_items;
 use crate::directory::Directory;
 use crate::fault::DirectoryFault;
-use crate::files::{copy_files, locate_files};
+use crate::files::locate_files;
 use crate::group::Group;
 use crate::limits::LAYOUT_1;
 use std::alloc::Global;
@@ -18,7 +19,7 @@ pub fn decode(alloc: Global, bytes: &[u8]) -> Result<Directory, DirectoryFault>
     let Some((count, rest)) = locate_files(LAYOUT_1, bytes) else {
         return Err(DirectoryFault::Malformed);
     };
-    let files = copy_files(alloc, count, rest)?;
+    let files = copy_items(alloc, count, rest)?;
     Ok(Directory { files })
 }
 
@@ -32,6 +33,6 @@ pub fn decode_group(alloc: Global, bytes: &[u8]) -> Result<Group, DirectoryFault
     let Some((count, rest)) = locate_changes(bytes) else {
         return Err(DirectoryFault::Malformed);
     };
-    let changes = copy_changes(alloc, count, rest)?;
+    let changes = copy_items(alloc, count, rest)?;
     Ok(Group { changes })
 }

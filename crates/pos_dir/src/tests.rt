@@ -35,12 +35,12 @@ fn push(group: &mut Group, change: Change) -> Result<(), DirectoryFault> {
     }
 }
 
-/// The group of the two changes of A.
-fn changes_of_a(alloc: Global) -> Result<Group, DirectoryFault> {
+/// The group that creates A with this size and writes these bytes at its start.
+fn changes_of_a(alloc: Global, size: u32, bytes: &[u8]) -> Result<Group, DirectoryFault> {
     let name = Name::from_vec(Vec::from_slice(alloc, b"A")?);
-    let bytes = Bytes::from_vec(Vec::from_slice(alloc, &[0xde, 0xad, 0xbe, 0xef])?);
+    let bytes = Bytes::from_vec(Vec::from_slice(alloc, bytes)?);
     let mut group = Group::new(alloc);
-    push(&mut group, Change::Create { name, size: 4 })?;
+    push(&mut group, Change::Create { name, size })?;
     let write = Change::Write {
         index: 0,
         offset: 0,
@@ -53,7 +53,8 @@ fn changes_of_a(alloc: Global) -> Result<Group, DirectoryFault> {
 #[test]
 fn a_group_is_spelled(rt: HostRuntime) -> Result<(), Fail> {
     let alloc = rt.alloc();
-    let text = encode_group(alloc, &changes_of_a(alloc)?)?;
+    let group = changes_of_a(alloc, 4, &[0xde, 0xad, 0xbe, 0xef])?;
+    let text = encode_group(alloc, &group)?;
     assert!(rt; text.as_slice() == GROUP.as_slice());
     Ok(())
 }
@@ -148,6 +149,17 @@ fn bytes_left_over_are_malformed(rt: HostRuntime) -> Result<(), Fail> {
 #[test]
 fn the_first_layout(rt: HostRuntime) {
     assert!(rt; LAYOUT_1.bytes == 8_192 && LAYOUT_1.files == 64);
+}
+
+#[test]
+fn a_write_of_as_many_bytes_as_there_is_room_for(rt: HostRuntime) -> Result<(), Fail> {
+    let alloc = rt.alloc();
+    let bytes = vec![in alloc; 7u8; 8_192]?;
+    let text = encode_group(alloc, &changes_of_a(alloc, 8_192, &bytes)?)?;
+    let body = apply(alloc, &[0, 0], &text)?;
+    assert!(rt; text.len() == 8_212 && &text[20..] == bytes.as_slice());
+    assert!(rt; body.len() == 8_200 && &body[8..] == bytes.as_slice());
+    Ok(())
 }
 
 /// A group of the most changes: each sets all bytes of the first file to 7.

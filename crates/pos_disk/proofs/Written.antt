@@ -1,13 +1,15 @@
 -- What a write does to a disk in memory.
 use Rattle.std.proofs.lemmas.Bool.Decides.{nat_tests}
 use Rattle.std.proofs.Common.{◌≡◌, ◌⊎◌, inl, inr, ⊎_elim, ℕ, zero, suc, ◌+◌, ◌-◌, ◌≤◌, ◌<◌, List, [], ◌∷◌, ◌++◌, Bool, true, false, ◌==◌, length, take, drop, map, replicate, get_or, refl, sym, ◌∙◌, ap, arith}
-use Rattle.std.proofs.lemmas.Bool.{cases_lt}
+use Rattle.std.proofs.lemmas.Bool.{cases_lt, false≢true}
 use Rattle.std.proofs.lemmas.List.{length-map, length-replicate, map-append, get_or-replicate, ext_get_or, drop-map}
 use Rattle.std.specs.List.{take-map}
-use Rattle.pos_disk.specs.State.{InRange, splice}
+use Rattle.std.specs.List.{list_any}
+use Rattle.std.proofs.lemmas.List.Folds.{list_any_at}
+use Rattle.pos_disk.specs.State.{InRange, splice, part}
 use Rattle.pos_disk.specs.Memory.{Moment, choose, written}
 use Rattle.pos_disk.specs.Stamps.{loose_by, moment_of, memory_of, IsKept, IsSaved}
-use Rattle.pos_disk.proofs.Bytes.{length-splice, spliced_within, spliced_elsewhere}
+use Rattle.pos_disk.proofs.Bytes.{length-splice, spliced_within, spliced_elsewhere, splice_elsewhere, length-part, get_or-part}
 use Rattle.pos_disk.proofs.Stamps.{loose_at, stamp_at, is_loose, length-choose, choose_loose, choose_settled}
 
 -- place i is in the range or not
@@ -105,3 +107,26 @@ module _ (bytes saved stamps : List ℕ) (stamp at n : ℕ) (kept : IsKept bytes
       loose_splice stamp at n stamps ∙ ap (λ (k : ℕ). splice (loose_by stamp stamps) at (replicate k true)) (sym long) in
       ap (λ (settled : List ℕ). record { present = moment_of (splice bytes at new) (splice stamps at (replicate n stamp)) stamp; settled = settled; past = then_past }) stays_settled
       ∙ ap (λ (loose : List Bool). record { present = record { reading = splice bytes at new; loose = loose }; settled = choose (loose_by stamp stamps) saved bytes; past = then_past }) marks
+
+-- where no place of a range bears the stamp, the bytes of the range are saved all at once
+pub saved_at_once : (stamps : List ℕ) (stamp : ℕ) (bytes : List ℕ) (at n : ℕ) (old : List ℕ) → at + n ≤ length stamps → at + n ≤ length bytes → at + n ≤ length old
+    → list_any (λ s. s == stamp) (part at n stamps) ≡ false → IsSaved stamps stamp bytes at n old (splice old at (part at n bytes))
+saved_at_once stamps stamp bytes at n old stamps_fit bytes_fit old_fit none =
+    let new = part at n bytes in
+    let long : length new ≡ n = length-part at n bytes bytes_fit in
+    let fits : at + length new ≤ length old = omega (arith, long) in
+    record {
+      same_length = length-splice old new at fits;
+      saved = λ i inside isnt.
+          let place : at + (i - at) ≡ i = omega (arith, inside.0) in
+          spliced_within 0 old new at i fits (inside.0, omega (arith, inside.1, long))
+          ∙ get_or-part at n bytes (i - at) (omega (arith, inside.0, inside.1)) ∙ ap (λ (k : ℕ). get_or bytes k 0) place;
+      kept = λ i inside is.
+          let place : at + (i - at) ≡ i = omega (arith, inside.0) in
+          let part_long : length (part at n stamps) ≡ n = length-part at n stamps stamps_fit in
+          let here : get_or (part at n stamps) (i - at) 0 ≡ stamp = get_or-part at n stamps (i - at) (omega (arith, inside.0, inside.1)) ∙ ap (λ (k : ℕ). get_or stamps k 0) place ∙ is in
+          let bears : (get_or (part at n stamps) (i - at) 0 == stamp) ≡ true = grind (arith, nat_tests, here) in
+          let found = list_any_at (λ s. s == stamp) (part at n stamps) (i - at) 0 (omega (arith, inside.0, inside.1, part_long)) bears in
+          absurd (false≢true (sym none ∙ found));
+      elsewhere = λ i outside. splice_elsewhere old new at i fits (λ inside. outside (inside.0, omega (arith, inside.1, long)));
+    }

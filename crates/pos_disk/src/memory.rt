@@ -1,5 +1,6 @@
 // A disk in memory.
-ghost use Rattle.std.specs.Prelude.{◌≡◌, ◌≤◌, ◌<◌, ◌+◌, ℕ, List, length, get_or, replicate, IfOk, Ok, ⊤};
+ghost use Rattle.std.specs.Prelude.{◌≡◌, ◌≤◌, ◌<◌, ◌+◌, ◌==◌, ℕ, List, length, get_or, replicate, IfOk, Ok, ⊤};
+ghost use Rattle.std.specs.List.{list_any};
 ghost use Rattle.std.proofs.Common.{refl};
 ghost use Rattle.pos_disk.specs.State.{splice};
 ghost use Rattle.pos_disk.specs.Stamps.{IsSaved};
@@ -78,8 +79,33 @@ impl MemDisk {
     }
 }
 
-// Saves the byte of each of `len` places that isn't loose yet.
+// Saves the byte of each of `len` places that isn't loose yet: all of them at once, where none is.
 fn save(saved: &mut Vec<u8>, bytes: &[u8], stamps: &[u32], stamp: u32, at: usize, len: usize)
+    requires saved { at + len ≤ length saved.old.items }
+    requires bytes { at + len ≤ length bytes.now }
+    requires stamps { at + len ≤ length stamps.now }
+    ensures { IsSaved stamps.now stamp bytes.now at len saved.old.items saved.new.items }
+{
+    if is_any_loose(&stamps[at..at + len], stamp) {
+        save_each(saved, bytes, stamps, stamp, at, len);
+    } else {
+        overwrite(saved, at, &bytes[at..at + len]);
+    }
+}
+
+// Whether one of these stamps is the present one. It goes through all of them, and so compares several at a time.
+fn is_any_loose(stamps: &[u32], stamp: u32) -> bool
+    ensures { result ≡ list_any (λ s. s == stamp) stamps.now }
+{
+    let mut found = false;
+    for one in stamps {
+        found |= *one == stamp;
+    }
+    found
+}
+
+// Saves the byte of each of `len` places that isn't loose yet, one after another.
+fn save_each(saved: &mut Vec<u8>, bytes: &[u8], stamps: &[u32], stamp: u32, at: usize, len: usize)
     requires saved { at + len ≤ length saved.old.items }
     requires bytes { at + len ≤ length bytes.now }
     requires stamps { at + len ≤ length stamps.now }

@@ -3,7 +3,7 @@ use Rattle.std.proofs.Common.{◌≡◌, inl, inr, ℕ, ◌+◌, ◌≤◌, ◌<
 use Rattle.std.specs.Prelude.{⊤, MatchOption}
 use Rattle.std.proofs.lemmas.Bool.{cases_Bool}
 use Rattle.pos_disk.specs.State.{DiskState, MayLeave, LeavesOnly, splice, part}
-use Rattle.pos_disk.proofs.Moments.{started, weaker, rest_leaves}
+use Rattle.pos_disk.proofs.Moments.{weaker, rest_leaves}
 use Rattle.pos_disk.proofs.Bytes.{length-splice, splice_elsewhere, part-splice, get_or-part}
 use Rattle.pos_disk.specs.declared.device.Disk.{Ghosts}
 use Rattle.pos_disk.specs.Within.{SameBut}
@@ -22,11 +22,6 @@ pub sound_leaves : {D : Type 0} (state : DiskState) (images : View D) → IsSoun
 sound_leaves state images sound c may =
     subst (HasImage images.body images.sequence (log_of state.reading)) (sym (rest_leaves state c sound.at_rest may))
     (image_here images.slot state.reading images.body images.sequence sound.current)
-
--- before the first disk call
-pub at_start : {D : Type 0} (state : DiskState) (images : View D) → IsSound state images → ((c : List ℕ) → state.left_since state.moment c → MayLeave state c)
-    → LeavesOnly state state (HasImage images.body images.sequence (log_of state.reading))
-at_start state images sound only = started state (HasImage images.body images.sequence (log_of state.reading)) (λ c left. sound_leaves state images sound c (only c left))
 
 -- sound images are ready
 pub ready : {D : Type 0} (bound : Ghosts D) (images : View D) → 327680 ≤ bound.size images.disk → images.sequence < 2 ^ 64 → (bound.honest images.disk → IsSound (bound.state images.disk) images) → IsReady bound images

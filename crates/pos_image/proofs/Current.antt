@@ -1,5 +1,5 @@
 -- The current image, and what changes of the other slot leave of it.
-use Rattle.std.proofs.Common.{◌≡◌, ◌⊎◌, inl, inr, ⊎_elim, ℕ, ◌+◌, ◌≤◌, ◌<◌, List, length, get_or, refl, sym, ap, subst, ◌∙◌, arith, true, false, nat_lt, nat_le, nat_eq}
+use Rattle.std.proofs.Common.{◌≡◌, ◌⊎◌, inl, inr, ⊎_elim, ℕ, ◌+◌, ◌≤◌, ◌<◌, List, length, get_or, refl, sym, ap, subst, ◌∙◌, arith, true, false, ◌||◌, nat_lt, nat_le, nat_eq}
 use Rattle.std.specs.Int.{w32, w64, from_be_bytes}
 use Rattle.std.proofs.lemmas.Bool.{cases_Bool}
 use Rattle.std.proofs.lemmas.Bool.Decides.{nat_tests}
@@ -9,7 +9,7 @@ use Rattle.pos_disk.specs.Within.{SameBut}
 use Rattle.pos_image.specs.Layout.{start, other, is_open, sequence_at, length_at, body_at}
 use Rattle.pos_image.specs.Steps.{Stages}
 use Rattle.pos_image.specs.Slots.{IsCurrent, IsPrepared, IsFound}
-use Rattle.pos_image.specs.Standing.{OneImage, image_on, image_at}
+use Rattle.pos_image.specs.Standing.{OneImage, image_on, image_at, current_at, is_tied}
 use Rattle.pos_image.specs.declared.slot.Slot.{Slot}
 use Rattle.pos_image.specs.declared.slot.Slot.TheVariants.{First, Second}
 
@@ -147,30 +147,49 @@ stands_at bytes body sequence place fits body_is sequence_is =
     let yes = at_most (length_at bytes place) 16371 fits in
     rw yes (λ i. OneImage (body_is i) (sequence_is i))
 
+-- The slot that is open, where the other one is closed or has the lesser sequence, is the current one, and there is no tie.
+pub record IsChosen (bytes : List ℕ) (slot : Slot) : Type 0 where
+  pub place : current_at bytes ≡ start slot
+  pub opened : (is_open bytes 0 || is_open bytes 32768) ≡ true
+  pub untied : is_tied bytes ≡ false
+
+pub chosen : (bytes : List ℕ) (slot : Slot) → is_open bytes (start slot) ≡ true → (is_open bytes (start (other slot)) ≡ true → sequence_at bytes (start (other slot)) < sequence_at bytes (start slot)) → IsChosen bytes slot
+chosen bytes First here lesser = elim (cases_Bool (is_open bytes 32768)) [
+  | inl also ↦
+      let less = lesser also in
+      record {
+        place = rw (here, also, less_than (sequence_at bytes 32768) (sequence_at bytes 0) less) refl;
+        opened = rw here refl;
+        untied = rw (here, also, (differ (sequence_at bytes 32768) (sequence_at bytes 0) less).1) refl;
+      }
+  | inr shut ↦ record { place = rw (here, shut) refl; opened = rw here refl; untied = rw (here, shut) refl }
+]
+chosen bytes Second here lesser = elim (cases_Bool (is_open bytes 0)) [
+  | inl also ↦
+      let less = lesser also in
+      record {
+        place = rw (also, here, long_enough (sequence_at bytes 32768) (sequence_at bytes 0) (omega (arith, less))) refl;
+        opened = rw also refl;
+        untied = rw (also, here, (differ (sequence_at bytes 0) (sequence_at bytes 32768) less).0) refl;
+      }
+  | inr shut ↦ record { place = rw shut refl; opened = rw (shut, here) refl; untied = rw shut refl }
+]
+
+-- where the bytes are long enough and no gate of the later layout is open, they hold the image in that slot
+pub chosen_stands : (bytes : List ℕ) (slot : Slot) → 327680 ≤ length bytes → (is_open bytes 65536 || is_open bytes 196608) ≡ false → IsChosen bytes slot → image_on bytes ≡ image_at bytes (start slot)
+unfolding image_on
+chosen_stands bytes slot whole later chosen = rw (long_enough (length bytes) 327680 whole, chosen.opened, later, chosen.untied, chosen.place) refl
+
+-- the slot of the current image is chosen
+pub current_chosen : (slot : Slot) (bytes body : List ℕ) (sequence : ℕ) → IsCurrent bytes slot body sequence → IsChosen bytes slot
+current_chosen slot bytes body sequence current =
+    chosen bytes slot current.gate (λ also. subst (λ (n : ℕ). sequence_at bytes (start (other slot)) < n) (sym current.sequence_is) (current.greater also))
+
 -- the bytes stand for the current image
 pub current_stands : (slot : Slot) (bytes body : List ℕ) (sequence : ℕ) → IsCurrent bytes slot body sequence → image_on bytes ≡ OneImage body sequence
-unfolding image_on
-current_stands First bytes body sequence current =
-    let long = long_enough (length bytes) 327680 current.whole in
-    let here : is_open bytes 0 ≡ true = current.gate in
-    elim (cases_Bool (is_open bytes 32768)) [
-      | inl opened ↦
-          let less : sequence_at bytes 32768 < sequence_at bytes 0 = subst (λ (n : ℕ). sequence_at bytes 32768 < n) (sym current.sequence_is) (current.greater opened) in
-          rw (long, here, opened, current.first_layout.0, current.first_layout.1, (differ (sequence_at bytes 32768) (sequence_at bytes 0) less).1, less_than (sequence_at bytes 32768) (sequence_at bytes 0) less)
-          (stands_at bytes body sequence 0 current.fits current.body_is current.sequence_is)
-      | inr shut ↦ rw (long, here, shut, current.first_layout.0, current.first_layout.1) (stands_at bytes body sequence 0 current.fits current.body_is current.sequence_is)
-    ]
-current_stands Second bytes body sequence current =
-    let long = long_enough (length bytes) 327680 current.whole in
-    let here : is_open bytes 32768 ≡ true = current.gate in
-    elim (cases_Bool (is_open bytes 0)) [
-      | inl opened ↦
-          let less : sequence_at bytes 0 < sequence_at bytes 32768 = subst (λ (n : ℕ). sequence_at bytes 0 < n) (sym current.sequence_is) (current.greater opened) in
-          let not_less : nat_lt (sequence_at bytes 32768) (sequence_at bytes 0) ≡ false = long_enough (sequence_at bytes 32768) (sequence_at bytes 0) (omega (arith, less)) in
-          rw (long, here, opened, current.first_layout.0, current.first_layout.1, (differ (sequence_at bytes 0) (sequence_at bytes 32768) less).0, not_less)
-          (stands_at bytes body sequence 32768 current.fits current.body_is current.sequence_is)
-      | inr shut ↦ rw (long, here, shut, current.first_layout.0, current.first_layout.1) (stands_at bytes body sequence 32768 current.fits current.body_is current.sequence_is)
-    ]
+current_stands slot bytes body sequence current =
+    chosen_stands bytes slot current.whole (rw (current.first_layout.0, current.first_layout.1) refl) (current_chosen slot bytes body sequence current)
+    ∙ stands_at bytes body sequence (start slot) current.fits current.body_is current.sequence_is
 
 -- what was found, with its body
 pub found_current : (slot : Slot) (bytes body : List ℕ) (sequence size : ℕ) → 327680 ≤ length bytes → IsFound bytes slot sequence size → body ≡ part (start slot + 13) size bytes → IsCurrent bytes slot body sequence

@@ -1,39 +1,18 @@
 -- The log span of the current slot.
-use Rattle.std.proofs.Common.{◌≡◌, inl, inr, ⊎_elim, ℕ, ◌+◌, ◌≤◌, ◌<◌, List, get_or, refl, sym, ap, subst, ◌∙◌, arith, true}
-use Rattle.std.proofs.lemmas.Bool.{cases_Bool}
+use Rattle.std.proofs.Common.{◌≡◌, ⊎_elim, ℕ, ◌+◌, ◌≤◌, List, get_or, refl, sym, ap, ◌∙◌, arith}
 use Rattle.pos_disk.specs.State.{part}
 use Rattle.pos_disk.proofs.Bytes.{get_or-part}
 use Rattle.pos_disk.specs.Within.{SameBut}
-use Rattle.pos_image.specs.Layout.{start, other, is_open, sequence_at}
+use Rattle.pos_image.specs.Layout.{start, other}
 use Rattle.pos_image.specs.Slots.{IsCurrent}
-use Rattle.pos_image.specs.Standing.{current_at, log_of, HasImage, HasNewImage}
+use Rattle.pos_image.specs.Standing.{log_of, HasImage, HasNewImage}
 use Rattle.pos_image.specs.declared.slot.Slot.{Slot}
-use Rattle.pos_image.specs.declared.slot.Slot.TheVariants.{First, Second}
-use Rattle.pos_image.proofs.Current.{apart, start_low, kept_part, less_than, long_enough, current_stands}
-
--- the slot of the current image
-pub current_place : (slot : Slot) (bytes body : List ℕ) (sequence : ℕ) → IsCurrent bytes slot body sequence → current_at bytes ≡ start slot
-current_place First bytes body sequence current =
-    let here : is_open bytes 0 ≡ true = current.gate in
-    elim (cases_Bool (is_open bytes 32768)) [
-      | inl opened ↦
-          let less : sequence_at bytes 32768 < sequence_at bytes 0 = subst (λ (n : ℕ). sequence_at bytes 32768 < n) (sym current.sequence_is) (current.greater opened) in
-          rw (here, opened, less_than (sequence_at bytes 32768) (sequence_at bytes 0) less) refl
-      | inr shut ↦ rw (here, shut) refl
-    ]
-current_place Second bytes body sequence current =
-    let here : is_open bytes 32768 ≡ true = current.gate in
-    elim (cases_Bool (is_open bytes 0)) [
-      | inl opened ↦
-          let less : sequence_at bytes 0 < sequence_at bytes 32768 = subst (λ (n : ℕ). sequence_at bytes 0 < n) (sym current.sequence_is) (current.greater opened) in
-          rw (here, opened, long_enough (sequence_at bytes 32768) (sequence_at bytes 0) (omega (arith, less))) refl
-      | inr shut ↦ rw shut refl
-    ]
+use Rattle.pos_image.proofs.Current.{apart, start_low, kept_part, current_chosen, current_stands}
 
 -- the log lies behind the current image
 pub log_place : (slot : Slot) (bytes body : List ℕ) (sequence : ℕ) → IsCurrent bytes slot body sequence → log_of bytes ≡ part (start slot + 16384) 16384 bytes
 unfolding log_of
-log_place slot bytes body sequence current = ap (λ (at : ℕ). part (at + 16384) 16384 bytes) (current_place slot bytes body sequence current)
+log_place slot bytes body sequence current = ap (λ (at : ℕ). part (at + 16384) 16384 bytes) (current_chosen slot bytes body sequence current).place
 
 -- the current image with its log
 pub image_here : (slot : Slot) (bytes body : List ℕ) (sequence : ℕ) → IsCurrent bytes slot body sequence → HasImage body sequence (log_of bytes) bytes

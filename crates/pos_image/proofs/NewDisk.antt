@@ -7,7 +7,7 @@ use Rattle.pos_image.specs.NewDisk.{HasClosedGates, no_files}
 use Rattle.pos_disk.specs.Within.{SameBut}
 use Rattle.pos_image.specs.Layout.{is_open}
 use Rattle.pos_image.specs.Slots.{IsCurrent, HasFields}
-use Rattle.pos_image.specs.Standing.{HasNewImage}
+use Rattle.pos_image.specs.Standing.{IsNewDisk}
 use Rattle.pos_image.specs.declared.slot.Slot.TheVariants.{First}
 use Rattle.pos_image.proofs.Changes.{opened_gate}
 use Rattle.pos_image.proofs.Current.{kept_sequence, kept_length, kept_body}
@@ -53,7 +53,7 @@ module _ (closed mid new : List ℕ) (large : 327680 ≤ length closed) (gates :
       ∙ same.elsewhere i (λ hit. absurd (omega (arith, far, hit.1))) ∙ was
 
   -- the closed gates stay so
-  pub still_closed : HasClosedGates new
+  still_closed : HasClosedGates new
   still_closed = record {
     first_log = stays 16384 (omega arith) gates.first_log;
     second = stays 32768 (omega arith) gates.second;
@@ -77,5 +77,5 @@ module _ (closed mid new : List ℕ) (large : 327680 ≤ length closed) (gates :
       }
 
   -- it is the current image, and there is no log
-  pub first_image : HasNewImage no_files 1 new
-  first_image = new_image First new no_files 1 first_current still_closed.first_log
+  pub new_disk : IsNewDisk new
+  new_disk = record { image = new_image First new no_files 1 first_current still_closed.first_log; gates = still_closed }

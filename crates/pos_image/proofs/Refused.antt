@@ -2,11 +2,13 @@
 use Rattle.std.proofs.Common.{◌≡◌, inl, inr, ℕ, ◌<◌, List, length, refl, sym, ◌∙◌, arith, Bool, true, false, ◌||◌, nat_le, nat_eq}
 use Rattle.std.proofs.lemmas.Bool.{cases_Bool}
 use Rattle.std.proofs.lemmas.Bool.Decides.{nat_tests}
-use Rattle.pos_image.specs.Layout.{is_open, sequence_at, length_at}
-use Rattle.pos_image.specs.Slots.{HasHeads}
+use Rattle.pos_image.specs.Layout.{start, other, is_open, sequence_at, length_at}
+use Rattle.pos_image.specs.Slots.{HasHead, HasHeads}
 use Rattle.pos_image.specs.Standing.{NoImage, DamagedImage, image_on}
 use Rattle.pos_image.specs.declared.reading.Head.{Head}
-use Rattle.pos_image.proofs.Current.{long_enough, less_than, differ}
+use Rattle.pos_image.specs.declared.slot.Slot.{Slot}
+use Rattle.pos_image.specs.declared.slot.Slot.TheVariants.{First, Second}
+use Rattle.pos_image.proofs.Current.{long_enough, less_than, chosen, chosen_stands}
 
 same_number : (a b : ℕ) → a ≡ b → nat_eq a b ≡ true
 same_number a b is = grind (arith, nat_tests)
@@ -46,28 +48,19 @@ module _ (bytes : List ℕ) (first second : Head) (later : Bool) (heads : HasHea
         | inr not_later ↦ rw (long, heads.at_first.gate ∙ one, heads.at_second.gate ∙ two, heads.at_later ∙ not_later, same) refl
       ]
 
-  -- the current body is too long, in the first slot: damage
-  pub long_first : first.gate ≡ true → later ≡ false → (second.gate ≡ true → second.sequence < first.sequence) → 16371 < first.length → image_on bytes ≡ DamagedImage
-  unfolding image_on
-  long_first one not_later less over =
-      let long = long_enough (length bytes) 327680 heads.whole in
-      let too = too_long (length_at bytes 0) 16371 (omega (arith, heads.at_first.length)) in
-      elim (cases_Bool second.gate) [
-        | inl two ↦
-            let smaller : sequence_at bytes 32768 < sequence_at bytes 0 = omega (arith, less two, heads.at_first.sequence, heads.at_second.sequence) in
-            rw (long, heads.at_first.gate ∙ one, heads.at_second.gate ∙ two, heads.at_later ∙ not_later, (differ (sequence_at bytes 32768) (sequence_at bytes 0) smaller).1, less_than (sequence_at bytes 32768) (sequence_at bytes 0) smaller, too) refl
-        | inr shut ↦ rw (long, heads.at_first.gate ∙ one, heads.at_second.gate ∙ shut, heads.at_later ∙ not_later, too) refl
-      ]
+  -- the head of a slot
+  abbrev pub head_at : Slot → Head
+  head_at First = first
+  head_at Second = second
 
-  -- or in the second
-  pub long_second : second.gate ≡ true → later ≡ false → (first.gate ≡ true → first.sequence < second.sequence) → 16371 < second.length → image_on bytes ≡ DamagedImage
-  unfolding image_on
-  long_second two not_later less over =
-      let long = long_enough (length bytes) 327680 heads.whole in
-      let too = too_long (length_at bytes 32768) 16371 (omega (arith, heads.at_second.length)) in
-      elim (cases_Bool first.gate) [
-        | inl one ↦
-            let smaller : sequence_at bytes 0 < sequence_at bytes 32768 = omega (arith, less one, heads.at_first.sequence, heads.at_second.sequence) in
-            rw (long, heads.at_first.gate ∙ one, heads.at_second.gate ∙ two, heads.at_later ∙ not_later, (differ (sequence_at bytes 0) (sequence_at bytes 32768) smaller).0, long_enough (sequence_at bytes 32768) (sequence_at bytes 0) (omega (arith, smaller)), too) refl
-        | inr shut ↦ rw (long, heads.at_first.gate ∙ shut, heads.at_second.gate ∙ two, heads.at_later ∙ not_later, too) refl
-      ]
+  has_head : (slot : Slot) → HasHead bytes (start slot) (head_at slot)
+  has_head First = heads.at_first
+  has_head Second = heads.at_second
+
+  -- the current body is too long: damage
+  pub long_found : (slot : Slot) → (head_at slot).gate ≡ true → later ≡ false → ((head_at (other slot)).gate ≡ true → (head_at (other slot)).sequence < (head_at slot).sequence) → 16371 < (head_at slot).length → image_on bytes ≡ DamagedImage
+  long_found slot opened not_later lesser over =
+      let here = has_head slot in
+      let there = has_head (other slot) in
+      chosen_stands bytes slot heads.whole (heads.at_later ∙ not_later) (chosen bytes slot (here.gate ∙ opened) (λ also. omega (arith, lesser (sym there.gate ∙ also), here.sequence, there.sequence)))
+      ∙ rw (too_long (length_at bytes (start slot)) 16371 (omega (arith, here.length))) refl

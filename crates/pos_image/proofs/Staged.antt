@@ -1,8 +1,8 @@
 -- What the steps of a change leave.
 use Rattle.std.proofs.lemmas.Bool.Decides.{nat_tests}
-use Rattle.std.proofs.Common.{◌≡◌, ◌≢◌, ℕ, ◌+◌, ◌≤◌, ◌<◌, ◌^◌, List, [], ◌∷◌, ◌++◌, length, get_or, sym, ap, ◌∙◌, arith, Result, Ok, Err, true, false, OnOk}
+use Rattle.std.proofs.Common.{◌≡◌, ℕ, ◌+◌, ◌≤◌, ◌<◌, ◌^◌, List, [], ◌∷◌, ◌++◌, length, get_or, sym, ap, ◌∙◌, arith, Result, Ok, Err, true, OnOk}
 use Rattle.pos_disk.specs.State.{splice, part}
-use Rattle.pos_disk.proofs.Bytes.{get_or-part, part-splice, same_part, length-splice, splice_elsewhere}
+use Rattle.pos_disk.proofs.Bytes.{part-splice, same_part, length-splice, splice_elsewhere}
 use Rattle.byteorder.specs.Endian.{big_bytes}
 use Rattle.pos_image.specs.Layout.{is_open}
 use Rattle.pos_image.specs.Slots.{HasFields}
@@ -34,19 +34,9 @@ pub where_ok : {T E : Type 0} (r : Result T E) (P : Type 0) → P → OnOk r P
 where_ok (Ok x) P holds = holds
 where_ok (Err e) P holds = tt
 
--- what a read of a gate says
-pub gate_read : (bytes out : List ℕ) (at : ℕ) → at + 1 ≤ length bytes → length out ≡ 1 → out ≡ part at (length out) bytes → get_or out 0 0 ≡ get_or bytes at 0
-gate_read bytes out at fits one is =
-    let here : at + 0 ≡ at = omega arith in
-    ap (λ (l : List ℕ). get_or l 0 0) is ∙ get_or-part at (length out) bytes 0 (omega arith) ∙ ap (λ (k : ℕ). get_or bytes k 0) here
-
 -- a gate that holds 0xA5 is open
 pub gate_open : (bytes : List ℕ) (at : ℕ) → get_or bytes at 0 ≡ 165 → is_open bytes at ≡ true
 gate_open bytes at is = grind (arith, nat_tests)
-
--- and one that holds another byte is closed
-pub gate_closed : (bytes : List ℕ) (at : ℕ) → get_or bytes at 0 ≢ 165 → is_open bytes at ≡ false
-gate_closed bytes at is = grind (arith, nat_tests)
 
 -- a fact follows from another where a call succeeded
 pub so_ok : {T E : Type 0} (r : Result T E) (P Q : Type 0) → (P → Q) → OnOk r P → OnOk r Q

@@ -4,6 +4,7 @@ use Rattle.std.specs.Prelude.{Bool, not, ◌&&◌, ◌||◌, if◌then◌else◌
 use Rattle.pos_disk.specs.State.{part}
 use Rattle.pos_image.specs.Layout.{disk_size, slot_size, later_first, later_second, longest, log_place, log_size}
 use Rattle.pos_image.specs.Layout.{is_open, sequence_at, length_at, body_at}
+use Rattle.pos_image.specs.NewDisk.{HasClosedGates, no_files}
 
 -- no image, a disk that was damaged, or the current image
 pub data ImageStanding : Type 0 where
@@ -64,6 +65,11 @@ pub record HasImage (body : List ℕ) (sequence : ℕ) (span : List ℕ) (bytes 
 pub record HasNewImage (body : List ℕ) (sequence : ℕ) (bytes : List ℕ) : Type 0 where
   pub image : ShowsImage body sequence bytes
   pub log : get_or (log_of bytes) 0 0 ≡ 0
+
+-- The current image is that of no files with sequence 1, and every other gate is closed.
+pub record IsNewDisk (bytes : List ℕ) : Type 0 where
+  pub image : HasNewImage no_files 1 bytes
+  pub gates : HasClosedGates bytes
 
 -- while an image is published: the old one as it was, or the new one with the next sequence and no log
 abbrev pub HasEither : List ℕ → List ℕ → ℕ → List ℕ → List ℕ → Type 0

@@ -3,8 +3,8 @@ ghost use Rattle.std.specs.Prelude.{◌≡◌, ◌≤◌, IfOk, OnOk};
 ghost use Rattle.pos_disk.specs.State.{IsAtRest, HasCause, Watches};
 ghost use Rattle.pos_disk.specs.Keeps.{KeepsDisk};
 ghost use Rattle.pos_image.specs.Layout.{disk_size};
-ghost use Rattle.pos_image.specs.NewDisk.{AllAreZero, KeepsRest, HasClosedGates, no_files};
-ghost use Rattle.pos_image.specs.Standing.{HasNewImage, is_marked};
+ghost use Rattle.pos_image.specs.NewDisk.{AllAreZero, KeepsRest};
+ghost use Rattle.pos_image.specs.Standing.{IsNewDisk, is_marked};
 
 use crate::layout::{CLOSED, LATER_FIRST, LATER_SECOND, LOG, OPEN, SECOND, SEQUENCE};
 use crate::reading::read_gate;
@@ -53,8 +53,7 @@ pub fn lay_out<D: Disk>(disk: &mut D) -> Result<(), DiskFault>
     requires large { disk_size ≤ D.size disk.old }
     ensures keeps { KeepsDisk D.Disk disk.old disk.new }
     ensures at_rest { D.honest disk.old → OnOk result (IsAtRest (D.state disk.new)) }
-    ensures image { D.honest disk.old → OnOk result (HasNewImage no_files 1 (D.state disk.new).reading) }
-    ensures gates { D.honest disk.old → OnOk result (HasClosedGates (D.state disk.new).reading) }
+    ensures new { D.honest disk.old → OnOk result (IsNewDisk (D.state disk.new).reading) }
     ensures rest { D.honest disk.old → KeepsRest (D.state disk.old).reading (D.state disk.new).reading }
     ensures cause { D.honest disk.old → HasCause (D.state disk.old) (D.state disk.new) result }
 {

@@ -1,6 +1,6 @@
 // The fields of a slot, as they stand on a disk.
 ghost use Rattle.std.specs.Prelude.{◌≡◌, ◌≤◌, ◌+◌, ◌⊎◌, length, IfOk, IfErr};
-ghost use Rattle.pos_disk.specs.State.{HasCause, Watches};
+ghost use Rattle.pos_disk.specs.State.{HasCause, Watches, part};
 ghost use Rattle.pos_disk.specs.Keeps.{KeepsDisk};
 ghost use Rattle.pos_image.specs.Images.{FailsWithCause};
 ghost use Rattle.pos_image.specs.Layout.{disk_size, slot_size, longest, is_open, sequence_at, length_at};
@@ -8,7 +8,7 @@ ghost use Rattle.pos_image.specs.Slots.{HasHead, HeadsAre, body_in};
 ghost use Rattle.pos_image.specs.declared.fault.ImageFault.TheVariants.{Device, NoMemory};
 
 use crate::fault::ImageFault;
-use crate::layout::{BODY, CLOSED, LATER_FIRST, LATER_SECOND, LENGTH, OPEN, SECOND, SEQUENCE};
+use crate::layout::{BODY, LATER_FIRST, LATER_SECOND, LENGTH, OPEN, SECOND, SEQUENCE};
 use crate::slot::Slot;
 use pos_disk::{Disk, DiskFault};
 use std::alloc::Global;
@@ -29,6 +29,19 @@ pub struct Heads {
     pub later: bool,
 }
 
+// Reads as many bytes as the array has.
+fn read_bytes<D: Disk, const N: usize>(disk: &mut D, at: u64) -> Result<[u8; N], DiskFault>
+    requires { at + N ≤ D.size disk.old }
+    ensures keeps { KeepsDisk D.Disk disk.old disk.new }
+    ensures bytes { D.honest disk.old → IfOk result (λ bytes. bytes ≡ part at N (D.state disk.old).reading) }
+    ensures watches { D.honest disk.old → Watches (D.state disk.old) (D.state disk.new) }
+    ensures cause { D.honest disk.old → HasCause (D.state disk.old) (D.state disk.new) result }
+{
+    let mut bytes = [0; N];
+    disk.read(at, &mut bytes)?;
+    Ok(bytes)
+}
+
 /// Whether the gate at this place is open.
 pub fn read_gate<D: Disk>(disk: &mut D, at: u64) -> Result<bool, DiskFault>
     requires { at + 1 ≤ D.size disk.old }
@@ -37,37 +50,11 @@ pub fn read_gate<D: Disk>(disk: &mut D, at: u64) -> Result<bool, DiskFault>
     ensures watches { D.honest disk.old → Watches (D.state disk.old) (D.state disk.new) }
     ensures cause { D.honest disk.old → HasCause (D.state disk.old) (D.state disk.new) result }
 {
-    let mut gate = [CLOSED];
-    disk.read(at, &mut gate)?;
+    let gate: [u8; 1] = read_bytes(disk, at)?;
     Ok(gate[0] == OPEN)
 }
 
-fn read_sequence<D: Disk>(disk: &mut D, at: u64) -> Result<u64, DiskFault>
-    requires low { at ≤ slot_size }
-    requires fits { at + 9 ≤ D.size disk.old }
-    ensures keeps { KeepsDisk D.Disk disk.old disk.new }
-    ensures sequence { D.honest disk.old → IfOk result (λ n. sequence_at (D.state disk.old).reading at ≡ n) }
-    ensures watches { D.honest disk.old → Watches (D.state disk.old) (D.state disk.new) }
-    ensures cause { D.honest disk.old → HasCause (D.state disk.old) (D.state disk.new) result }
-{
-    let mut bytes = [0; 8];
-    disk.read(at + SEQUENCE, &mut bytes)?;
-    Ok(u64::from_be_bytes(bytes))
-}
-
-fn read_length<D: Disk>(disk: &mut D, at: u64) -> Result<u32, DiskFault>
-    requires low { at ≤ slot_size }
-    requires fits { at + 13 ≤ D.size disk.old }
-    ensures keeps { KeepsDisk D.Disk disk.old disk.new }
-    ensures length { D.honest disk.old → IfOk result (λ n. length_at (D.state disk.old).reading at ≡ n) }
-    ensures watches { D.honest disk.old → Watches (D.state disk.old) (D.state disk.new) }
-    ensures cause { D.honest disk.old → HasCause (D.state disk.old) (D.state disk.new) result }
-{
-    let mut bytes = [0; 4];
-    disk.read(at + LENGTH, &mut bytes)?;
-    Ok(u32::from_be_bytes(bytes))
-}
-
+#[tactic(auto, unfolding(crate::specs::Layout::sequence_at, crate::specs::Layout::length_at))]
 fn read_head<D: Disk>(disk: &mut D, at: u64) -> Result<Head, DiskFault>
     requires low { at ≤ slot_size }
     requires fits { at + 13 ≤ D.size disk.old }
@@ -77,12 +64,12 @@ fn read_head<D: Disk>(disk: &mut D, at: u64) -> Result<Head, DiskFault>
     ensures cause { D.honest disk.old → HasCause (D.state disk.old) (D.state disk.new) result }
 {
     let gate = read_gate(disk, at)?;
-    let sequence = read_sequence(disk, at)?;
-    let length = read_length(disk, at)?;
+    let sequence = read_bytes(disk, at + SEQUENCE)?;
+    let length = read_bytes(disk, at + LENGTH)?;
     Ok(Head {
         gate,
-        sequence,
-        length,
+        sequence: u64::from_be_bytes(sequence),
+        length: u32::from_be_bytes(length),
     })
 }
 

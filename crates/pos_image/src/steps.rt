@@ -8,7 +8,8 @@ ghost use Rattle.pos_image.specs.Steps.{IsWritten, Keeps, CrashKeeps, ClosesGate
 ghost use Rattle.pos_image.specs.Steps.{HasNoLog, KeepsBeside, Stages, CrashStages};
 ghost use Rattle.pos_image.specs.Slots.{HasFields};
 
-use crate::layout::{BODY, CLOSED, LOG, OPEN, SEQUENCE};
+use crate::layout::{BODY, CLOSED, LOG, SEQUENCE};
+use crate::reading::read_gate;
 use byteorder::{BigEndian, ByteOrder};
 use pos_disk::{Disk, DiskFault};
 
@@ -39,9 +40,7 @@ pub fn close_gate<D: Disk>(disk: &mut D, at: u64) -> Result<(), DiskFault>
     ensures any_moment { D.honest disk.old → CrashClosing at (D.state disk.old) (D.state disk.new) }
     ensures cause { D.honest disk.old → HasCause (D.state disk.old) (D.state disk.new) result }
 {
-    let mut gate = [CLOSED];
-    disk.read(at, &mut gate)?;
-    if gate[0] != OPEN {
+    if !read_gate(disk, at)? {
         return Ok(());
     }
     write_through(disk, at, &[CLOSED])

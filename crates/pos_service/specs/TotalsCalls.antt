@@ -33,4 +33,5 @@ file_rows totals number Nothing = []
 
 -- what each call asks of its own, in order: the device enabled, and then what the totals ask
 abbrev pub totals_rows : Totals → ℕ → Control → Call → List Row
-totals_rows totals number control asked = when (not control.enabled) code.Disabled ∷ file_rows totals number (file_call asked)
+totals_rows totals number control asked =
+    when (not control.enabled) code.Disabled ∷ file_rows totals number (file_call asked)

@@ -2,7 +2,7 @@ use Rattle.std.proofs.Common.{◌++◌, ◌∷◌, [], ◌∙◌, ap, sym, refl,
 use Rattle.std.proofs.KnownBytes.{Appends-trans}
 use Rattle.std.specs.Prelude.{option_map}
 use Rattle.pos_counter.specs.Counters.{IsRun, boxes_of}
-use Rattle.pos_counter.proofs.Runs.{no_run, runs_join}
+use Rattle.pos_counter.proofs.Runs.{runs_join}
 use Rattle.pos_console.specs.Lines.{lines_of}
 use Rattle.pos_console.specs.Names.{names_of}
 use Rattle.pos_console.specs.Text.{reply_text}
@@ -14,7 +14,7 @@ pub loop-rest-init : goal.loop-rest-init
 loop-rest-init g c =
     let boxes = boxes_of c.requires.sound in
     let Runs = IsRun g.D.Disk boxes in
-    (c.requires.sound, [], [], refl, subst (λ ns. Transcript Runs c.args.counter.now [] [] ns c.args.counter.now) (sym c.new-names.ensures) (session_start Runs c.args.counter.now (no_run g.D.Disk boxes c.args.counter.now (λ bytes honest since. g.met.D.Disk.only_now c.args.counter.now.totals.disk bytes honest since))), search rules)
+    (c.requires.sound, [], [], refl, subst (λ ns. Transcript Runs c.args.counter.now [] [] ns c.args.counter.now) (sym c.new-names.ensures) (session_start Runs c.args.counter.now refl), search rules)
 
 pub returns-then-is_err-clause-lines : goal.returns-then-is_err-clause-lines
 returns-then-is_err-clause-lines g c =

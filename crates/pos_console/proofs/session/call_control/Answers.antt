@@ -1,8 +1,8 @@
-use Rattle.std.proofs.Common.{sym, ap, ◌∙◌}
+use Rattle.std.proofs.Common.{refl, sym, ap, ◌∙◌}
 use Rattle.std.specs.Prelude.{option_map}
 use Rattle.pos_counter.specs.Steps.{CallOf, Answered, OutOfMemory}
 use Rattle.pos_counter.specs.Counters.{IsRun, boxes_of}
-use Rattle.pos_counter.proofs.Runs.{no_run, one_step}
+use Rattle.pos_counter.proofs.Runs.{one_step}
 use Rattle.pos_console.specs.Commands.{CallLine}
 use Rattle.pos_console.specs.Names.{names_of}
 use Rattle.pos_console.proofs.Sessions.{asks_none, asks_request}
@@ -24,4 +24,4 @@ pub returns-in_default-clause-asks : goal.returns-in_default-clause-asks
 returns-in_default-clause-asks g c =
     let boxes = boxes_of c.requires.sound in
     let old = c.args.counter.now in
-    asks_none (IsRun g.D.Disk boxes) old (names_of c.args.names.now) (CallLine c.args.name.now c.args.call.now) (ap (option_map (λ number. CallOf number c.args.call.now)) (sym c.find.ensures ∙ c.in_default.is)) (no_run g.D.Disk boxes old (λ bytes honest since. g.met.D.Disk.only_now old.totals.disk bytes honest since))
+    asks_none (IsRun g.D.Disk boxes) old (names_of c.args.names.now) (CallLine c.args.name.now c.args.call.now) (ap (option_map (λ number. CallOf number c.args.call.now)) (sym c.find.ensures ∙ c.in_default.is)) refl

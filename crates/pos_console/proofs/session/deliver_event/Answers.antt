@@ -1,8 +1,8 @@
-use Rattle.std.proofs.Common.{sym, ap}
+use Rattle.std.proofs.Common.{refl, sym, ap}
 use Rattle.std.specs.Prelude.{option_map}
 use Rattle.pos_counter.specs.Steps.{Deliver, Delivered}
 use Rattle.pos_counter.specs.Counters.{IsRun, boxes_of}
-use Rattle.pos_counter.proofs.Runs.{no_run, one_beside}
+use Rattle.pos_counter.proofs.Runs.{one_beside}
 use Rattle.pos_console.specs.Commands.{DeliverLine}
 use Rattle.pos_console.specs.Names.{names_of}
 use Rattle.pos_console.proofs.Sessions.{asks_none, asks_request}
@@ -18,4 +18,4 @@ pub returns-in-None-clause-asks : goal.returns-in-None-clause-asks
 returns-in-None-clause-asks g c =
     let boxes = boxes_of c.requires.sound in
     let old = c.args.counter.now in
-    asks_none (IsRun g.D.Disk boxes) old (names_of c.args.names.now) (DeliverLine c.args.name.now c.args.reply) (ap (option_map (λ number. Deliver number c.args.reply)) (sym c.in-None.ensures)) (no_run g.D.Disk boxes old (λ bytes honest since. g.met.D.Disk.only_now old.totals.disk bytes honest since))
+    asks_none (IsRun g.D.Disk boxes) old (names_of c.args.names.now) (DeliverLine c.args.name.now c.args.reply) (ap (option_map (λ number. Deliver number c.args.reply)) (sym c.in-None.ensures)) refl

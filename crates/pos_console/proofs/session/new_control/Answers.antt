@@ -2,7 +2,7 @@ use Rattle.std.proofs.Common.{◌∙◌, ◌++◌, ◌∷◌, [], Some, None, sy
 use Rattle.std.specs.Prelude.{is_some}
 use Rattle.pos_counter.specs.Steps.{NewControl, Made, Full, OutOfMemory}
 use Rattle.pos_counter.specs.Counters.{IsRun, boxes_of}
-use Rattle.pos_counter.proofs.Runs.{no_run, one_beside}
+use Rattle.pos_counter.proofs.Runs.{one_beside}
 use Rattle.pos_console.specs.Commands.{NewLine}
 use Rattle.pos_console.specs.Names.{names_of}
 use Rattle.pos_console.proofs.Sessions.{asks_none, asks_request, asks_unkept, renamed}
@@ -32,7 +32,7 @@ returns-then-is_some-clause-asks g c =
     let boxes = boxes_of c.requires.sound in
     let old = c.args.counter.now in
     let known = sym (ap is_some c.find.ensures) ∙ (sym c.is_some.ensures ∙ c.if-is_some.true) in
-    asks_none (IsRun g.D.Disk boxes) old (names_of c.args.names.now) (NewLine c.args.name.now c.args.category) (ap (λ b. cond b None (Some (NewControl c.args.category))) known) (no_run g.D.Disk boxes old (λ bytes honest since. g.met.D.Disk.only_now old.totals.disk bytes honest since))
+    asks_none (IsRun g.D.Disk boxes) old (names_of c.args.names.now) (NewLine c.args.name.now c.args.category) (ap (λ b. cond b None (Some (NewControl c.args.category))) known) refl
 
 pub returns-in_default-clause-asks : goal.returns-in_default-clause-asks
 returns-in_default-clause-asks g c =
@@ -40,7 +40,7 @@ returns-in_default-clause-asks g c =
     let old = c.args.counter.now in
     let unknown = sym (ap is_some c.find.ensures) ∙ (sym c.is_some.ensures ∙ c.if-is_some.false) in
     renamed (IsRun g.D.Disk boxes) _ _ _ _ _ _ c.make_room.ensures.names
-    (asks_unkept (IsRun g.D.Disk boxes) old (names_of c.args.names.now) (NewLine c.args.name.now c.args.category) (NewControl c.args.category) (ap (λ b. cond b None (Some (NewControl c.args.category))) unknown) refl (no_run g.D.Disk boxes old (λ bytes honest since. g.met.D.Disk.only_now old.totals.disk bytes honest since)))
+    (asks_unkept (IsRun g.D.Disk boxes) old (names_of c.args.names.now) (NewLine c.args.name.now c.args.category) (NewControl c.args.category) (ap (λ b. cond b None (Some (NewControl c.args.category))) unknown) refl refl)
 
 pub returns-clause-asks : goal.returns-clause-asks
 returns-clause-asks g c =

@@ -1,5 +1,4 @@
-use Rattle.std.proofs.Common.{◌≡◌, ◌∙◌, sym, ap, subst, Option, Bool, true, false, refl}
-use Rattle.std.specs.Prelude.{IfSome}
+use Rattle.std.proofs.Common.{◌∙◌, sym, ap, true, false, refl}
 use Rattle.pos_dir.specs.Files.{has_name, are_distinct}
 use Rattle.pos_dir.specs.Reading.{file_at, items_at}
 use Rattle.pos_dir.specs.Texts.{file_of}
@@ -10,15 +9,13 @@ use Rattle.pos_dir.proofs.files.are_distinct.Goals as goal
 pub returns-in_default : goal.returns-in_default
 returns-in_default c =
     let none = none_more file_at c.args.count c.loop-i.i c.loop-i.rest.now c.loop-i-test.true (sym c.in_default.ensures) in
-    told are_distinct (items_at file_at c.args.count c.args.bytes.now) false
-    (subst (λ (o : Option Bool). IfSome o (λ b. false ≡ b)) (ap (tell are_distinct) (sym none) ∙ c.loop-i.invariant) tt)
+    told are_distinct _ _ (items_at file_at c.args.count c.args.bytes.now) false none c.loop-i.invariant tt
 
 pub returns-then-is_used : goal.returns-then-is_used
 returns-then-is_used c =
     let more = one_more file_at c.args.count c.loop-i.i c.loop-i.rest.now _ c.in-Some.after.now c.loop-i-test.true (sym c.in-Some.ensures) in
-    told are_distinct (items_at file_at c.args.count c.args.bytes.now) false
-    (subst (λ (o : Option Bool). IfSome o (λ b. false ≡ b)) (ap (tell are_distinct) (sym more) ∙ c.loop-i.invariant)
-    (not_distinct (file_of c.in-Some.file) _ (answered (λ files. has_name files c.in-Some.file.name.now) _ c.is_used.result true c.if-is_used.true c.is_used.ensures)))
+    told are_distinct _ _ (items_at file_at c.args.count c.args.bytes.now) false more c.loop-i.invariant
+    (not_distinct (file_of c.in-Some.file) _ (answered (λ files. has_name files c.in-Some.file.name.now) _ c.is_used.result true c.if-is_used.true c.is_used.ensures))
 
 pub loop-i-preserved : goal.loop-i-preserved
 loop-i-preserved c =
@@ -27,5 +24,5 @@ loop-i-preserved c =
 
 pub returns : goal.returns
 returns c =
-    told are_distinct (items_at file_at c.args.count c.args.bytes.now) true
-    (subst (λ (o : Option Bool). IfSome o (λ b. true ≡ b)) (ap (tell are_distinct) (sym (no_more file_at c.args.count c.loop-i.i c.loop-i.rest.now c.loop-i-test.false)) ∙ c.loop-i.invariant) refl)
+    let all = no_more file_at c.args.count c.loop-i.i c.loop-i.rest.now c.loop-i-test.false in
+    told are_distinct _ _ (items_at file_at c.args.count c.args.bytes.now) true all c.loop-i.invariant refl

@@ -1,4 +1,4 @@
-use Rattle.std.proofs.Common.{◌+◌, ◌≤◌, ◌<◌, [], length, get_or, arith, ap}
+use Rattle.std.proofs.Common.{[], length, get_or, arith, ap}
 use Rattle.std.proofs.lemmas.Option.{slice_get-get_or}
 use Rattle.pos_dir.specs.declared.outlines.Outline.{Outline}
 use Rattle.pos_dir.proofs.Outlined.{write_past, write_made}

@@ -1,5 +1,6 @@
 use Rattle.std.proofs.Common.{◌||◌, ap, arith}
-use Rattle.pos_image.proofs.Refused.{none_found, later_found, tie_found, long_first, long_second}
+use Rattle.pos_image.proofs.Refused.{none_found, later_found, tie_found, long_found}
+use Rattle.pos_image.specs.declared.slot.Slot.TheVariants.{First, Second}
 use Rattle.pos_image.proofs.finding.choose.Goals.{in-true-true, in-true-true-2, in-true-false, in-false-true, then-later-via-then-later, then-later-via-else-later+then-head-gt-LONGEST}
 use Rattle.pos_image.proofs.finding.choose.Goals as goal
 
@@ -18,9 +19,9 @@ returns-then-later-clause-damaged c bytes heads _ = elim c.then-later.branch [
     | in-false-true v ↦ λ i. v.in-false-true.is-0 i || v.in-false-true.is-1 i
   ]) w.if-later.true
   | then-later-via-else-later+then-head-gt-LONGEST w ↦ elim c.if-first.branch [
-    | in-true-true v ↦ long_first bytes c.args.first c.args.second c.args.later heads v.in-true-true.is-0 w.if-later.false (λ _. omega arith) (omega (arith, ap (λ s. s.1.length) v.slot-is))
-    | in-true-true-2 v ↦ long_second bytes c.args.first c.args.second c.args.later heads v.in-true-true.is-1 w.if-later.false (λ _. omega arith) (omega (arith, ap (λ s. s.1.length) v.slot-is))
-    | in-true-false v ↦ long_first bytes c.args.first c.args.second c.args.later heads v.in-true-false.is-0 w.if-later.false (λ opened. absurd (cc (opened, v.in-true-false.is-1))) (omega (arith, ap (λ s. s.1.length) v.slot-is))
-    | in-false-true v ↦ long_second bytes c.args.first c.args.second c.args.later heads v.in-false-true.is-1 w.if-later.false (λ opened. absurd (cc (opened, v.in-false-true.is-0))) (omega (arith, ap (λ s. s.1.length) v.slot-is))
+    | in-true-true v ↦ long_found bytes c.args.first c.args.second c.args.later heads First v.in-true-true.is-0 w.if-later.false (λ _. omega arith) (omega (arith, ap (λ s. s.1.length) v.slot-is))
+    | in-true-true-2 v ↦ long_found bytes c.args.first c.args.second c.args.later heads Second v.in-true-true.is-1 w.if-later.false (λ _. omega arith) (omega (arith, ap (λ s. s.1.length) v.slot-is))
+    | in-true-false v ↦ long_found bytes c.args.first c.args.second c.args.later heads First v.in-true-false.is-0 w.if-later.false (λ opened. absurd (cc (opened, v.in-true-false.is-1))) (omega (arith, ap (λ s. s.1.length) v.slot-is))
+    | in-false-true v ↦ long_found bytes c.args.first c.args.second c.args.later heads Second v.in-false-true.is-1 w.if-later.false (λ opened. absurd (cc (opened, v.in-false-true.is-0))) (omega (arith, ap (λ s. s.1.length) v.slot-is))
   ]
 ]

@@ -1,24 +1,26 @@
 use Rattle.std.proofs.Common.{◌+◌, ℕ, List, ap, ◌∙◌, subst}
-use Rattle.pos_disk.specs.State.{part}
+use Rattle.pos_disk.specs.State.{Watches, part}
 use Rattle.pos_disk.proofs.Moments.{watches_sync, watches_on}
 use Rattle.pos_image.specs.Layout.{start}
 use Rattle.pos_image.specs.Slots.{HasHeads}
 use Rattle.pos_image.proofs.Current.{found_current}
+use Rattle.pos_image.proofs.finding.find.Given.{Over}
+use Rattle.pos_image.proofs.finding.find.Goals.{After-read_body}
 use Rattle.pos_image.proofs.finding.find.Goals as goal
 
-pub returns-in_err-body-clause-watches : goal.returns-in_err-body-clause-watches
-returns-in_err-body-clause-watches g c honest =
+-- it only looks at the disk, whatever it answers
+watches : (g : Over) (c : After-read_body g) → g.D.Disk.honest c.args.disk.now → Watches (g.D.Disk.state c.args.disk.now) (g.D.Disk.state c.read_body.new.disk)
+watches g c honest =
     let honest1 = c.sync.ensures.honest.0 honest in
     let honest2 = c.read_heads.ensures.keeps.honest.0 honest1 in
     let w1 = watches_sync _ _ (λ f left. g.met.D.Disk.only_now c.args.disk.now f honest left) _ (c.sync.ensures.syncs honest) in
     watches_on _ _ _ (watches_on _ _ _ w1 (c.read_heads.ensures.watches honest1)) (c.read_body.ensures.watches honest2)
 
+pub returns-in_err-body-clause-watches : goal.returns-in_err-body-clause-watches
+returns-in_err-body-clause-watches g c = watches g (goal.at.returns-in_err-body-clause-watches g c).After-read_body
+
 pub returns-clause-watches : goal.returns-clause-watches
-returns-clause-watches g c honest =
-    let honest1 = c.sync.ensures.honest.0 honest in
-    let honest2 = c.read_heads.ensures.keeps.honest.0 honest1 in
-    let w1 = watches_sync _ _ (λ f left. g.met.D.Disk.only_now c.args.disk.now f honest left) _ (c.sync.ensures.syncs honest) in
-    watches_on _ _ _ (watches_on _ _ _ w1 (c.read_heads.ensures.watches honest1)) (c.read_body.ensures.watches honest2)
+returns-clause-watches g c = watches g (goal.at.returns-clause-watches g c).After-read_body
 
 pub returns-clause-found : goal.returns-clause-found
 returns-clause-found g c honest =

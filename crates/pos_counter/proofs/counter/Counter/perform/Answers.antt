@@ -1,8 +1,8 @@
-use Rattle.std.proofs.Common.{◌∙◌, ◌+◌, ◌≤◌, ◌++◌, ◌∷◌, [], take, length, ap, sym, subst, arith, refl}
+use Rattle.std.proofs.Common.{◌∙◌, ◌+◌, ◌≤◌, ◌++◌, ◌∷◌, [], take, length, ap, sym, subst, arith}
 use Rattle.std.proofs.lemmas.List.{length_push, take_all}
 use Rattle.pos_counter.specs.Responses.{request_of, response_of, steps_of}
 use Rattle.pos_counter.specs.Counters.{IsRun, boxes_of}
-use Rattle.pos_counter.proofs.Runs.{no_step, runs_more, steps_push}
+use Rattle.pos_counter.proofs.Runs.{runs_more, steps_push}
 use Rattle.pos_counter.proofs.counter.Counter.perform.Goals as goal
 
 pub loop-request-preserved : goal.loop-request-preserved
@@ -19,7 +19,7 @@ loop-request-preserved g c =
     let steps = ap (steps_of (take (i + 1) qs)) c.push_reserved.ensures.items ∙ steps_push qs rs i q r c.loop-request-test.true before.whole ∙ ap (λ a. steps_of (take i qs) rs ++ (request_of a, response_of r) ∷ []) (sym c.request-item.is) in
     record {
       run = subst (λ xs. IsRun g.D.Disk boxes old xs new) (sym steps)
-          (λ left leaves. runs_more g.D.Disk boxes old c.loop-request.self new left (steps_of (take i qs) rs) (request_of q) (response_of r) (before.run left leaves) c.carry_out-response.ensures.step);
+          (runs_more g.D.Disk boxes old c.loop-request.self new (steps_of (take i qs) rs) (request_of q) (response_of r) before.run c.carry_out-response.ensures.step);
       whole = omega (arith, ap length c.push_reserved.ensures.items, length_push rs r);
       room = omega arith;
       sound = c.carry_out-response.ensures.sound;

@@ -1,6 +1,6 @@
 use Rattle.std.proofs.Common.{◌≤◌, ◌-◌}
 use Rattle.pos_disk.specs.Stamps.{IsSaved}
-use Rattle.pos_disk.proofs.memory.save.Given as goal
+use Rattle.pos_disk.proofs.memory.save_each.Given as goal
 
 abbrev pub invariant-loop-place : goal.invariant-loop-place
 invariant-loop-place l = record {

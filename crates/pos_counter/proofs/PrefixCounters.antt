@@ -1,0 +1,71 @@
+-- A crash of a counter's disk leaves a prefix of the history.
+use Rattle.std.proofs.Common.{◌++◌, ℕ, List, [], ◌∷◌, inl, refl, sym, ap, subst}
+use Rattle.pos_dir.specs.declared.file.File.{File as PlainFile}
+use Rattle.pos_disk.specs.declared.device.Disk.{Ghosts as DiskGhosts}
+use Rattle.pos_disk.proofs.Moments.{rest_leaves}
+use Rattle.pos_service.specs.declared.peripheral_box.HasState.{Ghosts}
+use Rattle.pos_service.specs.declared.peripheral_box.PeripheralBox.{PeripheralBox}
+use Rattle.pos_store.specs.Standing.{Stands, StandsFor}
+use Rattle.pos_totals.specs.Views.{TotalsView}
+use Rattle.pos_counter.specs.declared.counter.Counter.{Counter}
+use Rattle.pos_counter.specs.Counters.{machine, IsRun, IsStep}
+use Rattle.pos_counter.specs.Crashes.{BeginsOver, HasBegun, HasRun, KeepsPrefix, KeepsPrefixes, history_until, machine_now}
+use Rattle.pos_counter.specs.History.{History, begun, history_with}
+use Rattle.pos_counter.specs.Parts.{part_of, Leaves}
+use Rattle.pos_counter.specs.Prefixes.{IsPrefixInside, IsPrefixOf, StandsForSome, StartsWith}
+use Rattle.pos_counter.specs.Steps.{Request, Response}
+use Rattle.pos_counter.proofs.Prefixes.{Fits, fits_begun}
+use Rattle.pos_counter.proofs.PrefixRuns.{bytes_after, bytes_inside, history_append, run_fits}
+use Rattle.pos_counter.proofs.Runs.{run_append}
+
+module _ {D X : Type 0} {O : X → Type 0} (bound : DiskGhosts D) (boxes : Ghosts (PeripheralBox X O)) (start : List PlainFile) (sequence : ℕ) where
+  -- the disk of a counter that begins leaves these files alone
+  begins_leaves : (counter : Counter D X O) → BeginsOver bound boxes start sequence counter → Leaves bound counter.totals (Stands start sequence ∷ [])
+  begins_leaves counter is = subst (λ (v : TotalsView D). Leaves bound v (Stands start sequence ∷ [])) (sym is.begins.totals) (record {
+    honest = is.honest;
+    leaves = λ bytes may. inl (subst (StandsFor (Stands start sequence)) (sym (rest_leaves (bound.state is.disk) bytes is.at_rest may)) is.stands);
+    is_settled = refl;
+  })
+
+  begins_with : (counter : Counter D X O) → BeginsOver bound boxes start sequence counter → StartsWith start sequence (part_of bound counter.totals (Stands start sequence ∷ []))
+  begins_with counter is = record { off = ap (λ (v : TotalsView D). v.totals.mode) is.begins.totals; left = refl }
+
+  -- it has run through nothing
+  pub has_begun : (counter : Counter D X O) → BeginsOver bound boxes start sequence counter → HasBegun bound boxes start sequence counter
+  has_begun counter is = record {
+    past = record { first = counter; begins = is; left = Stands start sequence ∷ []; leaves = begins_leaves counter is; run = refl };
+    history = refl;
+  }
+
+  -- the history of what a counter has run through fits its totals
+  past_fits : (steps : List (Request × Response)) (counter : Counter D X O) (past : HasRun bound boxes start sequence steps counter) → Fits (history_until past) (part_of bound counter.totals past.left)
+  past_fits steps counter past =
+      let from = part_of bound past.first.totals (Stands start sequence ∷ []) in
+      run_fits (begun start) (machine boxes past.first from) steps (machine_now past) past.run
+      (fits_begun start sequence from (begins_with past.first past.begins))
+
+  -- one more request
+  pub keeps_prefix : (steps : List (Request × Response)) (old new : Counter D X O) (past : HasRun bound boxes start sequence steps old) (q : Request) (r : Response) → IsStep bound boxes old q r new → KeepsPrefix bound boxes start sequence steps old past q r new
+  keeps_prefix steps old new past q r next =
+      let s = next.steps past.left past.leaves in
+      let A = machine boxes past.first (part_of bound past.first.totals (Stands start sequence ∷ [])) in
+      let B = machine_now past in
+      let C = machine boxes new (part_of bound new.totals s.after) in
+      let fits = past_fits steps old past in
+      let same = history_append (begun start) A B C steps ((q, r) ∷ []) past.run (C, s.step, refl) in
+      record {
+        next = record { first = past.first; begins = past.begins; left = s.after; leaves = s.leaves; run = run_append A B C steps ((q, r) ∷ []) past.run (C, s.step, refl) };
+        step = s.step;
+        history = same;
+        any_moment = λ bytes left. subst (λ (h : History). StandsForSome (IsPrefixInside (history_until past) h) bytes) (sym same)
+            (bytes_inside (history_until past) B q r C bytes fits s.step (s.any_moment.each bytes left));
+        now = λ bytes may. subst (λ (h : History). StandsForSome (IsPrefixOf h) bytes) (sym same)
+            (bytes_after (history_with (history_until past) B q r C) C.totals bytes (run_fits (history_until past) B ((q, r) ∷ []) C (C, s.step, refl) fits) (s.leaves.leaves bytes may));
+      }
+
+  -- a list of requests
+  pub keeps_prefixes : (steps more : List (Request × Response)) (old new : Counter D X O) (past : HasRun bound boxes start sequence steps old) (run : IsRun bound boxes old more new) → KeepsPrefixes bound boxes start sequence steps old past more new run
+  keeps_prefixes steps [] old new past run = tt
+  keeps_prefixes steps (s ∷ more) old new past run =
+      let one = keeps_prefix steps old run.0 past s.0 s.1 run.1 in
+      (one, keeps_prefixes (steps ++ (s.0, s.1) ∷ []) more run.0 new one.next run.2)

@@ -1,0 +1,310 @@
+-- What each step of the machine does to the totals' files.
+use Rattle.std.proofs.Common.{◌≡◌, ◌∙◌, ◌+◌, ℕ, Bool, true, false, not, List, [], ◌∷◌, Option, Some, cond, inl, inr, refl, sym, ap, subst}
+use Rattle.std.specs.Bool.{MatchBool}
+use Rattle.std.specs.List.{AllByRecursion}
+use Rattle.std.specs.Prelude.{⊤, slice_get, Ok}
+use Rattle.std.proofs.lemmas.Bool.{and_parts}
+use Rattle.std.proofs.lemmas.Option.{same_Some}
+use Rattle.pos_dir.specs.Changes.{outcome_of_all}
+use Rattle.pos_dir.specs.declared.file.File.{File as PlainFile}
+use Rattle.pos_dir.specs.declared.limits.TheConstants.{LAYOUT_1}
+use Rattle.pos_service.specs.declared.answer.Answer.{Answer}
+use Rattle.pos_service.specs.declared.answer.Answer.TheVariants as answer
+use Rattle.pos_service.specs.declared.answer.Value.{Value}
+use Rattle.pos_service.specs.declared.call.Call.{Call}
+use Rattle.pos_service.specs.declared.call.Call.TheVariants as call
+use Rattle.pos_service.specs.declared.category.Category.{Category}
+use Rattle.pos_service.specs.declared.category.Category.TheVariants as category
+use Rattle.pos_service.specs.declared.code.Code.TheVariants as code
+use Rattle.pos_service.specs.declared.property.Property.{Property}
+use Rattle.pos_service.specs.Controls.{Control}
+use Rattle.pos_service.specs.HardTotals.{File, Totals, Mode, Off, Ready, Change, Create, Delete, Rename, Write, SetAll, Question, Find, FindByIndex, Read, DoesTogether, IsAmong, sequences_after, mode_after, files_after_all, files_of, is_ready, question_rows, change_rows, while_ready, layout_1, number_rows, after_disk_fault}
+use Rattle.pos_service.specs.Refusals.{Row, first_refusal}
+use Rattle.pos_service.specs.Stations.{Effect}
+use Rattle.pos_service.specs.TotalsCalls.{FileCall, Asks, Makes, Nothing, file_call, file_rows}
+use Rattle.pos_store.specs.Standing.{Stands, IsOneOf}
+use Rattle.pos_totals.specs.Changes.{IsOneGroup}
+use Rattle.pos_totals.specs.Groups.{group_of}
+use Rattle.pos_totals.specs.Recoveries.{numbered}
+use Rattle.pos_totals.specs.Views.{plain}
+use Rattle.pos_counter.specs.History.{NothingDone, changes_asked, event_between, event_of}
+use Rattle.pos_counter.specs.Machine.{Machine}
+use Rattle.pos_counter.specs.Steps.{Request, NewControl, CallOf, InputTo, Deliver, Snapshot, Response, Made, Full, Answered, TakenIn, NoDevice, WrongInput, Delivered, Shown, OutOfMemory, OnStation, Step, Called, Does, CategoryDoes, Stays, Sets, SetsByRecovery, refusals, category_rows}
+use Rattle.pos_counter.specs.Totals.{TotalsPart, ChangesTotals, TotalsDo, Recovered, Rests, asks_recovery, in_doubt, left_after, recovers, settled}
+use Rattle.pos_counter.proofs.Lifts.{match_cases}
+use Rattle.pos_counter.proofs.Prefixes.{Happens}
+
+-- what changes, a response and the modes say is what happens
+abbrev Told : List Change → TotalsPart → Response → TotalsPart → Type 0
+Told changes old response new = Happens old (event_between changes old.totals.mode response new.totals.mode) new
+
+-- by what the modes and the response are
+told_at : (changes : List Change) (old new : TotalsPart) (early late : Mode) (response same : Response) → old.totals.mode ≡ early → new.totals.mode ≡ late → response ≡ same → Happens old (event_between changes early same late) new → Told changes old response new
+told_at changes old new early late response same o n r h =
+    subst (λ m. Happens old (event_between changes m response new.totals.mode) new) (sym o)
+    (subst (λ m. Happens old (event_between changes early response m) new) (sym n) (subst (λ a. Happens old (event_between changes early a late) new) (sym r) h))
+
+-- ---- where nothing is done
+
+-- the response acknowledges no change
+abbrev IsUndone : Response → Type 0
+IsUndone (Answered (answer.Done given)) = ⊥
+IsUndone other = ⊤
+
+unasked : (mode : Mode) (response : Response) → event_between [] mode response mode ≡ NothingDone
+unasked (Ready files sequence) response = refl
+unasked Off response = refl
+
+undone : (changes : List Change) (mode : Mode) (response : Response) → IsUndone response → event_between changes mode response mode ≡ NothingDone
+undone [] mode response is = unasked mode response
+undone (change ∷ changes) (Ready files sequence) (Answered (answer.Done given)) is = absurd is
+undone (change ∷ changes) (Ready files sequence) response is = refl
+undone (change ∷ changes) Off response is = refl
+
+-- totals that rest
+rest : (changes : List Change) (old new : TotalsPart) (response : Response) → event_between changes old.totals.mode response old.totals.mode ≡ NothingDone → new.totals.mode ≡ old.totals.mode → new.left ≡ old.left → Told changes old response new
+rest changes old new response nothing mode left =
+    subst (λ e. Happens old e new) (sym (ap (λ m. event_between changes old.totals.mode response m) mode ∙ nothing)) (record { mode = mode; left = left })
+
+rest_unasked : (old new : TotalsPart) (response : Response) → new ≡ old → Told [] old response new
+rest_unasked old new response same = rest [] old new response (unasked old.totals.mode response) (ap (λ (t : TotalsPart). t.totals.mode) same) (ap (λ (t : TotalsPart). t.left) same)
+
+rest_undone : (changes : List Change) (old new : TotalsPart) (response : Response) → IsUndone response → new ≡ old → Told changes old response new
+rest_undone changes old new response is same = rest changes old new response (undone changes old.totals.mode response is) (ap (λ (t : TotalsPart). t.totals.mode) same) (ap (λ (t : TotalsPart). t.left) same)
+
+-- the count of failures is no matter
+rest_still : (old new : TotalsPart) (response : Response) → Rests old new → Told [] old response new
+rest_still old new response h = rest [] old new response (unasked old.totals.mode response) (ap (λ (t : Totals). t.mode) h.totals) h.left
+
+-- ---- tables of refusals
+
+-- a refusal is no success
+abbrev IsRefusal : Answer → Type 0
+IsRefusal (answer.Done given) = ⊥
+IsRefusal (answer.Refused code extended) = ⊤
+
+abbrev AllRefuse : List Row → Type 0
+AllRefuse rows = AllByRecursion (λ (row : Row). IsRefusal row.answer) rows
+
+refusal_undone : (result : Answer) → IsRefusal result → IsUndone (Answered result)
+refusal_undone (answer.Done given) is = absurd is
+refusal_undone (answer.Refused code extended) is = tt
+
+-- the answer of a table is a refusal
+refusal_of : (rows : List Row) (refusal : Answer) → AllRefuse rows → first_refusal rows ≡ Some refusal → IsRefusal refusal
+refusal_of [] refusal all is = absurd cc
+refusal_of (row ∷ rows) refusal all is = by row.applies is (refusal_of rows refusal all.1)
+  where
+    by : (b : Bool) → cond b (Some row.answer) (first_refusal rows) ≡ Some refusal → (first_refusal rows ≡ Some refusal → IsRefusal refusal) → IsRefusal refusal
+    by true same rest = subst IsRefusal (same_Some row.answer refusal same) all.0
+    by false same rest = rest same
+
+changes_refuse : (files : List File) (change : Change) → AllRefuse (change_rows layout_1 files change)
+changes_refuse files (Create name size) = (tt, (tt, (tt, tt)))
+changes_refuse files (Delete name) = (tt, tt)
+changes_refuse files (Rename handle name) = (tt, (tt, tt))
+changes_refuse files (Write handle offset bytes) = (tt, tt)
+changes_refuse files (SetAll handle n) = (tt, tt)
+
+questions_refuse : (files : List File) (question : Question) → AllRefuse (question_rows files question)
+questions_refuse files (Find name) = (tt, tt)
+questions_refuse files (FindByIndex index) = (tt, tt)
+questions_refuse files (Read handle offset count) = (tt, tt)
+
+ready_refuse : (mode : Mode) (rows : List File → List Row) → ((files : List File) → AllRefuse (rows files)) → AllRefuse (while_ready mode rows)
+ready_refuse Off rows all = (tt, tt)
+ready_refuse (Ready files sequence) rows all = all files
+
+files_refuse : (totals : Totals) (number : ℕ) (asked : FileCall) → AllRefuse (file_rows totals number asked)
+files_refuse totals number (Asks question) = ready_refuse totals.mode (λ files. question_rows files question) (λ files. questions_refuse files question)
+files_refuse totals number (Makes change) = ready_refuse totals.mode (λ files. change_rows layout_1 files change) (λ files. changes_refuse files change)
+files_refuse totals number Nothing = tt
+
+category_refuse : (k : Category) (m : Machine) (n : ℕ) (c : Control) (own : Call) → AllRefuse (category_rows k m n c own)
+category_refuse category.CashDrawer m n c call.OpenDrawer = (tt, tt)
+category_refuse category.CashDrawer m n c own = tt
+category_refuse category.HardTotals m n c own = (tt, files_refuse m.totals.totals n (file_call own))
+
+all_refuse : (m : Machine) (n : ℕ) (c : Control) (asked : Call) → AllRefuse (refusals m n c asked)
+all_refuse m n c (call.Open name) = (tt, (tt, (tt, tt)))
+all_refuse m n c call.Close = (tt, tt)
+all_refuse m n c (call.Set p v) = (tt, (tt, (tt, tt)))
+all_refuse m n c (call.Get p) = (tt, (tt, (tt, (tt, tt))))
+all_refuse m n c own = (tt, (tt, category_refuse c.category m n c own))
+
+-- ---- changes
+
+-- a group that was done
+done_told : (change : Change) (old new : TotalsPart) (given : Value) → IsOneGroup old.totals (change ∷ []) → new.left ≡ left_after old (change ∷ []) new.totals.mode → DoesTogether old.totals (change ∷ []) new.totals → Told (change ∷ []) old (Answered (answer.Done given)) new
+done_told change old new given group left h = by old.totals.mode refl
+  where
+    by : (m : Mode) → old.totals.mode ≡ m → Told (change ∷ []) old (Answered (answer.Done given)) new
+    by Off off = absurd (subst (λ (m : Mode). IsAmong h.sequence (sequences_after m)) off h.follows)
+    by (Ready files sequence) ready =
+        let now = files_after_all old.totals.next files (change ∷ []) in
+        let still : new.totals.mode ≡ Ready now h.sequence = ap (λ (t : Totals). t.mode) h.totals ∙ ap (λ m. mode_after old.totals.next m (change ∷ []) h.sequence) ready in
+        told_at (change ∷ []) old new (Ready files sequence) (Ready now h.sequence) (Answered (answer.Done given)) (Answered (answer.Done given)) ready still refl
+        (record {
+          before = files;
+          sequence = sequence;
+          now = now;
+          next = h.sequence;
+          ready = ready;
+          made = subst (λ m. outcome_of_all LAYOUT_1 (plain (files_of m)) (group_of (files_of m) (change ∷ [])) ≡ Ok (plain (files_after_all old.totals.next (files_of m) (change ∷ [])))) ready group;
+          still = still;
+          left = left ∙ ap (left_after old (change ∷ [])) still;
+        })
+
+-- a group in which the disk failed
+failed_told : (change : Change) (old new : TotalsPart) (result : Answer) → IsOneGroup old.totals (change ∷ []) → new.left ≡ left_after old (change ∷ []) new.totals.mode → result ≡ answer.Refused code.Failure 0 → new.totals ≡ after_disk_fault old.totals → Told (change ∷ []) old (Answered result) new
+failed_told change old new result group left failed same = by old.totals.mode refl
+  where
+    off : new.totals.mode ≡ Off
+    off = ap (λ (t : Totals). t.mode) same
+
+    by : (m : Mode) → old.totals.mode ≡ m → Told (change ∷ []) old (Answered result) new
+    by Off was =
+        told_at (change ∷ []) old new Off Off (Answered result) (Answered result) was off refl
+        (record { mode = off ∙ sym was; left = left ∙ ap (left_after old (change ∷ [])) off ∙ ap (in_doubt old (change ∷ [])) was })
+    by (Ready files sequence) ready =
+        told_at (change ∷ []) old new (Ready files sequence) Off (Answered result) (Answered (answer.Refused code.Failure 0)) ready off (ap (λ a. Answered a) failed)
+        (record {
+          before = files;
+          sequence = sequence;
+          files = plain (files_after_all old.totals.next files (change ∷ []));
+          ready = ready;
+          made = subst (λ m. outcome_of_all LAYOUT_1 (plain (files_of m)) (group_of (files_of m) (change ∷ [])) ≡ Ok (plain (files_after_all old.totals.next (files_of m) (change ∷ [])))) ready group;
+          off = off;
+          left = left ∙ ap (left_after old (change ∷ [])) off ∙ ap (in_doubt old (change ∷ [])) ready;
+        })
+
+-- a change that a number refuses leaves what it was
+kept_left : (changes : List Change) (old : TotalsPart) → old.left ≡ settled old.totals.mode old.left → left_after old changes old.totals.mode ≡ old.left
+kept_left changes old is = by old.totals.mode refl is
+  where
+    by : (m : Mode) → old.totals.mode ≡ m → old.left ≡ settled m old.left → settled m (in_doubt old changes old.totals.mode) ≡ old.left
+    by Off off is = ap (in_doubt old changes) off
+    by (Ready files sequence) ready is = sym is
+
+changed_told : (change : Change) (old new : TotalsPart) (number : ℕ) (result : Answer) → old.left ≡ settled old.totals.mode old.left → ChangesTotals old number change result new → Told (change ∷ []) old (Answered result) new
+changed_told change old new number result is h =
+    elim (match_cases (first_refusal (number_rows old.totals change)) _ _ h.does.outcome) [
+      | inl x ↦ elim x.1 [
+        | inl done ↦ subst (λ a. Told (change ∷ []) old (Answered a) new) (sym done.0) (done_told change old new _ h.group h.left done.1)
+        | inr failed ↦ failed_told change old new result h.group h.left failed.0 failed.2
+      ]
+      | inr x ↦
+          let mode = ap (λ (t : Totals). t.mode) x.2.1 in
+          rest (change ∷ []) old new (Answered result)
+          (undone (change ∷ []) old.totals.mode (Answered result) (refusal_undone result (subst IsRefusal (sym x.2.0) (refusal_of (number_rows old.totals change) x.0 (tt, tt) x.1))))
+          mode (h.left ∙ ap (left_after old (change ∷ [])) mode ∙ kept_left (change ∷ []) old is)
+    ]
+
+files_told : (asked : FileCall) (old new : TotalsPart) (number : ℕ) (result : Answer) → old.left ≡ settled old.totals.mode old.left → TotalsDo asked old number result new → Told (changes_asked asked) old (Answered result) new
+files_told (Asks question) old new number result is h = rest_unasked old new (Answered result) h.1
+files_told (Makes change) old new number result is h = changed_told change old new number result is h
+files_told Nothing old new number result is h = absurd h
+
+-- ---- recoveries
+
+plain_numbered : (next : ℕ) (files : List PlainFile) → plain (numbered next files) ≡ files
+plain_numbered next [] = refl
+plain_numbered next (file ∷ files) = ap (λ fs. file ∷ fs) (plain_numbered (next + 1) files)
+
+found_told : (old new : TotalsPart) (response : Response) → old.totals.mode ≡ Off → Recovered old new → Told [] old response new
+found_told old new response off h =
+    let now = numbered old.totals.next h.found.files in
+    let ready : new.totals.mode ≡ Ready now h.found.sequence = ap (λ (t : Totals). t.mode) h.found.totals in
+    let same = plain_numbered old.totals.next h.found.files in
+    told_at [] old new Off (Ready now h.found.sequence) response response off ready refl
+    (record {
+      now = now;
+      sequence = h.found.sequence;
+      off = off;
+      candidate = subst (λ fs. IsOneOf old.left (Stands fs h.found.sequence)) (sym same) h.found.found;
+      ready = ready;
+      files = refl;
+      left = h.left ∙ ap (λ m. settled m old.left) ready;
+    })
+
+-- totals that are recovered are off
+recovers_off : (part : TotalsPart) (c : Control) (p : Property) (v : Value) → recovers part c p v ≡ true → part.totals.mode ≡ Off
+recovers_off part c p v e = by part.totals.mode (and_parts (asks_recovery c p v) (not (is_ready part.totals.mode)) e).1
+  where
+    by : (m : Mode) → not (is_ready m) ≡ true → m ≡ Off
+    by Off e = refl
+    by (Ready files sequence) e = absurd cc
+
+set_told : (old new : Machine) (n : ℕ) (c : Control) (p : Property) (v : Value) (result : Answer) (b : Bool) → recovers old.totals c p v ≡ b → MatchBool b (SetsByRecovery old n c p v result new) (Sets old n c p v result new) → Told [] old.totals (Answered result) new.totals
+set_told old new n c p v result false e h = rest_unasked old.totals new.totals (Answered result) (ap (λ (m : Machine). m.totals) h.1)
+set_told old new n c p v result true e (inl h) = found_told old.totals new.totals (Answered result) (recovers_off old.totals c p v e) h.1
+set_told old new n c p v result true e (inr (h, is)) = elim h [
+  | inl x ↦ rest_still old.totals new.totals (Answered result) x.2
+  | inr x ↦ rest_still old.totals new.totals (Answered result) x.2
+]
+
+-- ---- calls
+
+-- what is done at a station is no matter to the totals
+station_same : (old new : Machine) (at : Option ℕ) (Does : ℕ → Effect) → OnStation old at Does new → new.totals ≡ old.totals
+station_same old new at Does o = ap (λ (m : Machine). m.totals) o.machine
+
+category_told : (k : Category) (old new : Machine) (n : ℕ) (c : Control) (own : Call) (result : Answer) → old.totals.left ≡ settled old.totals.totals.mode old.totals.left → CategoryDoes k old n c own result new → Told (changes_asked (file_call own)) old.totals (Answered result) new.totals
+category_told category.CashDrawer old new n c call.OpenDrawer result is h = rest_unasked old.totals new.totals (Answered result) (station_same old new c.device _ h)
+category_told category.CashDrawer old new n c own result is h = absurd h.does
+category_told category.HardTotals old new n c own result is h = files_told (file_call own) old.totals new.totals n result is h.0
+
+does_told : (old new : Machine) (n : ℕ) (c : Control) (asked : Call) (result : Answer) → old.totals.left ≡ settled old.totals.totals.mode old.totals.left → Does old n c asked result new → Told (changes_asked (file_call asked)) old.totals (Answered result) new.totals
+does_told old new n c (call.Open name) result is h = rest_unasked old.totals new.totals (Answered result) (ap (λ (m : Machine). m.totals) h.1)
+does_told old new n c call.Close result is h = rest_unasked old.totals new.totals (Answered result) (ap (λ (m : Machine). m.totals) h.1)
+does_told old new n c (call.Set p v) result is h = set_told old new n c p v result (recovers old.totals c p v) refl h
+does_told old new n c (call.Get p) result is h = rest_unasked old.totals new.totals (Answered result) (ap (λ (m : Machine). m.totals) h.1)
+does_told old new n c own result is h = category_told c.category old new n c own result is h
+
+called_told : (old new : Machine) (n : ℕ) (c : Control) (asked : Call) (result : Answer) → old.totals.left ≡ settled old.totals.totals.mode old.totals.left → Called old n c asked result new → Told (changes_asked (file_call asked)) old.totals (Answered result) new.totals
+called_told old new n c asked result is h =
+    elim (match_cases (first_refusal (refusals old n c asked)) _ _ h.outcome) [
+      | inl x ↦ does_told old new n c asked result is x.1
+      | inr x ↦ rest_undone (changes_asked (file_call asked)) old.totals new.totals (Answered result)
+          (refusal_undone result (subst IsRefusal (sym x.2.0) (refusal_of (refusals old n c asked) x.0 (all_refuse old n c asked) x.1)))
+          (ap (λ (m : Machine). m.totals) x.2.1)
+    ]
+
+-- want of memory
+stays_told : (old new : Machine) (c : Control) (asked : Call) → Stays old c asked new → Told (changes_asked (file_call asked)) old.totals OutOfMemory new.totals
+stays_told old new c (call.Set p v) h = rest_still old.totals new.totals OutOfMemory h.0
+stays_told old new c asked h = rest_undone (changes_asked (file_call asked)) old.totals new.totals OutOfMemory tt (ap (λ (m : Machine). m.totals) h)
+
+-- ---- steps
+
+same_machine : (old new then : Machine) (response : Response) → new ≡ then → then.totals ≡ old.totals → Told [] old.totals response new.totals
+same_machine old new then response is same = rest_unasked old.totals new.totals response (ap (λ (m : Machine). m.totals) is ∙ same)
+
+-- Each step of the machine is what its event says.
+pub step_told : (old : Machine) (q : Request) (r : Response) (new : Machine) → old.totals.left ≡ settled old.totals.totals.mode old.totals.left → Step old q r new → Happens old.totals (event_of old q r new) new.totals
+step_told old (NewControl k) (Made number) new is h = same_machine old new _ (Made number) h.2 refl
+step_told old (NewControl k) Full new is h = same_machine old new old Full h.1 refl
+step_told old (NewControl k) OutOfMemory new is h = same_machine old new old OutOfMemory h.1 refl
+step_told old (CallOf n asked) (Answered result) new is h =
+    elim (match_cases (slice_get old.controls n) _ _ h) [
+      | inl x ↦ rest_undone (changes_asked (file_call asked)) old.totals new.totals (Answered result) (refusal_undone result (subst IsRefusal (sym x.1.0) tt)) (ap (λ (m : Machine). m.totals) x.1.1)
+      | inr x ↦ called_told old new n x.0 asked result is x.2
+    ]
+step_told old (CallOf n asked) OutOfMemory new is h =
+    elim (match_cases (slice_get old.controls n) _ _ h) [
+      | inl x ↦ absurd x.1
+      | inr x ↦ stays_told old new x.0 asked x.2.2
+    ]
+step_told old (InputTo name input) TakenIn new is h = rest_unasked old.totals new.totals TakenIn (station_same old new _ _ h)
+step_told old (InputTo name input) NoDevice new is h = same_machine old new old NoDevice h.1 refl
+step_told old (InputTo name input) WrongInput new is h = same_machine old new old WrongInput h.1 refl
+step_told old (InputTo name input) OutOfMemory new is h = same_machine old new old OutOfMemory h.1 refl
+step_told old (Deliver n reply) (Delivered event) new is h =
+    elim (match_cases (slice_get old.controls n) _ _ h) [
+      | inl x ↦ same_machine old new old (Delivered event) x.1.1 refl
+      | inr x ↦ same_machine old new _ (Delivered event) x.2.1 refl
+    ]
+step_told old (Snapshot name) (Shown plant) new is h = same_machine old new old (Shown plant) h.2 refl
+step_told old (Snapshot name) NoDevice new is h = same_machine old new old NoDevice h.1 refl
+step_told old (Snapshot name) OutOfMemory new is h = same_machine old new old OutOfMemory h.1 refl
+step_told old q r new is h = absurd h

@@ -1,0 +1,281 @@
+-- Whatever happens to the totals' files, a crash leaves a prefix of their history.
+use Rattle.std.proofs.Common.{◌≡◌, ◌∙◌, ◌⊎◌, ℕ, Bool, true, false, cond, List, [], ◌∷◌, ◌++◌, map, Option, Some, None, Result, Ok, Err, inl, inr, refl, sym, ap, subst, append_assoc}
+use Rattle.std.specs.Prelude.{bytes_eq}
+use Rattle.std.specs.Cmp.Lexicographic.{pointwise_decides}
+use Rattle.std.proofs.lemmas.Bool.{and_parts, and_from}
+use Rattle.std.proofs.lemmas.List.{append-nil}
+use Rattle.std.proofs.lemmas.Option.{same_Some}
+use Rattle.std.proofs.lemmas.Slice.Eq.{bytes_eq-Decides}
+use Rattle.pos_dir.specs.Changes.{outcome_of_all, and_then}
+use Rattle.pos_dir.specs.declared.fault.DirectoryFault.{DirectoryFault}
+use Rattle.pos_dir.specs.declared.file.File.{File as PlainFile}
+use Rattle.pos_dir.specs.declared.limits.TheConstants.{LAYOUT_1}
+use Rattle.pos_service.specs.HardTotals.{File, Mode, Off, Ready, next_sequences}
+use Rattle.pos_store.specs.Standing.{Standing, Stands, IsOneOf}
+use Rattle.pos_totals.specs.Views.{plain}
+use Rattle.pos_counter.specs.History.{Group, History, FilesEvent, GroupAccepted, GroupInDoubt, FilesFound, NothingDone, begun, listed, with_settled, without_doubt, after_groups, is_same, has_made, decided, told}
+use Rattle.pos_counter.specs.Prefixes.{BeginsWith, IsFiles, IsPrefix, LeavesPrefix, LeavesPrefixInside, StartsWith}
+use Rattle.pos_counter.specs.Totals.{TotalsPart, settled}
+
+-- ---- files
+
+one_file : (name named bytes others : List ℕ) → name ≡ named → bytes ≡ others → ◌≡◌ {A = PlainFile} (record { name = name; bytes = bytes }) (record { name = named; bytes = others })
+one_file name named bytes others n b = ap (λ x. record { name = x; bytes = bytes }) n ∙ ap (λ x. record { name = named; bytes = x }) b
+
+-- the test of two files decides
+file_decides : (file other : PlainFile) → (is_same file other ≡ true → file ≡ other) × (file ≡ other → is_same file other ≡ true)
+file_decides file other = (
+  λ same.
+      let parts = and_parts (bytes_eq file.name other.name) (bytes_eq file.bytes other.bytes) same in
+      one_file file.name other.name file.bytes other.bytes ((bytes_eq-Decides file.name other.name).0 parts.0) ((bytes_eq-Decides file.bytes other.bytes).0 parts.1),
+  λ same.
+      and_from (bytes_eq file.name other.name) (bytes_eq file.bytes other.bytes) ((bytes_eq-Decides file.name other.name).1 (ap (λ (f : PlainFile). f.name) same)) ((bytes_eq-Decides file.bytes other.bytes).1 (ap (λ (f : PlainFile). f.bytes) same)),
+)
+
+-- the test of what groups make
+these_files : (made : Result (List PlainFile) DirectoryFault) (found : List PlainFile) → has_made made found ≡ true → made ≡ Ok found
+these_files (Err fault) found is = absurd cc
+these_files (Ok files) found is = ap (λ (fs : List PlainFile). Ok fs) ((pointwise_decides file_decides files found).0 is)
+
+are_these : (made : Result (List PlainFile) DirectoryFault) (found : List PlainFile) → made ≡ Ok found → has_made made found ≡ true
+are_these made found is = ap (λ o. has_made o found) is ∙ (pointwise_decides file_decides found found).1 refl
+
+same_Ok : (files others : List PlainFile) → ◌≡◌ {A = Result (List PlainFile) DirectoryFault} (Ok files) (Ok others) → files ≡ others
+same_Ok files others same = cc
+
+-- the files after groups, and then after one more
+one_more : (start before : List PlainFile) (groups : List Group) (group : Group) → after_groups start groups ≡ Ok before → after_groups start (groups ++ group ∷ []) ≡ outcome_of_all LAYOUT_1 before group
+one_more start before [] group made = last (outcome_of_all LAYOUT_1 start group) ∙ ap (λ files. outcome_of_all LAYOUT_1 files group) (same_Ok start before made)
+  where
+    last : (o : Result (List PlainFile) DirectoryFault) → and_then o (λ next. Ok next) ≡ o
+    last (Err fault) = refl
+    last (Ok files) = refl
+one_more start before (first ∷ groups) group made = by (outcome_of_all LAYOUT_1 start first) made (λ next. one_more next before groups group)
+  where
+    by : (o : Result (List PlainFile) DirectoryFault) → and_then o (λ next. after_groups next groups) ≡ Ok before
+        → ((next : List PlainFile) → after_groups next groups ≡ Ok before → after_groups next (groups ++ group ∷ []) ≡ outcome_of_all LAYOUT_1 before group)
+        → and_then o (λ next. after_groups next (groups ++ group ∷ [])) ≡ outcome_of_all LAYOUT_1 before group
+    by (Err fault) made rest = absurd cc
+    by (Ok next) made rest = rest next made
+
+-- ---- what happens to the files
+
+-- A group was accepted.
+pub record Accepts (group : Group) (old new : TotalsPart) : Type 0 where
+  pub before : List File
+  pub sequence : ℕ
+  pub now : List File
+  pub next : ℕ
+  pub ready : old.totals.mode ≡ Ready before sequence
+  pub made : outcome_of_all LAYOUT_1 (plain before) group ≡ Ok (plain now)
+  pub still : new.totals.mode ≡ Ready now next
+  pub left : new.left ≡ Stands (plain now) next ∷ []
+
+-- The disk failed in a group.
+pub record Doubts (group : Group) (old new : TotalsPart) : Type 0 where
+  pub before : List File
+  pub sequence : ℕ
+  pub files : List PlainFile
+  pub ready : old.totals.mode ≡ Ready before sequence
+  pub made : outcome_of_all LAYOUT_1 (plain before) group ≡ Ok files
+  pub off : new.totals.mode ≡ Off
+  pub left : new.left ≡ Stands (plain before) sequence ∷ map (λ next. Stands files next) (next_sequences sequence)
+
+-- A recovery has found files.
+pub record Finds (found : List PlainFile) (old new : TotalsPart) : Type 0 where
+  pub now : List File
+  pub sequence : ℕ
+  pub off : old.totals.mode ≡ Off
+  pub candidate : IsOneOf old.left (Stands found sequence)
+  pub ready : new.totals.mode ≡ Ready now sequence
+  pub files : plain now ≡ found
+  pub left : new.left ≡ Stands found sequence ∷ []
+
+-- The files are what they were.
+pub record Rest (old new : TotalsPart) : Type 0 where
+  pub mode : new.totals.mode ≡ old.totals.mode
+  pub left : new.left ≡ old.left
+
+-- this is what happens from the old totals to the new ones
+abbrev pub Happens : TotalsPart → FilesEvent → TotalsPart → Type 0
+Happens old (GroupAccepted group) new = Accepts group old new
+Happens old (GroupInDoubt group) new = Doubts group old new
+Happens old (FilesFound found) new = Finds found old new
+Happens old NothingDone new = Rest old new
+
+-- ---- what the disk may stand for
+
+-- the files before the group in doubt, with some sequence
+abbrev pub IsWithout : List PlainFile → Standing → Type 0
+IsWithout before left = (sequence : ℕ) × (left ≡ Stands before sequence)
+
+-- The files after it.
+pub record IsWith (before : List PlainFile) (doubt : Option Group) (left : Standing) : Type 0 where
+  pub group : Group
+  pub files : List PlainFile
+  pub sequence : ℕ
+  pub doubted : doubt ≡ Some group
+  pub made : outcome_of_all LAYOUT_1 before group ≡ Ok files
+  pub stands : left ≡ Stands files sequence
+
+-- Totals that are ready have the files after the settled groups, none is in doubt, and a crash leaves them alone. While they
+-- are off, a crash leaves these files, or those after the group in doubt.
+abbrev FitsIn : History → Mode → List Standing → Type 0
+FitsIn history (Ready files sequence) left =
+    (after_groups history.start history.settled ≡ Ok (plain files)) × (history.doubt ≡ None) × (left ≡ Stands (plain files) sequence ∷ [])
+FitsIn history Off left =
+    (before : List PlainFile) × (after_groups history.start history.settled ≡ Ok before)
+    × ((standing : Standing) → IsOneOf left standing → IsWithout before standing ⊎ IsWith before history.doubt standing)
+
+abbrev pub Fits : History → TotalsPart → Type 0
+Fits history totals = FitsIn history totals.totals.mode totals.left
+
+-- by what they are
+fits_at : (history : History) (totals : TotalsPart) (mode : Mode) (left : List Standing) → totals.totals.mode ≡ mode → totals.left ≡ left → FitsIn history mode left → Fits history totals
+fits_at history totals mode left m l fits = subst (λ n. FitsIn history n totals.left) (sym m) (subst (FitsIn history mode) (sym l) fits)
+
+fits_from : (history : History) (totals : TotalsPart) (mode : Mode) → totals.totals.mode ≡ mode → Fits history totals → FitsIn history mode totals.left
+fits_from history totals mode m fits = subst (λ n. FitsIn history n totals.left) m fits
+
+-- what is left is settled
+pub fits_settled : (history : History) (totals : TotalsPart) → Fits history totals → totals.left ≡ settled totals.totals.mode totals.left
+fits_settled history totals fits = by totals.totals.mode totals.left fits
+  where
+    by : (mode : Mode) (left : List Standing) → FitsIn history mode left → left ≡ settled mode left
+    by Off left fits = refl
+    by (Ready files sequence) left fits = fits.2
+
+same_stands : (files others : List PlainFile) (m n : ℕ) → Stands files m ≡ Stands others n → files ≡ others
+same_stands files others m n same = cc
+
+-- files with one of the sequences
+with_some : (files : List PlainFile) (sequences : List ℕ) (left : Standing) → IsOneOf (map (λ n. Stands files n) sequences) left → (n : ℕ) × (left ≡ Stands files n)
+with_some files [] left is = absurd is
+with_some files (n ∷ sequences) left (inl is) = (n, is)
+with_some files (n ∷ sequences) left (inr is) = with_some files sequences left is
+
+in_doubt_fits : (before : List PlainFile) (sequence : ℕ) (group : Group) (files : List PlainFile) (left : Standing) → outcome_of_all LAYOUT_1 before group ≡ Ok files
+    → IsOneOf (Stands before sequence ∷ map (λ next. Stands files next) (next_sequences sequence)) left → IsWithout before left ⊎ IsWith before (Some group) left
+in_doubt_fits before sequence group files left made (inl is) = inl (sequence, is)
+in_doubt_fits before sequence group files left made (inr is) =
+    let found = with_some files (next_sequences sequence) left is in
+    inr (record { group = group; files = files; sequence = found.0; doubted = refl; made = made; stands = found.1 })
+
+-- a recovery decides on the group in doubt
+decided_fits : (history : History) (doubt : Option Group) (before found : List PlainFile) (now : List File) (sequence : ℕ)
+    → history.doubt ≡ doubt → after_groups history.start history.settled ≡ Ok before → plain now ≡ found
+    → IsWithout before (Stands found sequence) ⊎ IsWith before doubt (Stands found sequence)
+    → FitsIn (decided history doubt found) (Ready now sequence) (Stands found sequence ∷ [])
+decided_fits history None before found now sequence none made is (inl w) =
+    (made ∙ ap (λ (fs : List PlainFile). Ok fs) (sym (same_stands found before sequence w.0 w.1) ∙ sym is), none, ap (λ (fs : List PlainFile). Stands fs sequence ∷ []) (sym is))
+decided_fits history None before found now sequence none made is (inr w) = absurd (let no = w.doubted in cc)
+decided_fits history (Some group) before found now sequence some made is one = by (has_made (after_groups history.start (history.settled ++ group ∷ [])) found) refl
+  where
+    here : Stands found sequence ∷ [] ≡ Stands (plain now) sequence ∷ []
+    here = ap (λ (fs : List PlainFile). Stands fs sequence ∷ []) (sym is)
+
+    by : (b : Bool) → has_made (after_groups history.start (history.settled ++ group ∷ [])) found ≡ b → FitsIn (cond b (with_settled history group) (without_doubt history)) (Ready now sequence) (Stands found sequence ∷ [])
+    by true test = (these_files _ found test ∙ ap (λ (fs : List PlainFile). Ok fs) (sym is), refl, here)
+    by false test = elim one [
+      | inl w ↦ (made ∙ ap (λ (fs : List PlainFile). Ok fs) (sym (same_stands found before sequence w.0 w.1) ∙ sym is), refl, here)
+      | inr w ↦ absurd (
+          let after = one_more history.start before history.settled group made ∙ ap (outcome_of_all LAYOUT_1 before) (same_Some group w.group w.doubted) ∙ w.made
+          ∙ ap (λ (fs : List PlainFile). Ok fs) (sym (same_stands found w.files sequence w.sequence w.stands)) in
+          let yes = are_these _ found after in
+          cc)
+    ]
+
+-- ---- a crash
+
+-- where the history fits, a crash leaves a prefix of it
+pub fits_leaves : (history : History) (totals : TotalsPart) → Fits history totals → LeavesPrefix history totals
+fits_leaves history totals fits standing is = by totals.totals.mode totals.left fits is
+  where
+    all_settled : (files : List PlainFile) (sequence : ℕ) → after_groups history.start history.settled ≡ Ok files → standing ≡ Stands files sequence → IsPrefix history history.settled standing
+    all_settled files sequence made stands = record {
+      prefix = history.settled;
+      first = (listed history.doubt, refl);
+      holds = ([], sym (append-nil history.settled));
+      files = files;
+      sequence = sequence;
+      made = made;
+      stands = stands;
+    }
+
+    by : (mode : Mode) (left : List Standing) → FitsIn history mode left → IsOneOf left standing → IsPrefix history history.settled standing
+    by (Ready files sequence) left fits is = elim (subst (λ (l : List Standing). IsOneOf l standing) fits.2 is) [
+      | inl e ↦ all_settled (plain files) sequence fits.0 e
+      | inr e ↦ absurd e
+    ]
+    by Off left fits is = elim (fits.2 standing is) [
+      | inl w ↦ all_settled fits.0 w.0 fits.1 w.1
+      | inr w ↦ record {
+        prefix = history.settled ++ w.group ∷ [];
+        first = ([], ap (λ doubt. history.settled ++ listed doubt) w.doubted ∙ sym (append-nil (history.settled ++ w.group ∷ [])));
+        holds = (w.group ∷ [], refl);
+        files = w.files;
+        sequence = w.sequence;
+        made = one_more history.start fits.0 history.settled w.group fits.1 ∙ w.made;
+        stands = w.stands;
+      }
+    ]
+
+-- a prefix is files
+pub prefix_files : (history : History) (held : List Group) (left : Standing) → IsPrefix history held left → IsFiles left
+prefix_files history held left is = subst IsFiles (sym is.stands) tt
+
+-- ---- steps
+
+-- what happens keeps the history fitting
+pub fits_next : (history : History) (old : TotalsPart) (event : FilesEvent) (new : TotalsPart) → Fits history old → Happens old event new → Fits (told history event) new
+fits_next history old (GroupAccepted group) new fits h =
+    let was = fits_from history old (Ready h.before h.sequence) h.ready fits in
+    fits_at (with_settled history group) new (Ready h.now h.next) (Stands (plain h.now) h.next ∷ []) h.still h.left
+    (one_more history.start (plain h.before) history.settled group was.0 ∙ h.made, refl, refl)
+fits_next history old (GroupInDoubt group) new fits h =
+    let was = fits_from history old (Ready h.before h.sequence) h.ready fits in
+    fits_at (told history (GroupInDoubt group)) new Off (Stands (plain h.before) h.sequence ∷ map (λ next. Stands h.files next) (next_sequences h.sequence)) h.off h.left
+    (plain h.before, was.0, λ left is. in_doubt_fits (plain h.before) h.sequence group h.files left h.made is)
+fits_next history old (FilesFound found) new fits h =
+    let was = fits_from history old Off h.off fits in
+    fits_at (decided history history.doubt found) new (Ready h.now h.sequence) (Stands found h.sequence ∷ []) h.ready h.left
+    (decided_fits history history.doubt was.0 found h.now h.sequence refl was.1 h.files (was.2 (Stands found h.sequence) h.candidate))
+fits_next history old NothingDone new fits h = fits_at history new old.totals.mode old.left h.mode h.left fits
+
+-- the history at the start fits
+pub fits_begun : (start : List PlainFile) (sequence : ℕ) (totals : TotalsPart) → StartsWith start sequence totals → Fits (begun start) totals
+fits_begun start sequence totals is =
+    fits_at (begun start) totals Off (Stands start sequence ∷ []) is.off is.left (start, refl, λ left one. elim one [ inl e ↦ inl (sequence, e) | inr e ↦ absurd e ])
+
+decided_grows : (history : History) (doubt : Option Group) (found : List PlainFile) → BeginsWith (decided history doubt found).settled history.settled
+decided_grows history None found = ([], sym (append-nil history.settled))
+decided_grows history (Some group) found = by (has_made (after_groups history.start (history.settled ++ group ∷ [])) found)
+  where
+    by : (b : Bool) → BeginsWith (cond b (with_settled history group) (without_doubt history)).settled history.settled
+    by true = (group ∷ [], refl)
+    by false = ([], sym (append-nil history.settled))
+
+-- nothing alters the settled groups
+pub grows : (history : History) (event : FilesEvent) → BeginsWith (told history event).settled history.settled
+grows history (GroupAccepted group) = (group ∷ [], refl)
+grows history (GroupInDoubt group) = ([], sym (append-nil history.settled))
+grows history (FilesFound found) = decided_grows history history.doubt found
+grows history NothingDone = ([], sym (append-nil history.settled))
+
+holds_less : (held : List Group) (after : History) (left : Standing) → BeginsWith after.settled held → IsPrefix after after.settled left → IsPrefix after held left
+holds_less held after left begins is = record {
+  prefix = is.prefix;
+  first = is.first;
+  files = is.files;
+  sequence = is.sequence;
+  made = is.made;
+  stands = is.stands;
+  holds = (begins.0 ++ is.holds.0, is.holds.1 ∙ ap (λ groups. groups ++ is.holds.0) begins.1 ∙ append_assoc held begins.0 is.holds.0);
+}
+
+-- inside a step a crash leaves a prefix of the history before or after it
+pub fits_inside : (history : History) (old : TotalsPart) (event : FilesEvent) (new : TotalsPart) → Fits history old → Happens old event new → LeavesPrefixInside history old (told history event) new
+fits_inside history old event new fits h left is = elim is [
+  | inl before ↦ inl (fits_leaves history old fits left before)
+  | inr after ↦ inr (holds_less history.settled (told history event) left (grows history event) (fits_leaves (told history event) new (fits_next history old event new fits h) left after))
+]

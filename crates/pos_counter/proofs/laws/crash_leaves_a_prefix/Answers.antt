@@ -1,0 +1,21 @@
+-- A crash of a counter's disk leaves a prefix of the history.
+use Rattle.pos_counter.proofs.PrefixCounters.{has_begun, keeps_prefix, keeps_prefixes}
+use Rattle.pos_counter.proofs.Runs.{beside_is_step, runs_from}
+use Rattle.pos_counter.proofs.laws.crash_leaves_a_prefix.Goals as goal
+
+pub returns-clause-begins : goal.returns-clause-begins
+returns-clause-begins g c start sequence is = has_begun g.D.Disk _ start sequence c.args.counter.now is
+
+pub returns-clause-call : goal.returns-clause-call
+returns-clause-call g c start sequence steps old past request response step = keeps_prefix g.D.Disk _ start sequence steps old c.args.counter.now past request response step
+
+pub returns-clause-list : goal.returns-clause-list
+returns-clause-list g c start sequence steps more old past run = keeps_prefixes g.D.Disk _ start sequence steps more old c.args.counter.now past run
+
+pub returns-clause-moments : goal.returns-clause-moments
+returns-clause-moments g c left steps old leaves run =
+    runs_from g.D.Disk _ old c.args.counter.now steps left (λ disk bytes honest since. g.met.D.Disk.only_now disk bytes honest since) leaves run
+
+pub returns-clause-beside : goal.returns-clause-beside
+returns-clause-beside g c old request response step =
+    beside_is_step g.D.Disk _ old c.args.counter.now request response (λ bytes honest since. g.met.D.Disk.only_now old.totals.disk bytes honest since) step

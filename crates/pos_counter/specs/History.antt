@@ -1,0 +1,129 @@
+-- The history of the totals' files in a run: the groups of changes that were put on their disk (chapter Hard Totals).
+use Rattle.std.specs.Prelude.{Bool, false, ◌&&◌, List, [], ◌∷◌, ◌++◌, Option, Some, None, Result, Ok, Err, bytes_eq, if◌then◌else◌}
+use Rattle.std.specs.Cmp.Lexicographic.{pointwise}
+use Rattle.pos_dir.specs.Changes.{outcome_of_all, and_then}
+use Rattle.pos_dir.specs.declared.change.Change.{Change as FileChange}
+use Rattle.pos_dir.specs.declared.fault.DirectoryFault.{DirectoryFault}
+use Rattle.pos_dir.specs.declared.file.File.{File as PlainFile}
+use Rattle.pos_dir.specs.declared.limits.TheConstants.{LAYOUT_1}
+use Rattle.pos_service.specs.declared.answer.Answer.TheVariants as answer
+use Rattle.pos_service.specs.HardTotals.{Change, Mode, Off, Ready}
+use Rattle.pos_service.specs.TotalsCalls.{FileCall, Makes, file_call}
+use Rattle.pos_totals.specs.Groups.{group_of}
+use Rattle.pos_totals.specs.Views.{plain}
+use Rattle.pos_counter.specs.Machine.{Machine}
+use Rattle.pos_counter.specs.Steps.{Request, CallOf, Response, Answered, Run}
+
+-- changes that are done together, as they were put on the disk
+abbrev pub Group : Type 0
+Group = List FileChange
+
+-- The files for which the disk stood at the start; the groups that are settled, in order, each acknowledged to its
+-- caller or kept by a recovery; and the group in doubt, if there is one: the disk failed in it, and no recovery has
+-- found files since.
+pub record History : Type 0 where
+  pub start : List PlainFile
+  pub settled : List Group
+  pub doubt : Option Group
+
+-- the history at the start
+abbrev pub begun : List PlainFile → History
+begun files = record { start = files; settled = []; doubt = None }
+
+-- no group, or one
+abbrev pub listed : Option Group → List Group
+listed None = []
+listed (Some group) = group ∷ []
+
+-- all groups of a history, in order
+abbrev pub groups_in : History → List Group
+groups_in history = history.settled ++ listed history.doubt
+
+-- a history goes on: by one more settled group; by a group in doubt; without the group in doubt
+abbrev pub with_settled : History → Group → History
+with_settled history group = record { start = history.start; settled = history.settled ++ group ∷ []; doubt = None }
+
+abbrev pub with_doubt : History → Group → History
+with_doubt history group = record { start = history.start; settled = history.settled; doubt = Some group }
+
+abbrev pub without_doubt : History → History
+without_doubt history = record { start = history.start; settled = history.settled; doubt = None }
+
+-- the files after all groups in order, each whole, or the fault of the first change that isn't applicable
+abbrev pub after_groups : List PlainFile → List Group → Result (List PlainFile) DirectoryFault
+after_groups files [] = Ok files
+after_groups files (group ∷ groups) =
+    and_then (outcome_of_all LAYOUT_1 files group) (λ next. after_groups next groups)
+
+-- the same name and the same bytes
+abbrev pub is_same : PlainFile → PlainFile → Bool
+is_same file other = bytes_eq file.name other.name && bytes_eq file.bytes other.bytes
+
+-- these files were made, in this order
+abbrev pub has_made : Result (List PlainFile) DirectoryFault → List PlainFile → Bool
+has_made (Ok files) found = pointwise is_same files found
+has_made (Err fault) found = false
+
+-- a recovery keeps a group in doubt where the files that it finds are those after the group, and else drops it
+abbrev pub decided : History → Option Group → List PlainFile → History
+decided history None found = history
+decided history (Some group) found =
+    if has_made (after_groups history.start (history.settled ++ group ∷ [])) found
+    then with_settled history group else without_doubt history
+
+-- what a step does to the files: a group is done and acknowledged, the disk fails in a group, a recovery finds files,
+-- or none of these
+pub data FilesEvent : Type 0 where
+  GroupAccepted : Group → FilesEvent
+  GroupInDoubt : Group → FilesEvent
+  FilesFound : List PlainFile → FilesEvent
+  NothingDone : FilesEvent
+
+-- the history after that
+abbrev pub told : History → FilesEvent → History
+told history (GroupAccepted group) = with_settled history group
+told history (GroupInDoubt group) = with_doubt history group
+told history (FilesFound found) = decided history history.doubt found
+told history NothingDone = history
+
+-- the changes that a call asks for
+abbrev pub changes_asked : FileCall → List Change
+changes_asked (Makes change) = change ∷ []
+changes_asked other = []
+
+-- the changes that a request asks of a machine to be done together
+abbrev pub changes_of : Machine → Request → List Change
+changes_of machine (CallOf number asked) = changes_asked (file_call asked)
+changes_of machine other = []
+
+-- What changes, a response and the modes before and after say: changes that are answered with success are a group that
+-- is accepted; changes in which the totals turn off are one in which the disk fails; totals that turn ready find their
+-- files.
+abbrev pub event_between : List Change → Mode → Response → Mode → FilesEvent
+event_between (change ∷ changes) (Ready files sequence) (Answered (answer.Done given)) (Ready now next) =
+    GroupAccepted (group_of files (change ∷ changes))
+event_between (change ∷ changes) (Ready files sequence) response Off =
+    GroupInDoubt (group_of files (change ∷ changes))
+event_between changes Off response (Ready now sequence) = FilesFound (plain now)
+event_between changes old response new = NothingDone
+
+-- what a step does to the files
+abbrev pub event_of : Machine → Request → Response → Machine → FilesEvent
+event_of old request response new =
+    event_between (changes_of old request) old.totals.totals.mode response new.totals.totals.mode
+
+-- a history with one more step
+abbrev pub history_with : History → Machine → Request → Response → Machine → History
+history_with history old request response new = told history (event_of old request response new)
+
+-- a history with all steps of a run
+abbrev pub history_along : History → (old : Machine) (steps : List (Request × Response)) (new : Machine)
+    → Run old steps new → History
+history_along history old [] new run = history
+history_along history old (step ∷ steps) new run =
+    history_along (history_with history old step.0 step.1 run.0) run.0 steps new run.2
+
+-- the history of a run of a machine whose disk stood for these files at its start
+abbrev pub history_of : List PlainFile → (old : Machine) (steps : List (Request × Response)) (new : Machine)
+    → Run old steps new → History
+history_of start old steps new run = history_along (begun start) old steps new run

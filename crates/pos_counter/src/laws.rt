@@ -1,0 +1,97 @@
+//! Laws over the device machine, and what they say of a counter.
+ghost use Rattle.std.specs.Prelude.{◌≡◌, ◌⊎◌, List, [], ◌∷◌, Some, None, ℕ};
+ghost use Rattle.pos_dir.specs.declared.file.File.{File};
+ghost use Rattle.pos_disk.specs.State.{Rises};
+ghost use Rattle.pos_service.specs.declared.answer.Answer.{Answer};
+ghost use Rattle.pos_service.specs.declared.answer.Answer.TheVariants.{Refused};
+ghost use Rattle.pos_service.specs.declared.code.Code.TheVariants.{Failure};
+ghost use Rattle.pos_store.specs.Standing.{Standing, IsOneOf};
+ghost use Rattle.pos_totals.specs.Recoveries.{HasTooMany};
+ghost use Rattle.pos_counter.specs.Counters.{IsLeftDuring, IsRun, IsStep, IsStepBeside, RunsFrom};
+ghost use Rattle.pos_counter.specs.Crashes.{BeginsOver, HasBegun, HasRun, KeepsPrefix, KeepsPrefixes};
+ghost use Rattle.pos_counter.specs.Examples.{MayHave, new_machine, steps_into_doubt, steps_through_doubt, a_group};
+ghost use Rattle.pos_counter.specs.History.{History, FilesEvent, begun, told, history_of, history_with};
+ghost use Rattle.pos_counter.specs.Machine.{Machine};
+ghost use Rattle.pos_counter.specs.Parts.{Leaves};
+ghost use Rattle.pos_counter.specs.Prefixes.{BeginsWith, IsFiles, IsPrefixAlong, StandsForSome, StartsWith};
+ghost use Rattle.pos_counter.specs.Prefixes.{LeavesPrefix, LeavesPrefixInside};
+ghost use Rattle.pos_counter.specs.Steps.{Request, Response, Step, Run};
+ghost use Rattle.pos_counter.specs.Totals.{Recovers, TotalsPart};
+
+use crate::counter::Counter;
+use pos_disk::Disk;
+use pos_service::{HasState, PeripheralBox};
+
+/// Whatever a machine runs through, from totals whose disk stands for some files: a crash leaves the files after a
+/// prefix of the history, each group whole or absent, which holds each group that was settled before.
+pub fn crash_prefix()
+    // after a run
+    ensures after { (start : List File) (sequence : ℕ) (first last : Machine) (steps : List (Request × Response))
+        (run : Run first steps last) → StartsWith start sequence first.totals
+        → LeavesPrefix (history_of start first steps last run) last.totals }
+    // inside a step after one
+    ensures inside { (start : List File) (sequence : ℕ) (first old : Machine) (steps : List (Request × Response))
+        (run : Run first steps old) (request : Request) (response : Response) (new : Machine)
+        → Step old request response new → StartsWith start sequence first.totals
+        → LeavesPrefixInside (history_of start first steps old run) old.totals
+        (history_with (history_of start first steps old run) old request response new) new.totals }
+    // at each moment of one
+    ensures along { (start : List File) (sequence : ℕ) (first last : Machine) (steps : List (Request × Response))
+        (run : Run first steps last) → StartsWith start sequence first.totals
+        → (bytes : List ℕ) → IsLeftDuring first steps last run bytes
+        → StandsForSome (IsPrefixAlong (begun start) first steps last run) bytes }
+    // and never damage, nor a disk without totals
+    ensures files { (start : List File) (sequence : ℕ) (first last : Machine) (steps : List (Request × Response))
+        → Run first steps last → StartsWith start sequence first.totals
+        → (left : Standing) → IsOneOf last.totals.left left → IsFiles left }
+    // so a recovery that recovers nothing has met a fault of the disk, or more files than handles are left
+    ensures recovers { (start : List File) (sequence : ℕ) (first last : Machine) (steps : List (Request × Response))
+        → Run first steps last → StartsWith start sequence first.totals
+        → (result : Answer) (new : TotalsPart) → Recovers last.totals result new
+        → (result ≡ Refused Failure 0)
+        × (HasTooMany (IsOneOf last.totals.left) last.totals.totals.next ⊎ Rises last.totals.failures new.failures) }
+    // no step alters the settled groups
+    ensures settled { (history : History) (event : FilesEvent)
+        → BeginsWith (told history event).settled history.settled }
+{}
+
+/// For a counter that began over an honest disk at rest that stands for some files: a crash at any moment of a call
+/// leaves bytes that stand for the files after a prefix of the history before or after the call, each group whole or
+/// absent, which holds each group that was settled before the call; and likewise of a list of requests and its steps.
+pub fn crash_leaves_a_prefix<D: Disk>(counter: &Counter<D>)
+    // a counter that begins has run through nothing
+    ensures begins { (start : List File) (sequence : ℕ)
+        → BeginsOver D.Disk ⟦<PeripheralBox as HasState>⟧ start sequence counter.now
+        → HasBegun D.Disk ⟦<PeripheralBox as HasState>⟧ start sequence counter.now }
+    // a call, after others
+    ensures call { (start : List File) (sequence : ℕ) (steps : List (Request × Response)) (old : _)
+        (past : HasRun D.Disk ⟦<PeripheralBox as HasState>⟧ start sequence steps old)
+        (request : Request) (response : Response)
+        → IsStep D.Disk ⟦<PeripheralBox as HasState>⟧ old request response counter.now
+        → KeepsPrefix D.Disk ⟦<PeripheralBox as HasState>⟧ start sequence steps old past
+        request response counter.now }
+    // a list of requests
+    ensures list { (start : List File) (sequence : ℕ) (steps more : List (Request × Response)) (old : _)
+        (past : HasRun D.Disk ⟦<PeripheralBox as HasState>⟧ start sequence steps old)
+        (run : IsRun D.Disk ⟦<PeripheralBox as HasState>⟧ old more counter.now)
+        → KeepsPrefixes D.Disk ⟦<PeripheralBox as HasState>⟧ start sequence steps old past more counter.now run }
+    // each moment of a list lies in one of its requests
+    ensures moments { (left : List Standing) (steps : List (Request × Response)) (old : _)
+        → Leaves D.Disk old.totals left
+        → IsRun D.Disk ⟦<PeripheralBox as HasState>⟧ old steps counter.now
+        → RunsFrom D.Disk ⟦<PeripheralBox as HasState>⟧ left old steps counter.now }
+    // a call in which the totals have no part is one for all that the disk may leave
+    ensures beside { (old : _) (request : Request) (response : Response)
+        → IsStepBeside ⟦<PeripheralBox as HasState>⟧ old request response counter.now
+        → IsStep D.Disk ⟦<PeripheralBox as HasState>⟧ old request response counter.now }
+{}
+
+/// An example. The disk fails in a group; the next recovery keeps it or drops it, by the files that it finds, and it is
+/// in doubt until then.
+pub fn one_group_in_doubt()
+    ensures doubt { MayHave new_machine [] steps_into_doubt
+        (record { start = []; settled = []; doubt = Some a_group }) }
+    ensures kept { MayHave new_machine [] steps_through_doubt
+        (record { start = []; settled = a_group ∷ []; doubt = None }) }
+    ensures dropped { MayHave new_machine [] steps_through_doubt (begun []) }
+{}
