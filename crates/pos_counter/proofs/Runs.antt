@@ -54,7 +54,7 @@ module _ {D X : Type 0} {O : X → Type 0} (bound : DiskGhosts D) (boxes : Ghost
   beside_is_step old new q r only beside = record {
     steps = λ left leaves. subst (λ (v : TotalsView D). Stepped bound left (machine_of_counter boxes old) old.totals q r (machine_of_counter boxes new) v) (sym beside.totals)
         (rests_stepped bound old.totals (machine_of_counter boxes old) (machine_of_counter boxes new) q r left only leaves (beside.step (part_of bound old.totals left)));
-    alone = λ spares. beside.totals;
+    alone = λ spares. ap (λ (v : TotalsView D). v.disk) beside.totals;
     kept = subst (λ (v : TotalsView D). KeepsDisk bound old.totals.disk v.disk) (sym beside.totals) (kept_disk bound old.totals.disk);
   }
 

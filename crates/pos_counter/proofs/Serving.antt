@@ -42,10 +42,14 @@ station_sound state hs gs es ps place p shared q r sound unparked step = record 
 }
 
 -- where a peripheral that stays in service has changed too
-pub station_serves : {P : Type 0} (state : P → PeripheralState) (hs gs : List Held) (es : List Entry) (ps : List P) (place : ℕ) (p : P) (shared : Shared) (q : Request) (r : Response) → ArePartsSound hs es (map state ps) → (state p).is_parked ≡ false → ((shared : Shared) → Step (machine_of hs es (map state ps) shared) q r (machine_of gs es (map state (set ps place p)) shared)) → ServesBeside hs es (map state ps) q r gs (map state (set ps place p))
-station_serves state hs gs es ps place p shared q r sound unparked step = record {
+pub station_serves : {P : Type 0} (state : P → PeripheralState) (hs gs : List Held) (es : List Entry) (ps : List P) (place : ℕ) (p : P) (q : Request) (r : Response) → ArePartsSound hs es (map state ps) → (state p).is_parked ≡ false → ((shared : Shared) → Step (machine_of hs es (map state ps) shared) q r (machine_of gs es (map state (set ps place p)) shared)) → ServesBeside hs es (map state ps) q r gs (map state (set ps place p))
+station_serves state hs gs es ps place p q r sound unparked step = record {
   step = step;
-  sound = station_sound state hs gs es ps place p shared q r sound unparked (step shared);
+  sound = record {
+    machine = λ shared. (station_sound state hs gs es ps place p shared q r sound unparked (step shared)).machine shared;
+    unparked = unparked_set state ps place p unparked sound.unparked;
+    attached = omega (arith, length-map (set ps place p) state, length-set ps place p, length-map ps state, sound.attached);
+  };
 }
 
 -- a disk that isn't touched is as it was

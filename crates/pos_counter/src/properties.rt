@@ -1,5 +1,5 @@
 //! The properties of a control, by what is known of its device (common chapter, and those of the categories).
-ghost use Rattle.std.specs.Prelude.{◌≡◌, ◌<◌, ◌≤◌, ◌&&◌, ℕ, List, Option, length, map, not};
+ghost use Rattle.std.specs.Prelude.{◌≡◌, ◌<◌, ◌≤◌, ◌&&◌, [], ℕ, List, Option, length, map, not};
 ghost use Rattle.pos_service.specs.declared.call.Call.TheVariants as call;
 ghost use Rattle.pos_service.specs.Peripherals.{PeripheralState};
 ghost use Rattle.pos_store.specs.Standing.{Standing};
@@ -7,7 +7,7 @@ ghost use Rattle.pos_counter.specs.declared.entry.Entry.{Entry as OneEntry};
 ghost use Rattle.pos_counter.specs.Parts.{ArePartsSound, Serves, machine_with, part_of};
 ghost use Rattle.pos_counter.specs.Machine.{holder_in};
 ghost use Rattle.pos_counter.specs.Responses.{answered};
-ghost use Rattle.pos_counter.specs.Steps.{Step, CallOf, Answered};
+ghost use Rattle.pos_counter.specs.Steps.{Step, CallOf, Answered, facts_of};
 ghost use Rattle.pos_counter.specs.Parts.{IsRecovering};
 ghost use Rattle.pos_counter.specs.Totals.{asks_recovery, file_facts};
 
@@ -36,14 +36,32 @@ pub(crate) fn get<P: HasState, D: Disk>(
         Step machine (CallOf number (call.Get property)) (Answered result) machine }
 {
     let control = &controls[number];
-    let facts = Facts {
+    let facts = find_facts(control, claims, entries, peripherals, totals, number);
+    control.get(property, &facts)
+}
+
+/// What is known of the control with a number and of its device.
+fn find_facts<P: HasState, D: Disk>(
+    control: &Control,
+    claims: &Claims,
+    entries: &[Entry],
+    peripherals: &[P],
+    totals: &Totals<D>,
+    number: usize,
+) -> Facts
+    requires attached { length (map P.state peripherals.now) ≤ length entries.now }
+    ensures { (left : List Standing) →
+        let states = map P.state peripherals.now in
+        let machine = machine_with [] claims.now entries.now states (part_of D.Disk totals.now left) in
+        result ≡ facts_of machine number control.now.control }
+{
+    Facts {
         is_claimed: find_holder(control, claims) == Some(number),
         in_transaction: false,
         signs: signs_at(peripherals, control.device()),
         totals_size: totals.size(),
         files: find_file_facts(totals),
-    };
-    control.get(property, &facts)
+    }
 }
 
 /// The control that holds a control's device.

@@ -1,4 +1,7 @@
-use Rattle.std.proofs.Common.{map, subst, sym}
+use mir.Syntax.{w128}
+use mir.Val.{SFits}
+use Rattle.std.proofs.Common.{map, rules, subst, sym}
+use Rattle.std.proofs.lemmas.Int.{to_z-of_z}
 use Rattle.pos_service.specs.declared.call.Call.TheVariants as call
 use Rattle.pos_service.specs.declared.peripheral_box.HasState.{Ghosts}
 use Rattle.std.specs.Prelude.{[]}
@@ -38,7 +41,9 @@ returns-in-Claim g c =
     let cl = c.args.claims.now in
     let es = c.args.entries.now in
     let ss = map boxes.state c.args.boxes.now in
-    subst (λ q. Serves g.D.Disk c.args.controls.now cl es ss c.args.totals.now (CallOf c.args.number q) (Answered c.claim.result) c.args.controls.now c.claim.new.claims ss c.claim.new.totals) (sym c.in-Claim.is) (c.claim.ensures es ss c.requires.sound)
+    let fits : SFits w128 c.in-Claim.timeout = search rules in
+    let claims = (simp to_z-of_z at c.claim.ensures) in
+    subst (λ q. Serves g.D.Disk c.args.controls.now cl es ss c.args.totals.now (CallOf c.args.number q) (Answered c.claim.result) c.args.controls.now c.claim.new.claims ss c.claim.new.totals) (sym c.in-Claim.is) (claims es ss c.requires.sound)
 
 pub returns-in-Release : goal.returns-in-Release
 returns-in-Release g c =
