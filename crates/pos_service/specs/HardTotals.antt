@@ -181,10 +181,10 @@ cost_of_all changes = sum_by cost_of changes
 abbrev pub spent_by : Totals → ℕ → Option ℕ
 spent_by totals control = option_map cost_of_all (transaction_of totals control)
 
--- a change costs more than is left to the transaction of the control that asks for it; outside one it costs nothing
-abbrev pub is_too_costly : TotalsLimits → Option ℕ → Change → Bool
-is_too_costly limits None change = false
-is_too_costly limits (Some spent) change = not (nat_le (spent + cost_of change) limits.cost)
+-- a cost is more than is left to the transaction in which so much is spent; outside one there is no limit
+abbrev pub is_over : TotalsLimits → Option ℕ → ℕ → Bool
+is_over limits None cost = false
+is_over limits (Some spent) cost = not (nat_le (spent + cost) limits.cost)
 
 -- there is room for one more file, of this size
 abbrev pub has_room : TotalsLimits → List File → ℤ → Bool
@@ -229,12 +229,12 @@ change_rows limits files control spent (Rename handle name) =
 change_rows limits files control spent (Write handle offset bytes) =
     when (not (is_range_of (find (is_called handle) files) offset (pos (length bytes)))) code.Illegal
     ∷ when (is_foreign_file control (find (is_called handle) files)) code.Claimed
-    ∷ when_no_room (is_too_costly limits spent (Write handle offset bytes))
+    ∷ when_no_room (is_over limits spent (cost_of (Write handle offset bytes)))
     ∷ []
 change_rows limits files control spent (SetAll handle n) =
     when (not (has_file (is_called handle) files && is_up_to 255 n)) code.Illegal
     ∷ when (is_foreign_file control (find (is_called handle) files)) code.Claimed
-    ∷ when_no_room (is_too_costly limits spent (SetAll handle n))
+    ∷ when_no_room (is_over limits spent (cost_of (SetAll handle n)))
     ∷ []
 
 -- the same by the totals and the number of the control that calls

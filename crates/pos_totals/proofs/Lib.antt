@@ -1,9 +1,11 @@
-pub mod Causes
+mod Buffered
 mod Changed
+mod Ended
 mod Found
 mod Grouped
 mod Handled
 mod Numbered
+mod Outlined
 mod Pairs
 mod Places
-mod Recovered
+mod Putting

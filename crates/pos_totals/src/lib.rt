@@ -4,14 +4,17 @@
 mod asking;
 mod changing;
 mod checking;
+mod claims;
 mod fault;
 mod files;
 mod handles;
 pub mod laws;
+mod ledger;
 mod numbers;
 mod recovering;
 mod request;
 mod totals;
+mod transactions;
 
 pub use fault::RecoveryFault;
 pub use totals::Totals;

@@ -1,12 +1,14 @@
-ghost use Rattle.std.specs.Prelude.{◌≡◌, length};
+ghost use Rattle.std.specs.Prelude.{◌≡◌, [], length, None};
 
 use crate::asking::{find, find_by_index, read};
 use crate::changing::change;
 use crate::fault::RecoveryFault;
 use crate::files::{TOTALS_SIZE, count_files, measure_free, see_files};
 use crate::handles::Handles;
+use crate::ledger::Ledger;
 use crate::recovering::recover;
 use crate::request::Request;
+use crate::transactions::Transactions;
 use pos_disk::Disk;
 use pos_service::{Answer, NoMemory};
 use pos_store::{Mode, Store};
@@ -25,17 +27,17 @@ use std::marker::Model;
 pub struct Totals<D: Disk> {
     alloc: Global,
     pub(crate) store: Store<D>,
-    pub(crate) handles: Handles,
+    pub(crate) ledger: Ledger,
 }
 
 impl<D: Disk> Model for Totals<D> {
-    ghost use Rattle.pos_totals.specs.Views.{TotalsView, view_with, HasTable};
+    ghost use Rattle.pos_totals.specs.Views.{TotalsView, view_of, IsSound};
 
     ghost Value = { TotalsView D };
 
-    ghost view = { λ t. view_with t.store t.handles };
+    ghost view = { λ t. view_of t.store t.ledger };
 
-    ghost invariant = { λ t. HasTable t.store.state t.handles };
+    ghost invariant = { λ t. IsSound t.store.state t.ledger };
 }
 
 impl<D: Disk> Totals<D> {
@@ -49,12 +51,17 @@ impl<D: Disk> Totals<D> {
     /// Totals that are off, over a disk. Nothing is read yet. The first file gets the first handle;
     /// 18,446,744,073,709,551,615 there means that no handle is left.
     pub fn new(alloc: Global, disk: D, first_handle: u64) -> Totals<D>
-        ensures { result ≡ record { disk = disk; totals = record { mode = Off; next = first_handle } } }
+        ensures { result ≡ record { disk = disk; totals = record {
+            mode = Off; next = first_handle; area = None; transactions = [] } } }
     {
         Totals {
             alloc,
             store: Store::new(alloc, disk),
-            handles: Handles::new(first_handle),
+            ledger: Ledger {
+                handles: Handles::new(first_handle),
+                area: None,
+                transactions: Transactions::new(alloc),
+            },
         }
     }
 
@@ -69,7 +76,7 @@ impl<D: Disk> Totals<D> {
     pub fn recover(&mut self) -> Result<(), RecoveryFault>
         ensures { Recovers D.Disk self.old result self.new }
     {
-        recover(self.alloc, &mut self.store, &mut self.handles)
+        recover(self.alloc, &mut self.store, &mut self.ledger)
     }
 
     /// `create`: adds a file of zero bytes behind the others, and gives its handle. Error detection changes nothing.
@@ -148,7 +155,7 @@ impl<D: Disk> Totals<D> {
         change(
             self.alloc,
             &mut self.store,
-            &mut self.handles,
+            &mut self.ledger,
             control,
             request,
         )
@@ -160,7 +167,7 @@ impl<D: Disk> Totals<D> {
     pub fn find(&self, control: usize, name: &[u8]) -> Answer
         ensures { Tells self.now.totals control (Find name.now) result }
     {
-        find(&self.store, &self.handles, control, name)
+        find(&self.store, &self.ledger, control, name)
     }
 
     /// `findByIndex`: the name of the file at an index, counted from 0 in the order of creation.
@@ -169,7 +176,7 @@ impl<D: Disk> Totals<D> {
     pub fn find_by_index(&self, control: usize, index: i128) -> Result<Answer, NoMemory>
         ensures { MayTell self.now.totals control (FindByIndex index) result }
     {
-        find_by_index(self.alloc, &self.store, &self.handles, control, index)
+        find_by_index(self.alloc, &self.store, &self.ledger, control, index)
     }
 
     /// `read`: so many bytes of a file from an offset on.
@@ -187,7 +194,7 @@ impl<D: Disk> Totals<D> {
         read(
             self.alloc,
             &self.store,
-            &self.handles,
+            &self.ledger,
             control,
             handle,
             offset,
@@ -214,7 +221,7 @@ impl<D: Disk> Totals<D> {
         requires { IsReady self.now.totals.mode }
         ensures { result ≡ free_data layout_1 (files_of self.now.totals.mode) }
     {
-        match see_files(&self.store, &self.handles) {
+        match see_files(&self.store, &self.ledger) {
             Some(files) => measure_free(files),
             None => unreachable!(),
         }
@@ -225,7 +232,7 @@ impl<D: Disk> Totals<D> {
         requires { IsReady self.now.totals.mode }
         ensures { result ≡ length (files_of self.now.totals.mode) }
     {
-        match see_files(&self.store, &self.handles) {
+        match see_files(&self.store, &self.ledger) {
             Some(files) => count_files(files),
             None => unreachable!(),
         }
