@@ -36,7 +36,7 @@ use Rattle.pos_totals.specs.Checks.{ChecksAt, PassesIn, Passes, file_change_of, 
 use Rattle.pos_totals.specs.Groups.{file_change, group_of}
 use Rattle.pos_totals.specs.Numbering.{lacks, HasPlace, given_after, following, value_after}
 use Rattle.pos_totals.specs.Tables.{HandleTable}
-use Rattle.pos_totals.specs.Views.{TotalsView, plain, tag_of, tags_of, handles_of, numbers_of, mode_of, totals_of, view_of, with_tags, AreDistinct, AreHandles, HasHandles, HasDirectory, IsSound}
+use Rattle.pos_totals.specs.Views.{TotalsView, plain, tag_of, tags_of, handles_of, numbers_of, mode_of, totals_of, view_of, with_tags, AreDistinct, AreHandles, HasHandles, HasDirectory, HasItsFiles, IsSound}
 use Rattle.pos_totals.specs.declared.handles.Tag.{Tag}
 use Rattle.pos_totals.specs.declared.ledger.Ledger.{Ledger}
 use Rattle.pos_totals.specs.declared.request.Checked.{Checked}
@@ -480,3 +480,16 @@ module _ {D : Type 0} (bound : Ghosts D) (disk : D) (only : bound.honest disk �
   store_refused (StoreReady files sequence) new cause directory sound leaves checks free left commits =
       failed bound disk only files sequence ledger control change made checks free directory sound leaves new cause (lacks_so (with_tags ledger.handles.given files) change ledger.handles.next made false checks.1.made left)
       (subst (λ (file : FileChange). Commits bound (record { disk = disk; state = StoreReady files sequence }) (file ∷ []) (Err cause) new) (sym checks.1.made) commits)
+
+-- the files of a store that is ready have handles of their own, and what is buffered fits them
+pub theirs : (state : State) (ledger : Ledger) → HasDirectory state → IsSound state ledger → HasItsFiles (totals_of state ledger)
+theirs StoreOff ledger directory sound = record { files = tt; buffers = sound.buffers }
+theirs (StoreReady files sequence) ledger directory sound =
+    let both = sound_files ledger.handles.given files ledger.handles.next directory sound.handles in record {
+      files = record {
+        distinct = both.1;
+        below = subst (AllByRecursion (λ handle. handle < ledger.handles.next)) (sym (numbers_in ledger.handles.given files sound.handles.count)) sound.handles.below;
+        directory = both.0;
+      };
+      buffers = sound.buffers;
+    }

@@ -9,3 +9,4 @@ mod Outlined
 mod Pairs
 mod Places
 mod Putting
+mod Recovered

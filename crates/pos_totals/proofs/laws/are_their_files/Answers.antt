@@ -1,0 +1,10 @@
+use Rattle.std.proofs.Common.{subst}
+use Rattle.pos_totals.proofs.Changed.{theirs}
+use Rattle.pos_totals.specs.Views.{TotalsView, HasItsFiles}
+use Rattle.pos_totals.proofs.laws.are_their_files.Goals as goal
+
+pub returns : goal.returns
+returns g c =
+    let inside = c.totals.inside in
+    subst (λ (v : TotalsView g.row.D.Denot). HasItsFiles v.totals) c.totals.view_is
+    (theirs inside.store.state inside.ledger c.see_files.ensures.directory c.totals.invariant)
