@@ -472,21 +472,22 @@ abbrev pub may_begin : Option (Option (List Change)) → Bool
 may_begin None = false
 may_begin (Some transaction) = is_none transaction
 
--- The refusals of each arrangement, in their order.
-abbrev pub arrangement_rows : Totals → List File → ℕ → Arrangement → List Row
-arrangement_rows totals files control (ClaimFile handle timeout) =
+-- The refusals of each arrangement, in their order: by the claim of the area, the control's place for a transaction, and
+-- the files.
+abbrev pub arrangement_rows : Option ℕ → Option (Option (List Change)) → List File → ℕ → Arrangement → List Row
+arrangement_rows area place files control (ClaimFile handle timeout) =
     when (not (has_file (is_called handle) files && is_timeout timeout)) code.Illegal
-    ∷ when (is_foreign control totals.area || is_foreign_file control (find (is_called handle) files)) code.Timeout
+    ∷ when (is_foreign control area || is_foreign_file control (find (is_called handle) files)) code.Timeout
     ∷ []
-arrangement_rows totals files control (ReleaseFile handle) =
+arrangement_rows area place files control (ReleaseFile handle) =
     when (not (is_own_file control (find (is_called handle) files))) code.Illegal ∷ []
-arrangement_rows totals files control BeginTrans =
-    when (not (may_begin (slice_get totals.transactions control))) code.Illegal ∷ []
-arrangement_rows totals files control Rollback = when (not (in_transaction totals control)) code.Illegal ∷ []
+arrangement_rows area place files control BeginTrans = when (not (may_begin place)) code.Illegal ∷ []
+arrangement_rows area place files control Rollback = when (is_none (option_flatten place)) code.Illegal ∷ []
 
 abbrev pub refusals_of_arrangement : Totals → ℕ → Arrangement → List Row
 refusals_of_arrangement totals control arrangement =
-    while_ready totals.mode (λ files. arrangement_rows totals files control arrangement)
+    let place = slice_get totals.transactions control in
+    while_ready totals.mode (λ files. arrangement_rows totals.area place files control arrangement)
 
 -- the mode with other files, where there are files
 abbrev pub with_files : (List File → List File) → Mode → Mode
@@ -538,11 +539,15 @@ ReleasesArea old control (Err refusal) new =
 abbrev pub is_own_claim : ℕ → File → Bool
 is_own_claim control file = is_own control file.claim
 
+-- the claim of the area without that of the control
+abbrev pub foreign_area : ℕ → Option ℕ → Option ℕ
+foreign_area control area = if is_own control area then None else area
+
 -- the totals after a control was closed: what it has claimed is free again, and its transaction is dropped
 abbrev pub without_control : Totals → ℕ → Totals
 without_control totals control =
     let mode = with_files (with_each (is_own_claim control) (claimed None)) totals.mode in
-    let area = if is_own control totals.area then None else totals.area in
+    let area = foreign_area control totals.area in
     record totals { mode = mode; area = area; transactions = slice_set totals.transactions control None }
 
 -- the totals with a place for one more control's transaction

@@ -1,5 +1,5 @@
 -- Changes that are buffered: they stay so whatever changes the files, and all of them make one group.
-use Rattle.std.proofs.Common.{◌≡◌, ◌∙◌, ℕ, ◌+◌, ◌≤◌, ◌<◌, ℤ, pos, negsuc, nat_abs, Bool, true, false, not, ◌||◌, cond, List, [], ◌∷◌, ◌++◌, length, map, replicate, Option, Some, None, Result, Ok, IfSome, refl, sym, ap, subst, arith}
+use Rattle.std.proofs.Common.{◌≡◌, ◌∙◌, ℕ, zero, suc, ◌+◌, ◌≤◌, ◌<◌, ℤ, pos, negsuc, nat_abs, Bool, true, false, not, ◌||◌, cond, List, [], ◌∷◌, ◌++◌, length, map, replicate, Option, Some, None, Result, Ok, IfSome, refl, sym, ap, subst, arith}
 use Rattle.std.specs.Prelude.{is_none, is_some, nat_eq, slice_set}
 use Rattle.std.specs.List.{find, list_any, AllByRecursion}
 use Rattle.std.proofs.lemmas.Bool.{eqb-true}
@@ -152,14 +152,14 @@ makes_all files next (SetAll handle n ∷ changes) distinct all there =
 -- the transaction of a control may be held
 pub held_at : (mode : Mode) (next : ℕ) (transactions : List (Option (List Change))) (control : ℕ) (buffer : List Change) → HaveBuffers mode next transactions → transaction_at transactions control ≡ Some buffer → MayHold mode next (Some buffer)
 held_at mode next [] control buffer all is = absurd cc
-held_at mode next (first ∷ others) Rattle.std.proofs.Common.zero buffer all is = subst (MayHold mode next) is all.0
-held_at mode next (first ∷ others) (Rattle.std.proofs.Common.suc control) buffer all is = held_at mode next others control buffer all.1 is
+held_at mode next (first ∷ others) zero buffer all is = subst (MayHold mode next) is all.0
+held_at mode next (first ∷ others) (suc control) buffer all is = held_at mode next others control buffer all.1 is
 
 -- another transaction of a control that may be held
 pub held_with : (mode : Mode) (next : ℕ) (transactions : List (Option (List Change))) (control : ℕ) (transaction : Option (List Change)) → HaveBuffers mode next transactions → MayHold mode next transaction → HaveBuffers mode next (slice_set transactions control transaction)
 held_with mode next [] control transaction all may = tt
-held_with mode next (first ∷ others) Rattle.std.proofs.Common.zero transaction all may = (may, all.1)
-held_with mode next (first ∷ others) (Rattle.std.proofs.Common.suc control) transaction all may = (all.0, held_with mode next others control transaction all.1 may)
+held_with mode next (first ∷ others) zero transaction all may = (may, all.1)
+held_with mode next (first ∷ others) (suc control) transaction all may = (all.0, held_with mode next others control transaction all.1 may)
 
 -- no transaction may always be held
 pub none_held : (mode : Mode) (next : ℕ) → MayHold mode next None

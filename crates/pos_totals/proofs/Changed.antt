@@ -1,6 +1,6 @@
 -- What a change of the totals did, by what its table says and by what the store did.
 use Rattle.std.proofs.Common.{◌≡◌, ◌∙◌, inl, inr, ⊎_elim, ℕ, ◌+◌, ℤ, pos, negsuc, ◌^◌, ◌<◌, ◌≤◌, Bool, true, false, not, ◌&&◌, ◌||◌, cond, List, [], ◌∷◌, ◌++◌, length, Option, Some, None, Result, Ok, Err, MatchOption, refl, sym, ap, subst, arith}
-use Rattle.std.specs.Prelude.{nat_eq, nat_lt, nat_le, is_none, is_some}
+use Rattle.std.specs.Prelude.{slice_set, nat_eq, nat_lt, nat_le, is_none, is_some}
 use Rattle.std.specs.List.{find, AllByRecursion}
 use Rattle.std.specs.Option.{option_map}
 use Rattle.std.proofs.lemmas.Bool.{or_from, and_parts, not-false, ltb-true, leb-true, eqb-true, eqb-false, eq-eqb, ne_eqb}
@@ -227,7 +227,7 @@ module _ {D : Type 0} (bound : Ghosts D) (disk : D) (only : bound.honest disk �
   old_view = view_of (record { disk = disk; state = StoreReady files sequence }) ledger
 
   abbrev with_change : List Change → Ledger
-  with_change buffer = record ledger { transactions = Rattle.std.specs.Prelude.slice_set ledger.transactions control (Some (buffer ++ change ∷ [])) }
+  with_change buffer = record ledger { transactions = slice_set ledger.transactions control (Some (buffer ++ change ∷ [])) }
 
   -- the change is buffered
   pub is_added : (buffer : List Change) → transaction_at ledger.transactions control ≡ Some buffer
@@ -263,7 +263,7 @@ module _ {D : Type 0} (bound : Ghosts D) (disk : D) (only : bound.honest disk �
       let may = may_buffer (StoreReady files sequence) ledger control change made checks inside in
       let is : new ≡ (with_change some.0).transactions =
           did.1.added ∙ ap (with_buffered ledger.transactions control) (same_asked change did.1.change made may.bufferable checks.1.asked did.1.asked)
-          ∙ ap (λ (t : Option (List Change)). Rattle.std.specs.Prelude.slice_set ledger.transactions control (option_map (λ b. b ++ change ∷ []) t)) some.1 in
+          ∙ ap (λ (t : Option (List Change)). slice_set ledger.transactions control (option_map (λ b. b ++ change ∷ []) t)) some.1 in
       rw (is, did.0) (is_added some.0 some.1)
 
 -- ---- a change outside a transaction

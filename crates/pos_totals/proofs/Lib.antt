@@ -1,5 +1,7 @@
 mod Buffered
 mod Changed
+mod Claimed
+mod Committed
 mod Ended
 mod Found
 mod Grouped

@@ -1,10 +1,11 @@
 -- What is buffered depends on the handles and the sizes of the files alone.
-use Rattle.std.proofs.Common.{◌≡◌, ◌∙◌, ℕ, ◌+◌, ◌≤◌, ℤ, pos, negsuc, nat_abs, Bool, true, false, cond, List, [], ◌∷◌, ◌++◌, length, take, drop, map, Option, Some, None, refl, sym, ap, subst, arith}
+use Rattle.std.proofs.Common.{◌≡◌, ◌∙◌, ℕ, ◌+◌, ◌≤◌, ℤ, pos, negsuc, nat_abs, Bool, true, false, not, cond, List, [], ◌∷◌, ◌++◌, length, take, drop, map, Option, Some, None, refl, sym, ap, subst, arith}
 use Rattle.std.specs.Prelude.{is_none, nat_eq}
 use Rattle.std.specs.List.{find, filter, list_any, AllByRecursion}
 use Rattle.std.proofs.lemmas.Bool.{leb-true}
 use Rattle.std.proofs.lemmas.List.{length-append, length-take, length-drop}
 use Rattle.std.proofs.lemmas.Option.{same_Some}
+use Rattle.pos_dir.specs.declared.change.Change.TheVariants as file
 use Rattle.pos_service.specs.HardTotals.{File, Change, Create, Delete, Rename, Write, SetAll, is_called, is_range, with_each, overwritten, is_of_none}
 use Rattle.pos_totals.proofs.Grouped.{range_end}
 use Rattle.pos_totals.proofs.Places.{OnlyOne}
@@ -33,8 +34,8 @@ same_index handle [] [] same = refl
 same_index handle [] (y ∷ ys) same = absurd cc
 same_index handle (x ∷ xs) [] same = absurd cc
 same_index (pos h) (x ∷ xs) (y ∷ ys) same =
-    ap (λ (p : ℕ × ℕ). cond (Rattle.std.specs.Prelude.not (nat_eq p.0 h)) (1 + index_of (is_called (pos h)) xs) 0) (same_first x y xs ys same)
-    ∙ ap (λ n. cond (Rattle.std.specs.Prelude.not (nat_eq y.handle h)) (1 + n) 0) (same_index (pos h) xs ys (same_others x y xs ys same))
+    ap (λ (p : ℕ × ℕ). cond (not (nat_eq p.0 h)) (1 + index_of (is_called (pos h)) xs) 0) (same_first x y xs ys same)
+    ∙ ap (λ n. cond (not (nat_eq y.handle h)) (1 + n) 0) (same_index (pos h) xs ys (same_others x y xs ys same))
 same_index (negsuc n) (x ∷ xs) (y ∷ ys) same = ap (λ n. 1 + n) (same_index (negsuc n) xs ys (same_others x y xs ys same))
 
 -- whether there is a file with a handle
@@ -79,11 +80,11 @@ same_group xs ys next (Create name size ∷ changes) same all = absurd all.0
 same_group xs ys next (Delete name ∷ changes) same all = absurd all.0
 same_group xs ys next (Rename handle name ∷ changes) same all = absurd all.0
 same_group xs ys next (Write handle offset bytes ∷ changes) same all =
-    ap (λ i. Rattle.pos_dir.specs.declared.change.Change.TheVariants.Write i (nat_abs offset) bytes ∷ group_of xs changes) (same_index handle xs ys same)
-    ∙ ap (λ g. Rattle.pos_dir.specs.declared.change.Change.TheVariants.Write (index_of (is_called handle) ys) (nat_abs offset) bytes ∷ g) (same_group xs ys next changes same all.1)
+    ap (λ i. file.Write i (nat_abs offset) bytes ∷ group_of xs changes) (same_index handle xs ys same)
+    ∙ ap (λ g. file.Write (index_of (is_called handle) ys) (nat_abs offset) bytes ∷ g) (same_group xs ys next changes same all.1)
 same_group xs ys next (SetAll handle n ∷ changes) same all =
-    ap (λ i. Rattle.pos_dir.specs.declared.change.Change.TheVariants.SetAll i (nat_abs n) ∷ group_of xs changes) (same_index handle xs ys same)
-    ∙ ap (λ g. Rattle.pos_dir.specs.declared.change.Change.TheVariants.SetAll (index_of (is_called handle) ys) (nat_abs n) ∷ g) (same_group xs ys next changes same all.1)
+    ap (λ i. file.SetAll i (nat_abs n) ∷ group_of xs changes) (same_index handle xs ys same)
+    ∙ ap (λ g. file.SetAll (index_of (is_called handle) ys) (nat_abs n) ∷ g) (same_group xs ys next changes same all.1)
 
 pub same_gone : (xs ys : List File) (next : ℕ) (changes : List Change) → outlines xs ≡ outlines ys → AllByRecursion (IsBuffered xs next) changes → list_any (is_of_none xs) changes ≡ list_any (is_of_none ys) changes
 same_gone xs ys next [] same all = refl

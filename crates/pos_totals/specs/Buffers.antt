@@ -1,5 +1,5 @@
 -- What may be buffered in transactions.
-use Rattle.std.specs.Prelude.{◌≡◌, ◌<◌, ◌≤◌, ◌+◌, ℕ, ℤ, pos, negsuc, Bool, true, false, List, [], ◌∷◌, ◌++◌, length, Option, Some, None, IfSome, Result, Ok, Err, slice_set, ⊤}
+use Rattle.std.specs.Prelude.{◌≡◌, ◌<◌, ◌≤◌, ◌+◌, ℕ, ℤ, pos, negsuc, nat_abs, Bool, true, false, List, [], ◌∷◌, ◌++◌, length, Option, Some, None, IfSome, Result, Ok, Err, slice_set, ⊤}
 use Rattle.std.specs.List.{AllByRecursion}
 use Rattle.std.specs.Option.{option_map}
 use Rattle.pos_service.specs.declared.answer.Answer.{Answer}
@@ -7,6 +7,8 @@ use Rattle.pos_service.specs.declared.answer.Answer.TheVariants as answer
 use Rattle.pos_service.specs.declared.answer.Value.TheVariants as value
 use Rattle.pos_service.specs.declared.memory.NoMemory.{NoMemory}
 use Rattle.pos_service.specs.HardTotals.{File, Mode, Off, Ready, Change, Create, Delete, Rename, Write, SetAll, is_called, is_range, is_up_to, cost_of_all, transaction_at, without_transactions}
+use Rattle.pos_dir.specs.declared.change.Change.{Change as FileChange}
+use Rattle.pos_dir.specs.declared.change.Change.TheVariants as file
 use Rattle.pos_store.specs.declared.fault.StoreFault.{StoreFault}
 use Rattle.pos_store.specs.declared.fault.StoreFault.TheVariants as fault
 use Rattle.pos_totals.specs.declared.request.Checked.{Checked}
@@ -18,6 +20,22 @@ use Rattle.pos_totals.specs.declared.transactions.Action.TheVariants as action
 abbrev pub buffered_change : ℕ → Action → Change
 buffered_change handle (action.Write offset bytes) = Write (pos handle) (pos offset) bytes
 buffered_change handle (action.SetAll n) = SetAll (pos handle) (pos n)
+
+-- a buffered change is of the file with a handle
+abbrev pub IsOf : Change → ℕ → Type 0
+IsOf (Create name size) number = ⊥
+IsOf (Delete name) number = ⊥
+IsOf (Rename handle name) number = ⊥
+IsOf (Write handle offset bytes) number = handle ≡ pos number
+IsOf (SetAll handle n) number = handle ≡ pos number
+
+-- the change of the directory that a buffered change is, the file's index being known
+abbrev pub placed_change : ℕ → Change → FileChange
+placed_change index (Create name size) = file.Create name (nat_abs size)
+placed_change index (Delete name) = file.Delete index
+placed_change index (Rename handle name) = file.Rename index name
+placed_change index (Write handle offset bytes) = file.Write index (nat_abs offset) bytes
+placed_change index (SetAll handle n) = file.SetAll index (nat_abs n)
 
 -- a handle that was given, the next one being known
 abbrev pub IsGiven : ℕ → ℤ → Type 0

@@ -1,5 +1,5 @@
 -- What the checks of a call find, before anything is done.
-use Rattle.std.specs.Prelude.{◌≡◌, ◌≤◌, ◌+◌, ℕ, ℤ, pos, Bool, false, List, length, Option, Some, None, IfSome, MatchResult, Result, Ok, Err, ⊤}
+use Rattle.std.specs.Prelude.{◌≡◌, ◌≤◌, ◌+◌, ℕ, ℤ, pos, Bool, false, List, [], ◌∷◌, length, Option, Some, None, IfSome, MatchResult, Result, Ok, Err, ⊤}
 use Rattle.std.specs.List.{find}
 use Rattle.std.specs.Option.{option_map}
 use Rattle.pos_dir.specs.Changes.{flaw_of}
@@ -11,13 +11,15 @@ use Rattle.pos_service.specs.declared.answer.Answer.{Answer}
 use Rattle.pos_service.specs.declared.answer.Answer.TheVariants as answer
 use Rattle.pos_service.specs.declared.code.Code.TheVariants as code
 use Rattle.pos_service.specs.declared.memory.NoMemory.{NoMemory}
-use Rattle.pos_service.specs.HardTotals.{File, Mode, Off, Ready, Totals, Change, Create, Delete, Rename, Write, SetAll, layout_1, change_rows, refusals_of_change, is_foreign, spent_by, Question, question_rows, told_of}
-use Rattle.pos_service.specs.Refusals.{first_refusal, Decided}
+use Rattle.pos_service.specs.HardTotals.{File, Mode, Off, Ready, Totals, Change, Create, Delete, Rename, Write, SetAll, layout_1, change_rows, refusals_of_change, is_foreign, spent_by, Arrangement, arrangement_rows, refusals_of_arrangement, Question, question_rows, told_of}
+use Rattle.pos_service.specs.Refusals.{Row, first_refusal, Decided}
 use Rattle.pos_store.specs.declared.fault.StoreFault.{StoreFault}
 use Rattle.pos_store.specs.declared.fault.StoreFault.TheVariants as fault
 use Rattle.pos_totals.specs.Buffers.{IsAsked}
-use Rattle.pos_totals.specs.Groups.{index_of, file_change}
+use Rattle.pos_totals.specs.Groups.{index_of, file_change, group_of}
 use Rattle.pos_totals.specs.Views.{with_tags}
+use Rattle.pos_totals.specs.declared.committing.Plan.{Plan}
+use Rattle.pos_totals.specs.declared.committing.Plan.TheVariants as plan
 use Rattle.pos_totals.specs.declared.files.Files.{Files}
 use Rattle.pos_totals.specs.declared.files.Found.{Found}
 use Rattle.pos_totals.specs.declared.request.Caller.{Caller}
@@ -108,6 +110,33 @@ ChecksAt totals control change (Ok made) =
     (is_foreign control totals.area ≡ false) × PassesIn totals.mode control (spent_by totals control) change made
 ChecksAt totals control change (Err refusal) =
     first_refusal (refusals_of_change layout_1 totals control change) ≡ Some refusal
+
+-- what a check of an arrangement of a file by its table finds: the handle, where nothing refuses it
+abbrev pub LetsThrough : Option ℕ → Option (Option (List Change)) → List File → ℕ → Arrangement → ℤ → Result ℕ Answer → Type 0
+LetsThrough area place files control arrangement handle (Ok number) =
+    (first_refusal (arrangement_rows area place files control arrangement) ≡ None) × (handle ≡ pos number)
+LetsThrough area place files control arrangement handle (Err refusal) =
+    first_refusal (arrangement_rows area place files control arrangement) ≡ Some refusal
+
+abbrev pub LetsThroughAt : Totals → ℕ → Arrangement → ℤ → Result ℕ Answer → Type 0
+LetsThroughAt totals control arrangement handle (Ok number) =
+    (first_refusal (refusals_of_arrangement totals control arrangement) ≡ None) × (handle ≡ pos number)
+LetsThroughAt totals control arrangement handle (Err refusal) =
+    first_refusal (refusals_of_arrangement totals control arrangement) ≡ Some refusal
+
+-- A group was made of what is buffered, which isn't nothing.
+pub record Gathers (files : List File) (transaction : Option (List Change)) (group : List FileChange) : Type 0 where
+  pub first : Change
+  pub others : List Change
+  pub buffered : transaction ≡ Some (first ∷ others)
+  pub made : group ≡ group_of files (first ∷ others)
+
+-- what a commit comes to, by its table; memory is wanted only behind it
+abbrev pub Plans : List Row → List File → Option (List Change) → Result Plan NoMemory → Type 0
+Plans rows files transaction (Ok (plan.Refused refusal)) = first_refusal rows ≡ Some refusal
+Plans rows files transaction (Ok plan.Nothing) = (first_refusal rows ≡ None) × (transaction ≡ Some [])
+Plans rows files transaction (Ok (plan.Group group)) = (first_refusal rows ≡ None) × Gathers files transaction group
+Plans rows files transaction (Err want) = first_refusal rows ≡ None
 
 -- what a change is answered that the store refuses
 abbrev pub answer_of : StoreFault → Result Answer NoMemory

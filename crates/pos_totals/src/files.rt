@@ -1,6 +1,7 @@
 ghost use Rattle.std.specs.Prelude.{◌≡◌, ◌≤◌, pos, length, position, IfSome, slice_get, nat_eq};
 ghost use Rattle.std.specs.Option.{option_map};
 ghost use Rattle.pos_service.specs.HardTotals.{is_named, is_called, layout_1, free_data, has_room};
+ghost use Rattle.pos_totals.specs.Groups.{index_of};
 ghost use Rattle.pos_totals.specs.Checks.{files_in, file_of, AreFiles, FindsFile, IsSeen};
 ghost use Rattle.pos_totals.specs.Views.{HasDirectory, IsSound, mode_of};
 
@@ -97,6 +98,17 @@ pub fn find_handle<'a>(files: Files<'a>, handle: i128) -> Option<Found<'a>>
     match search(files.tags, handle) {
         Some(index) => get_file(files, index),
         None => None,
+    }
+}
+
+/// The index of the file with a handle; without one it is the number of files.
+pub fn find_index(files: Files<'_>, handle: u64) -> u16
+    requires { AreFiles files }
+    ensures { result ≡ index_of (is_called (pos handle)) (files_in files.entry) }
+{
+    match search(files.tags, handle as u128) {
+        Some(index) => index as u16,
+        None => files.tags.len() as u16,
     }
 }
 

@@ -1,8 +1,10 @@
-ghost use Rattle.std.specs.Prelude.{◌≡◌, ◌<◌, ◌≤◌, ◌+◌, ◌^◌, []};
+ghost use Rattle.std.specs.Prelude.{◌≡◌, ◌<◌, ◌≤◌, ◌+◌, ◌^◌, [], map};
 ghost use Rattle.pos_service.specs.HardTotals.{last_number};
 ghost use Rattle.pos_totals.specs.Checks.{file_change_of};
+ghost use Rattle.pos_totals.specs.Tables.{tag_claimed, tag_released};
 ghost use Rattle.pos_totals.specs.Numbering.{tags_from, lacks, given_after, following, value_after, HasPlace, Numbers};
 
+use crate::claims::is_own;
 use crate::request::Checked;
 use arrayvec::ArrayVec;
 use pos_service::Value;
@@ -89,6 +91,22 @@ impl Handles {
         }
     }
 
+    /// Claims the file with a handle for a control, or ends its claim.
+    pub fn claim(&mut self, handle: u64, claim: Option<usize>)
+        ensures given { self.new.given ≡ map (tag_claimed handle claim) self.old.given }
+        ensures next { self.new.next ≡ self.old.next }
+    {
+        claim_tags(self.given.as_mut_slice(), handle, claim);
+    }
+
+    /// Ends all claims of a control.
+    pub fn release_all(&mut self, control: usize)
+        ensures given { self.new.given ≡ map (tag_released control) self.old.given }
+        ensures next { self.new.next ≡ self.old.next }
+    {
+        release_tags(self.given.as_mut_slice(), control);
+    }
+
     /// Gives so many files handles from the next one on, where so many are left.
     pub fn number(&mut self, count: usize) -> bool
         requires { count ≤ 64 }
@@ -100,6 +118,47 @@ impl Handles {
         self.given = count_from(self.next, count);
         self.next = end;
         true
+    }
+}
+
+/// Gives each tag with a handle another claim.
+fn claim_tags(tags: &mut [Tag], handle: u64, claim: Option<usize>)
+    ensures { tags.new ≡ map (tag_claimed handle claim) tags.old }
+{
+    for tag in tags.iter_mut() {
+        *tag = claim_tag(*tag, handle, claim);
+    }
+}
+
+/// The tag with another claim, where it has the handle.
+fn claim_tag(tag: Tag, handle: u64, claim: Option<usize>) -> Tag
+    ensures { result ≡ tag_claimed handle claim tag }
+{
+    if tag.handle != handle {
+        return tag;
+    }
+    Tag { handle, claim }
+}
+
+/// Ends all claims of a control.
+fn release_tags(tags: &mut [Tag], control: usize)
+    ensures { tags.new ≡ map (tag_released control) tags.old }
+{
+    for tag in tags.iter_mut() {
+        *tag = release_tag(*tag, control);
+    }
+}
+
+/// The tag without its claim, where the control has made it.
+fn release_tag(tag: Tag, control: usize) -> Tag
+    ensures { result ≡ tag_released control tag }
+{
+    if !is_own(tag.claim, control) {
+        return tag;
+    }
+    Tag {
+        handle: tag.handle,
+        claim: None,
     }
 }
 

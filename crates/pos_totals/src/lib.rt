@@ -5,6 +5,7 @@ mod asking;
 mod changing;
 mod checking;
 mod claims;
+mod committing;
 mod fault;
 mod files;
 mod handles;
@@ -14,6 +15,7 @@ mod numbers;
 mod recovering;
 mod request;
 mod totals;
+mod transacting;
 mod transactions;
 
 pub use fault::RecoveryFault;

@@ -1,10 +1,10 @@
 //! Transactions: the changes that each control has buffered.
-ghost use Rattle.std.specs.Prelude.{◌≡◌, ◌≤◌, ◌+◌, ◌++◌, ◌∷◌, [], Some, OnOk, OnErr, is_some, slice_set};
+ghost use Rattle.std.specs.Prelude.{◌≡◌, ◌≤◌, ◌+◌, ◌++◌, ◌∷◌, [], Some, None, IfOk, OnOk, OnErr, is_some, slice_get, slice_set};
 ghost use Rattle.std.specs.Option.{option_copied, option_map};
-ghost use Rattle.pos_service.specs.HardTotals.{cost_of, cost_of_all, transaction_at, without_transactions};
-ghost use Rattle.pos_totals.specs.Buffers.{buffered_change, with_buffered, HasLeft};
+ghost use Rattle.pos_service.specs.HardTotals.{cost_of, cost_of_all, may_begin, transaction_at, without_transactions};
+ghost use Rattle.pos_totals.specs.Buffers.{buffered_change, placed_change, with_buffered, HasLeft, IsOf};
 
-use pos_dir::Bytes;
+use pos_dir::{Bytes, Change as FileChange};
 use pos_service::NoMemory;
 use std::alloc::Global;
 use std::marker::Model;
@@ -43,6 +43,30 @@ impl Buffered {
         ensures { result ≡ buffered_change handle action }
     {
         Buffered { handle, action }
+    }
+
+    /// The handle of its file.
+    pub fn handle(&self) -> u64
+        ensures { IsOf self.now result }
+    {
+        self.handle
+    }
+
+    /// The change of the directory that it is, the file's index being known.
+    pub fn to_change(&self, alloc: Global, index: u16) -> Result<FileChange, NoMemory>
+        ensures { IfOk result (λ change. change ≡ placed_change index self.now) }
+    {
+        match &self.action {
+            Action::Write { offset, bytes } => Ok(FileChange::Write {
+                index,
+                offset: *offset,
+                bytes: Bytes::from_vec(Vec::from_slice(alloc, bytes.as_slice())?),
+            }),
+            Action::SetAll { value } => Ok(FileChange::SetAll {
+                index,
+                value: *value,
+            }),
+        }
     }
 
     /// What it costs.
@@ -140,6 +164,24 @@ impl Transactions {
         Transactions {
             places: Vec::new(alloc),
         }
+    }
+
+    /// Makes a place for one more control. Want of memory changes nothing.
+    pub fn add(&mut self) -> Result<(), NoMemory>
+        ensures ok { OnOk result (self.new ≡ self.old ++ None ∷ []) }
+        ensures err { OnErr result (self.new ≡ self.old) }
+    {
+        match self.places.push(None) {
+            Ok(()) => Ok(()),
+            Err(_) => Err(NoMemory),
+        }
+    }
+
+    /// Whether a control may begin a transaction: it has a place for one, and is in none.
+    pub fn may_begin(&self, control: usize) -> bool
+        ensures { result ≡ may_begin (slice_get self.now control) }
+    {
+        matches!(self.places.get(control), Some(None))
     }
 
     /// What a control has buffered, where it is in a transaction.

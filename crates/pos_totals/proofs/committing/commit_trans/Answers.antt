@@ -1,0 +1,42 @@
+use Rattle.pos_totals.proofs.Committed.{refuses, ends, finds_none, store_committed, store_failed}
+use Rattle.pos_totals.proofs.committing.commit_trans.Goals as goal
+
+pub returns-in-Ok-Refused-clause-commits : goal.returns-in-Ok-Refused-clause-commits
+returns-in-Ok-Refused-clause-commits g c =
+    let store = c.args.store.now in
+    refuses g.D.Disk store.disk (λ h bytes left. g.met.D.Disk.only_now store.disk bytes h left) store.state c.args.ledger.now c.args.control c.in-Ok-Refused.ensures.directory c.requires.sound c.leaves_its_files.ensures c.in-Ok-Refused.refusal c.in-Ok-Refused.ensures.plans
+
+pub returns-in-Ok-Nothing-clause-sound : goal.returns-in-Ok-Nothing-clause-sound
+returns-in-Ok-Nothing-clause-sound g c =
+    let store = c.args.store.now in
+    (ends g.D.Disk store.disk (λ h bytes left. g.met.D.Disk.only_now store.disk bytes h left) store.state c.args.ledger.now c.args.control c.in-Ok-Nothing.ensures.directory c.requires.sound c.leaves_its_files.ensures c.in-Ok-Nothing.ensures.plans.0 c.in-Ok-Nothing.ensures.plans.1 c.set.new.self c.set.ensures).1
+
+pub returns-in-Ok-Nothing-clause-commits : goal.returns-in-Ok-Nothing-clause-commits
+returns-in-Ok-Nothing-clause-commits g c =
+    let store = c.args.store.now in
+    (ends g.D.Disk store.disk (λ h bytes left. g.met.D.Disk.only_now store.disk bytes h left) store.state c.args.ledger.now c.args.control c.in-Ok-Nothing.ensures.directory c.requires.sound c.leaves_its_files.ensures c.in-Ok-Nothing.ensures.plans.0 c.in-Ok-Nothing.ensures.plans.1 c.set.new.self c.set.ensures).0
+
+pub returns-in-Err-clause-commits : goal.returns-in-Err-clause-commits
+returns-in-Err-clause-commits g c =
+    let store = c.args.store.now in
+    finds_none g.D.Disk store.disk (λ h bytes left. g.met.D.Disk.only_now store.disk bytes h left) store.state c.args.ledger.now c.args.control c.in-Err.ensures.directory c.requires.sound c.leaves_its_files.ensures c.in-Err.ensures.plans (record {})
+
+pub returns-in-Ok-clause-sound : goal.returns-in-Ok-clause-sound
+returns-in-Ok-clause-sound g c =
+    let store = c.args.store.now in
+    (store_committed g.D.Disk store.disk (λ h bytes left. g.met.D.Disk.only_now store.disk bytes h left) c.args.ledger.now c.args.control c.in-Ok-Group.group store.state c.commit.new.self c.in-Ok-Group.ensures.directory c.requires.sound c.leaves_its_files.ensures c.in-Ok-Group.ensures.plans.0 c.in-Ok-Group.ensures.plans.1 c.in-Ok.ensures c.set-in-Ok.new.self c.set-in-Ok.ensures).1
+
+pub returns-in-Ok-clause-commits : goal.returns-in-Ok-clause-commits
+returns-in-Ok-clause-commits g c =
+    let store = c.args.store.now in
+    (store_committed g.D.Disk store.disk (λ h bytes left. g.met.D.Disk.only_now store.disk bytes h left) c.args.ledger.now c.args.control c.in-Ok-Group.group store.state c.commit.new.self c.in-Ok-Group.ensures.directory c.requires.sound c.leaves_its_files.ensures c.in-Ok-Group.ensures.plans.0 c.in-Ok-Group.ensures.plans.1 c.in-Ok.ensures c.set-in-Ok.new.self c.set-in-Ok.ensures).0
+
+pub returns-clause-sound : goal.returns-clause-sound
+returns-clause-sound g c =
+    let store = c.args.store.now in
+    rw c.answer_fault.ensures.transactions (store_failed g.D.Disk store.disk (λ h bytes left. g.met.D.Disk.only_now store.disk bytes h left) c.args.ledger.now c.args.control c.in-Ok-Group.group store.state c.commit.new.self c.in-Err-commit.fault c.in-Ok-Group.ensures.directory c.requires.sound c.leaves_its_files.ensures c.in-Ok-Group.ensures.plans.0 c.in-Ok-Group.ensures.plans.1 c.in-Err-commit.ensures).1
+
+pub returns-clause-commits : goal.returns-clause-commits
+returns-clause-commits g c =
+    let store = c.args.store.now in
+    rw (c.answer_fault.ensures.answer, c.answer_fault.ensures.transactions) (store_failed g.D.Disk store.disk (λ h bytes left. g.met.D.Disk.only_now store.disk bytes h left) c.args.ledger.now c.args.control c.in-Ok-Group.group store.state c.commit.new.self c.in-Err-commit.fault c.in-Ok-Group.ensures.directory c.requires.sound c.leaves_its_files.ensures c.in-Ok-Group.ensures.plans.0 c.in-Ok-Group.ensures.plans.1 c.in-Err-commit.ensures).0
