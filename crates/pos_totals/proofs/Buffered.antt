@@ -135,8 +135,8 @@ makes_all files next (Write handle offset bytes ∷ changes) distinct all there 
     let both = neither (is_none (find (is_called handle) files)) (list_any (is_of_none files) changes) there in
     let found = some_file (find (is_called handle) files) (is_there (find (is_called handle) files) both.0) in
     let fits : is_range_of (find (is_called handle) files) offset (pos (length bytes)) ≡ true =
-        ap (λ (o : Option File). is_range_of o offset (pos (length bytes))) found.1
-        ∙ found_has (is_called handle) (λ file. is_range (length file.bytes) offset (pos (length bytes)) ≡ true) files found.0 all.0.1 found.1 in
+    ap (λ (o : Option File). is_range_of o offset (pos (length bytes))) found.1
+    ∙ found_has (is_called handle) (λ file. is_range (length file.bytes) offset (pos (length bytes)) ≡ true) files found.0 all.0.1 found.1 in
     let same = writes_keep files handle offset bytes all.0.1 in
     first_made files next (Write handle offset bytes) changes (made_write files handle offset bytes next distinct fits) (same_group files after next changes (sym same) all.1)
     (makes_all after next changes (same_distinct files after (sym same) distinct) (others_buffered files after next changes same all.1) (sym (same_gone files after next changes (sym same) all.1) ∙ both.1))

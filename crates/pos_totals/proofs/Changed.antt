@@ -262,8 +262,8 @@ module _ {D : Type 0} (bound : Ghosts D) (disk : D) (only : bound.honest disk �
       let some = inside_some (transaction_at ledger.transactions control) inside in
       let may = may_buffer (StoreReady files sequence) ledger control change made checks inside in
       let is : new ≡ (with_change some.0).transactions =
-          did.1.added ∙ ap (with_buffered ledger.transactions control) (same_asked change did.1.change made may.bufferable checks.1.asked did.1.asked)
-          ∙ ap (λ (t : Option (List Change)). slice_set ledger.transactions control (option_map (λ b. b ++ change ∷ []) t)) some.1 in
+      did.1.added ∙ ap (with_buffered ledger.transactions control) (same_asked change did.1.change made may.bufferable checks.1.asked did.1.asked)
+      ∙ ap (λ (t : Option (List Change)). slice_set ledger.transactions control (option_map (λ b. b ++ change ∷ []) t)) some.1 in
       rw (is, did.0) (is_added some.0 some.1)
 
 -- ---- a change outside a transaction
@@ -398,7 +398,7 @@ module _ {D : Type 0} (bound : Ghosts D) (disk : D) (only : bound.honest disk �
   after_done new commits left =
       let down = put_down bound disk files sequence ledger change [] sound.handles one (Ok tt) new.state commits.answer in
       let given : given_after ledger.handles.given next as_made ≡ tags_of (files_after next there change) =
-          ap (λ (tags : List Tag). given_after tags next as_made) (sym (tags_in ledger.handles.given files sound.handles.count)) ∙ given_is there control (spent_by ready control) change next both.0.distinct checks.1.unrefused in
+      ap (λ (tags : List Tag). given_after tags next as_made) (sym (tags_in ledger.handles.given files sound.handles.count)) ∙ given_is there control (spent_by ready control) change next both.0.distinct checks.1.unrefused in
       rw (down.1, given, value_is there change next, next_is there change next, called_again (files_after next there change)) (done new commits left)
 
   sound_after : (new : StoreView D) → Commits bound ready_store group (Ok tt) new → IsSound new.state (kept_ledger ledger as_made)
@@ -408,9 +408,9 @@ module _ {D : Type 0} (bound : Ghosts D) (disk : D) (only : bound.honest disk �
       let after = files_after next there change in
       let old : AreHandles (tags_of there) (plain there) next = rw (tags_in ledger.handles.given files sound.handles.count, plain_of ledger.handles.given files sound.handles.count) sound.handles in
       let given : given_after ledger.handles.given next as_made ≡ tags_of after =
-          ap (λ (tags : List Tag). given_after tags next as_made) (sym (tags_in ledger.handles.given files sound.handles.count)) ∙ given_is there control spent change next both.0.distinct checks.1.unrefused in
+      ap (λ (tags : List Tag). given_after tags next as_made) (sym (tags_in ledger.handles.given files sound.handles.count)) ∙ given_is there control spent change next both.0.distinct checks.1.unrefused in
       let buffers : HaveBuffers (Ready after (sequence + 1)) (next_after next change) ledger.transactions =
-          holds_so there after sequence (sequence + 1) next (next_after next change) ledger.transactions (λ other is. buffered_after there control spent change next other both.1 checks.1.unrefused is) sound.buffers in
+      holds_so there after sequence (sequence + 1) next (next_after next change) ledger.transactions (λ other is. buffered_after there control spent change next other both.1 checks.1.unrefused is) sound.buffers in
       rw down.1 (record {
         handles = subst (λ (tags : List Tag). AreHandles (given_after tags next as_made) (plain after) (following next as_made)) (tags_in ledger.handles.given files sound.handles.count)
             (are_after there control spent change next both.0.distinct old checks.1.unrefused);

@@ -25,7 +25,7 @@ use Rattle.pos_store.specs.declared.fault.StoreFault.TheVariants as fault
 use Rattle.pos_totals.proofs.Buffered.{makes_all, outlines_after, tags_after, next_stays, held_at, held_with, holds_so, none_held, none_hold}
 use Rattle.pos_totals.proofs.Changed.{refused_ledger}
 use Rattle.pos_totals.proofs.Grouped.{not_refused}
-use Rattle.pos_totals.proofs.Outlined.{same_buffered, same_distinct, same_numbers}
+use Rattle.pos_totals.proofs.Outlined.{same_buffered}
 use Rattle.pos_totals.proofs.Pairs.{tags_in, numbers_in, called_again}
 use Rattle.pos_totals.proofs.Putting.{open_table, closed_table, their_files, sound_files, idles, rests, put_down, put_group, doubt_group}
 use Rattle.pos_totals.specs.Buffers.{IsBuffered, HaveBuffers}
@@ -85,9 +85,9 @@ in_some totals control passes Off is transaction some =
     absurd (let rest = (not_refused (is_foreign control totals.area) _ _ passes).1 in let off = subst (λ (m : Mode). first_refusal (while_ready m (λ files. commit_rows files control (transaction_of totals control))) ≡ None) is rest in cc)
 in_some totals control passes (Ready files sequence) is None some =
     absurd (
-      let rest = (not_refused (is_foreign control totals.area) _ _ passes).1 in
-      let ready = subst (λ (m : Mode). first_refusal (while_ready m (λ files. commit_rows files control (transaction_of totals control))) ≡ None) is rest in
-      let none = subst (λ (t : Option (List Change)). first_refusal (commit_rows files control t) ≡ None) some ready in cc)
+    let rest = (not_refused (is_foreign control totals.area) _ _ passes).1 in
+    let ready = subst (λ (m : Mode). first_refusal (while_ready m (λ files. commit_rows files control (transaction_of totals control))) ≡ None) is rest in
+    let none = subst (λ (t : Option (List Change)). first_refusal (commit_rows files control t) ≡ None) some ready in cc)
 in_some totals control passes (Ready files sequence) is (Some buffer) some = (buffer, some)
 
 -- ---- where the disk isn't used
@@ -199,7 +199,7 @@ module _ {D : Type 0} (bound : Ghosts D) (disk : D) (only : bound.honest disk �
       let number = ne_eqb sequence last_number (λ same. down.0 (omega (arith, same))) in
       let mode : with_tags ledger.handles.given (plain after) ≡ after = ap (λ (tags : List Tag). with_tags tags (plain after)) given ∙ called_again after in
       let totals : totals_of (StoreReady (plain after) (sequence + 1)) ended_ledger ≡ after_changes ended (first ∷ others) (sequence + 1) =
-          ap (λ (fs : List File). record ended { mode = Ready fs (sequence + 1) }) mode ∙ ap (λ n. record ended { mode = Ready after (sequence + 1); next = n }) (sym (next_stays there next (first ∷ others) buffered)) in
+      ap (λ (fs : List File). record ended { mode = Ready fs (sequence + 1) }) mode ∙ ap (λ n. record ended { mode = Ready after (sequence + 1); next = n }) (sym (next_stays there next (first ∷ others) buffered)) in
       let same = outlines_after there next (first ∷ others) buffered in
       rw down.1 (
         record {
@@ -214,9 +214,9 @@ module _ {D : Type 0} (bound : Ghosts D) (disk : D) (only : bound.honest disk �
             below = sound.handles.below;
           };
           buffers = rw mode (
-            held_with (Ready after (sequence + 1)) next ledger.transactions control None
-            (holds_so there after sequence (sequence + 1) next next ledger.transactions (λ change is. same_buffered there after next change (sym same) is) sound.buffers)
-            (none_held (Ready after (sequence + 1)) next));
+              held_with (Ready after (sequence + 1)) next ledger.transactions control None
+              (holds_so there after sequence (sequence + 1) next next ledger.transactions (λ change is. same_buffered there after next change (sym same) is) sound.buffers)
+              (none_held (Ready after (sequence + 1)) next));
         },
       )
 

@@ -127,7 +127,7 @@ length_kept : (old bytes : List ℕ) (offset : ℕ) → offset + length bytes �
 length_kept old bytes offset fits =
     let rest = drop (offset + length bytes) old in
     let same : length (take offset old ++ bytes ++ rest) ≡ length old =
-        omega (arith, length-append (take offset old ++ bytes) rest, length-append (take offset old) bytes, length-take offset old, length-drop (offset + length bytes) old) in
+    omega (arith, length-append (take offset old ++ bytes) rest, length-append (take offset old) bytes, length-take offset old, length-drop (offset + length bytes) old) in
     same
 
 -- a write that fits keeps the size

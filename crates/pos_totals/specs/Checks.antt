@@ -11,7 +11,7 @@ use Rattle.pos_service.specs.declared.answer.Answer.{Answer}
 use Rattle.pos_service.specs.declared.answer.Answer.TheVariants as answer
 use Rattle.pos_service.specs.declared.code.Code.TheVariants as code
 use Rattle.pos_service.specs.declared.memory.NoMemory.{NoMemory}
-use Rattle.pos_service.specs.HardTotals.{File, Mode, Off, Ready, Totals, Change, Create, Delete, Rename, Write, SetAll, layout_1, change_rows, refusals_of_change, is_foreign, spent_by, Arrangement, arrangement_rows, refusals_of_arrangement, Question, question_rows, told_of}
+use Rattle.pos_service.specs.HardTotals.{File, Mode, Off, Ready, Totals, Change, Create, Delete, Rename, Write, SetAll, layout_1, change_rows, refusals_of_change, is_foreign, spent_by, Arrangement, arrangement_rows, refusals_of_arrangement, refusals_of_commit, transaction_of, files_of, Question, question_rows, told_of}
 use Rattle.pos_service.specs.Refusals.{Row, first_refusal, Decided}
 use Rattle.pos_store.specs.declared.fault.StoreFault.{StoreFault}
 use Rattle.pos_store.specs.declared.fault.StoreFault.TheVariants as fault
@@ -137,6 +137,10 @@ Plans rows files transaction (Ok (plan.Refused refusal)) = first_refusal rows �
 Plans rows files transaction (Ok plan.Nothing) = (first_refusal rows ≡ None) × (transaction ≡ Some [])
 Plans rows files transaction (Ok (plan.Group group)) = (first_refusal rows ≡ None) × Gathers files transaction group
 Plans rows files transaction (Err want) = first_refusal rows ≡ None
+
+abbrev pub PlansAt : Totals → ℕ → Result Plan NoMemory → Type 0
+PlansAt totals control result =
+    Plans (refusals_of_commit totals control) (files_of totals.mode) (transaction_of totals control) result
 
 -- what a change is answered that the store refuses
 abbrev pub answer_of : StoreFault → Result Answer NoMemory

@@ -18,7 +18,11 @@ const MOST_COST: usize = 8_192;
 const NO_ROOM: u32 = 201;
 
 /// Checks a change by its table.
-pub fn check<'a>(files: Files<'_>, caller: Caller, request: &Request<'a>) -> Result<Checked<'a>, Answer>
+pub fn check<'a>(
+    files: Files<'_>,
+    caller: Caller,
+    request: &Request<'a>,
+) -> Result<Checked<'a>, Answer>
     requires { AreFiles files }
     ensures { Checks (files_in files.entry) caller (change_of request.now) result }
 {
@@ -36,7 +40,12 @@ pub fn check<'a>(files: Files<'_>, caller: Caller, request: &Request<'a>) -> Res
 }
 
 /// A good name that no file has, a size not below 0, and room.
-fn check_create<'a>(files: Files<'_>, caller: Caller, name: &'a [u8], size: i128) -> Result<Checked<'a>, Answer>
+fn check_create<'a>(
+    files: Files<'_>,
+    caller: Caller,
+    name: &'a [u8],
+    size: i128,
+) -> Result<Checked<'a>, Answer>
     requires { AreFiles files }
     ensures { Checks (files_in files.entry) caller (Create name.now size) result }
 {
@@ -79,7 +88,12 @@ fn check_delete<'a>(files: Files<'_>, caller: Caller, name: &'a [u8]) -> Result<
 }
 
 /// A file with the handle, and a good name that no file has.
-fn check_rename<'a>(files: Files<'_>, caller: Caller, handle: i128, name: &'a [u8]) -> Result<Checked<'a>, Answer>
+fn check_rename<'a>(
+    files: Files<'_>,
+    caller: Caller,
+    handle: i128,
+    name: &'a [u8],
+) -> Result<Checked<'a>, Answer>
     requires { AreFiles files }
     ensures { Checks (files_in files.entry) caller (Rename handle name.now) result }
 {
@@ -106,7 +120,8 @@ fn check_rename<'a>(files: Files<'_>, caller: Caller, handle: i128, name: &'a [u
 
 /// A file with the handle, and a range of its bytes.
 fn check_write<'a>(
-    files: Files<'_>, caller: Caller,
+    files: Files<'_>,
+    caller: Caller,
     handle: i128,
     offset: i128,
     bytes: &'a [u8],
@@ -135,7 +150,12 @@ fn check_write<'a>(
 }
 
 /// A file with the handle, and the value of a byte.
-fn check_set_all<'a>(files: Files<'_>, caller: Caller, handle: i128, value: i128) -> Result<Checked<'a>, Answer>
+fn check_set_all<'a>(
+    files: Files<'_>,
+    caller: Caller,
+    handle: i128,
+    value: i128,
+) -> Result<Checked<'a>, Answer>
     requires { AreFiles files }
     ensures { Checks (files_in files.entry) caller (SetAll handle value) result }
 {

@@ -2,9 +2,9 @@
 ghost use Rattle.std.specs.Prelude.{◌≡◌, Some, IfOk};
 ghost use Rattle.std.specs.List.{list_any};
 ghost use Rattle.std.specs.Option.{option_map};
-ghost use Rattle.pos_service.specs.HardTotals.{changed_file, commit_rows, files_of, is_of_foreign, is_of_none, refusals_of_commit, transaction_of};
+ghost use Rattle.pos_service.specs.HardTotals.{changed_file, commit_rows, is_of_foreign, is_of_none};
 ghost use Rattle.pos_totals.specs.Changes.{CommitsBuffer};
-ghost use Rattle.pos_totals.specs.Checks.{file_of, files_in, AreFiles, Plans};
+ghost use Rattle.pos_totals.specs.Checks.{file_of, files_in, AreFiles, Plans, PlansAt};
 ghost use Rattle.pos_totals.specs.Groups.{file_change, group_of};
 ghost use Rattle.pos_totals.specs.Views.{HasDirectory, IsSound, totals_of, view_of};
 
@@ -67,8 +67,7 @@ fn make_plan<D: Disk>(
     control: usize,
 ) -> Result<Plan, NoMemory>
     requires sound { IsSound store.now.state ledger.now }
-    ensures plans { let totals = totals_of store.now.state ledger.now in
-        Plans (refusals_of_commit totals control) (files_of totals.mode) (transaction_of totals control) result }
+    ensures plans { PlansAt (totals_of store.now.state ledger.now) control result }
     ensures directory { HasDirectory store.now.state }
 {
     let files = see_files(store, ledger);
@@ -164,11 +163,7 @@ fn find_changed<'a>(files: Files<'a>, change: &Buffered) -> Option<Found<'a>>
 }
 
 /// The group of changes, each of which is a change of the directory.
-fn group_changes(
-    alloc: Global,
-    files: Files<'_>,
-    changes: &[Buffered],
-) -> Result<Group, NoMemory>
+fn group_changes(alloc: Global, files: Files<'_>, changes: &[Buffered]) -> Result<Group, NoMemory>
     requires { AreFiles files }
     ensures { IfOk result (λ group. group ≡ group_of (files_in files.entry) changes.now) }
 {

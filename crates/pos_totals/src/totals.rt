@@ -54,8 +54,15 @@ impl<D: Disk> Totals<D> {
     /// Totals that are off, over a disk. Nothing is read yet. The first file gets the first handle;
     /// 18,446,744,073,709,551,615 there means that no handle is left.
     pub fn new(alloc: Global, disk: D, first_handle: u64) -> Totals<D>
-        ensures { result ≡ record { disk = disk; totals = record {
-            mode = Off; next = first_handle; area = None; transactions = [] } } }
+        ensures { result ≡ record {
+          disk = disk;
+          totals = record {
+            mode = Off;
+            next = first_handle;
+            area = None;
+            transactions = [];
+          };
+        } }
     {
         Totals {
             alloc,

@@ -29,9 +29,7 @@ pub fn begin_trans<D: Disk>(
     if !ledger.transactions.may_begin(control) {
         return Answer::Refused(Code::Illegal, 0);
     }
-    ledger
-        .transactions
-        .set(control, Some(Buffer::new(alloc)));
+    ledger.transactions.set(control, Some(Buffer::new(alloc)));
     Answer::Done(Value::Empty)
 }
 
