@@ -1,294 +1,272 @@
 -- What a change of the totals did, by what its table says and by what the store did.
-use Rattle.std.proofs.Common.{◌≡◌, ◌∙◌, inl, inr, ⊎_elim, ℕ, ◌+◌, ◌^◌, ◌<◌, Bool, true, false, not, ◌&&◌, ◌||◌, cond, List, [], ◌∷◌, length, Option, Some, None, Result, Ok, Err, MatchOption, MatchResult, refl, sym, ap, subst, arith}
-use Rattle.std.specs.Prelude.{nat_eq, nat_lt, is_none}
+use Rattle.std.proofs.Common.{◌≡◌, ◌∙◌, inl, inr, ⊎_elim, ℕ, ◌+◌, ℤ, pos, negsuc, ◌^◌, ◌<◌, ◌≤◌, Bool, true, false, not, ◌&&◌, ◌||◌, cond, List, [], ◌∷◌, ◌++◌, length, Option, Some, None, Result, Ok, Err, MatchOption, refl, sym, ap, subst, arith}
+use Rattle.std.specs.Prelude.{slice_set, nat_eq, nat_lt, nat_le, is_none, is_some}
 use Rattle.std.specs.List.{find, AllByRecursion}
-use Rattle.std.proofs.lemmas.Bool.{or_from, and_parts, not-false, ltb-true, eqb-false, eq-eqb, ne_eqb}
+use Rattle.std.specs.Option.{option_map}
+use Rattle.std.proofs.lemmas.Bool.{or_from, and_parts, not-false, ltb-true, leb-true, eqb-true, eqb-false, eq-eqb, ne_eqb}
 use Rattle.std.proofs.lemmas.List.{length-map}
-use Rattle.pos_dir.specs.Changes.{outcome_of_all}
-use Rattle.pos_dir.specs.Files.{IsDirectory}
 use Rattle.pos_dir.specs.declared.change.Change.{Change as FileChange}
-use Rattle.pos_dir.specs.declared.fault.DirectoryFault.{DirectoryFault}
+use Rattle.pos_disk.specs.State.{MayLeave}
+use Rattle.pos_disk.specs.declared.device.Disk.{Ghosts}
+use Rattle.pos_dir.specs.Files.{IsDirectory}
 use Rattle.pos_dir.specs.declared.file.File.{File as PlainFile}
 use Rattle.pos_dir.specs.declared.limits.TheConstants.{LAYOUT_1}
-use Rattle.pos_disk.proofs.Moments.{started, weaker}
-use Rattle.pos_disk.specs.State.{DiskState, MayLeave}
-use Rattle.pos_disk.specs.Keeps.{KeepsDisk}
-use Rattle.pos_disk.specs.declared.device.Disk.{Ghosts}
 use Rattle.pos_service.specs.declared.answer.Answer.{Answer}
 use Rattle.pos_service.specs.declared.answer.Answer.TheVariants as answer
+use Rattle.pos_service.specs.declared.answer.Value.TheVariants as value
 use Rattle.pos_service.specs.declared.code.Code.TheVariants as code
 use Rattle.pos_service.specs.declared.memory.NoMemory.{NoMemory}
-use Rattle.pos_service.specs.HardTotals.{File, Mode, Off, Ready, Totals, Change, Create, Delete, Rename, Write, SetAll, is_name, is_natural, is_named, is_up_to, has_file, has_room, free_data, is_create, last_number, layout_1, change_rows, refusals_of_change, group_by_change, number_rows, files_after, next_after, after_changes, given_by, Changed}
+use Rattle.pos_service.specs.HardTotals.{File, Mode, Off, Ready, Totals, Change, Create, Delete, Rename, Write, SetAll, is_name, is_natural, is_named, is_called, is_up_to, has_file, has_room, free_data, is_create, is_foreign, is_foreign_file, is_range_of, last_number, layout_1, change_rows, refusals_of_change, group_by_change, number_rows, files_after, next_after, after_changes, after_disk_fault, given_by, spent_by, transaction_at, without_transactions, with_transaction, cost_of, cost_of_all, is_over, Changed, DoesChange, Done}
 use Rattle.pos_service.specs.Refusals.{Row, first_refusal, Decided}
-use Rattle.pos_store.specs.Commits.{Commits, PutsDown, IsLast}
-use Rattle.pos_store.specs.Commits as store
+use Rattle.pos_store.specs.Commits.{Commits, IsLast}
 use Rattle.pos_store.specs.Modes.{StoreState as State, LeavesItsFiles}
 use Rattle.pos_store.specs.Modes.{Off as StoreOff, Ready as StoreReady, StoreView}
-use Rattle.pos_store.specs.Standing.{Standing, Stands, StandsForOneOf}
 use Rattle.pos_store.specs.declared.fault.StoreFault.{StoreFault}
 use Rattle.pos_store.specs.declared.fault.StoreFault.TheVariants as fault
-use Rattle.pos_totals.proofs.Grouped.{not_refused, some_file, makes}
+use Rattle.pos_totals.proofs.Buffered.{all_fit, buffered_after, holds_so, held_with, held_at, none_hold}
+use Rattle.pos_totals.proofs.Grouped.{not_refused, neither, deleted, makes_group, range_fits, value_fits, ranged}
 use Rattle.pos_totals.proofs.Handled.{given_is, next_is, value_is, are_after}
-use Rattle.pos_totals.proofs.Pairs.{plain_of, handles_in, called_again}
-use Rattle.pos_totals.specs.Changes.{Changes, PutsGroup, HasFailed, IsBeforeOrAfter, IsOneGroup, before_or_after}
+use Rattle.pos_totals.proofs.Pairs.{plain_of, tags_in, numbers_in, called_again}
+use Rattle.pos_totals.proofs.Outlined.{found_has}
 use Rattle.pos_totals.proofs.Places.{found_inside}
-use Rattle.pos_totals.specs.Checks.{ChecksAt, file_change_of, answer_of}
-use Rattle.pos_totals.specs.declared.request.Checked.{Checked}
+use Rattle.pos_totals.proofs.Putting.{open_table, closed_table, their_files, sound_files, idles, rests, put_down, put_group, doubt_group}
+use Rattle.pos_totals.specs.Buffers.{IsGiven, IsBuffered, IsAsked, is_bufferable, cost_of_checked, HasLeft, MayBuffer, Adds, Buffers, HaveBuffers, transactions_after, with_buffered}
+use Rattle.pos_totals.specs.Changes.{Changes, HasFailed, IsOneGroup}
+use Rattle.pos_totals.specs.Checks.{ChecksAt, PassesIn, Passes, file_change_of, answer_of}
 use Rattle.pos_totals.specs.Groups.{file_change, group_of}
 use Rattle.pos_totals.specs.Numbering.{lacks, HasPlace, given_after, following, value_after}
-use Rattle.pos_totals.specs.Views.{TotalsView, plain, handles_of, stored, mode_of, view_of, with_handles, AreDistinct, AreHandles, HasHandles, HasDirectory, TurnsOff, LeavesTheirFiles, HasItsFiles}
+use Rattle.pos_totals.specs.Tables.{HandleTable}
+use Rattle.pos_totals.specs.Views.{TotalsView, plain, tag_of, tags_of, handles_of, numbers_of, mode_of, totals_of, view_of, with_tags, AreDistinct, AreHandles, HasHandles, HasDirectory, HasItsFiles, IsSound}
+use Rattle.pos_totals.specs.declared.handles.Tag.{Tag}
+use Rattle.pos_totals.specs.declared.ledger.Ledger.{Ledger}
+use Rattle.pos_totals.specs.declared.request.Checked.{Checked}
+use Rattle.pos_totals.specs.declared.request.Checked.TheVariants as checked
 
--- ---- tables
+-- ---- the table of a change
 
-pub open_table : (rows : List Row) (result : Answer) (Same Done : Type 0) → first_refusal rows ≡ None → Done → Decided rows result Same Done
-open_table rows result Same Done none done = record { outcome = subst (λ (o : Option Answer). MatchOption o Done (λ refusal. (result ≡ refusal) × Same)) (sym none) done }
+-- a change that is let through
+pub passed : (state : State) (ledger : Ledger) (control : ℕ) (change : Change) (made : Checked) → ChecksAt (totals_of state ledger) control change (Ok made) → first_refusal (refusals_of_change layout_1 (totals_of state ledger) control change) ≡ None
+passed StoreOff ledger control change made checks = absurd checks.1
+passed (StoreReady files sequence) ledger control change made checks =
+    ap (λ b. cond b (Some (answer.Refused code.Claimed 0)) (first_refusal (change_rows layout_1 (with_tags ledger.handles.given files) control (spent_by (totals_of (StoreReady files sequence) ledger) control) change))) checks.0
+    ∙ checks.1.unrefused
 
-pub closed_table : (rows : List Row) (result refusal : Answer) (Same Done : Type 0) → first_refusal rows ≡ Some refusal → result ≡ refusal → Same → Decided rows result Same Done
-closed_table rows result refusal Same Done some is same = record { outcome = subst (λ (o : Option Answer). MatchOption o Done (λ r. (result ≡ r) × Same)) (sym some) (is, same) }
+-- outside a transaction nothing is buffered
+pub outside : (transaction : Option (List Change)) → is_some transaction ≡ false → transaction ≡ None
+outside None none = refl
+outside (Some buffer) none = absurd cc
 
--- ---- the view
+-- the group of a change that its table lets through: none where it is buffered; and of one that is refused
+grouped : (totals : Totals) (control : ℕ) (change : Change) (is_buffered : Bool) → first_refusal (refusals_of_change layout_1 totals control change) ≡ None → is_some (transaction_at totals.transactions control) ≡ is_buffered
+    → group_by_change layout_1 totals control change ≡ cond (not is_buffered) (change ∷ []) []
+grouped totals control change is_buffered unrefused is =
+    ap (λ (o : Option Answer). cond (is_none o && not (is_some (transaction_at totals.transactions control))) (change ∷ []) []) unrefused ∙ ap (λ b. cond (not b) (change ∷ []) []) is
 
-pub same_state : (handles : List ℕ) (state : State) (next : ℕ) → HasHandles state handles next → stored (mode_of handles state) ≡ state
-same_state handles StoreOff next sound = refl
-same_state handles (StoreReady files sequence) next sound = ap (λ (fs : List PlainFile). StoreReady fs sequence) (plain_of handles files sound.count)
+no_group : (totals : Totals) (control : ℕ) (change : Change) (refusal : Answer) → first_refusal (refusals_of_change layout_1 totals control change) ≡ Some refusal → group_by_change layout_1 totals control change ≡ []
+no_group totals control change refusal refused = ap (λ (o : Option Answer). cond (is_none o && not (is_some (transaction_at totals.transactions control))) (change ∷ []) []) refused
 
-pub their_files : (handles : List ℕ) (state : State) (next : ℕ) (disk : DiskState) → HasHandles state handles next → LeavesItsFiles state disk → LeavesTheirFiles (mode_of handles state) disk
-their_files handles state next disk sound leaves = subst (λ (s : State). LeavesItsFiles s disk) (sym (same_state handles state next sound)) leaves
+-- what a change does outside a transaction
+pub does_outside : (DiskFailed : Type 0) (old : Totals) (control : ℕ) (change : Change) (result : Answer) (new : Totals) → transaction_at old.transactions control ≡ None
+    → Decided (number_rows old change) result (new ≡ old) (Done DiskFailed old (change ∷ []) (given_by old.next change) result new) → DoesChange DiskFailed old control change result new
+does_outside DiskFailed old control change result new none does =
+    subst (λ (t : Option (List Change)). MatchOption t (Decided (number_rows old change) result (new ≡ old) (Done DiskFailed old (change ∷ []) (given_by old.next change) result new))
+    (λ buffer. (result ≡ answer.Done value.Empty) × (new ≡ with_transaction old control (Some (buffer ++ change ∷ []))))) (sym none) does
 
-never_turns : (mode : Mode) → TurnsOff mode mode → ⊥
-never_turns Off turns = turns
-never_turns (Ready files sequence) turns = turns
-
--- a disk that no call has touched
-pub keeps : {D : Type 0} (bound : Ghosts D) (disk : D) → KeepsDisk bound disk disk
-keeps bound disk = record { size = refl; honest = (λ h. h, λ h. h); later = λ h. omega arith }
-
-left_here : (disk : DiskState) (mode : Mode) (next : ℕ) (changes : List Change) → LeavesTheirFiles mode disk → (bytes : List ℕ) → MayLeave disk bytes → IsBeforeOrAfter disk next mode changes bytes
-left_here disk Off next changes leaves bytes may = may
-left_here disk (Ready files sequence) next [] leaves bytes may = ⊎_elim (λ this. inl this) (λ none. absurd none) (leaves bytes may)
-left_here disk (Ready files sequence) next (change ∷ changes) leaves bytes may = ⊎_elim (λ this. inl this) (λ none. absurd none) (leaves bytes may)
-
--- the files that a store has, with their handles, are sound
-sound_files : (handles : List ℕ) (files : List PlainFile) (next : ℕ) → IsDirectory LAYOUT_1 files → AreHandles handles files next
-    → IsDirectory LAYOUT_1 (plain (with_handles handles files)) × AreDistinct (handles_of (with_handles handles files))
-sound_files handles files next directory sound =
-    (subst (IsDirectory LAYOUT_1) (sym (plain_of handles files sound.count)) directory, subst AreDistinct (sym (handles_in handles files sound.count)) sound.distinct)
-
--- the group of a change that its table lets through, and of one that is refused
-pub grouped : (totals : Totals) (control : ℕ) (change : Change) → first_refusal (refusals_of_change layout_1 totals control change) ≡ None → group_by_change layout_1 totals control change ≡ change ∷ []
-grouped totals control change unrefused = ap (λ (o : Option Answer). cond (is_none o) (change ∷ []) []) unrefused
-
--- the group of a change is one
-pub is_group : (state : State) (handles : List ℕ) (next control : ℕ) (change : Change) → HasDirectory state → HasHandles state handles next
-    → IsOneGroup (record { mode = mode_of handles state; next = next }) (group_by_change layout_1 (record { mode = mode_of handles state; next = next }) control change)
-is_group StoreOff handles next control change directory sound = refl
-is_group (StoreReady files sequence) handles next control change directory sound =
-    let xs = with_handles handles files in
-    let both = sound_files handles files next directory sound in
-    by xs (first_refusal (change_rows layout_1 xs change)) (λ unrefused. makes xs change next both.0 both.1 unrefused)
-  where
-    by : (xs : List File) (o : Option Answer) → (o ≡ None → outcome_of_all LAYOUT_1 (plain xs) (group_of xs (change ∷ [])) ≡ Ok (plain (files_after next xs change)))
-        → IsOneGroup (record { mode = Ready xs sequence; next = next }) (cond (is_none o) (change ∷ []) [])
-    by xs None made = made refl
-    by xs (Some refusal) made = refl
+-- and what it does inside one
+does_inside : (DiskFailed : Type 0) (old : Totals) (control : ℕ) (change : Change) (buffer : List Change) → transaction_at old.transactions control ≡ Some buffer
+    → DoesChange DiskFailed old control change (answer.Done value.Empty) (with_transaction old control (Some (buffer ++ change ∷ [])))
+does_inside DiskFailed old control change buffer some =
+    let result : Answer = answer.Done value.Empty in
+    let new = with_transaction old control (Some (buffer ++ change ∷ [])) in
+    subst (λ (t : Option (List Change)). MatchOption t (Decided (number_rows old change) result (new ≡ old) (Done DiskFailed old (change ∷ []) (given_by old.next change) result new))
+    (λ buffer. (result ≡ answer.Done value.Empty) × (new ≡ with_transaction old control (Some (buffer ++ change ∷ []))))) (sym some) (refl, refl)
 
 -- ---- where nothing changes
 
 module _ {D : Type 0} (bound : Ghosts D) (disk : D) (only : bound.honest disk → (bytes : List ℕ) → (bound.state disk).left_since (bound.state disk).moment bytes → MayLeave (bound.state disk) bytes) where
-  -- a call that leaves everything as it is, whatever its group
-  pub rests : (totals : Totals) (changes : List Change) (outcome : Result Answer NoMemory) → IsOneGroup totals changes → (bound.honest disk → LeavesTheirFiles totals.mode (bound.state disk))
-      → PutsGroup bound (record { disk = disk; totals = totals }) changes outcome (record { disk = disk; totals = totals })
-  rests totals changes outcome group now = record {
-    group = group;
-    untouched = λ none. refl;
-    unchanged = λ refused. inr refl;
-    any_moment = λ h. started (bound.state disk) (IsBeforeOrAfter (bound.state disk) totals.next totals.mode changes)
-        (λ c left. left_here (bound.state disk) totals.mode totals.next changes (now h) c (only h c left));
-    now = now;
-    in_doubt = λ h turns. absurd (never_turns totals.mode turns);
-    kept = keeps bound disk;
-  }
+  -- the group of a change of files that are sound is one
+  pub is_group : (state : State) (ledger : Ledger) (control : ℕ) (change : Change) → HasDirectory state → IsSound state ledger
+      → IsOneGroup (totals_of state ledger) (group_by_change layout_1 (totals_of state ledger) control change)
+  is_group StoreOff ledger control change directory sound = rw (no_groups (is_foreign control ledger.area)) refl
+    where
+      no_groups : (b : Bool) → cond (is_none (cond b (Some (answer.Refused code.Claimed 0)) (Some (answer.Refused code.Failure 0))) && not (is_some (transaction_at ledger.transactions control))) (change ∷ []) [] ≡ []
+      no_groups true = refl
+      no_groups false = refl
+  is_group (StoreReady files sequence) ledger control change directory sound =
+      let xs = with_tags ledger.handles.given files in
+      let both = sound_files ledger.handles.given files ledger.handles.next directory sound.handles in
+      let spent = spent_by (totals_of (StoreReady files sequence) ledger) control in
+      by (is_foreign control ledger.area) (first_refusal (change_rows layout_1 xs control spent change)) (is_some (transaction_at ledger.transactions control))
+      (λ unrefused. makes_group xs control spent change ledger.handles.next both.0 both.1 unrefused)
+    where
+      by : (b : Bool) (o : Option Answer) (inside : Bool) → (o ≡ None → IsOneGroup (totals_of (StoreReady files sequence) ledger) (change ∷ []))
+          → IsOneGroup (totals_of (StoreReady files sequence) ledger) (cond (is_none (cond b (Some (answer.Refused code.Claimed 0)) o) && not inside) (change ∷ []) [])
+      by true o inside made = refl
+      by false (Some refusal) inside made = refl
+      by false None true made = refl
+      by false None false made = made refl
 
   -- a change that changes nothing
-  pub stays : (state : State) (handles : List ℕ) (next control : ℕ) (change : Change) (outcome : Result Answer NoMemory) → HasDirectory state → HasHandles state handles next → (bound.honest disk → LeavesItsFiles state (bound.state disk))
-      → ((DiskFailed : Type 0) → Changed layout_1 DiskFailed (record { mode = mode_of handles state; next = next }) control change outcome (record { mode = mode_of handles state; next = next }))
-      → Changes bound (view_of (record { disk = disk; state = state }) handles next) control change outcome (view_of (record { disk = disk; state = state }) handles next)
-  stays state handles next control change outcome directory sound leaves changed = record {
+  pub stays : (state : State) (ledger : Ledger) (control : ℕ) (change : Change) (outcome : Result Answer NoMemory) → HasDirectory state → IsSound state ledger → (bound.honest disk → LeavesItsFiles state (bound.state disk))
+      → ((DiskFailed : Type 0) → Changed layout_1 DiskFailed (totals_of state ledger) control change outcome (totals_of state ledger))
+      → Changes bound (view_of (record { disk = disk; state = state }) ledger) control change outcome (view_of (record { disk = disk; state = state }) ledger)
+  stays state ledger control change outcome directory sound leaves changed = record {
     answer = changed (HasFailed bound disk disk);
-    disk = rests (record { mode = mode_of handles state; next = next }) (group_by_change layout_1 (record { mode = mode_of handles state; next = next }) control change) outcome
-        (is_group state handles next control change directory sound)
-        (λ h. their_files handles state next (bound.state disk) sound (leaves h));
+    disk = rests bound disk only (totals_of state ledger) (group_by_change layout_1 (totals_of state ledger) control change) outcome
+        (is_group state ledger control change directory sound)
+        (λ h. their_files ledger.handles.given state ledger.handles.next (bound.state disk) sound.handles (leaves h));
   }
 
-refusal_at : (mode : Mode) (next control : ℕ) (change : Change) (refusal : Answer) → ChecksAt mode change (Err refusal) → first_refusal (refusals_of_change layout_1 (record { mode = mode; next = next }) control change) ≡ Some refusal
-refusal_at Off next control change refusal checks = ap (λ (a : Answer). Some a) (sym checks)
-refusal_at (Ready files sequence) next control change refusal checks = checks
-
 -- the answer of a change that its table refuses
-pub refused : (mode : Mode) (next control : ℕ) (change : Change) (refusal : Answer) → ChecksAt mode change (Err refusal)
-    → (DiskFailed : Type 0) → Changed layout_1 DiskFailed (record { mode = mode; next = next }) control change (Ok refusal) (record { mode = mode; next = next })
-refused mode next control change refusal checks DiskFailed =
-    let old : Totals = record { mode = mode; next = next } in
-    closed_table (refusals_of_change layout_1 old control change) refusal refusal (old ≡ old) _ (refusal_at mode next control change refusal checks) refl refl
-
--- ---- a change that its table lets through
-
-module _ (files : List PlainFile) (sequence : ℕ) (handles : List ℕ) (next control : ℕ) (change : Change) where
-  abbrev before : Totals
-  before = record { mode = Ready (with_handles handles files) sequence; next = next }
-
-  abbrev Passes : Type 0
-  Passes = first_refusal (change_rows layout_1 (with_handles handles files) change) ≡ None
-
-  abbrev after : List File
-  after = files_after next (with_handles handles files) change
-
-  -- the answer of a change for which a number has run out
-  pub run_out : Passes → (nat_eq sequence last_number || (is_create change && nat_eq next last_number)) ≡ true
-      → (DiskFailed : Type 0) → Changed layout_1 DiskFailed before control change (Ok (answer.Refused code.Failure 0)) before
-  run_out unrefused out DiskFailed =
-      open_table (refusals_of_change layout_1 before control change) _ _ _ unrefused
-      (closed_table (number_rows before change) _ (answer.Refused code.Failure 0) _ _ (ap (λ b. cond b (Some (answer.Refused code.Failure 0)) None) out) refl refl)
-
-  -- what the group makes of the store's files
-  made : IsDirectory LAYOUT_1 files → AreHandles handles files next → Passes → outcome_of_all LAYOUT_1 files (group_of (with_handles handles files) (change ∷ [])) ≡ Ok (plain after)
-  made directory sound unrefused =
-      let both = sound_files handles files next directory sound in
-      subst (λ (fs : List PlainFile). outcome_of_all LAYOUT_1 fs (group_of (with_handles handles files) (change ∷ [])) ≡ Ok (plain after)) (plain_of handles files sound.count)
-      (makes (with_handles handles files) change next both.0 both.1 unrefused)
-
-  -- the candidates of the call are those of the store's commit
-  same_candidates : IsDirectory LAYOUT_1 files → AreHandles handles files next → Passes → store.before_or_after files sequence (outcome_of_all LAYOUT_1 files (group_of (with_handles handles files) (change ∷ []))) ≡ before_or_after next before.mode (change ∷ [])
-  same_candidates directory sound unrefused =
-      ap (store.before_or_after files sequence) (made directory sound unrefused)
-      ∙ ap (λ (fs : List PlainFile). Stands fs sequence ∷ Stands (plain after) (sequence + 1) ∷ []) (sym (plain_of handles files sound.count))
-
-  -- what the store's commit answered
-  put_down : (result : Result (Unit {0}) StoreFault) (new : State) → IsDirectory LAYOUT_1 files → AreHandles handles files next → Passes
-      → store.Answers (StoreReady files sequence) (group_of (with_handles handles files) (change ∷ [])) result new → PutsDown sequence (plain after) (StoreReady files sequence) result new
-  put_down result new directory sound unrefused answers =
-      subst (λ (o : Result (List PlainFile) DirectoryFault). MatchResult o (λ next. PutsDown sequence next (StoreReady files sequence) result new) (λ refusal. (result ≡ Err (fault.Refused refusal)) × (new ≡ StoreReady files sequence)))
-      (made directory sound unrefused) answers
-
-abbrev sequence_of : Mode → ℕ
-sequence_of Off = 0
-sequence_of (Ready files sequence) = sequence
-
--- no number has run out
-numbers_left : (sequence next : ℕ) (change : Change) → ¬ (IsLast sequence) → (is_create change && nat_eq next last_number) ≡ false → (nat_eq sequence last_number || (is_create change && nat_eq next last_number)) ≡ false
-numbers_left sequence next change more left = or_from _ _ (ne_eqb sequence last_number (λ same. more (omega (arith, same)))) left
-
-module _ {D : Type 0} (bound : Ghosts D) (disk : D) (only : bound.honest disk → (bytes : List ℕ) → (bound.state disk).left_since (bound.state disk).moment bytes → MayLeave (bound.state disk) bytes)
-    (files : List PlainFile) (sequence : ℕ) (handles : List ℕ) (next control : ℕ) (change : Change)
-    (directory : IsDirectory LAYOUT_1 files) (sound : AreHandles handles files next) (unrefused : first_refusal (change_rows layout_1 (with_handles handles files) change) ≡ None) (leaves : bound.honest disk → LeavesItsFiles (StoreReady files sequence) (bound.state disk)) where
-  abbrev old_store : StoreView D
-  old_store = record { disk = disk; state = StoreReady files sequence }
-
-  abbrev group : List FileChange
-  group = group_of (with_handles handles files) (change ∷ [])
-
-  abbrev old_view : TotalsView D
-  old_view = view_of old_store handles next
-
-  -- a change that the store has put down
-  done : (new : StoreView D) → Commits bound old_store group (Ok tt) new → (is_create change && nat_eq next last_number) ≡ false
-      → Changes bound old_view control change (Ok (answer.Done (given_by next change))) (record { disk = new.disk; totals = after_changes old_view.totals (change ∷ []) (sequence + 1) })
-  done new commits left =
-      let down = put_down files sequence handles next control change (Ok tt) new.state directory sound unrefused commits.answer in
-      let candidates = same_candidates files sequence handles next control change directory sound unrefused in
-      record {
-        answer = open_table (refusals_of_change layout_1 old_view.totals control change) _ _ _ unrefused
-            (open_table (number_rows old_view.totals change) _ _ _ (ap (λ b. cond b (Some (answer.Refused code.Failure 0)) None) (numbers_left sequence next change down.0 left))
-            (inl (refl, record { sequence = sequence + 1; follows = inl refl; totals = refl })));
-        disk = rw (grouped old_view.totals control change unrefused) (record {
-          group = makes (with_handles handles files) change next (sound_files handles files next directory sound).0 (sound_files handles files next directory sound).1 unrefused;
-          untouched = λ none. absurd cc;
-          unchanged = λ refused. absurd (refused tt);
-          any_moment = λ h. weaker (bound.state disk) (bound.state new.disk) _ _ (λ c among. subst (λ (cs : List Standing). StandsForOneOf cs c) candidates among) (commits.any_moment h);
-          now = λ h. subst (λ (s : State). LeavesItsFiles s (bound.state new.disk)) down.1 (commits.now h);
-          in_doubt = λ h turns. absurd turns;
-          kept = commits.keeps;
-        });
-      }
-
-  -- the totals after it, by the store and the handles
-  pub after_done : (new : StoreView D) → Commits bound old_store group (Ok tt) new → (is_create change && nat_eq next last_number) ≡ false
-      → Changes bound old_view control change (Ok (answer.Done (value_after next (file_change (with_handles handles files) change))))
-      (view_of new (given_after handles next (file_change (with_handles handles files) change)) (following next (file_change (with_handles handles files) change)))
-  after_done new commits left =
-      let xs = with_handles handles files in
-      let made = file_change xs change in
-      let down = put_down files sequence handles next control change (Ok tt) new.state directory sound unrefused commits.answer in
-      let both = sound_files handles files next directory sound in
-      let given : given_after handles next made ≡ handles_of (files_after next xs change) = ap (λ (hs : List ℕ). given_after hs next made) (sym (handles_in handles files sound.count)) ∙ given_is xs change next both.0.distinct unrefused in
-      rw (down.1, given, value_is xs change next, next_is xs change next, called_again (files_after next xs change)) (done new commits left)
-
-  pub sound_after : (new : StoreView D) → Commits bound old_store group (Ok tt) new
-      → HasHandles new.state (given_after handles next (file_change (with_handles handles files) change)) (following next (file_change (with_handles handles files) change))
-  sound_after new commits =
-      let xs = with_handles handles files in
-      let made = file_change xs change in
-      let down = put_down files sequence handles next control change (Ok tt) new.state directory sound unrefused commits.answer in
-      let both = sound_files handles files next directory sound in
-      let old : AreHandles (handles_of xs) (plain xs) next = rw (handles_in handles files sound.count, plain_of handles files sound.count) sound in
-      rw down.1 (subst (λ (hs : List ℕ). AreHandles (given_after hs next made) (plain (files_after next xs change)) (following next made)) (handles_in handles files sound.count)
-      (are_after xs change next both.0.distinct old unrefused))
-
-  -- a change in which the store met a fault
-  pub failed : (new : StoreView D) (cause : StoreFault) → (cause ≡ fault.NoMemory → ⊥) → (is_create change && nat_eq next last_number) ≡ false → Commits bound old_store group (Err cause) new
-      → Changes bound old_view control change (Ok (answer.Refused code.Failure 0)) (view_of new handles next) × HasHandles new.state handles next
-  failed new fault.Off other left commits = absurd (put_down files sequence handles next control change (Err fault.Off) new.state directory sound unrefused commits.answer)
-  failed new (fault.Refused refusal) other left commits = absurd (put_down files sequence handles next control change (Err (fault.Refused refusal)) new.state directory sound unrefused commits.answer)
-  failed new fault.Unformatted other left commits = absurd (put_down files sequence handles next control change (Err fault.Unformatted) new.state directory sound unrefused commits.answer)
-  failed new fault.Damaged other left commits = absurd (put_down files sequence handles next control change (Err fault.Damaged) new.state directory sound unrefused commits.answer)
-  failed new fault.NoMemory other left commits = absurd (other refl)
-  failed new fault.Exhausted other left commits =
-      let down = put_down files sequence handles next control change (Err fault.Exhausted) new.state directory sound unrefused commits.answer in
-      let same : new ≡ old_store = ⊎_elim (λ is. absurd cc) (λ e. e) (commits.unchanged refl) in
-      let last : nat_eq sequence last_number ≡ true = eq-eqb sequence last_number (let l = down.0 in omega (arith, l)) in
-      rw same (
-        stays bound disk only (StoreReady files sequence) handles next control change _ directory sound leaves
-            (run_out files sequence handles next control change unrefused (ap (λ b. b || (is_create change && nat_eq next last_number)) last)),
-        sound,
-      )
-  failed new fault.Device other left commits =
-      let down = put_down files sequence handles next control change (Err fault.Device) new.state directory sound unrefused commits.answer in
-      let candidates = same_candidates files sequence handles next control change directory sound unrefused in
-      rw down.1 (
-        record {
-          answer = open_table (refusals_of_change layout_1 old_view.totals control change) _ _ _ unrefused
-              (open_table (number_rows old_view.totals change) _ _ _ (ap (λ b. cond b (Some (answer.Refused code.Failure 0)) None) (numbers_left sequence next change down.0 left))
-              (inr (refl, λ h. commits.device h refl, refl)));
-          disk = rw (grouped old_view.totals control change unrefused) (record {
-            group = makes (with_handles handles files) change next (sound_files handles files next directory sound).0 (sound_files handles files next directory sound).1 unrefused;
-            untouched = λ none. absurd cc;
-            unchanged = λ refused. inl tt;
-            any_moment = λ h. weaker (bound.state disk) (bound.state new.disk) _ _ (λ c among. subst (λ (cs : List Standing). StandsForOneOf cs c) candidates among) (commits.any_moment h);
-            now = λ h. tt;
-            in_doubt = λ h turns bytes may. subst (λ (cs : List Standing). StandsForOneOf cs bytes) candidates (commits.in_doubt h refl bytes may);
-            kept = commits.keeps;
-          });
-        },
-        tt,
-      )
-
-  -- a change that found no memory in the store
-  pub found_none : (new : StoreView D) → Commits bound old_store group (Err fault.NoMemory) new → Changes bound old_view control change (Err (record {})) (view_of new handles next) × HasHandles new.state handles next
-  found_none new commits =
-      let same : new ≡ old_store = ⊎_elim (λ is. absurd cc) (λ e. e) (commits.unchanged refl) in
-      rw same (stays bound disk only (StoreReady files sequence) handles next control change _ directory sound leaves (λ DiskFailed. (unrefused, refl)), sound)
-
--- ---- the same for a store in any state, by what the checks found
-
--- a change that is let through
-passed : (mode : Mode) (next control : ℕ) (change : Change) (checked : Checked) → ChecksAt mode change (Ok checked) → first_refusal (refusals_of_change layout_1 (record { mode = mode; next = next }) control change) ≡ None
-passed Off next control change checked checks = absurd checks
-passed (Ready files sequence) next control change checked checks = checks.unrefused
+pub refused : (old : Totals) (control : ℕ) (change : Change) (refusal : Answer) → ChecksAt old control change (Err refusal)
+    → (DiskFailed : Type 0) → Changed layout_1 DiskFailed old control change (Ok refusal) old
+refused old control change refusal checks DiskFailed = closed_table (refusals_of_change layout_1 old control change) refusal refusal (old ≡ old) _ checks refl refl
 
 -- the answer of a change that finds no memory
-pub wants : (mode : Mode) (next control : ℕ) (change : Change) (checked : Checked) → ChecksAt mode change (Ok checked)
-    → (DiskFailed : Type 0) → Changed layout_1 DiskFailed (record { mode = mode; next = next }) control change (Err (record {})) (record { mode = mode; next = next })
-wants mode next control change checked checks DiskFailed = (passed mode next control change checked checks, refl)
+pub wants : (state : State) (ledger : Ledger) (control : ℕ) (change : Change) (made : Checked) → ChecksAt (totals_of state ledger) control change (Ok made) → (want : NoMemory)
+    → (DiskFailed : Type 0) → Changed layout_1 DiskFailed (totals_of state ledger) control change (Err want) (totals_of state ledger)
+wants state ledger control change made checks want DiskFailed = (passed state ledger control change made checks, refl)
+
+-- ---- a change that is buffered
+
+-- in a transaction nothing but a Write or a SetAll is let through
+may_be_buffered : (files : List File) (control spent : ℕ) (change : Change) (made : Checked) → Passes files control (Some spent) change made → is_bufferable made ≡ true
+may_be_buffered files control spent (Create name size) made passes = absurd (let r = passes.unrefused in cc)
+may_be_buffered files control spent (Delete name) made passes = absurd (let r = passes.unrefused in cc)
+may_be_buffered files control spent (Rename handle name) made passes = absurd (let r = passes.unrefused in cc)
+may_be_buffered files control spent (Write handle offset bytes) (checked.Create name size) passes = absurd (let m = passes.made in cc)
+may_be_buffered files control spent (Write handle offset bytes) (checked.Delete index) passes = absurd (let m = passes.made in cc)
+may_be_buffered files control spent (Write handle offset bytes) (checked.Rename index name) passes = absurd (let m = passes.made in cc)
+may_be_buffered files control spent (Write handle offset bytes) (checked.Write index number place text) passes = refl
+may_be_buffered files control spent (Write handle offset bytes) (checked.SetAll index number n) passes = refl
+may_be_buffered files control spent (SetAll handle n) (checked.Create name size) passes = absurd (let m = passes.made in cc)
+may_be_buffered files control spent (SetAll handle n) (checked.Delete index) passes = absurd (let m = passes.made in cc)
+may_be_buffered files control spent (SetAll handle n) (checked.Rename index name) passes = absurd (let m = passes.made in cc)
+may_be_buffered files control spent (SetAll handle n) (checked.Write index number place text) passes = refl
+may_be_buffered files control spent (SetAll handle n) (checked.SetAll index number m) passes = refl
+
+-- it costs what was asked for
+cost_is : (change : Change) (made : Checked) → is_bufferable made ≡ true → IsAsked change made → cost_of change ≡ cost_of_checked made
+cost_is change (checked.Create name size) may asked = absurd cc
+cost_is change (checked.Delete index) may asked = absurd cc
+cost_is change (checked.Rename index name) may asked = absurd cc
+cost_is change (checked.Write index handle offset bytes) may asked = ap cost_of asked
+cost_is change (checked.SetAll index handle n) may asked = ap cost_of asked
+
+-- and that is left
+is_left : (files : List File) (control spent : ℕ) (change : Change) → first_refusal (change_rows layout_1 files control (Some spent) change) ≡ None → spent + cost_of change ≤ 8192
+is_left files control spent (Create name size) unrefused = absurd cc
+is_left files control spent (Delete name) unrefused = absurd cc
+is_left files control spent (Rename handle name) unrefused = absurd cc
+is_left files control spent (Write handle offset bytes) unrefused =
+    let fits = not_refused (not (is_range_of (find (is_called handle) files) offset (pos (length bytes)))) _ _ unrefused in
+    let own = not_refused (is_foreign_file control (find (is_called handle) files)) _ _ fits.1 in
+    let left = not_refused (is_over layout_1 (Some spent) (cost_of (Write handle offset bytes))) _ _ own.1 in
+    leb-true _ _ (not-false (nat_le (spent + cost_of (Write handle offset bytes)) 8192) left.0)
+is_left files control spent (SetAll handle n) unrefused =
+    let good = not_refused (not (has_file (is_called handle) files && is_up_to 255 n)) _ _ unrefused in
+    let own = not_refused (is_foreign_file control (find (is_called handle) files)) _ _ good.1 in
+    let left = not_refused (is_over layout_1 (Some spent) (cost_of (SetAll handle n))) _ _ own.1 in
+    leb-true _ _ (not-false (nat_le (spent + cost_of (SetAll handle n)) 8192) left.0)
+
+-- the change may be buffered
+pub may_buffer : (state : State) (ledger : Ledger) (control : ℕ) (change : Change) (made : Checked) → ChecksAt (totals_of state ledger) control change (Ok made) → is_some (transaction_at ledger.transactions control) ≡ true → MayBuffer ledger.transactions control made
+may_buffer StoreOff ledger control change made checks inside = absurd checks.1
+may_buffer (StoreReady files sequence) ledger control change made checks inside =
+    let both = by (transaction_at ledger.transactions control) inside checks.1 in record { bufferable = both.0; left = both.1 }
+  where
+    by : (o : Option (List Change)) → is_some o ≡ true → Passes (with_tags ledger.handles.given files) control (option_map cost_of_all o) change made → (is_bufferable made ≡ true) × HasLeft o (cost_of_checked made)
+    by None some passes = absurd cc
+    by (Some buffer) some passes =
+        let may = may_be_buffered (with_tags ledger.handles.given files) control (cost_of_all buffer) change made passes in
+        (may, let left = is_left (with_tags ledger.handles.given files) control (cost_of_all buffer) change passes.unrefused in omega (arith, left, cost_is change made may passes.asked))
+
+-- a buffered change is the one that was asked for
+same_asked : (change other : Change) (made : Checked) → is_bufferable made ≡ true → IsAsked change made → IsAsked other made → other ≡ change
+same_asked change other (checked.Create name size) may asked again = absurd cc
+same_asked change other (checked.Delete index) may asked again = absurd cc
+same_asked change other (checked.Rename index name) may asked again = absurd cc
+same_asked change other (checked.Write index handle offset bytes) may asked again = again ∙ sym asked
+same_asked change other (checked.SetAll index handle n) may asked again = again ∙ sym asked
+
+inside_some : (transaction : Option (List Change)) → is_some transaction ≡ true → (buffer : List Change) × (transaction ≡ Some buffer)
+inside_some None some = absurd cc
+inside_some (Some buffer) some = (buffer, refl)
+
+all_one_more : (P : Change → Type 0) (changes : List Change) (change : Change) → AllByRecursion P changes → P change → AllByRecursion P (changes ++ change ∷ [])
+all_one_more P [] change all one = (one, tt)
+all_one_more P (first ∷ changes) change all one = (all.0, all_one_more P changes change all.1 one)
+
+-- the handle of a file that was found was given
+given_below : (handle : ℤ) (files : List File) (next : ℕ) → AllByRecursion (λ h. h < next) (handles_of files) → AllByRecursion (λ file. is_called handle file ≡ true → IsGiven next handle) files
+given_below handle [] next below = tt
+given_below (pos h) (first ∷ files) next below = (λ called. let same = eqb-true first.handle h called in let lt = below.0 in omega (arith, same, lt), given_below (pos h) files next below.1)
+given_below (negsuc n) (first ∷ files) next below = (λ called. absurd cc, given_below (negsuc n) files next below.1)
+
+-- a change that is let through and bufferable is what may be buffered
+is_buffered : (files : List File) (control : ℕ) (spent : Option ℕ) (change : Change) (next : ℕ) → AreDistinct (handles_of files) → AllByRecursion (λ h. h < next) (handles_of files) → first_refusal (change_rows layout_1 files control spent change) ≡ None → is_some spent ≡ true
+    → IsBuffered files next change
+is_buffered files control None change next distinct below unrefused inside = absurd cc
+is_buffered files control (Some spent) (Create name size) next distinct below unrefused inside = absurd cc
+is_buffered files control (Some spent) (Delete name) next distinct below unrefused inside = absurd cc
+is_buffered files control (Some spent) (Rename handle name) next distinct below unrefused inside = absurd cc
+is_buffered files control (Some spent) (Write handle offset bytes) next distinct below unrefused inside =
+    let fits = range_fits files control (Some spent) handle offset bytes unrefused in
+    let found = ranged (find (is_called handle) files) offset (pos (length bytes)) fits in
+    (found_has (is_called handle) (λ file. IsGiven next handle) files found.0 (given_below handle files next below) found.1, all_fit files handle offset (length bytes) distinct fits)
+is_buffered files control (Some spent) (SetAll handle n) next distinct below unrefused inside = (value_fits files control (Some spent) handle n unrefused).1
+
+module _ {D : Type 0} (bound : Ghosts D) (disk : D) (only : bound.honest disk → (bytes : List ℕ) → (bound.state disk).left_since (bound.state disk).moment bytes → MayLeave (bound.state disk) bytes)
+    (files : List PlainFile) (sequence : ℕ) (ledger : Ledger) (control : ℕ) (change : Change) (made : Checked)
+    (checks : ChecksAt (totals_of (StoreReady files sequence) ledger) control change (Ok made)) (directory : IsDirectory LAYOUT_1 files) (sound : IsSound (StoreReady files sequence) ledger)
+    (leaves : bound.honest disk → LeavesItsFiles (StoreReady files sequence) (bound.state disk)) where
+  abbrev before : Totals
+  before = totals_of (StoreReady files sequence) ledger
+
+  abbrev old_view : TotalsView D
+  old_view = view_of (record { disk = disk; state = StoreReady files sequence }) ledger
+
+  abbrev with_change : List Change → Ledger
+  with_change buffer = record ledger { transactions = slice_set ledger.transactions control (Some (buffer ++ change ∷ [])) }
+
+  -- the change is buffered
+  pub is_added : (buffer : List Change) → transaction_at ledger.transactions control ≡ Some buffer
+      → Changes bound old_view control change (Ok (answer.Done value.Empty)) (view_of (record { disk = disk; state = StoreReady files sequence }) (with_change buffer))
+      × IsSound (StoreReady files sequence) (with_change buffer)
+  is_added buffer some =
+      let xs = with_tags ledger.handles.given files in
+      let unrefused = passed (StoreReady files sequence) ledger control change made checks in
+      let none : group_by_change layout_1 before control change ≡ [] = grouped before control change true unrefused (ap is_some some) in
+      let both = sound_files ledger.handles.given files ledger.handles.next directory sound.handles in (
+        record {
+          answer = open_table (refusals_of_change layout_1 before control change) _ _ _ unrefused (does_inside _ before control change buffer some);
+          disk = rw none (idles bound disk only before (totals_of (StoreReady files sequence) (with_change buffer)) [] _ refl refl (λ refused. absurd (refused tt))
+              (λ h. their_files ledger.handles.given (StoreReady files sequence) ledger.handles.next (bound.state disk) sound.handles (leaves h)));
+        },
+        record {
+          handles = sound.handles;
+          buffers = held_with (Ready xs sequence) ledger.handles.next ledger.transactions control (Some (buffer ++ change ∷ [])) sound.buffers
+              (all_one_more (IsBuffered xs ledger.handles.next) buffer change (held_at (Ready xs sequence) ledger.handles.next ledger.transactions control buffer sound.buffers some)
+              (is_buffered xs control (spent_by before control) change ledger.handles.next both.1 (subst (AllByRecursion (λ h. h < ledger.handles.next)) (sym (numbers_in ledger.handles.given files sound.handles.count)) sound.handles.below) checks.1.unrefused
+              (ap (λ (t : Option (List Change)). is_some (option_map cost_of_all t)) some)));
+        },
+      )
+
+  pub buffers : (outcome : Result Answer NoMemory) (new : List (Option (List Change))) → is_some (transaction_at ledger.transactions control) ≡ true → Buffers ledger.transactions control made outcome new
+      → Changes bound old_view control change outcome (view_of (record { disk = disk; state = StoreReady files sequence }) (record ledger { transactions = new })) × IsSound (StoreReady files sequence) (record ledger { transactions = new })
+  buffers (Err want) new inside same = rw same (
+    stays bound disk only (StoreReady files sequence) ledger control change (Err want) directory sound leaves (wants (StoreReady files sequence) ledger control change made checks want),
+    sound,
+  )
+  buffers (Ok result) new inside did =
+      let some = inside_some (transaction_at ledger.transactions control) inside in
+      let may = may_buffer (StoreReady files sequence) ledger control change made checks inside in
+      let is : new ≡ (with_change some.0).transactions =
+      did.1.added ∙ ap (with_buffered ledger.transactions control) (same_asked change did.1.change made may.bufferable checks.1.asked did.1.asked)
+      ∙ ap (λ (t : Option (List Change)). slice_set ledger.transactions control (option_map (λ b. b ++ change ∷ []) t)) some.1 in
+      rw (is, did.0) (is_added some.0 some.1)
+
+-- ---- a change outside a transaction
 
 lacks_is : (files : List File) (change : Change) (next : ℕ) → lacks next (file_change files change) ≡ (is_create change && nat_eq next last_number)
 lacks_is files (Create name size) next = refl
@@ -297,100 +275,221 @@ lacks_is files (Rename handle name) next = refl
 lacks_is files (Write handle offset bytes) next = refl
 lacks_is files (SetAll handle n) next = refl
 
-lacks_so : (files : List File) (change : Change) (next : ℕ) (checked : Checked) (b : Bool) → file_change files change ≡ file_change_of checked → lacks next (file_change_of checked) ≡ b → (is_create change && nat_eq next last_number) ≡ b
-lacks_so files change next checked b same lacking = sym (lacks_is files change next) ∙ ap (lacks next) same ∙ lacking
+lacks_so : (files : List File) (change : Change) (next : ℕ) (made : Checked) (b : Bool) → file_change files change ≡ file_change_of made → lacks next (file_change_of made) ≡ b → (is_create change && nat_eq next last_number) ≡ b
+lacks_so files change next made b same lacking = sym (lacks_is files change next) ∙ ap (lacks next) same ∙ lacking
 
 or_right : (x y : Bool) → y ≡ true → (x || y) ≡ true
 or_right true y e = refl
 or_right false y e = e
 
--- the answer of a change that has no handle
-pub lacking : (state : State) (handles : List ℕ) (next control : ℕ) (change : Change) (checked : Checked) → ChecksAt (mode_of handles state) change (Ok checked) → lacks next (file_change_of checked) ≡ true
-    → (DiskFailed : Type 0) → Changed layout_1 DiskFailed (record { mode = mode_of handles state; next = next }) control change (Ok (answer.Refused code.Failure 0)) (record { mode = mode_of handles state; next = next })
-lacking StoreOff handles next control change checked checks out DiskFailed = absurd checks
-lacking (StoreReady files sequence) handles next control change checked checks out DiskFailed =
-    run_out files sequence handles next control change checks.unrefused (or_right (nat_eq sequence last_number) _ (lacks_so (with_handles handles files) change next checked true checks.made out)) DiskFailed
+-- no number has run out
+numbers_left : (sequence next : ℕ) (change : Change) → ¬ (IsLast sequence) → (is_create change && nat_eq next last_number) ≡ false → (nat_eq sequence last_number || (is_create change && nat_eq next last_number)) ≡ false
+numbers_left sequence next change more left = or_from _ _ (ne_eqb sequence last_number (λ same. more (omega (arith, same)))) left
 
--- the handles have a place for what the change does to them
-has_place : (files : List File) (change : Change) (next : ℕ) → first_refusal (change_rows layout_1 files change) ≡ None → (is_create change && nat_eq next last_number) ≡ false → next < 2 ^ 64 → HasPlace (handles_of files) next (file_change files change)
-has_place files (Create name size) next unrefused left small =
-    let good = not_refused (not (is_name name && is_natural size)) _ _ unrefused in
+-- the answer of a change for which a number has run out
+run_out : (files : List PlainFile) (sequence : ℕ) (ledger : Ledger) (control : ℕ) (change : Change) → first_refusal (refusals_of_change layout_1 (totals_of (StoreReady files sequence) ledger) control change) ≡ None → transaction_at ledger.transactions control ≡ None
+    → (nat_eq sequence last_number || (is_create change && nat_eq ledger.handles.next last_number)) ≡ true
+    → (DiskFailed : Type 0) → Changed layout_1 DiskFailed (totals_of (StoreReady files sequence) ledger) control change (Ok (answer.Refused code.Failure 0)) (totals_of (StoreReady files sequence) ledger)
+run_out files sequence ledger control change unrefused none out DiskFailed =
+    let before = totals_of (StoreReady files sequence) ledger in
+    open_table (refusals_of_change layout_1 before control change) _ _ _ unrefused
+    (does_outside DiskFailed before control change _ before none
+    (closed_table (number_rows before change) _ (answer.Refused code.Failure 0) _ _ (ap (λ b. cond b (Some (answer.Refused code.Failure 0)) None) out) refl refl))
+
+-- the answer of a change that has no handle
+pub lacking : (state : State) (ledger : Ledger) (control : ℕ) (change : Change) (made : Checked) → ChecksAt (totals_of state ledger) control change (Ok made) → is_some (transaction_at ledger.transactions control) ≡ false
+    → lacks ledger.handles.next (file_change_of made) ≡ true
+    → (DiskFailed : Type 0) → Changed layout_1 DiskFailed (totals_of state ledger) control change (Ok (answer.Refused code.Failure 0)) (totals_of state ledger)
+lacking StoreOff ledger control change made checks free out DiskFailed = absurd checks.1
+lacking (StoreReady files sequence) ledger control change made checks free out DiskFailed =
+    run_out files sequence ledger control change (passed (StoreReady files sequence) ledger control change made checks) (outside (transaction_at ledger.transactions control) free)
+    (or_right (nat_eq sequence last_number) _ (lacks_so (with_tags ledger.handles.given files) change ledger.handles.next made true checks.1.made out)) DiskFailed
+
+-- the tags have a place for what the change does to them
+has_place : (files : List File) (control : ℕ) (spent : Option ℕ) (change : Change) (next : ℕ) → first_refusal (change_rows layout_1 files control spent change) ≡ None → (is_create change && nat_eq next last_number) ≡ false → next < 2 ^ 64
+    → HasPlace (tags_of files) next (file_change files change)
+has_place files control spent (Create name size) next unrefused left small =
+    let good = not_refused (is_some spent || not (is_name name && is_natural size)) _ _ unrefused in
     let free = not_refused (has_file (is_named name) files) _ _ good.1 in
     let room = not_refused (not (has_room layout_1 files size)) _ _ free.1 in
     let few = ltb-true (length files) 64 (and_parts (is_up_to (free_data layout_1 files) size) (nat_lt (length files) 64) (not-false (has_room layout_1 files size) room.0)).1 in
     let other = eqb-false next last_number left in
-    (omega (arith, length-map files (λ file. file.handle), few), omega (arith, other, small))
-has_place files (Delete name) next unrefused left small =
-    let there = not_refused (not (has_file (is_named name) files)) _ _ unrefused in
-    let found = some_file (find (is_named name) files) (not-false (has_file (is_named name) files) there.0) in
+    (omega (arith, length-map files tag_of, few), omega (arith, other, small))
+has_place files control spent (Delete name) next unrefused left small =
+    let found = deleted files control spent name unrefused in
     let inside = found_inside (is_named name) files found.0 found.1 in
-    omega (arith, length-map files (λ file. file.handle), inside)
-has_place files (Rename handle name) next unrefused left small = tt
-has_place files (Write handle offset bytes) next unrefused left small = tt
-has_place files (SetAll handle n) next unrefused left small = tt
+    omega (arith, length-map files tag_of, inside)
+has_place files control spent (Rename handle name) next unrefused left small = tt
+has_place files control spent (Write handle offset bytes) next unrefused left small = tt
+has_place files control spent (SetAll handle n) next unrefused left small = tt
 
-pub place : (state : State) (handles : List ℕ) (next : ℕ) (change : Change) (checked : Checked) → HasHandles state handles next → ChecksAt (mode_of handles state) change (Ok checked) → lacks next (file_change_of checked) ≡ false → next < 2 ^ 64
-    → HasPlace handles next (file_change_of checked)
-place StoreOff handles next change checked sound checks left small = absurd checks
-place (StoreReady files sequence) handles next change checked sound checks left small =
-    let xs = with_handles handles files in
-    subst (λ (hs : List ℕ). HasPlace hs next (file_change_of checked)) (handles_in handles files sound.count)
-    (subst (λ (made : FileChange). HasPlace (handles_of xs) next made) checks.made (has_place xs change next checks.unrefused (lacks_so xs change next checked false checks.made left) small))
+pub place : (state : State) (ledger : Ledger) (control : ℕ) (change : Change) (made : Checked) → IsSound state ledger → ChecksAt (totals_of state ledger) control change (Ok made) → lacks ledger.handles.next (file_change_of made) ≡ false → ledger.handles.next < 2 ^ 64
+    → HasPlace ledger.handles.given ledger.handles.next (file_change_of made)
+place StoreOff ledger control change made sound checks left small = absurd checks.1
+place (StoreReady files sequence) ledger control change made sound checks left small =
+    let xs = with_tags ledger.handles.given files in
+    subst (λ (tags : List Tag). HasPlace tags ledger.handles.next (file_change_of made)) (tags_in ledger.handles.given files sound.handles.count)
+    (subst (λ (file : FileChange). HasPlace (tags_of xs) ledger.handles.next file) checks.1.made
+    (has_place xs control (spent_by (totals_of (StoreReady files sequence) ledger) control) change ledger.handles.next checks.1.unrefused (lacks_so xs change ledger.handles.next made false checks.1.made left) small))
+
+-- the ledger after a change that was done
+abbrev pub kept_ledger : Ledger → FileChange → Ledger
+kept_ledger ledger made = record ledger { handles = record { given = given_after ledger.handles.given ledger.handles.next made; next = following ledger.handles.next made } }
+
+-- the ledger after a call whose group the store refused
+abbrev pub refused_ledger : Ledger → StoreFault → Ledger
+refused_ledger ledger cause = record ledger { transactions = transactions_after cause ledger.transactions }
 
 module _ {D : Type 0} (bound : Ghosts D) (disk : D) (only : bound.honest disk → (bytes : List ℕ) → (bound.state disk).left_since (bound.state disk).moment bytes → MayLeave (bound.state disk) bytes)
-    (handles : List ℕ) (next control : ℕ) (change : Change) (checked : Checked) where
-  abbrev made_of : FileChange
-  made_of = file_change_of checked
+    (files : List PlainFile) (sequence : ℕ) (ledger : Ledger) (control : ℕ) (change : Change) (made : Checked)
+    (checks : ChecksAt (totals_of (StoreReady files sequence) ledger) control change (Ok made)) (free : is_some (transaction_at ledger.transactions control) ≡ false)
+    (directory : IsDirectory LAYOUT_1 files) (sound : IsSound (StoreReady files sequence) ledger) (leaves : bound.honest disk → LeavesItsFiles (StoreReady files sequence) (bound.state disk)) where
+  abbrev ready : Totals
+  ready = totals_of (StoreReady files sequence) ledger
 
-  pub store_done : (state : State) (new : StoreView D) → HasDirectory state → HasHandles state handles next → (bound.honest disk → LeavesItsFiles state (bound.state disk)) → ChecksAt (mode_of handles state) change (Ok checked)
-      → lacks next made_of ≡ false → Commits bound (record { disk = disk; state = state }) (made_of ∷ []) (Ok tt) new
-      → Changes bound (view_of (record { disk = disk; state = state }) handles next) control change (Ok (answer.Done (value_after next made_of))) (view_of new (given_after handles next made_of) (following next made_of))
-      × HasHandles new.state (given_after handles next made_of) (following next made_of)
-  store_done StoreOff new directory sound leaves checks left commits = absurd checks
-  store_done (StoreReady files sequence) new directory sound leaves checks left commits =
-      let xs = with_handles handles files in
-      let before = subst (λ (made : FileChange). Commits bound (record { disk = disk; state = StoreReady files sequence }) (made ∷ []) (Ok tt) new) (sym checks.made) commits in
-      let free = lacks_so xs change next checked false checks.made left in
-      subst (λ (made : FileChange). Changes bound (view_of (record { disk = disk; state = StoreReady files sequence }) handles next) control change (Ok (answer.Done (value_after next made))) (view_of new (given_after handles next made) (following next made))
-      × HasHandles new.state (given_after handles next made) (following next made)) checks.made (
-        after_done bound disk only files sequence handles next control change directory sound checks.unrefused leaves new before free,
-        sound_after bound disk only files sequence handles next control change directory sound checks.unrefused leaves new before,
+  abbrev ready_store : StoreView D
+  ready_store = record { disk = disk; state = StoreReady files sequence }
+
+  abbrev there : List File
+  there = with_tags ledger.handles.given files
+
+  abbrev group : List FileChange
+  group = group_of there (change ∷ [])
+
+  abbrev next : ℕ
+  next = ledger.handles.next
+
+  let_through : first_refusal (refusals_of_change layout_1 ready control change) ≡ None
+  let_through = passed (StoreReady files sequence) ledger control change made checks
+
+  both : IsDirectory LAYOUT_1 (plain there) × AreDistinct (handles_of there)
+  both = sound_files ledger.handles.given files next directory sound.handles
+
+  one : IsOneGroup ready (change ∷ [])
+  one = makes_group there control (spent_by ready control) change next both.0 both.1 checks.1.unrefused
+
+  is_ungrouped : group_by_change layout_1 ready control change ≡ change ∷ []
+  is_ungrouped = grouped ready control change false let_through free
+
+  -- what the change is answered, the number being there
+  answered : (DiskFailed : Type 0) (result : Answer) (new : Totals) → (nat_eq sequence last_number || (is_create change && nat_eq next last_number)) ≡ false
+      → Done DiskFailed ready (change ∷ []) (given_by next change) result new → Changed layout_1 DiskFailed ready control change (Ok result) new
+  answered DiskFailed result new numbers done =
+      open_table (refusals_of_change layout_1 ready control change) _ _ _ let_through
+      (does_outside DiskFailed ready control change result new (outside (transaction_at ledger.transactions control) free)
+      (open_table (number_rows ready change) _ _ _ (ap (λ b. cond b (Some (answer.Refused code.Failure 0)) None) numbers) done))
+
+  -- a change that the store has put down
+  done : (new : StoreView D) → Commits bound ready_store group (Ok tt) new → (is_create change && nat_eq next last_number) ≡ false
+      → Changes bound (view_of ready_store ledger) control change (Ok (answer.Done (given_by next change))) (record { disk = new.disk; totals = after_changes ready (change ∷ []) (sequence + 1) })
+  done new commits left =
+      let down = put_down bound disk files sequence ledger change [] sound.handles one (Ok tt) new.state commits.answer in
+      record {
+        answer = answered (HasFailed bound disk new.disk) _ _ (numbers_left sequence next change down.0 left) (inl (refl, record { sequence = sequence + 1; follows = inl refl; totals = refl }));
+        disk = rw is_ungrouped (put_group bound disk files sequence ledger change [] sound.handles one new (after_changes ready (change ∷ []) (sequence + 1)) (given_by next change) commits refl);
+      }
+
+  abbrev as_made : FileChange
+  as_made = file_change there change
+
+  -- the totals after it, by the store and the ledger
+  after_done : (new : StoreView D) → Commits bound ready_store group (Ok tt) new → (is_create change && nat_eq next last_number) ≡ false
+      → Changes bound (view_of ready_store ledger) control change (Ok (answer.Done (value_after next as_made))) (view_of new (kept_ledger ledger as_made))
+  after_done new commits left =
+      let down = put_down bound disk files sequence ledger change [] sound.handles one (Ok tt) new.state commits.answer in
+      let given : given_after ledger.handles.given next as_made ≡ tags_of (files_after next there change) =
+      ap (λ (tags : List Tag). given_after tags next as_made) (sym (tags_in ledger.handles.given files sound.handles.count)) ∙ given_is there control (spent_by ready control) change next both.0.distinct checks.1.unrefused in
+      rw (down.1, given, value_is there change next, next_is there change next, called_again (files_after next there change)) (done new commits left)
+
+  sound_after : (new : StoreView D) → Commits bound ready_store group (Ok tt) new → IsSound new.state (kept_ledger ledger as_made)
+  sound_after new commits =
+      let down = put_down bound disk files sequence ledger change [] sound.handles one (Ok tt) new.state commits.answer in
+      let spent = spent_by ready control in
+      let after = files_after next there change in
+      let old : AreHandles (tags_of there) (plain there) next = rw (tags_in ledger.handles.given files sound.handles.count, plain_of ledger.handles.given files sound.handles.count) sound.handles in
+      let given : given_after ledger.handles.given next as_made ≡ tags_of after =
+      ap (λ (tags : List Tag). given_after tags next as_made) (sym (tags_in ledger.handles.given files sound.handles.count)) ∙ given_is there control spent change next both.0.distinct checks.1.unrefused in
+      let buffers : HaveBuffers (Ready after (sequence + 1)) (next_after next change) ledger.transactions =
+      holds_so there after sequence (sequence + 1) next (next_after next change) ledger.transactions (λ other is. buffered_after there control spent change next other both.1 checks.1.unrefused is) sound.buffers in
+      rw down.1 (record {
+        handles = subst (λ (tags : List Tag). AreHandles (given_after tags next as_made) (plain after) (following next as_made)) (tags_in ledger.handles.given files sound.handles.count)
+            (are_after there control spent change next both.0.distinct old checks.1.unrefused);
+        buffers = rw (given, called_again after, next_is there change next) buffers;
+      })
+
+  -- a change in which the store met a fault
+  failed : (new : StoreView D) (cause : StoreFault) → (is_create change && nat_eq next last_number) ≡ false → Commits bound ready_store group (Err cause) new
+      → Changes bound (view_of ready_store ledger) control change (answer_of cause) (view_of new (refused_ledger ledger cause)) × IsSound new.state (refused_ledger ledger cause)
+  failed new fault.Off left commits = absurd (put_down bound disk files sequence ledger change [] sound.handles one (Err fault.Off) new.state commits.answer)
+  failed new (fault.Refused refusal) left commits = absurd (put_down bound disk files sequence ledger change [] sound.handles one (Err (fault.Refused refusal)) new.state commits.answer)
+  failed new fault.Unformatted left commits = absurd (put_down bound disk files sequence ledger change [] sound.handles one (Err fault.Unformatted) new.state commits.answer)
+  failed new fault.Damaged left commits = absurd (put_down bound disk files sequence ledger change [] sound.handles one (Err fault.Damaged) new.state commits.answer)
+  failed new fault.NoMemory left commits =
+      let same : new ≡ ready_store = ⊎_elim (λ is. absurd cc) (λ e. e) (commits.unchanged refl) in
+      rw same (stays bound disk only (StoreReady files sequence) ledger control change _ directory sound leaves (wants (StoreReady files sequence) ledger control change made checks (record {})), sound)
+  failed new fault.Exhausted left commits =
+      let down = put_down bound disk files sequence ledger change [] sound.handles one (Err fault.Exhausted) new.state commits.answer in
+      let same : new ≡ ready_store = ⊎_elim (λ is. absurd cc) (λ e. e) (commits.unchanged refl) in
+      let last : nat_eq sequence last_number ≡ true = eq-eqb sequence last_number (let l = down.0 in omega (arith, l)) in
+      rw same (
+        stays bound disk only (StoreReady files sequence) ledger control change _ directory sound leaves
+            (run_out files sequence ledger control change let_through (outside (transaction_at ledger.transactions control) free) (ap (λ b. b || (is_create change && nat_eq next last_number)) last)),
+        sound,
+      )
+  failed new fault.Device left commits =
+      let down = put_down bound disk files sequence ledger change [] sound.handles one (Err fault.Device) new.state commits.answer in
+      rw down.1 (
+        record {
+          answer = answered (HasFailed bound disk new.disk) _ _ (numbers_left sequence next change down.0 left) (inr (refl, λ h. commits.device h refl, refl));
+          disk = rw is_ungrouped (doubt_group bound disk files sequence ledger change [] sound.handles one new (after_disk_fault ready) _ commits refl);
+        },
+        record { handles = tt; buffers = none_hold Off next ledger.transactions },
       )
 
-  store_failed : (state : State) (new : StoreView D) (cause : StoreFault) → (cause ≡ fault.NoMemory → ⊥) → HasDirectory state → HasHandles state handles next → (bound.honest disk → LeavesItsFiles state (bound.state disk)) → ChecksAt (mode_of handles state) change (Ok checked)
-      → lacks next made_of ≡ false → Commits bound (record { disk = disk; state = state }) (made_of ∷ []) (Err cause) new
-      → Changes bound (view_of (record { disk = disk; state = state }) handles next) control change (Ok (answer.Refused code.Failure 0)) (view_of new handles next) × HasHandles new.state handles next
-  store_failed StoreOff new cause other directory sound leaves checks left commits = absurd checks
-  store_failed (StoreReady files sequence) new cause other directory sound leaves checks left commits =
-      failed bound disk only files sequence handles next control change directory sound checks.unrefused leaves new cause other (lacks_so (with_handles handles files) change next checked false checks.made left)
-      (subst (λ (made : FileChange). Commits bound (record { disk = disk; state = StoreReady files sequence }) (made ∷ []) (Err cause) new) (sym checks.made) commits)
+-- ---- the same for a store in any state, by what the checks found
 
-  store_wants : (state : State) (new : StoreView D) → HasDirectory state → HasHandles state handles next → (bound.honest disk → LeavesItsFiles state (bound.state disk)) → ChecksAt (mode_of handles state) change (Ok checked)
-      → Commits bound (record { disk = disk; state = state }) (made_of ∷ []) (Err fault.NoMemory) new
-      → Changes bound (view_of (record { disk = disk; state = state }) handles next) control change (Err (record {})) (view_of new handles next) × HasHandles new.state handles next
-  store_wants StoreOff new directory sound leaves checks commits = absurd checks
-  store_wants (StoreReady files sequence) new directory sound leaves checks commits =
-      found_none bound disk only files sequence handles next control change directory sound checks.unrefused leaves new
-      (subst (λ (made : FileChange). Commits bound (record { disk = disk; state = StoreReady files sequence }) (made ∷ []) (Err fault.NoMemory) new) (sym checks.made) commits)
+module _ {D : Type 0} (bound : Ghosts D) (disk : D) (only : bound.honest disk → (bytes : List ℕ) → (bound.state disk).left_since (bound.state disk).moment bytes → MayLeave (bound.state disk) bytes)
+    (ledger : Ledger) (control : ℕ) (change : Change) (made : Checked) where
+  pub store_buffers : (state : State) → HasDirectory state → IsSound state ledger → (bound.honest disk → LeavesItsFiles state (bound.state disk)) → ChecksAt (totals_of state ledger) control change (Ok made)
+      → is_some (transaction_at ledger.transactions control) ≡ true → (outcome : Result Answer NoMemory) (new : List (Option (List Change))) → Buffers ledger.transactions control made outcome new
+      → Changes bound (view_of (record { disk = disk; state = state }) ledger) control change outcome (view_of (record { disk = disk; state = state }) (record ledger { transactions = new })) × IsSound state (record ledger { transactions = new })
+  store_buffers StoreOff directory sound leaves checks inside outcome new did = absurd checks.1
+  store_buffers (StoreReady files sequence) directory sound leaves checks inside outcome new did =
+      buffers bound disk only files sequence ledger control change made checks directory sound leaves outcome new inside did
+
+  pub store_done : (state : State) (new : StoreView D) → HasDirectory state → IsSound state ledger → (bound.honest disk → LeavesItsFiles state (bound.state disk)) → ChecksAt (totals_of state ledger) control change (Ok made)
+      → is_some (transaction_at ledger.transactions control) ≡ false → lacks ledger.handles.next (file_change_of made) ≡ false → Commits bound (record { disk = disk; state = state }) (file_change_of made ∷ []) (Ok tt) new
+      → Changes bound (view_of (record { disk = disk; state = state }) ledger) control change (Ok (answer.Done (value_after ledger.handles.next (file_change_of made)))) (view_of new (kept_ledger ledger (file_change_of made)))
+      × IsSound new.state (kept_ledger ledger (file_change_of made))
+  store_done StoreOff new directory sound leaves checks free left commits = absurd checks.1
+  store_done (StoreReady files sequence) new directory sound leaves checks free left commits =
+      let xs = with_tags ledger.handles.given files in
+      let before = subst (λ (file : FileChange). Commits bound (record { disk = disk; state = StoreReady files sequence }) (file ∷ []) (Ok tt) new) (sym checks.1.made) commits in
+      let numbers = lacks_so xs change ledger.handles.next made false checks.1.made left in
+      subst (λ (file : FileChange). Changes bound (view_of (record { disk = disk; state = StoreReady files sequence }) ledger) control change (Ok (answer.Done (value_after ledger.handles.next file))) (view_of new (kept_ledger ledger file))
+      × IsSound new.state (kept_ledger ledger file)) checks.1.made (
+        after_done bound disk only files sequence ledger control change made checks free directory sound leaves new before numbers,
+        sound_after bound disk only files sequence ledger control change made checks free directory sound leaves new before,
+      )
 
   -- whatever fault the store has
-  pub store_refused : (state : State) (new : StoreView D) (cause : StoreFault) → HasDirectory state → HasHandles state handles next → (bound.honest disk → LeavesItsFiles state (bound.state disk)) → ChecksAt (mode_of handles state) change (Ok checked)
-      → lacks next made_of ≡ false → Commits bound (record { disk = disk; state = state }) (made_of ∷ []) (Err cause) new
-      → Changes bound (view_of (record { disk = disk; state = state }) handles next) control change (answer_of cause) (view_of new handles next) × HasHandles new.state handles next
-  store_refused state new fault.NoMemory directory sound leaves checks left commits = store_wants state new directory sound leaves checks commits
-  store_refused state new fault.Off directory sound leaves checks left commits = store_failed state new fault.Off (λ e. cc) directory sound leaves checks left commits
-  store_refused state new (fault.Refused refusal) directory sound leaves checks left commits = store_failed state new (fault.Refused refusal) (λ e. cc) directory sound leaves checks left commits
-  store_refused state new fault.Exhausted directory sound leaves checks left commits = store_failed state new fault.Exhausted (λ e. cc) directory sound leaves checks left commits
-  store_refused state new fault.Unformatted directory sound leaves checks left commits = store_failed state new fault.Unformatted (λ e. cc) directory sound leaves checks left commits
-  store_refused state new fault.Damaged directory sound leaves checks left commits = store_failed state new fault.Damaged (λ e. cc) directory sound leaves checks left commits
-  store_refused state new fault.Device directory sound leaves checks left commits = store_failed state new fault.Device (λ e. cc) directory sound leaves checks left commits
+  pub store_refused : (state : State) (new : StoreView D) (cause : StoreFault) → HasDirectory state → IsSound state ledger → (bound.honest disk → LeavesItsFiles state (bound.state disk)) → ChecksAt (totals_of state ledger) control change (Ok made)
+      → is_some (transaction_at ledger.transactions control) ≡ false → lacks ledger.handles.next (file_change_of made) ≡ false → Commits bound (record { disk = disk; state = state }) (file_change_of made ∷ []) (Err cause) new
+      → Changes bound (view_of (record { disk = disk; state = state }) ledger) control change (answer_of cause) (view_of new (refused_ledger ledger cause)) × IsSound new.state (refused_ledger ledger cause)
+  store_refused StoreOff new cause directory sound leaves checks free left commits = absurd checks.1
+  store_refused (StoreReady files sequence) new cause directory sound leaves checks free left commits =
+      failed bound disk only files sequence ledger control change made checks free directory sound leaves new cause (lacks_so (with_tags ledger.handles.given files) change ledger.handles.next made false checks.1.made left)
+      (subst (λ (file : FileChange). Commits bound (record { disk = disk; state = StoreReady files sequence }) (file ∷ []) (Err cause) new) (sym checks.1.made) commits)
 
--- the files of a store that is ready have handles of their own
-pub theirs : (handles : List ℕ) (state : State) (next : ℕ) → HasDirectory state → HasHandles state handles next → HasItsFiles (record { mode = mode_of handles state; next = next })
-theirs handles StoreOff next directory sound = tt
-theirs handles (StoreReady files sequence) next directory sound =
-    let both = sound_files handles files next directory sound in record {
-      distinct = both.1;
-      below = subst (λ (hs : List ℕ). AllByRecursion (λ handle. handle < next) hs) (sym (handles_in handles files sound.count)) sound.below;
-      directory = both.0;
+-- the files of a store that is ready have handles of their own, and what is buffered fits them
+pub theirs : (state : State) (ledger : Ledger) → HasDirectory state → IsSound state ledger → HasItsFiles (totals_of state ledger)
+theirs StoreOff ledger directory sound = record { files = tt; buffers = sound.buffers }
+theirs (StoreReady files sequence) ledger directory sound =
+    let both = sound_files ledger.handles.given files ledger.handles.next directory sound.handles in record {
+      files = record {
+        distinct = both.1;
+        below = subst (AllByRecursion (λ handle. handle < ledger.handles.next)) (sym (numbers_in ledger.handles.given files sound.handles.count)) sound.handles.below;
+        directory = both.0;
+      };
+      buffers = sound.buffers;
     }

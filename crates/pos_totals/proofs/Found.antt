@@ -1,26 +1,34 @@
--- What a search through the directory, or through the handles, finds among the files with their handles.
-use Rattle.std.proofs.Common.{◌≡◌, ℕ, ◌+◌, ℤ, pos, negsuc, false, not, cond, List, [], ◌∷◌, length, None, refl, ap, arith}
+-- What a search through the directory, or through the tags, finds among the files with their tags.
+use Rattle.std.proofs.Common.{◌≡◌, ℕ, ◌+◌, ℤ, pos, negsuc, false, not, cond, List, [], ◌∷◌, length, Some, None, refl, sym, ap, arith}
 use Rattle.std.specs.Prelude.{bytes_eq, nat_eq}
 use Rattle.std.specs.List.{find, position_or_len}
+use Rattle.std.proofs.lemmas.Bool.{eqb-true}
 use Rattle.pos_dir.specs.declared.file.File.{File as PlainFile}
 use Rattle.pos_service.specs.HardTotals.{File, is_natural, is_named, is_called}
+use Rattle.pos_totals.proofs.Places.{found_meets}
 use Rattle.pos_totals.specs.Groups.{index_of}
-use Rattle.pos_totals.specs.Views.{with_handles}
+use Rattle.pos_totals.specs.Views.{with_tags}
+use Rattle.pos_totals.specs.declared.handles.Tag.{Tag}
 
-pub index_by_name : (handles : List ℕ) (files : List PlainFile) (name : List ℕ) → length handles ≡ length files → index_of (is_named name) (with_handles handles files) ≡ position_or_len (λ file. bytes_eq file.name name) files
+pub index_by_name : (tags : List Tag) (files : List PlainFile) (name : List ℕ) → length tags ≡ length files → index_of (is_named name) (with_tags tags files) ≡ position_or_len (λ file. bytes_eq file.name name) files
 index_by_name [] [] name same = refl
 index_by_name [] (file ∷ files) name same = absurd (omega (arith, same))
-index_by_name (handle ∷ handles) [] name same = absurd (omega (arith, same))
-index_by_name (handle ∷ handles) (file ∷ files) name same = ap (λ n. cond (not (bytes_eq file.name name)) (1 + n) 0) (index_by_name handles files name (omega (arith, same)))
+index_by_name (tag ∷ tags) [] name same = absurd (omega (arith, same))
+index_by_name (tag ∷ tags) (file ∷ files) name same = ap (λ n. cond (not (bytes_eq file.name name)) (1 + n) 0) (index_by_name tags files name (omega (arith, same)))
 
-pub index_by_handle : (handles : List ℕ) (files : List PlainFile) (handle : ℕ) → length handles ≡ length files → index_of (is_called (pos handle)) (with_handles handles files) ≡ position_or_len (λ given. nat_eq given handle) handles
+pub index_by_handle : (tags : List Tag) (files : List PlainFile) (handle : ℕ) → length tags ≡ length files → index_of (is_called (pos handle)) (with_tags tags files) ≡ position_or_len (λ tag. nat_eq tag.handle handle) tags
 index_by_handle [] [] handle same = refl
 index_by_handle [] (file ∷ files) handle same = absurd (omega (arith, same))
-index_by_handle (first ∷ handles) [] handle same = absurd (omega (arith, same))
-index_by_handle (first ∷ handles) (file ∷ files) handle same = ap (λ n. cond (not (nat_eq first handle)) (1 + n) 0) (index_by_handle handles files handle (omega (arith, same)))
+index_by_handle (first ∷ tags) [] handle same = absurd (omega (arith, same))
+index_by_handle (first ∷ tags) (file ∷ files) handle same = ap (λ n. cond (not (nat_eq first.handle handle)) (1 + n) 0) (index_by_handle tags files handle (omega (arith, same)))
 
 -- no file has a handle below 0
 pub none_below : (handle : ℤ) (files : List File) → is_natural handle ≡ false → find (is_called handle) files ≡ None
 none_below (pos n) files negative = absurd cc
 none_below (negsuc n) [] negative = refl
 none_below (negsuc n) (first ∷ files) negative = none_below (negsuc n) files negative
+
+-- a file that was found has the handle
+pub called_is : (handle : ℤ) (files : List File) (file : File) → find (is_called handle) files ≡ Some file → handle ≡ pos file.handle
+called_is (pos n) files file found = ap pos (sym (eqb-true file.handle n (found_meets (is_called (pos n)) files file found)))
+called_is (negsuc n) files file found = absurd (let meets = found_meets (is_called (negsuc n)) files file found in cc)

@@ -1,9 +1,14 @@
-pub mod Causes
+mod Buffered
 mod Changed
+mod Claimed
+mod Committed
+mod Ended
 mod Found
 mod Grouped
 mod Handled
 mod Numbered
+mod Outlined
 mod Pairs
 mod Places
+mod Putting
 mod Recovered

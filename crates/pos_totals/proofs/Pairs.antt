@@ -1,4 +1,4 @@
--- Files and their handles in one list.
+-- Files and their tags in one list.
 use Rattle.std.proofs.Common.{◌≡◌, ℕ, zero, suc, ◌≤◌, List, [], ◌∷◌, length, Some, None, refl, ap, arith, ◌∙◌}
 use Rattle.std.specs.Prelude.{slice_get}
 use Rattle.std.specs.Option.{option_map}
@@ -7,40 +7,47 @@ use Rattle.std.proofs.lemmas.Option.{same_Some}
 use Rattle.pos_dir.specs.declared.file.File.{File as PlainFile}
 use Rattle.pos_dir.specs.Files.{total_size}
 use Rattle.pos_service.specs.HardTotals.{File}
-use Rattle.pos_totals.specs.Views.{plain, with_handles, handles_of}
+use Rattle.pos_totals.specs.Views.{plain, with_tags, handles_of, tags_of, numbers_of}
+use Rattle.pos_totals.specs.declared.handles.Tag.{Tag}
 
-pub plain_of : (handles : List ℕ) (files : List PlainFile) → length handles ≡ length files → plain (with_handles handles files) ≡ files
+pub plain_of : (tags : List Tag) (files : List PlainFile) → length tags ≡ length files → plain (with_tags tags files) ≡ files
 plain_of [] [] same = refl
 plain_of [] (file ∷ files) same = absurd (omega (arith, same))
-plain_of (handle ∷ handles) [] same = absurd (omega (arith, same))
-plain_of (handle ∷ handles) (file ∷ files) same = ap (λ rest. file ∷ rest) (plain_of handles files (omega (arith, same)))
+plain_of (tag ∷ tags) [] same = absurd (omega (arith, same))
+plain_of (tag ∷ tags) (file ∷ files) same = ap (λ rest. file ∷ rest) (plain_of tags files (omega (arith, same)))
 
-pub handles_in : (handles : List ℕ) (files : List PlainFile) → length handles ≡ length files → handles_of (with_handles handles files) ≡ handles
-handles_in [] [] same = refl
-handles_in [] (file ∷ files) same = absurd (omega (arith, same))
-handles_in (handle ∷ handles) [] same = absurd (omega (arith, same))
-handles_in (handle ∷ handles) (file ∷ files) same = ap (λ rest. handle ∷ rest) (handles_in handles files (omega (arith, same)))
+pub tags_in : (tags : List Tag) (files : List PlainFile) → length tags ≡ length files → tags_of (with_tags tags files) ≡ tags
+tags_in [] [] same = refl
+tags_in [] (file ∷ files) same = absurd (omega (arith, same))
+tags_in (tag ∷ tags) [] same = absurd (omega (arith, same))
+tags_in (tag ∷ tags) (file ∷ files) same = ap (λ rest. tag ∷ rest) (tags_in tags files (omega (arith, same)))
 
-pub called_again : (files : List File) → with_handles (handles_of files) (plain files) ≡ files
+pub numbers_in : (tags : List Tag) (files : List PlainFile) → length tags ≡ length files → handles_of (with_tags tags files) ≡ numbers_of tags
+numbers_in [] [] same = refl
+numbers_in [] (file ∷ files) same = absurd (omega (arith, same))
+numbers_in (tag ∷ tags) [] same = absurd (omega (arith, same))
+numbers_in (tag ∷ tags) (file ∷ files) same = ap (λ rest. tag.handle ∷ rest) (numbers_in tags files (omega (arith, same)))
+
+pub called_again : (files : List File) → with_tags (tags_of files) (plain files) ≡ files
 called_again [] = refl
 called_again (file ∷ files) = ap (λ rest. file ∷ rest) (called_again files)
 
-pub length-with_handles : (handles : List ℕ) (files : List PlainFile) → length handles ≡ length files → length (with_handles handles files) ≡ length files
-length-with_handles [] [] same = refl
-length-with_handles [] (file ∷ files) same = absurd (omega (arith, same))
-length-with_handles (handle ∷ handles) [] same = absurd (omega (arith, same))
-length-with_handles (handle ∷ handles) (file ∷ files) same = omega (arith, length-with_handles handles files (omega (arith, same)))
+pub length-with_tags : (tags : List Tag) (files : List PlainFile) → length tags ≡ length files → length (with_tags tags files) ≡ length files
+length-with_tags [] [] same = refl
+length-with_tags [] (file ∷ files) same = absurd (omega (arith, same))
+length-with_tags (tag ∷ tags) [] same = absurd (omega (arith, same))
+length-with_tags (tag ∷ tags) (file ∷ files) same = omega (arith, length-with_tags tags files (omega (arith, same)))
 
--- a file and its handle at an index
-pub pair_at : (handles : List ℕ) (files : List PlainFile) (i handle : ℕ) (name bytes : List ℕ) → slice_get handles i ≡ Some handle → option_map (λ file. file.name) (slice_get files i) ≡ Some name
-    → option_map (λ file. file.bytes) (slice_get files i) ≡ Some bytes → slice_get (with_handles handles files) i ≡ Some (record { handle = handle; name = name; bytes = bytes })
-pair_at [] files i handle name bytes at named held = absurd cc
-pair_at (first ∷ handles) [] i handle name bytes at named held = absurd cc
-pair_at (first ∷ handles) (file ∷ files) zero handle name bytes at named held =
-    ap (λ h. Some (record { handle = h; name = file.name; bytes = file.bytes })) (same_Some first handle at)
-    ∙ ap (λ n. Some (record { handle = handle; name = n; bytes = file.bytes })) (same_Some file.name name named)
-    ∙ ap (λ b. Some (record { handle = handle; name = name; bytes = b })) (same_Some file.bytes bytes held)
-pair_at (first ∷ handles) (file ∷ files) (suc i) handle name bytes at named held = pair_at handles files i handle name bytes at named held
+-- a file and its tag at an index
+pub pair_at : (tags : List Tag) (files : List PlainFile) (i : ℕ) (tag : Tag) (name bytes : List ℕ) → slice_get tags i ≡ Some tag → option_map (λ file. file.name) (slice_get files i) ≡ Some name
+    → option_map (λ file. file.bytes) (slice_get files i) ≡ Some bytes → slice_get (with_tags tags files) i ≡ Some (record { handle = tag.handle; name = name; bytes = bytes; claim = tag.claim })
+pair_at [] files i tag name bytes at named held = absurd cc
+pair_at (first ∷ tags) [] i tag name bytes at named held = absurd cc
+pair_at (first ∷ tags) (file ∷ files) zero tag name bytes at named held =
+    ap (λ (t : Tag). Some (record { handle = t.handle; name = file.name; bytes = file.bytes; claim = t.claim })) (same_Some first tag at)
+    ∙ ap (λ n. Some (record { handle = tag.handle; name = n; bytes = file.bytes; claim = tag.claim })) (same_Some file.name name named)
+    ∙ ap (λ b. Some (record { handle = tag.handle; name = name; bytes = b; claim = tag.claim })) (same_Some file.bytes bytes held)
+pair_at (first ∷ tags) (file ∷ files) (suc i) tag name bytes at named held = pair_at tags files i tag name bytes at named held
 
 -- the bytes of one file are at most those of all
 pub one_of_sum : (files : List PlainFile) (i : ℕ) (bytes : List ℕ) → option_map (λ file. file.bytes) (slice_get files i) ≡ Some bytes → length bytes ≤ total_size files
@@ -55,8 +62,8 @@ one_of_sum (file ∷ files) (suc i) bytes held =
     omega (arith, sum, rest)
 
 -- an index that no file has
-pub none_at : (handles : List ℕ) (files : List PlainFile) (i : ℕ) {A : Type 0} (f : PlainFile → A) → length handles ≡ length files → option_map f (slice_get files i) ≡ None → slice_get (with_handles handles files) i ≡ None
+pub none_at : (tags : List Tag) (files : List PlainFile) (i : ℕ) {A : Type 0} (f : PlainFile → A) → length tags ≡ length files → option_map f (slice_get files i) ≡ None → slice_get (with_tags tags files) i ≡ None
 none_at [] files i f same none = refl
-none_at (first ∷ handles) [] i f same none = refl
-none_at (first ∷ handles) (file ∷ files) zero f same none = absurd cc
-none_at (first ∷ handles) (file ∷ files) (suc i) f same none = none_at handles files i f (omega (arith, same)) none
+none_at (first ∷ tags) [] i f same none = refl
+none_at (first ∷ tags) (file ∷ files) zero f same none = absurd cc
+none_at (first ∷ tags) (file ∷ files) (suc i) f same none = none_at tags files i f (omega (arith, same)) none

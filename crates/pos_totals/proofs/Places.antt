@@ -4,6 +4,7 @@ use Rattle.std.specs.Prelude.{slice_get, remove, nat_lt, ⊤}
 use Rattle.std.specs.List.{find, filter, position, position_or_len}
 use Rattle.std.proofs.lemmas.Bool.{ltb-false}
 use Rattle.std.proofs.lemmas.List.Folds.{find_at}
+use Rattle.std.proofs.lemmas.List.Sums.{prefix_len-le-length}
 use Rattle.std.proofs.lemmas.Option.{slice_get_within, same_Some}
 use Rattle.pos_service.specs.HardTotals.{File, with_each}
 use Rattle.pos_totals.specs.Groups.{index_of}
@@ -56,6 +57,14 @@ is_none p test xs files same index none = by (nat_lt (position_or_len p xs) (len
     by : (b : Bool) → nat_lt (position_or_len p xs) (length xs) ≡ b → cond b (Some (position_or_len p xs)) None ≡ None → find test files ≡ None
     by true lt is = absurd cc
     by false lt is = none_past test files (omega (arith, same, index, ltb-false (position_or_len p xs) (length xs) lt))
+
+-- a search through another list that finds nothing tells the end
+pub is_past : {A : Type 0} (p : A → Bool) (test : File → Bool) (xs : List A) (files : List File) → index_of test files ≡ position_or_len p xs → position p xs ≡ None → length xs ≡ index_of test files
+is_past p test xs files index none = by (nat_lt (position_or_len p xs) (length xs)) refl none
+  where
+    by : (b : Bool) → nat_lt (position_or_len p xs) (length xs) ≡ b → cond b (Some (position_or_len p xs)) None ≡ None → length xs ≡ index_of test files
+    by true lt is = absurd cc
+    by false lt is = omega (arith, index, ltb-false (position_or_len p xs) (length xs) lt, prefix_len-le-length (λ x. not (p x)) xs)
 
 -- no file is changed where none meets the test
 none_changed : (test : File → Bool) (change : File → File) (files : List File) → find test files ≡ None → with_each test change files ≡ files

@@ -12,25 +12,28 @@ use Rattle.pos_store.specs.Standing.{Standing, Stands, StandsFor}
 use Rattle.pos_store.specs.declared.mode.Mode.TheVariants as mode
 use Rattle.pos_store.specs.declared.fault.StoreFault.{StoreFault}
 use Rattle.pos_store.specs.declared.fault.StoreFault.TheVariants as cause
-use Rattle.pos_totals.proofs.Changed.{their_files, keeps}
+use Rattle.pos_totals.proofs.Buffered.{off_holds}
 use Rattle.pos_totals.proofs.Numbered.{with_numbers, are_numbers}
-use Rattle.pos_totals.specs.Numbering.{numbers_from, Numbers}
+use Rattle.pos_totals.proofs.Putting.{their_files, keeps}
+use Rattle.pos_totals.specs.Numbering.{tags_from, Numbers}
 use Rattle.pos_totals.specs.Recoveries.{FindsFiles, Recovers, told_as}
-use Rattle.pos_totals.specs.Views.{TotalsView, mode_of, view_of, with_handles, AreHandles, HasHandles}
+use Rattle.pos_totals.specs.Tables.{HandleTable}
+use Rattle.pos_totals.specs.Views.{TotalsView, totals_of, view_of, with_tags, AreHandles, IsSound, LeavesTheirFiles}
+use Rattle.pos_totals.specs.declared.ledger.Ledger.{Ledger}
 use Rattle.pos_totals.specs.declared.fault.RecoveryFault.{RecoveryFault}
 use Rattle.pos_totals.specs.declared.fault.RecoveryFault.TheVariants as fault
 
 -- ---- a recovery of totals that are ready
 
-pub ready_recovers : {D : Type 0} (bound : Ghosts D) (disk : D) (state : State) (handles : List ℕ) (next : ℕ) → HasHandles state handles next → (sequence : ℕ) → mode.Ready sequence ≡ store_mode_of state → (bound.honest disk → LeavesItsFiles state (bound.state disk))
-    → Recovers bound (view_of (record { disk = disk; state = state }) handles next) (Ok tt) (view_of (record { disk = disk; state = state }) handles next)
-ready_recovers bound disk StoreOff handles next sound sequence ready leaves = absurd cc
-ready_recovers bound disk (StoreReady files sequence) handles next sound other ready leaves = record {
+pub ready_recovers : {D : Type 0} (bound : Ghosts D) (disk : D) (state : State) (ledger : Ledger) → IsSound state ledger → (sequence : ℕ) → mode.Ready sequence ≡ store_mode_of state → (bound.honest disk → LeavesItsFiles state (bound.state disk))
+    → Recovers bound (view_of (record { disk = disk; state = state }) ledger) (Ok tt) (view_of (record { disk = disk; state = state }) ledger)
+ready_recovers bound disk StoreOff ledger sound sequence ready leaves = absurd cc
+ready_recovers bound disk (StoreReady files sequence) ledger sound other ready leaves = record {
   ready = (refl, refl);
   answer = tt;
   one_of = λ h. tt;
   reading = λ h. refl;
-  now = λ h. their_files handles (StoreReady files sequence) next (bound.state disk) sound (leaves h);
+  now = λ h. their_files ledger.handles.given (StoreReady files sequence) ledger.handles.next (bound.state disk) sound.handles (leaves h);
   device = λ is. absurd cc;
   kept = keeps bound disk;
 }
@@ -38,49 +41,53 @@ ready_recovers bound disk (StoreReady files sequence) handles next sound other r
 -- ---- what a store found, in the totals' words
 
 -- a fault of the store
-told_finds : (P : Standing → Type 0) (next : ℕ) (handles : List ℕ) (why : StoreFault) (result : RecoveryFault) (state : State) → store.FindsStanding P (Err why) state → told_as why ≡ Some result
-    → FindsFiles P (record { mode = Off; next = next }) (Err result) (record { mode = mode_of handles state; next = next })
-told_finds P next handles cause.Off result state finds tells = absurd finds
-told_finds P next handles (cause.Refused refusal) result state finds tells = absurd finds
-told_finds P next handles cause.Exhausted result state finds tells = absurd finds
-told_finds P next handles cause.Unformatted result state finds tells =
+told_finds : (P : Standing → Type 0) (ledger : Ledger) (why : StoreFault) (result : RecoveryFault) (state : State) → store.FindsStanding P (Err why) state → told_as why ≡ Some result
+    → FindsFiles P (totals_of StoreOff ledger) (Err result) (totals_of state ledger)
+told_finds P ledger cause.Off result state finds tells = absurd finds
+told_finds P ledger (cause.Refused refusal) result state finds tells = absurd finds
+told_finds P ledger cause.Exhausted result state finds tells = absurd finds
+told_finds P ledger cause.Unformatted result state finds tells =
     let is : fault.Unformatted ≡ result = cc in
-    subst (λ (f : RecoveryFault). FindsFiles P (record { mode = Off; next = next }) (Err f) (record { mode = mode_of handles state; next = next })) is
-    (finds.0, ap (λ (s : State). record { mode = mode_of handles s; next = next }) finds.1)
-told_finds P next handles cause.Damaged result state finds tells =
+    subst (λ (f : RecoveryFault). FindsFiles P (totals_of StoreOff ledger) (Err f) (totals_of state ledger)) is (finds.0, ap (λ (s : State). totals_of s ledger) finds.1)
+told_finds P ledger cause.Damaged result state finds tells =
     let is : fault.Damaged ≡ result = cc in
-    subst (λ (f : RecoveryFault). FindsFiles P (record { mode = Off; next = next }) (Err f) (record { mode = mode_of handles state; next = next })) is
-    (finds.0, ap (λ (s : State). record { mode = mode_of handles s; next = next }) finds.1)
-told_finds P next handles cause.NoMemory result state finds tells =
+    subst (λ (f : RecoveryFault). FindsFiles P (totals_of StoreOff ledger) (Err f) (totals_of state ledger)) is (finds.0, ap (λ (s : State). totals_of s ledger) finds.1)
+told_finds P ledger cause.NoMemory result state finds tells =
     let is : fault.NoMemory ≡ result = cc in
-    subst (λ (f : RecoveryFault). FindsFiles P (record { mode = Off; next = next }) (Err f) (record { mode = mode_of handles state; next = next })) is
-    (ap (λ (s : State). record { mode = mode_of handles s; next = next }) finds)
-told_finds P next handles cause.Device result state finds tells =
+    subst (λ (f : RecoveryFault). FindsFiles P (totals_of StoreOff ledger) (Err f) (totals_of state ledger)) is (ap (λ (s : State). totals_of s ledger) finds)
+told_finds P ledger cause.Device result state finds tells =
     let is : fault.Device ≡ result = cc in
-    subst (λ (f : RecoveryFault). FindsFiles P (record { mode = Off; next = next }) (Err f) (record { mode = mode_of handles state; next = next })) is
-    (ap (λ (s : State). record { mode = mode_of handles s; next = next }) finds)
+    subst (λ (f : RecoveryFault). FindsFiles P (totals_of StoreOff ledger) (Err f) (totals_of state ledger)) is (ap (λ (s : State). totals_of s ledger) finds)
+
+-- the ledger with other tags
+abbrev pub with_table : Ledger → HandleTable → Ledger
+with_table ledger table = record ledger { handles = table }
+
+-- the tags of files that were found
+abbrev found_table : ℕ → ℕ → HandleTable
+found_table next count = record { given = tags_from next count; next = next + count }
 
 -- files that got handles
-numbered_finds : (P : Standing → Type 0) (next : ℕ) (files : List PlainFile) (sequence : ℕ) → P (Stands files sequence) → next + length files ≤ last_number
-    → FindsFiles P (record { mode = Off; next = next }) (Ok tt) (record { mode = mode_of (numbers_from next (length files)) (StoreReady files sequence); next = next + length files })
-numbered_finds P next files sequence found left = record {
+numbered_finds : (P : Standing → Type 0) (ledger : Ledger) (files : List PlainFile) (sequence : ℕ) → P (Stands files sequence) → ledger.handles.next + length files ≤ last_number
+    → FindsFiles P (totals_of StoreOff ledger) (Ok tt) (totals_of (StoreReady files sequence) (with_table ledger (found_table ledger.handles.next (length files))))
+numbered_finds P ledger files sequence found left = record {
   files = files;
   sequence = sequence;
   found = found;
   handles = left;
-  totals = ap (λ fs. record { mode = Ready fs sequence; next = next + length files }) (with_numbers files next);
+  totals = ap (λ fs. record (totals_of StoreOff ledger) { mode = Ready fs sequence; next = ledger.handles.next + length files }) (with_numbers files ledger.handles.next);
 }
 
 -- ---- a recovery of totals that are off, by what is made of a finding whatever P tells
 
-pub off_recovers : {D : Type 0} (bound : Ghosts D) (disk : D) (handles : List ℕ) (next : ℕ) (result : Result (Unit {0}) StoreFault) (mid : StoreView D) (told : Result (Unit {0}) RecoveryFault) (new : TotalsView D)
+pub off_recovers : {D : Type 0} (bound : Ghosts D) (disk : D) (ledger : Ledger) (result : Result (Unit {0}) StoreFault) (mid : StoreView D) (told : Result (Unit {0}) RecoveryFault) (new : TotalsView D)
     → store.Recovers bound (record { disk = disk; state = StoreOff }) result mid
     → new.disk ≡ mid.disk
-    → ((P : Standing → Type 0) → store.FindsStanding P result mid.state → FindsFiles P (record { mode = Off; next = next }) told new.totals)
+    → ((P : Standing → Type 0) → store.FindsStanding P result mid.state → FindsFiles P (totals_of StoreOff ledger) told new.totals)
     → (bound.honest disk → IsErrOf told fault.Device → IsErrOf result cause.Device)
-    → (bound.honest disk → Rattle.pos_totals.specs.Views.LeavesTheirFiles new.totals.mode (bound.state mid.disk))
-    → Recovers bound (view_of (record { disk = disk; state = StoreOff }) handles next) told new
-off_recovers bound disk handles next result mid told new recovers same finds device now = rw same (record {
+    → (bound.honest disk → LeavesTheirFiles new.totals.mode (bound.state mid.disk))
+    → Recovers bound (view_of (record { disk = disk; state = StoreOff }) ledger) told new
+off_recovers bound disk ledger result mid told new recovers same finds device now = rw same (record {
   ready = tt;
   answer = finds _ recovers.answer;
   one_of = λ h candidates leaves. let one = recovers.one_of h candidates leaves in record { found = finds _ one.found; any_moment = one.any_moment; still = one.still };
@@ -122,63 +129,66 @@ is_told bound disk StoreOff cause.NoMemory mid off recovers = refl
 is_told bound disk StoreOff cause.Device mid off recovers = refl
 
 -- the store met a fault
-pub store_failed : {D : Type 0} (bound : Ghosts D) (disk : D) (state : State) (handles : List ℕ) (next : ℕ) (why : StoreFault) (result : RecoveryFault) (mid : StoreView D) → store_mode_of state ≡ mode.Off
+pub store_failed : {D : Type 0} (bound : Ghosts D) (disk : D) (state : State) (ledger : Ledger) (why : StoreFault) (result : RecoveryFault) (mid : StoreView D) → store_mode_of state ≡ mode.Off → IsSound state ledger
     → store.Recovers bound (record { disk = disk; state = state }) (Err why) mid → told_as why ≡ Some result
-    → Recovers bound (view_of (record { disk = disk; state = state }) handles next) (Err result) (view_of mid handles next) × HasHandles mid.state handles next
-store_failed bound disk (StoreReady files sequence) handles next why result mid off recovers tells = absurd cc
-store_failed bound disk StoreOff handles next why result mid off recovers tells =
+    → Recovers bound (view_of (record { disk = disk; state = state }) ledger) (Err result) (view_of mid ledger) × IsSound mid.state ledger
+store_failed bound disk (StoreReady files sequence) ledger why result mid off sound recovers tells = absurd cc
+store_failed bound disk StoreOff ledger why result mid off sound recovers tells =
     let none = no_files (λ standing. bound.honest disk → StandsFor standing (bound.state disk).reading) why mid.state recovers.answer in
-    let sound : HasHandles mid.state handles next = subst (λ (s : State). HasHandles s handles next) (sym none) tt in (
-      off_recovers bound disk handles next (Err why) mid (Err result) (view_of mid handles next) recovers refl
-          (λ P finds. told_finds P next handles why result mid.state finds tells)
+    let still : IsSound mid.state ledger = subst (λ (s : State). IsSound s ledger) (sym none) sound in (
+      off_recovers bound disk ledger (Err why) mid (Err result) (view_of mid ledger) recovers refl
+          (λ P finds. told_finds P ledger why result mid.state finds tells)
           (λ h is. ap (λ (f : StoreFault). Err f) (told_device why (tells ∙ ap (λ (f : RecoveryFault). Some f) (let e : result ≡ fault.Device = cc in e))))
-          (λ h. their_files handles mid.state next (bound.state mid.disk) sound (recovers.now h)),
-      sound,
+          (λ h. their_files ledger.handles.given mid.state ledger.handles.next (bound.state mid.disk) still.handles (recovers.now h)),
+      still,
     )
 
 -- the files that the store found got handles
-files_numbered : {D : Type 0} (bound : Ghosts D) (disk after : D) (found : State) (handles : List ℕ) (next count : ℕ) (given : List ℕ) (next_now : ℕ)
-    → store.Recovers bound (record { disk = disk; state = StoreOff }) (Ok tt) (record { disk = after; state = found }) → (files : List PlainFile) → store_files_of found ≡ Some files → count ≡ length files → Numbers handles next count true given next_now
-    → Recovers bound (view_of (record { disk = disk; state = StoreOff }) handles next) (Ok tt) (view_of (record { disk = after; state = found }) given next_now) × HasHandles found given next_now
-files_numbered bound disk after StoreOff handles next count given next_now recovers files is counted numbers = absurd recovers.answer
-files_numbered bound disk after (StoreReady found sequence) handles next count given next_now recovers files is counted numbers =
+files_numbered : {D : Type 0} (bound : Ghosts D) (disk after : D) (found : State) (ledger : Ledger) (count : ℕ) (table : HandleTable) → IsSound StoreOff ledger
+    → store.Recovers bound (record { disk = disk; state = StoreOff }) (Ok tt) (record { disk = after; state = found }) → (files : List PlainFile) → store_files_of found ≡ Some files → count ≡ length files
+    → Numbers ledger.handles.given ledger.handles.next count true table.given table.next
+    → Recovers bound (view_of (record { disk = disk; state = StoreOff }) ledger) (Ok tt) (view_of (record { disk = after; state = found }) (with_table ledger table)) × IsSound found (with_table ledger table)
+files_numbered bound disk after StoreOff ledger count table sound recovers files is counted numbers = absurd recovers.answer
+files_numbered bound disk after (StoreReady found sequence) ledger count table sound recovers files is counted numbers =
+    let next = ledger.handles.next in
     let same : count ≡ length found = counted ∙ ap (λ (fs : List PlainFile). length fs) (sym (same_Some found files is)) in
-    let handles_are : given ≡ numbers_from next (length found) = numbers.1 ∙ ap (numbers_from next) same in
-    let next_is : next_now ≡ next + length found = numbers.2 ∙ ap (λ n. next + n) same in
-    let sound : AreHandles (numbers_from next (length found)) found (next + length found) = are_numbers found next in
-    rw (handles_are, next_is) (
-      off_recovers bound disk handles next (Ok tt) (record { disk = after; state = StoreReady found sequence }) (Ok tt)
-          (view_of (record { disk = after; state = StoreReady found sequence }) (numbers_from next (length found)) (next + length found)) recovers refl
-          (λ P finds. numbered_finds P next found sequence finds (let left = numbers.0 in omega (arith, left, same)))
+    let tags_are : table.given ≡ tags_from next (length found) = numbers.1 ∙ ap (tags_from next) same in
+    let next_is : table.next ≡ next + length found = numbers.2 ∙ ap (λ n. next + n) same in
+    let handles : AreHandles (tags_from next (length found)) found (next + length found) = are_numbers found next in
+    rw (tags_are, next_is) (
+      off_recovers bound disk ledger (Ok tt) (record { disk = after; state = StoreReady found sequence }) (Ok tt)
+          (view_of (record { disk = after; state = StoreReady found sequence }) (with_table ledger (found_table next (length found)))) recovers refl
+          (λ P finds. numbered_finds P ledger found sequence finds (let left = numbers.0 in omega (arith, left, same)))
           (λ h is. absurd cc)
-          (λ h. their_files (numbers_from next (length found)) (StoreReady found sequence) (next + length found) (bound.state after) sound (recovers.now h)),
-      sound,
+          (λ h. their_files (tags_from next (length found)) (StoreReady found sequence) (next + length found) (bound.state after) handles (recovers.now h)),
+      record { handles = handles; buffers = off_holds (with_tags (tags_from next (length found)) found) sequence next (next + length found) ledger.transactions sound.buffers },
     )
 
-pub store_found : {D : Type 0} (bound : Ghosts D) (disk : D) (state : State) (handles : List ℕ) (next count : ℕ) (mid : StoreView D) (given : List ℕ) (next_now : ℕ) → store_mode_of state ≡ mode.Off
-    → store.Recovers bound (record { disk = disk; state = state }) (Ok tt) mid → (files : List PlainFile) → store_files_of mid.state ≡ Some files → count ≡ length files → Numbers handles next count true given next_now
-    → Recovers bound (view_of (record { disk = disk; state = state }) handles next) (Ok tt) (view_of mid given next_now) × HasHandles mid.state given next_now
-store_found bound disk (StoreReady others sequence) handles next count mid given next_now off recovers files is counted numbers = absurd cc
-store_found bound disk StoreOff handles next count mid given next_now off recovers files is counted numbers =
-    files_numbered bound disk mid.disk mid.state handles next count given next_now recovers files is counted numbers
+pub store_found : {D : Type 0} (bound : Ghosts D) (disk : D) (state : State) (ledger : Ledger) (count : ℕ) (mid : StoreView D) (table : HandleTable) → store_mode_of state ≡ mode.Off → IsSound state ledger
+    → store.Recovers bound (record { disk = disk; state = state }) (Ok tt) mid → (files : List PlainFile) → store_files_of mid.state ≡ Some files → count ≡ length files
+    → Numbers ledger.handles.given ledger.handles.next count true table.given table.next
+    → Recovers bound (view_of (record { disk = disk; state = state }) ledger) (Ok tt) (view_of mid (with_table ledger table)) × IsSound mid.state (with_table ledger table)
+store_found bound disk (StoreReady others sequence) ledger count mid table off sound recovers files is counted numbers = absurd cc
+store_found bound disk StoreOff ledger count mid table off sound recovers files is counted numbers =
+    files_numbered bound disk mid.disk mid.state ledger count table sound recovers files is counted numbers
 
 -- the files that the store found are too many
-files_left : {D : Type 0} (bound : Ghosts D) (disk after : D) (found : State) (handles : List ℕ) (next count : ℕ)
-    → store.Recovers bound (record { disk = disk; state = StoreOff }) (Ok tt) (record { disk = after; state = found }) → (files : List PlainFile) → store_files_of found ≡ Some files → count ≡ length files → last_number < next + count
-    → Recovers bound (view_of (record { disk = disk; state = StoreOff }) handles next) (Err fault.Handles) (view_of (record { disk = after; state = StoreOff }) handles next)
-files_left bound disk after StoreOff handles next count recovers files is counted many = absurd recovers.answer
-files_left bound disk after (StoreReady found sequence) handles next count recovers files is counted many =
+files_left : {D : Type 0} (bound : Ghosts D) (disk after : D) (found : State) (ledger : Ledger) (count : ℕ)
+    → store.Recovers bound (record { disk = disk; state = StoreOff }) (Ok tt) (record { disk = after; state = found }) → (files : List PlainFile) → store_files_of found ≡ Some files → count ≡ length files → last_number < ledger.handles.next + count
+    → Recovers bound (view_of (record { disk = disk; state = StoreOff }) ledger) (Err fault.Handles) (view_of (record { disk = after; state = StoreOff }) ledger)
+files_left bound disk after StoreOff ledger count recovers files is counted many = absurd recovers.answer
+files_left bound disk after (StoreReady found sequence) ledger count recovers files is counted many =
     let same : count ≡ length found = counted ∙ ap (λ (fs : List PlainFile). length fs) (sym (same_Some found files is)) in
-    off_recovers bound disk handles next (Ok tt) (record { disk = after; state = StoreReady found sequence }) (Err fault.Handles) (view_of (record { disk = after; state = StoreOff }) handles next) recovers refl
+    off_recovers bound disk ledger (Ok tt) (record { disk = after; state = StoreReady found sequence }) (Err fault.Handles) (view_of (record { disk = after; state = StoreOff }) ledger) recovers refl
     (λ P finds. (record { files = found; sequence = sequence; found = finds; handles = λ few. omega (arith, few, many, same) }, refl))
     (λ h is. absurd cc)
     (λ h. tt)
 
-pub store_found_more : {D : Type 0} (bound : Ghosts D) (disk : D) (state : State) (handles : List ℕ) (next count : ℕ) (mid new : StoreView D) (given : List ℕ) (next_now : ℕ) → store_mode_of state ≡ mode.Off
-    → store.Recovers bound (record { disk = disk; state = state }) (Ok tt) mid → (files : List PlainFile) → store_files_of mid.state ≡ Some files → count ≡ length files → Numbers handles next count false given next_now
-    → new ≡ record { disk = mid.disk; state = StoreOff }
-    → Recovers bound (view_of (record { disk = disk; state = state }) handles next) (Err fault.Handles) (view_of new given next_now) × HasHandles new.state given next_now
-store_found_more {D = D} bound disk (StoreReady others sequence) handles next count mid new given next_now off recovers files is counted numbers turned = absurd cc
-store_found_more {D = D} bound disk StoreOff handles next count mid new given next_now off recovers files is counted numbers turned =
-    subst (λ (n : StoreView D). Recovers bound (view_of (record { disk = disk; state = StoreOff }) handles next) (Err fault.Handles) (view_of n given next_now) × HasHandles n.state given next_now) (sym turned)
-    (rw numbers.2 (files_left bound disk mid.disk mid.state handles next count recovers files is counted numbers.0, tt))
+pub store_found_more : {D : Type 0} (bound : Ghosts D) (disk : D) (state : State) (ledger : Ledger) (count : ℕ) (mid new : StoreView D) (table : HandleTable) → store_mode_of state ≡ mode.Off → IsSound state ledger
+    → store.Recovers bound (record { disk = disk; state = state }) (Ok tt) mid → (files : List PlainFile) → store_files_of mid.state ≡ Some files → count ≡ length files
+    → Numbers ledger.handles.given ledger.handles.next count false table.given table.next → new ≡ record { disk = mid.disk; state = StoreOff }
+    → Recovers bound (view_of (record { disk = disk; state = state }) ledger) (Err fault.Handles) (view_of new (with_table ledger table)) × IsSound new.state (with_table ledger table)
+store_found_more {D = D} bound disk (StoreReady others sequence) ledger count mid new table off sound recovers files is counted numbers turned = absurd cc
+store_found_more {D = D} bound disk StoreOff ledger count mid new table off sound recovers files is counted numbers turned =
+    subst (λ (n : StoreView D). Recovers bound (view_of (record { disk = disk; state = StoreOff }) ledger) (Err fault.Handles) (view_of n (with_table ledger table)) × IsSound n.state (with_table ledger table)) (sym turned)
+    (rw numbers.2 (files_left bound disk mid.disk mid.state ledger count recovers files is counted numbers.0, record { handles = tt; buffers = sound.buffers }))

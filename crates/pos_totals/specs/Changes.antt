@@ -8,7 +8,7 @@ use Rattle.pos_dir.specs.declared.limits.TheConstants.{LAYOUT_1}
 use Rattle.pos_service.specs.declared.answer.Answer.{Answer}
 use Rattle.pos_service.specs.declared.answer.Answer.TheVariants as answer
 use Rattle.pos_service.specs.declared.memory.NoMemory.{NoMemory}
-use Rattle.pos_service.specs.HardTotals.{Mode, Off, Ready, Totals, Change, files_of, files_after_all, next_sequences, layout_1, Changed, group_by_change}
+use Rattle.pos_service.specs.HardTotals.{Mode, Off, Ready, Totals, Change, files_of, files_after_all, next_sequences, layout_1, Changed, group_by_change, Committed, group_by_commit, Arrangement, Arranges}
 use Rattle.pos_store.specs.Standing.{Standing, Stands, StandsForOneOf, LeavesOneOf}
 use Rattle.pos_totals.specs.Groups.{group_of}
 use Rattle.pos_totals.specs.Views.{TotalsView, plain, TurnsOff, LeavesTheirFiles}
@@ -69,3 +69,15 @@ pub record Changes {D : Type 0} (bound : Ghosts D) (old : TotalsView D) (control
     (outcome : Result Answer NoMemory) (new : TotalsView D) : Type 0 where
   pub answer : Changed layout_1 (HasFailed bound old.disk new.disk) old.totals control change outcome new.totals
   pub disk : PutsGroup bound old (group_by_change layout_1 old.totals control change) outcome new
+
+-- What a commit does: it is answered by its table, and its group is put on the disk.
+pub record CommitsBuffer {D : Type 0} (bound : Ghosts D) (old : TotalsView D) (control : ℕ)
+    (outcome : Result Answer NoMemory) (new : TotalsView D) : Type 0 where
+  pub answer : Committed (HasFailed bound old.disk new.disk) old.totals control outcome new.totals
+  pub disk : PutsGroup bound old (group_by_commit old.totals control) outcome new
+
+-- What an arrangement does. It doesn't touch the disk.
+pub record Arranged {D : Type 0} (old : TotalsView D) (control : ℕ) (arrangement : Arrangement) (result : Answer)
+    (new : TotalsView D) : Type 0 where
+  pub answer : Arranges old.totals control arrangement result new.totals
+  pub disk : new.disk ≡ old.disk

@@ -1,5 +1,5 @@
 -- What the checks of a call find, before anything is done.
-use Rattle.std.specs.Prelude.{◌≡◌, ◌≤◌, ◌+◌, ℕ, ℤ, pos, Bool, List, length, Option, Some, None, IfSome, MatchResult, Result, Ok, Err, ⊤}
+use Rattle.std.specs.Prelude.{◌≡◌, ◌≤◌, ◌+◌, ℕ, ℤ, pos, Bool, false, List, [], ◌∷◌, length, Option, Some, None, IfSome, MatchResult, Result, Ok, Err, ⊤}
 use Rattle.std.specs.List.{find}
 use Rattle.std.specs.Option.{option_map}
 use Rattle.pos_dir.specs.Changes.{flaw_of}
@@ -11,14 +11,18 @@ use Rattle.pos_service.specs.declared.answer.Answer.{Answer}
 use Rattle.pos_service.specs.declared.answer.Answer.TheVariants as answer
 use Rattle.pos_service.specs.declared.code.Code.TheVariants as code
 use Rattle.pos_service.specs.declared.memory.NoMemory.{NoMemory}
-use Rattle.pos_service.specs.HardTotals.{File, Mode, Off, Ready, Change, Create, Delete, Rename, Write, SetAll, layout_1, change_rows, Question, question_rows, told_of}
-use Rattle.pos_service.specs.Refusals.{first_refusal, Decided}
+use Rattle.pos_service.specs.HardTotals.{File, Mode, Off, Ready, Totals, Change, Create, Delete, Rename, Write, SetAll, layout_1, change_rows, refusals_of_change, is_foreign, spent_by, Arrangement, arrangement_rows, refusals_of_arrangement, refusals_of_commit, transaction_of, files_of, Question, question_rows, told_of}
+use Rattle.pos_service.specs.Refusals.{Row, first_refusal, Decided}
 use Rattle.pos_store.specs.declared.fault.StoreFault.{StoreFault}
 use Rattle.pos_store.specs.declared.fault.StoreFault.TheVariants as fault
-use Rattle.pos_totals.specs.Groups.{index_of, file_change}
-use Rattle.pos_totals.specs.Views.{with_handles}
+use Rattle.pos_totals.specs.Buffers.{IsAsked}
+use Rattle.pos_totals.specs.Groups.{index_of, file_change, group_of}
+use Rattle.pos_totals.specs.Views.{with_tags}
+use Rattle.pos_totals.specs.declared.committing.Plan.{Plan}
+use Rattle.pos_totals.specs.declared.committing.Plan.TheVariants as plan
 use Rattle.pos_totals.specs.declared.files.Files.{Files}
 use Rattle.pos_totals.specs.declared.files.Found.{Found}
+use Rattle.pos_totals.specs.declared.request.Caller.{Caller}
 use Rattle.pos_totals.specs.declared.request.Request.{Request}
 use Rattle.pos_totals.specs.declared.request.Request.TheVariants as request
 use Rattle.pos_totals.specs.declared.request.Checked.{Checked}
@@ -37,17 +41,17 @@ abbrev pub file_change_of : Checked → FileChange
 file_change_of (checked.Create name size) = file.Create name.now size
 file_change_of (checked.Delete index) = file.Delete index
 file_change_of (checked.Rename index name) = file.Rename index name.now
-file_change_of (checked.Write index offset bytes) = file.Write index offset bytes.now
-file_change_of (checked.SetAll index n) = file.SetAll index n
+file_change_of (checked.Write index handle offset bytes) = file.Write index offset bytes.now
+file_change_of (checked.SetAll index handle n) = file.SetAll index n
 
--- the files with their handles
+-- the files with their tags
 abbrev pub files_in : Files → List File
-files_in files = with_handles files.handles.now files.directory.now
+files_in files = with_tags files.tags.now files.directory.now
 
--- The files are those of a directory, and each has a handle.
+-- The files are those of a directory, and each has a tag.
 pub record AreFiles (files : Files) : Type 0 where
   pub directory : IsDirectory LAYOUT_1 files.directory.now
-  pub paired : length files.handles.now ≡ length files.directory.now
+  pub paired : length files.tags.now ≡ length files.directory.now
 
 -- what is seen of the files: none while they aren't known
 abbrev pub IsSeen : Mode → Option (List File) → Type 0
@@ -64,7 +68,7 @@ pub record IsRange (size : ℕ) (offset count : ℤ) (from many : ℕ) : Type 0 
 
 -- a file that was found
 abbrev pub file_of : Found → File
-file_of found = record { handle = found.handle; name = found.name.now; bytes = found.bytes.now }
+file_of found = record { handle = found.handle; name = found.name.now; bytes = found.bytes.now; claim = found.claim }
 
 -- A search finds the first file that meets a test, and its index.
 pub record FindsFile (test : File → Bool) (files : List File) (found : Option Found) : Type 0 where
@@ -73,31 +77,70 @@ pub record FindsFile (test : File → Bool) (files : List File) (found : Option 
   pub small : IfSome found (λ f. length f.bytes.now ≤ 8192)
 
 -- a question about files that are known is answered by its table, and then told; memory is wanted only behind the table
-abbrev pub TellsIn : List File → Question → Answer → Type 0
-TellsIn files question result =
-    Decided (question_rows files question) result (Unit {0}) (result ≡ answer.Done (told_of files question))
+abbrev pub TellsIn : List File → ℕ → Question → Answer → Type 0
+TellsIn files control question result =
+    Decided (question_rows files control question) result (Unit {0}) (result ≡ answer.Done (told_of files question))
 
-abbrev pub MayTellIn : List File → Question → Result Answer NoMemory → Type 0
-MayTellIn files question outcome =
-    MatchResult outcome (λ result. TellsIn files question result)
-    (λ want. first_refusal (question_rows files question) ≡ None)
+abbrev pub MayTellIn : List File → ℕ → Question → Result Answer NoMemory → Type 0
+MayTellIn files control question outcome =
+    MatchResult outcome (λ result. TellsIn files control question result)
+    (λ want. first_refusal (question_rows files control question) ≡ None)
 
 -- Nothing refuses the change, and a group takes it.
-pub record Passes (files : List File) (change : Change) (checked : FileChange) : Type 0 where
-  pub unrefused : first_refusal (change_rows layout_1 files change) ≡ None
-  pub made : file_change files change ≡ checked
-  pub flawless : flaw_of checked ≡ None
+pub record Passes (files : List File) (control : ℕ) (spent : Option ℕ) (change : Change) (checked : Checked) : Type 0 where
+  pub unrefused : first_refusal (change_rows layout_1 files control spent change) ≡ None
+  pub made : file_change files change ≡ file_change_of checked
+  pub flawless : flaw_of (file_change_of checked) ≡ None
+  pub asked : IsAsked change checked
 
 -- what a check of a change by its table finds
-abbrev pub Checks : List File → Change → Result Checked Answer → Type 0
-Checks files change (Ok made) = Passes files change (file_change_of made)
-Checks files change (Err refusal) = first_refusal (change_rows layout_1 files change) ≡ Some refusal
+abbrev pub Checks : List File → Caller → Change → Result Checked Answer → Type 0
+Checks files caller change (Ok made) = Passes files caller.control caller.spent change made
+Checks files caller change (Err refusal) =
+    first_refusal (change_rows layout_1 files caller.control caller.spent change) ≡ Some refusal
 
--- what a check of a change finds, the totals being off or ready
-abbrev pub ChecksAt : Mode → Change → Result Checked Answer → Type 0
-ChecksAt Off change (Ok made) = ⊥
-ChecksAt Off change (Err refusal) = refusal ≡ answer.Refused code.Failure 0
-ChecksAt (Ready files sequence) change result = Checks files change result
+-- nothing refuses the change of totals that are off, or ready
+abbrev pub PassesIn : Mode → ℕ → Option ℕ → Change → Checked → Type 0
+PassesIn Off control spent change made = ⊥
+PassesIn (Ready files sequence) control spent change made = Passes files control spent change made
+
+-- what a check of a change finds
+abbrev pub ChecksAt : Totals → ℕ → Change → Result Checked Answer → Type 0
+ChecksAt totals control change (Ok made) =
+    (is_foreign control totals.area ≡ false) × PassesIn totals.mode control (spent_by totals control) change made
+ChecksAt totals control change (Err refusal) =
+    first_refusal (refusals_of_change layout_1 totals control change) ≡ Some refusal
+
+-- what a check of an arrangement of a file by its table finds: the handle, where nothing refuses it
+abbrev pub LetsThrough : Option ℕ → Option (Option (List Change)) → List File → ℕ → Arrangement → ℤ → Result ℕ Answer → Type 0
+LetsThrough area place files control arrangement handle (Ok number) =
+    (first_refusal (arrangement_rows area place files control arrangement) ≡ None) × (handle ≡ pos number)
+LetsThrough area place files control arrangement handle (Err refusal) =
+    first_refusal (arrangement_rows area place files control arrangement) ≡ Some refusal
+
+abbrev pub LetsThroughAt : Totals → ℕ → Arrangement → ℤ → Result ℕ Answer → Type 0
+LetsThroughAt totals control arrangement handle (Ok number) =
+    (first_refusal (refusals_of_arrangement totals control arrangement) ≡ None) × (handle ≡ pos number)
+LetsThroughAt totals control arrangement handle (Err refusal) =
+    first_refusal (refusals_of_arrangement totals control arrangement) ≡ Some refusal
+
+-- A group was made of what is buffered, which isn't nothing.
+pub record Gathers (files : List File) (transaction : Option (List Change)) (group : List FileChange) : Type 0 where
+  pub first : Change
+  pub others : List Change
+  pub buffered : transaction ≡ Some (first ∷ others)
+  pub made : group ≡ group_of files (first ∷ others)
+
+-- what a commit comes to, by its table; memory is wanted only behind it
+abbrev pub Plans : List Row → List File → Option (List Change) → Result Plan NoMemory → Type 0
+Plans rows files transaction (Ok (plan.Refused refusal)) = first_refusal rows ≡ Some refusal
+Plans rows files transaction (Ok plan.Nothing) = (first_refusal rows ≡ None) × (transaction ≡ Some [])
+Plans rows files transaction (Ok (plan.Group group)) = (first_refusal rows ≡ None) × Gathers files transaction group
+Plans rows files transaction (Err want) = first_refusal rows ≡ None
+
+abbrev pub PlansAt : Totals → ℕ → Result Plan NoMemory → Type 0
+PlansAt totals control result =
+    Plans (refusals_of_commit totals control) (files_of totals.mode) (transaction_of totals control) result
 
 -- what a change is answered that the store refuses
 abbrev pub answer_of : StoreFault → Result Answer NoMemory

@@ -3,13 +3,15 @@ use Rattle.std.specs.Prelude.{ℕ, ◌+◌, ◌<◌, ◌≤◌, pos, ◌≡◌, 
 use Rattle.pos_service.specs.declared.answer.Value.{Value}
 use Rattle.pos_service.specs.declared.answer.Value.TheVariants as value
 use Rattle.pos_service.specs.HardTotals.{last_number}
+use Rattle.pos_totals.specs.Tables.{new_tag}
+use Rattle.pos_totals.specs.declared.handles.Tag.{Tag}
 use Rattle.pos_dir.specs.declared.change.Change.{Change as FileChange}
 use Rattle.pos_dir.specs.declared.change.Change.TheVariants as file
 
--- so many numbers from one on
-abbrev pub numbers_from : ℕ → ℕ → List ℕ
-numbers_from first zero = []
-numbers_from first (suc count) = first ∷ numbers_from (first + 1) count
+-- the tags of so many files that have the handles from one on
+abbrev pub tags_from : ℕ → ℕ → List Tag
+tags_from first zero = []
+tags_from first (suc count) = new_tag first ∷ tags_from (first + 1) count
 
 -- the change needs a handle, and none is left
 abbrev pub lacks : ℕ → FileChange → Bool
@@ -20,16 +22,16 @@ lacks next (file.Write index offset bytes) = false
 lacks next (file.SetAll index n) = false
 
 -- a new file finds a place and a handle for it, and a file that goes is there
-abbrev pub HasPlace : List ℕ → ℕ → FileChange → Type 0
+abbrev pub HasPlace : List Tag → ℕ → FileChange → Type 0
 HasPlace given next (file.Create name size) = (length given < 64) × (next < last_number)
 HasPlace given next (file.Delete index) = index < length given
 HasPlace given next (file.Rename index name) = ⊤
 HasPlace given next (file.Write index offset bytes) = ⊤
 HasPlace given next (file.SetAll index n) = ⊤
 
--- the handles after a change
-abbrev pub given_after : List ℕ → ℕ → FileChange → List ℕ
-given_after given next (file.Create name size) = given ++ next ∷ []
+-- the tags after a change
+abbrev pub given_after : List Tag → ℕ → FileChange → List Tag
+given_after given next (file.Create name size) = given ++ new_tag next ∷ []
 given_after given next (file.Delete index) = remove given index
 given_after given next (file.Rename index name) = given
 given_after given next (file.Write index offset bytes) = given
@@ -52,7 +54,7 @@ value_after next (file.Write index offset bytes) = value.Empty
 value_after next (file.SetAll index n) = value.Empty
 
 -- so many handles were given from the next one on, or fewer are left and none was given
-abbrev pub Numbers : List ℕ → ℕ → ℕ → Bool → List ℕ → ℕ → Type 0
+abbrev pub Numbers : List Tag → ℕ → ℕ → Bool → List Tag → ℕ → Type 0
 Numbers given next count true now next_now =
-    (next + count ≤ last_number) × (now ≡ numbers_from next count) × (next_now ≡ next + count)
+    (next + count ≤ last_number) × (now ≡ tags_from next count) × (next_now ≡ next + count)
 Numbers given next count false now next_now = (last_number < next + count) × (now ≡ given) × (next_now ≡ next)

@@ -11,14 +11,15 @@ use Rattle.pos_store.specs.Standing.{Standing, Unformatted, Damaged, Stands, IsO
 use Rattle.pos_store.specs.declared.fault.StoreFault.{StoreFault}
 use Rattle.pos_store.specs.declared.fault.StoreFault.TheVariants as store
 use Rattle.pos_totals.specs.Changes.{HasFailed}
+use Rattle.pos_totals.specs.Tables.{new_tag}
 use Rattle.pos_totals.specs.Views.{TotalsView, called, WhenOff, WhenReady, LeavesTheirFiles}
 use Rattle.pos_totals.specs.declared.fault.RecoveryFault.{RecoveryFault}
 use Rattle.pos_totals.specs.declared.fault.RecoveryFault.TheVariants as fault
 
--- files with handles from a number on, in their order
+-- files with handles from a number on, in their order; nobody has claimed one
 abbrev pub numbered : ℕ → List PlainFile → List File
 numbered next [] = []
-numbered next (file ∷ files) = called next file ∷ numbered (next + 1) files
+numbered next (file ∷ files) = called (new_tag next) file ∷ numbered (next + 1) files
 
 -- there are so many handles from a number on, the last of which is below the last number
 abbrev pub AreLeft : ℕ → ℕ → Type 0

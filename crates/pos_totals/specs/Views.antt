@@ -8,26 +8,41 @@ use Rattle.pos_dir.specs.declared.limits.TheConstants.{LAYOUT_1}
 use Rattle.pos_service.specs.HardTotals.{File, Mode, Off, Ready, Totals, files_of}
 use Rattle.pos_store.specs.Modes.{StoreState as State, LeavesItsFiles}
 use Rattle.pos_store.specs.Modes.{Off as StoreOff, Ready as StoreReady, StoreView}
+use Rattle.pos_totals.specs.Buffers.{HaveBuffers}
+use Rattle.pos_totals.specs.Tables.{HandleTable}
+use Rattle.pos_totals.specs.declared.handles.Tag.{Tag}
+use Rattle.pos_totals.specs.declared.ledger.Ledger.{Ledger}
 
 -- The disk, and what the totals have of it.
 pub record TotalsView (D : Type 0) : Type 0 where
   pub disk : D
   pub totals : Totals
 
--- a file without its handle, and with one
+-- a file without its handle and its claim, and with these
 abbrev pub plain_file : File → PlainFile
 plain_file file = record { name = file.name; bytes = file.bytes }
 
-abbrev pub called : ℕ → PlainFile → File
-called handle file = record { handle = handle; name = file.name; bytes = file.bytes }
+abbrev pub called : Tag → PlainFile → File
+called tag file = record { handle = tag.handle; name = file.name; bytes = file.bytes; claim = tag.claim }
 
--- the files without their handles, as a disk has them
+-- the files without their handles and claims, as a disk has them
 abbrev pub plain : List File → List PlainFile
 plain files = map plain_file files
 
 -- their handles
 abbrev pub handles_of : List File → List ℕ
 handles_of files = map (λ file. file.handle) files
+
+-- their handles with their claims
+abbrev pub tag_of : File → Tag
+tag_of file = record { handle = file.handle; claim = file.claim }
+
+abbrev pub tags_of : List File → List Tag
+tags_of files = map tag_of files
+
+-- the handles of tags
+abbrev pub numbers_of : List Tag → List ℕ
+numbers_of tags = map (λ tag. tag.handle) tags
 
 -- what a store has of the totals
 abbrev pub stored : Mode → State
@@ -58,29 +73,29 @@ TurnsOff old (Ready files sequence) = ⊥
 abbrev pub LeavesTheirFiles : Mode → DiskState → Type 0
 LeavesTheirFiles mode disk = LeavesItsFiles (stored mode) disk
 
--- files and their handles in one list
-abbrev pub with_handles : List ℕ → List PlainFile → List File
-with_handles [] files = []
-with_handles (handle ∷ handles) [] = []
-with_handles (handle ∷ handles) (file ∷ files) = called handle file ∷ with_handles handles files
+-- files and their tags in one list
+abbrev pub with_tags : List Tag → List PlainFile → List File
+with_tags [] files = []
+with_tags (tag ∷ tags) [] = []
+with_tags (tag ∷ tags) (file ∷ files) = called tag file ∷ with_tags tags files
 
--- what a store's state and the handles mean
-abbrev pub mode_of : List ℕ → State → Mode
-mode_of handles StoreOff = Off
-mode_of handles (StoreReady files sequence) = Ready (with_handles handles files) sequence
+-- what a store's state and the tags mean
+abbrev pub mode_of : List Tag → State → Mode
+mode_of tags StoreOff = Off
+mode_of tags (StoreReady files sequence) = Ready (with_tags tags files) sequence
 
--- the handles of the files in index order, and the one that the next new file gets
-pub record HandleTable : Type 0 where
-  pub given : List ℕ
-  pub next : ℕ
+-- what a store's state and the ledger mean
+abbrev pub totals_of : State → Ledger → Totals
+totals_of state ledger = record {
+  mode = mode_of ledger.handles.given state;
+  next = ledger.handles.next;
+  area = ledger.area;
+  transactions = ledger.transactions;
+}
 
--- what a store, the handles and the next one mean
-abbrev pub view_of : {D : Type 0} → StoreView D → List ℕ → ℕ → TotalsView D
-view_of store handles next =
-    record { disk = store.disk; totals = record { mode = mode_of handles store.state; next = next } }
-
-abbrev pub view_with : {D : Type 0} → StoreView D → HandleTable → TotalsView D
-view_with store table = view_of store table.given table.next
+-- what a store and the ledger mean
+abbrev pub view_of : {D : Type 0} → StoreView D → Ledger → TotalsView D
+view_of store ledger = record { disk = store.disk; totals = totals_of store.state ledger }
 
 -- no two handles are the same
 abbrev pub AreDistinct : List ℕ → Type 0
@@ -88,18 +103,21 @@ AreDistinct [] = ⊤
 AreDistinct (handle ∷ handles) = AllByRecursion (λ other. ¬ (other ≡ handle)) handles × AreDistinct handles
 
 -- Each file has a handle of its own, below the next one.
-pub record AreHandles (handles : List ℕ) (files : List PlainFile) (next : ℕ) : Type 0 where
-  pub count : length handles ≡ length files
-  pub distinct : AreDistinct handles
-  pub below : AllByRecursion (λ handle. handle < next) handles
+pub record AreHandles (tags : List Tag) (files : List PlainFile) (next : ℕ) : Type 0 where
+  pub count : length tags ≡ length files
+  pub distinct : AreDistinct (numbers_of tags)
+  pub below : AllByRecursion (λ handle. handle < next) (numbers_of tags)
 
 -- where a store is ready, its files have their handles
-abbrev pub HasHandles : State → List ℕ → ℕ → Type 0
-HasHandles StoreOff handles next = ⊤
-HasHandles (StoreReady files sequence) handles next = AreHandles handles files next
+abbrev pub HasHandles : State → List Tag → ℕ → Type 0
+HasHandles StoreOff tags next = ⊤
+HasHandles (StoreReady files sequence) tags next = AreHandles tags files next
 
-abbrev pub HasTable : State → HandleTable → Type 0
-HasTable state table = HasHandles state table.given table.next
+-- Where a store is ready, its files have their handles, and buffered changes fit their files; where it is off, nothing
+-- is buffered.
+pub record IsSound (state : State) (ledger : Ledger) : Type 0 where
+  pub handles : HasHandles state ledger.handles.given ledger.handles.next
+  pub buffers : HaveBuffers (mode_of ledger.handles.given state) ledger.handles.next ledger.transactions
 
 -- where a store is ready, its files are those of a directory
 abbrev pub HasDirectory : State → Type 0
@@ -112,6 +130,8 @@ pub record AreTheirFiles (files : List File) (next : ℕ) : Type 0 where
   pub below : AllByRecursion (λ handle. handle < next) (handles_of files)
   pub directory : IsDirectory LAYOUT_1 (plain files)
 
--- where the totals are ready, so are their files
-abbrev pub HasItsFiles : Totals → Type 0
-HasItsFiles totals = WhenReady totals.mode (AreTheirFiles (files_of totals.mode) totals.next)
+-- Where the totals are ready, so are their files, and what is buffered fits them; where they are off, nothing is
+-- buffered.
+pub record HasItsFiles (totals : Totals) : Type 0 where
+  pub files : WhenReady totals.mode (AreTheirFiles (files_of totals.mode) totals.next)
+  pub buffers : HaveBuffers totals.mode totals.next totals.transactions

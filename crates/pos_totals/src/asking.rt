@@ -3,10 +3,11 @@ ghost use Rattle.std.specs.Prelude.{◌≡◌};
 ghost use Rattle.std.specs.Option.{option_map};
 ghost use Rattle.pos_service.specs.HardTotals.{Find, FindByIndex, Read, Tells, MayTell, file_at};
 ghost use Rattle.pos_totals.specs.Checks.{files_in, file_of, AreFiles, TellsIn, MayTellIn};
-ghost use Rattle.pos_totals.specs.Views.{HasTable, view_with};
+ghost use Rattle.pos_totals.specs.Views.{IsSound, totals_of};
 
+use crate::claims::is_foreign;
 use crate::files::{Files, Found, count_files, find_handle, find_name, get_file, see_files};
-use crate::handles::Handles;
+use crate::ledger::Ledger;
 use crate::numbers::{to_natural, to_range};
 use pos_disk::Disk;
 use pos_service::{Answer, Bytes, Code, NoMemory, Value};
@@ -14,20 +15,23 @@ use pos_store::Store;
 use std::alloc::Global;
 
 /// The handle and the size of the file with a name.
-pub fn find<D: Disk>(store: &Store<D>, handles: &Handles, control: usize, name: &[u8]) -> Answer
-    requires sound { HasTable store.now.state handles.now }
-    ensures { Tells (view_with store.now handles.now).totals control (Find name.now) result }
+pub fn find<D: Disk>(store: &Store<D>, ledger: &Ledger, control: usize, name: &[u8]) -> Answer
+    requires sound { IsSound store.now.state ledger.now }
+    ensures { Tells (totals_of store.now.state ledger.now) control (Find name.now) result }
 {
-    match see_files(store, handles) {
-        Some(files) => find_in(files, name),
+    if is_foreign(ledger.area, control) {
+        return Answer::Refused(Code::Claimed, 0);
+    }
+    match see_files(store, ledger) {
+        Some(files) => find_in(files, control, name),
         None => Answer::Refused(Code::Failure, 0),
     }
 }
 
 /// The handle and the size of the file with a name, where the totals are ready.
-fn find_in(files: Files<'_>, name: &[u8]) -> Answer
+fn find_in(files: Files<'_>, control: usize, name: &[u8]) -> Answer
     requires { AreFiles files }
-    ensures { TellsIn (files_in files.entry) (Find name.now) result }
+    ensures { TellsIn (files_in files.entry) control (Find name.now) result }
 {
     match find_name(files, name) {
         Some(found) => {
@@ -42,23 +46,31 @@ fn find_in(files: Files<'_>, name: &[u8]) -> Answer
 pub fn find_by_index<D: Disk>(
     alloc: Global,
     store: &Store<D>,
-    handles: &Handles,
+    ledger: &Ledger,
     control: usize,
     index: i128,
 ) -> Result<Answer, NoMemory>
-    requires sound { HasTable store.now.state handles.now }
-    ensures { MayTell (view_with store.now handles.now).totals control (FindByIndex index) result }
+    requires sound { IsSound store.now.state ledger.now }
+    ensures { MayTell (totals_of store.now.state ledger.now) control (FindByIndex index) result }
 {
-    match see_files(store, handles) {
-        Some(files) => find_by_index_in(alloc, files, index),
+    if is_foreign(ledger.area, control) {
+        return Ok(Answer::Refused(Code::Claimed, 0));
+    }
+    match see_files(store, ledger) {
+        Some(files) => find_by_index_in(alloc, files, control, index),
         None => Ok(Answer::Refused(Code::Failure, 0)),
     }
 }
 
 /// The name of the file at an index, where the totals are ready.
-fn find_by_index_in(alloc: Global, files: Files<'_>, index: i128) -> Result<Answer, NoMemory>
+fn find_by_index_in(
+    alloc: Global,
+    files: Files<'_>,
+    control: usize,
+    index: i128,
+) -> Result<Answer, NoMemory>
     requires { AreFiles files }
-    ensures { MayTellIn (files_in files.entry) (FindByIndex index) result }
+    ensures { MayTellIn (files_in files.entry) control (FindByIndex index) result }
 {
     let Some(found) = file_by_index(files, index) else {
         return Ok(Answer::Refused(Code::Illegal, 0));
@@ -84,17 +96,20 @@ fn file_by_index<'a>(files: Files<'a>, index: i128) -> Option<Found<'a>>
 pub fn read<D: Disk>(
     alloc: Global,
     store: &Store<D>,
-    handles: &Handles,
+    ledger: &Ledger,
     control: usize,
     handle: i128,
     offset: i128,
     count: i128,
 ) -> Result<Answer, NoMemory>
-    requires sound { HasTable store.now.state handles.now }
-    ensures { MayTell (view_with store.now handles.now).totals control (Read handle offset count) result }
+    requires sound { IsSound store.now.state ledger.now }
+    ensures { MayTell (totals_of store.now.state ledger.now) control (Read handle offset count) result }
 {
-    match see_files(store, handles) {
-        Some(files) => read_in(alloc, files, handle, offset, count),
+    if is_foreign(ledger.area, control) {
+        return Ok(Answer::Refused(Code::Claimed, 0));
+    }
+    match see_files(store, ledger) {
+        Some(files) => read_in(alloc, files, control, handle, offset, count),
         None => Ok(Answer::Refused(Code::Failure, 0)),
     }
 }
@@ -103,12 +118,13 @@ pub fn read<D: Disk>(
 fn read_in(
     alloc: Global,
     files: Files<'_>,
+    control: usize,
     handle: i128,
     offset: i128,
     count: i128,
 ) -> Result<Answer, NoMemory>
     requires { AreFiles files }
-    ensures { MayTellIn (files_in files.entry) (Read handle offset count) result }
+    ensures { MayTellIn (files_in files.entry) control (Read handle offset count) result }
 {
     let Some(found) = find_handle(files, handle) else {
         return Ok(Answer::Refused(Code::Illegal, 0));
@@ -116,6 +132,9 @@ fn read_in(
     let Some((start, size)) = to_range(found.bytes.len(), offset, count) else {
         return Ok(Answer::Refused(Code::Illegal, 0));
     };
+    if is_foreign(found.claim, control) {
+        return Ok(Answer::Refused(Code::Claimed, 0));
+    }
     let part = &found.bytes[start..start + size];
     Ok(Answer::Done(Value::Bytes(Bytes::from_slice(alloc, part)?)))
 }

@@ -1,14 +1,17 @@
 //! A change of the files, from its table to the disk.
-ghost use Rattle.std.specs.Prelude.{◌≡◌, IfOk, None, ◌∷◌, []};
+ghost use Rattle.std.specs.Prelude.{◌≡◌, IfOk, None, true, ◌∷◌, []};
 ghost use Rattle.pos_dir.specs.Changes.{flaw_of};
 ghost use Rattle.pos_totals.specs.Changes.{Changes};
+ghost use Rattle.pos_totals.specs.Buffers.{is_bufferable, transactions_after, Buffers, IsAsked, MayBuffer};
 ghost use Rattle.pos_totals.specs.Checks.{change_of, file_change_of, answer_of, ChecksAt};
-ghost use Rattle.pos_totals.specs.Views.{HasDirectory, HasTable, mode_of, view_with};
+ghost use Rattle.pos_totals.specs.Views.{HasDirectory, IsSound, totals_of, view_of};
 
 use crate::checking::check;
+use crate::claims::is_foreign;
 use crate::files::see_files;
-use crate::handles::Handles;
-use crate::request::{Checked, Request};
+use crate::ledger::Ledger;
+use crate::request::{Caller, Checked, Request};
+use crate::transactions::{Action, Buffered, Transactions};
 use pos_dir::{Bytes, Change, Group, Name};
 use pos_disk::Disk;
 use pos_service::{Answer, Code, NoMemory, Value};
@@ -20,55 +23,109 @@ use std::alloc::Global;
 pub fn change<D: Disk>(
     alloc: Global,
     store: &mut Store<D>,
-    handles: &mut Handles,
+    ledger: &mut Ledger,
     control: usize,
     request: Request<'_>,
 ) -> Result<Answer, NoMemory>
-    requires sound { HasTable store.old.state handles.old }
-    ensures sound { HasTable store.new.state handles.new }
-    ensures changes { Changes D.Disk (view_with store.old handles.old) control (change_of request.entry) result
-        (view_with store.new handles.new) }
+    requires sound { IsSound store.old.state ledger.old }
+    ensures sound { IsSound store.new.state ledger.new }
+    ensures changes { Changes D.Disk (view_of store.old ledger.old) control (change_of request.entry) result
+        (view_of store.new ledger.new) }
 {
     leaves_its_files(store);
-    let checked = match check_request(store, handles, &request) {
+    let checked = match check_request(store, ledger, control, &request) {
         Ok(checked) => checked,
         Err(refusal) => return Ok(refusal),
     };
+    if ledger.transactions.is_open(control) {
+        return buffer_change(alloc, &mut ledger.transactions, control, &checked);
+    }
     let group = match make_group(alloc, &checked) {
         Ok(group) => group,
         Err(NoMemory) => return Err(NoMemory),
     };
-    if handles.lack(&checked) {
+    if ledger.handles.lack(&checked) {
         return Ok(Answer::Refused(Code::Failure, 0));
     }
     match store.commit(&group) {
-        Ok(()) => Ok(Answer::Done(handles.keep(&checked))),
-        Err(fault) => answer_fault(fault),
+        Ok(()) => Ok(Answer::Done(ledger.handles.keep(&checked))),
+        Err(fault) => answer_fault(fault, &mut ledger.transactions),
     }
 }
 
-/// What a change that the store refuses is answered.
-fn answer_fault(fault: StoreFault) -> Result<Answer, NoMemory>
-    ensures { result ≡ answer_of fault }
+/// What a call is answered whose group the store refuses. A fault of the disk ends all transactions.
+pub fn answer_fault(fault: StoreFault, transactions: &mut Transactions) -> Result<Answer, NoMemory>
+    ensures answer { result ≡ answer_of fault }
+    ensures transactions { transactions.new ≡ transactions_after fault transactions.old }
 {
     match fault {
         StoreFault::NoMemory => Err(NoMemory),
+        StoreFault::Device => {
+            transactions.end_all();
+            Ok(Answer::Refused(Code::Failure, 0))
+        }
         _ => Ok(Answer::Refused(Code::Failure, 0)),
+    }
+}
+
+/// Adds a change to those that a control has buffered.
+fn buffer_change(
+    alloc: Global,
+    transactions: &mut Transactions,
+    control: usize,
+    checked: &Checked<'_>,
+) -> Result<Answer, NoMemory>
+    requires { MayBuffer transactions.old control checked.now }
+    ensures { Buffers transactions.old control checked.now result transactions.new }
+{
+    let change = copy_change(alloc, checked)?;
+    transactions.push(control, change)?;
+    Ok(Answer::Done(Value::Empty))
+}
+
+/// A change that may be buffered, with its bytes in memory of its own.
+fn copy_change(alloc: Global, checked: &Checked<'_>) -> Result<Buffered, NoMemory>
+    requires { is_bufferable checked.now ≡ true }
+    ensures { IfOk result (λ change. IsAsked change checked.now) }
+{
+    match checked {
+        Checked::Write {
+            index: _,
+            handle,
+            offset,
+            bytes,
+        } => {
+            let bytes = Bytes::from_vec(Vec::from_slice(alloc, bytes)?);
+            let offset = *offset;
+            Ok(Buffered::new(*handle, Action::Write { offset, bytes }))
+        }
+        Checked::SetAll {
+            index: _,
+            handle,
+            value,
+        } => Ok(Buffered::new(*handle, Action::SetAll { value: *value })),
+        _ => unreachable!(),
     }
 }
 
 /// Checks a change by its table.
 fn check_request<'a, D: Disk>(
     store: &Store<D>,
-    handles: &Handles,
+    ledger: &Ledger,
+    control: usize,
     request: &Request<'a>,
 ) -> Result<Checked<'a>, Answer>
-    requires sound { HasTable store.now.state handles.now }
-    ensures checks { ChecksAt (mode_of handles.now.given store.now.state) (change_of request.now) result }
+    requires sound { IsSound store.now.state ledger.now }
+    ensures checks { ChecksAt (totals_of store.now.state ledger.now) control (change_of request.now) result }
     ensures directory { HasDirectory store.now.state }
 {
-    match see_files(store, handles) {
-        Some(files) => check(files, request),
+    let files = see_files(store, ledger);
+    if is_foreign(ledger.area, control) {
+        return Err(Answer::Refused(Code::Claimed, 0));
+    }
+    let spent = ledger.transactions.spent(control);
+    match files {
+        Some(files) => check(files, Caller { control, spent }, request),
         None => Err(Answer::Refused(Code::Failure, 0)),
     }
 }
@@ -102,6 +159,7 @@ fn make_change(alloc: Global, checked: &Checked<'_>) -> Result<Change, NoMemory>
         }),
         Checked::Write {
             index,
+            handle: _,
             offset,
             bytes,
         } => Ok(Change::Write {
@@ -109,7 +167,11 @@ fn make_change(alloc: Global, checked: &Checked<'_>) -> Result<Change, NoMemory>
             offset: *offset,
             bytes: Bytes::from_vec(Vec::from_slice(alloc, bytes)?),
         }),
-        Checked::SetAll { index, value } => Ok(Change::SetAll {
+        Checked::SetAll {
+            index,
+            handle: _,
+            value,
+        } => Ok(Change::SetAll {
             index: *index,
             value: *value,
         }),

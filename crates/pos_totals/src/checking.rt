@@ -1,40 +1,57 @@
 //! The tables of the changes: what is refused, and what is to be done where nothing is.
-ghost use Rattle.std.specs.Prelude.{◌≡◌};
-ghost use Rattle.pos_service.specs.HardTotals.{Create, Delete, Rename, Write, SetAll};
+ghost use Rattle.std.specs.Prelude.{◌≡◌, ◌≤◌, ◌+◌};
+ghost use Rattle.pos_service.specs.HardTotals.{Create, Delete, Rename, Write, SetAll, layout_1, is_over};
 ghost use Rattle.pos_totals.specs.Checks.{files_in, change_of, AreFiles, Checks};
 
+use crate::claims::is_foreign;
 use crate::files::{Files, find_handle, find_name, has_room};
 use crate::numbers::{to_byte, to_natural, to_range};
-use crate::request::{Checked, Request};
+use crate::request::{Caller, Checked, Request};
+use crate::transactions::COST_OF_CHANGE;
 use pos_dir::is_name;
 use pos_service::{Answer, Code};
+
+/// What the changes of a transaction may cost in sum.
+const MOST_COST: usize = 8_192;
 
 /// ETOT_NOROOM.
 const NO_ROOM: u32 = 201;
 
 /// Checks a change by its table.
-pub fn check<'a>(files: Files<'_>, request: &Request<'a>) -> Result<Checked<'a>, Answer>
+pub fn check<'a>(
+    files: Files<'_>,
+    caller: Caller,
+    request: &Request<'a>,
+) -> Result<Checked<'a>, Answer>
     requires { AreFiles files }
-    ensures { Checks (files_in files.entry) (change_of request.now) result }
+    ensures { Checks (files_in files.entry) caller (change_of request.now) result }
 {
     match request {
-        Request::Create { name, size } => check_create(files, name, *size),
-        Request::Delete { name } => check_delete(files, name),
-        Request::Rename { handle, name } => check_rename(files, *handle, name),
+        Request::Create { name, size } => check_create(files, caller, name, *size),
+        Request::Delete { name } => check_delete(files, caller, name),
+        Request::Rename { handle, name } => check_rename(files, caller, *handle, name),
         Request::Write {
             handle,
             offset,
             bytes,
-        } => check_write(files, *handle, *offset, bytes),
-        Request::SetAll { handle, value } => check_set_all(files, *handle, *value),
+        } => check_write(files, caller, *handle, *offset, bytes),
+        Request::SetAll { handle, value } => check_set_all(files, caller, *handle, *value),
     }
 }
 
 /// A good name that no file has, a size not below 0, and room.
-fn check_create<'a>(files: Files<'_>, name: &'a [u8], size: i128) -> Result<Checked<'a>, Answer>
+fn check_create<'a>(
+    files: Files<'_>,
+    caller: Caller,
+    name: &'a [u8],
+    size: i128,
+) -> Result<Checked<'a>, Answer>
     requires { AreFiles files }
-    ensures { Checks (files_in files.entry) (Create name.now size) result }
+    ensures { Checks (files_in files.entry) caller (Create name.now size) result }
 {
+    if caller.spent.is_some() {
+        return Err(Answer::Refused(Code::Illegal, 0));
+    }
     if !is_name(name) {
         return Err(Answer::Refused(Code::Illegal, 0));
     }
@@ -54,21 +71,35 @@ fn check_create<'a>(files: Files<'_>, name: &'a [u8], size: i128) -> Result<Chec
 }
 
 /// A file with the name.
-fn check_delete<'a>(files: Files<'_>, name: &'a [u8]) -> Result<Checked<'a>, Answer>
+fn check_delete<'a>(files: Files<'_>, caller: Caller, name: &'a [u8]) -> Result<Checked<'a>, Answer>
     requires { AreFiles files }
-    ensures { Checks (files_in files.entry) (Delete name.now) result }
+    ensures { Checks (files_in files.entry) caller (Delete name.now) result }
 {
-    match find_name(files, name) {
-        Some(found) => Ok(Checked::Delete { index: found.index }),
-        None => Err(Answer::Refused(Code::NoExist, 0)),
+    if caller.spent.is_some() {
+        return Err(Answer::Refused(Code::Illegal, 0));
     }
+    let Some(found) = find_name(files, name) else {
+        return Err(Answer::Refused(Code::NoExist, 0));
+    };
+    if is_foreign(found.claim, caller.control) {
+        return Err(Answer::Refused(Code::Claimed, 0));
+    }
+    Ok(Checked::Delete { index: found.index })
 }
 
 /// A file with the handle, and a good name that no file has.
-fn check_rename<'a>(files: Files<'_>, handle: i128, name: &'a [u8]) -> Result<Checked<'a>, Answer>
+fn check_rename<'a>(
+    files: Files<'_>,
+    caller: Caller,
+    handle: i128,
+    name: &'a [u8],
+) -> Result<Checked<'a>, Answer>
     requires { AreFiles files }
-    ensures { Checks (files_in files.entry) (Rename handle name.now) result }
+    ensures { Checks (files_in files.entry) caller (Rename handle name.now) result }
 {
+    if caller.spent.is_some() {
+        return Err(Answer::Refused(Code::Illegal, 0));
+    }
     let Some(found) = find_handle(files, handle) else {
         return Err(Answer::Refused(Code::Illegal, 0));
     };
@@ -77,6 +108,9 @@ fn check_rename<'a>(files: Files<'_>, handle: i128, name: &'a [u8]) -> Result<Ch
     }
     if find_name(files, name).is_some() {
         return Err(Answer::Refused(Code::Exists, 0));
+    }
+    if is_foreign(found.claim, caller.control) {
+        return Err(Answer::Refused(Code::Claimed, 0));
     }
     Ok(Checked::Rename {
         index: found.index,
@@ -87,12 +121,13 @@ fn check_rename<'a>(files: Files<'_>, handle: i128, name: &'a [u8]) -> Result<Ch
 /// A file with the handle, and a range of its bytes.
 fn check_write<'a>(
     files: Files<'_>,
+    caller: Caller,
     handle: i128,
     offset: i128,
     bytes: &'a [u8],
 ) -> Result<Checked<'a>, Answer>
     requires { AreFiles files }
-    ensures { Checks (files_in files.entry) (Write handle offset bytes.now) result }
+    ensures { Checks (files_in files.entry) caller (Write handle offset bytes.now) result }
 {
     let Some(found) = find_handle(files, handle) else {
         return Err(Answer::Refused(Code::Illegal, 0));
@@ -100,17 +135,29 @@ fn check_write<'a>(
     let Some((start, _)) = to_range(found.bytes.len(), offset, bytes.len() as i128) else {
         return Err(Answer::Refused(Code::Illegal, 0));
     };
+    if is_foreign(found.claim, caller.control) {
+        return Err(Answer::Refused(Code::Claimed, 0));
+    }
+    if is_too_costly(caller.spent, bytes.len()) {
+        return Err(Answer::Refused(Code::Extended, NO_ROOM));
+    }
     Ok(Checked::Write {
         index: found.index,
+        handle: found.handle,
         offset: start as u32,
         bytes,
     })
 }
 
 /// A file with the handle, and the value of a byte.
-fn check_set_all<'a>(files: Files<'_>, handle: i128, value: i128) -> Result<Checked<'a>, Answer>
+fn check_set_all<'a>(
+    files: Files<'_>,
+    caller: Caller,
+    handle: i128,
+    value: i128,
+) -> Result<Checked<'a>, Answer>
     requires { AreFiles files }
-    ensures { Checks (files_in files.entry) (SetAll handle value) result }
+    ensures { Checks (files_in files.entry) caller (SetAll handle value) result }
 {
     let Some(found) = find_handle(files, handle) else {
         return Err(Answer::Refused(Code::Illegal, 0));
@@ -118,8 +165,26 @@ fn check_set_all<'a>(files: Files<'_>, handle: i128, value: i128) -> Result<Chec
     let Some(value) = to_byte(value) else {
         return Err(Answer::Refused(Code::Illegal, 0));
     };
+    if is_foreign(found.claim, caller.control) {
+        return Err(Answer::Refused(Code::Claimed, 0));
+    }
+    if is_too_costly(caller.spent, 0) {
+        return Err(Answer::Refused(Code::Extended, NO_ROOM));
+    }
     Ok(Checked::SetAll {
         index: found.index,
+        handle: found.handle,
         value,
     })
+}
+
+/// Whether a change of so many bytes costs more than is left to the transaction in which so much is spent.
+fn is_too_costly(spent: Option<usize>, bytes: usize) -> bool
+    requires { bytes ≤ 8192 }
+    ensures { result ≡ is_over layout_1 spent (bytes + 16) }
+{
+    match spent {
+        Some(spent) => spent > MOST_COST || bytes + COST_OF_CHANGE > MOST_COST - spent,
+        None => false,
+    }
 }

@@ -1,10 +1,12 @@
 ghost use Rattle.std.specs.Prelude.{◌≡◌, ◌≤◌, pos, length, position, IfSome, slice_get, nat_eq};
 ghost use Rattle.std.specs.Option.{option_map};
 ghost use Rattle.pos_service.specs.HardTotals.{is_named, is_called, layout_1, free_data, has_room};
+ghost use Rattle.pos_totals.specs.Groups.{index_of};
 ghost use Rattle.pos_totals.specs.Checks.{files_in, file_of, AreFiles, FindsFile, IsSeen};
-ghost use Rattle.pos_totals.specs.Views.{HasDirectory, HasTable, mode_of};
+ghost use Rattle.pos_totals.specs.Views.{HasDirectory, IsSound, mode_of};
 
-use crate::handles::{Handles, MOST_FILES};
+use crate::handles::{MOST_FILES, Tag};
+use crate::ledger::Ledger;
 use crate::numbers::to_natural;
 use pos_dir::Directory;
 use pos_dir::laws::is_directory;
@@ -14,11 +16,11 @@ use pos_store::Store;
 /// TotalsSize: the most bytes of all files in sum.
 pub const TOTALS_SIZE: usize = 8_192;
 
-/// The files of the totals: what the directory has of them, and their handles in index order.
+/// The files of the totals: what the directory has of them, and their tags in index order.
 #[derive(Clone, Copy)]
 pub struct Files<'a> {
     pub directory: &'a Directory,
-    pub handles: &'a [u64],
+    pub tags: &'a [Tag],
 }
 
 /// A file, and the index at which it stands.
@@ -28,12 +30,13 @@ pub struct Found<'a> {
     pub handle: u64,
     pub name: &'a [u8],
     pub bytes: &'a [u8],
+    pub claim: Option<usize>,
 }
 
-/// The files of a store that is ready, with their handles.
-pub fn see_files<'a, D: Disk>(store: &'a Store<D>, handles: &'a Handles) -> Option<Files<'a>>
-    requires { HasTable store.now.state handles.now }
-    ensures seen { IsSeen (mode_of handles.now.given store.now.state) (option_map files_in result) }
+/// The files of a store that is ready, with their tags.
+pub fn see_files<'a, D: Disk>(store: &'a Store<D>, ledger: &'a Ledger) -> Option<Files<'a>>
+    requires { IsSound store.now.state ledger.now }
+    ensures seen { IsSeen (mode_of ledger.now.handles.given store.now.state) (option_map files_in result) }
     ensures files { IfSome result AreFiles }
     ensures directory { HasDirectory store.now.state }
 {
@@ -43,7 +46,7 @@ pub fn see_files<'a, D: Disk>(store: &'a Store<D>, handles: &'a Handles) -> Opti
     is_directory(directory);
     Some(Files {
         directory,
-        handles: handles.as_slice(),
+        tags: ledger.handles.as_slice(),
     })
 }
 
@@ -54,7 +57,7 @@ pub fn get_file<'a>(files: Files<'a>, index: usize) -> Option<Found<'a>>
     ensures index { IfSome result (λ found. found.index ≡ index) }
     ensures small { IfSome result (λ found. length found.bytes.now ≤ 8192) }
 {
-    if index >= files.handles.len() {
+    if index >= files.tags.len() {
         return None;
     }
     let Some(name) = files.directory.name(index) else {
@@ -63,11 +66,13 @@ pub fn get_file<'a>(files: Files<'a>, index: usize) -> Option<Found<'a>>
     let Some(bytes) = files.directory.bytes(index) else {
         return None;
     };
+    let tag = files.tags[index];
     Some(Found {
         index: index as u16,
-        handle: files.handles[index],
+        handle: tag.handle,
         name,
         bytes,
+        claim: tag.claim,
     })
 }
 
@@ -90,17 +95,28 @@ pub fn find_handle<'a>(files: Files<'a>, handle: i128) -> Option<Found<'a>>
     let Some(handle) = to_natural(handle) else {
         return None;
     };
-    match search(files.handles, handle) {
+    match search(files.tags, handle) {
         Some(index) => get_file(files, index),
         None => None,
     }
 }
 
-/// The index of a handle.
-fn search(handles: &[u64], handle: u128) -> Option<usize>
-    ensures { result ≡ position (λ given. nat_eq given handle) handles.now }
+/// The index of the file with a handle; without one it is the number of files.
+pub fn find_index(files: Files<'_>, handle: u64) -> u16
+    requires { AreFiles files }
+    ensures { result ≡ index_of (is_called (pos handle)) (files_in files.entry) }
 {
-    handles.iter().position(|given| *given as u128 == handle)
+    match search(files.tags, handle as u128) {
+        Some(index) => index as u16,
+        None => files.tags.len() as u16,
+    }
+}
+
+/// The index of a handle.
+fn search(tags: &[Tag], handle: u128) -> Option<usize>
+    ensures { result ≡ position (λ tag. nat_eq tag.handle handle) tags.now }
+{
+    tags.iter().position(|tag| tag.handle as u128 == handle)
 }
 
 /// FreeData: how many bytes are left for new files.

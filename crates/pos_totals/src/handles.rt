@@ -1,8 +1,10 @@
-ghost use Rattle.std.specs.Prelude.{◌≡◌, ◌<◌, ◌≤◌, ◌+◌, ◌^◌, []};
+ghost use Rattle.std.specs.Prelude.{◌≡◌, ◌<◌, ◌≤◌, ◌+◌, ◌^◌, [], map};
 ghost use Rattle.pos_service.specs.HardTotals.{last_number};
 ghost use Rattle.pos_totals.specs.Checks.{file_change_of};
-ghost use Rattle.pos_totals.specs.Numbering.{numbers_from, lacks, given_after, following, value_after, HasPlace, Numbers};
+ghost use Rattle.pos_totals.specs.Tables.{tag_claimed, tag_released};
+ghost use Rattle.pos_totals.specs.Numbering.{tags_from, lacks, given_after, following, value_after, HasPlace, Numbers};
 
+use crate::claims::is_own;
 use crate::request::Checked;
 use arrayvec::ArrayVec;
 use pos_service::Value;
@@ -11,16 +13,23 @@ use std::marker::Model;
 /// The most files.
 pub const MOST_FILES: usize = 64;
 
-/// The handles of the files in index order, and the one that the next new file gets. 18,446,744,073,709,551,615 there
+/// What the totals keep beside a file: its handle, and the control that has claimed it.
+#[derive(Clone, Copy, Default)]
+pub struct Tag {
+    pub handle: u64,
+    pub claim: Option<usize>,
+}
+
+/// The tags of the files in index order, and the handle that the next new file gets. 18,446,744,073,709,551,615 there
 /// means that none is left.
 #[derive(Drop)]
 pub struct Handles {
-    given: ArrayVec<u64, MOST_FILES>,
+    given: ArrayVec<Tag, MOST_FILES>,
     next: u64,
 }
 
 impl Model for Handles {
-    ghost use Rattle.pos_totals.specs.Views.{HandleTable};
+    ghost use Rattle.pos_totals.specs.Tables.{HandleTable};
 
     ghost Value = { HandleTable };
 
@@ -38,8 +47,8 @@ impl Handles {
         }
     }
 
-    /// The handles in index order.
-    pub fn as_slice(&self) -> &[u64]
+    /// The tags in index order.
+    pub fn as_slice(&self) -> &[Tag]
         ensures { result.now ≡ self.now.given }
     {
         self.given.as_slice()
@@ -57,7 +66,7 @@ impl Handles {
         }
     }
 
-    /// The handles after a change that was done, and what it gives.
+    /// The tags after a change that was done, and what it gives.
     pub fn keep(&mut self, checked: &Checked<'_>) -> Value
         requires { HasPlace self.old.given self.old.next (file_change_of checked.now) }
         ensures given { self.new.given ≡ given_after self.old.given self.old.next (file_change_of checked.now) }
@@ -67,7 +76,10 @@ impl Handles {
         match checked {
             Checked::Create { .. } => {
                 let handle = self.next;
-                self.given.push(handle);
+                self.given.push(Tag {
+                    handle,
+                    claim: None,
+                });
                 self.next = handle + 1;
                 Value::Number(handle as i128)
             }
@@ -77,6 +89,22 @@ impl Handles {
             }
             _ => Value::Empty,
         }
+    }
+
+    /// Claims the file with a handle for a control, or ends its claim.
+    pub fn claim(&mut self, handle: u64, claim: Option<usize>)
+        ensures given { self.new.given ≡ map (tag_claimed handle claim) self.old.given }
+        ensures next { self.new.next ≡ self.old.next }
+    {
+        claim_tags(self.given.as_mut_slice(), handle, claim);
+    }
+
+    /// Ends all claims of a control.
+    pub fn release_all(&mut self, control: usize)
+        ensures given { self.new.given ≡ map (tag_released control) self.old.given }
+        ensures next { self.new.next ≡ self.old.next }
+    {
+        release_tags(self.given.as_mut_slice(), control);
     }
 
     /// Gives so many files handles from the next one on, where so many are left.
@@ -93,15 +121,59 @@ impl Handles {
     }
 }
 
-/// So many handles from the first one on.
-fn count_from(first: u64, count: usize) -> ArrayVec<u64, MOST_FILES>
+/// Gives each tag with a handle another claim.
+fn claim_tags(tags: &mut [Tag], handle: u64, claim: Option<usize>)
+    ensures { tags.new ≡ map (tag_claimed handle claim) tags.old }
+{
+    for tag in tags.iter_mut() {
+        *tag = claim_tag(*tag, handle, claim);
+    }
+}
+
+/// The tag with another claim, where it has the handle.
+fn claim_tag(tag: Tag, handle: u64, claim: Option<usize>) -> Tag
+    ensures { result ≡ tag_claimed handle claim tag }
+{
+    if tag.handle != handle {
+        return tag;
+    }
+    Tag { handle, claim }
+}
+
+/// Ends all claims of a control.
+fn release_tags(tags: &mut [Tag], control: usize)
+    ensures { tags.new ≡ map (tag_released control) tags.old }
+{
+    for tag in tags.iter_mut() {
+        *tag = release_tag(*tag, control);
+    }
+}
+
+/// The tag without its claim, where the control has made it.
+fn release_tag(tag: Tag, control: usize) -> Tag
+    ensures { result ≡ tag_released control tag }
+{
+    if !is_own(tag.claim, control) {
+        return tag;
+    }
+    Tag {
+        handle: tag.handle,
+        claim: None,
+    }
+}
+
+/// The tags of so many files that have the handles from the first one on.
+fn count_from(first: u64, count: usize) -> ArrayVec<Tag, MOST_FILES>
     requires few { count ≤ 64 }
     requires left { first + count < 2 ^ 64 }
-    ensures { result.items ≡ numbers_from first count }
+    ensures { result.items ≡ tags_from first count }
 {
-    let mut numbers = ArrayVec::new();
+    let mut tags = ArrayVec::new();
     for place in 0..count {
-        numbers.push(first + place as u64);
+        tags.push(Tag {
+            handle: first + place as u64,
+            claim: None,
+        });
     }
-    numbers
+    tags
 }

@@ -4,14 +4,19 @@
 mod asking;
 mod changing;
 mod checking;
+mod claims;
+mod committing;
 mod fault;
 mod files;
 mod handles;
 pub mod laws;
+mod ledger;
 mod numbers;
 mod recovering;
 mod request;
 mod totals;
+mod transacting;
+mod transactions;
 
 pub use fault::RecoveryFault;
 pub use totals::Totals;

@@ -2,10 +2,10 @@
 ghost use Rattle.std.specs.Prelude.{◌≡◌, Some, IsSome};
 ghost use Rattle.pos_store.specs.Modes.{Off, mode_of};
 ghost use Rattle.pos_totals.specs.Recoveries.{Recovers, told_as};
-ghost use Rattle.pos_totals.specs.Views.{HasTable, view_with};
+ghost use Rattle.pos_totals.specs.Views.{IsSound, view_of};
 
 use crate::fault::RecoveryFault;
-use crate::handles::Handles;
+use crate::ledger::Ledger;
 use core::mem::replace_with;
 use pos_dir::laws::is_directory;
 use pos_disk::Disk;
@@ -17,17 +17,17 @@ use std::alloc::Global;
 pub fn recover<D: Disk>(
     alloc: Global,
     store: &mut Store<D>,
-    handles: &mut Handles,
+    ledger: &mut Ledger,
 ) -> Result<(), RecoveryFault>
-    requires sound { HasTable store.old.state handles.old }
-    ensures sound { HasTable store.new.state handles.new }
-    ensures recovers { Recovers D.Disk (view_with store.old handles.old) result
-        (view_with store.new handles.new) }
+    requires sound { IsSound store.old.state ledger.old }
+    ensures sound { IsSound store.new.state ledger.new }
+    ensures recovers { Recovers D.Disk (view_of store.old ledger.old) result
+        (view_of store.new ledger.new) }
 {
     leaves_its_files(store);
     match store.mode() {
         Mode::Ready { sequence: _ } => Ok(()),
-        Mode::Off => recover_off(alloc, store, handles),
+        Mode::Off => recover_off(alloc, store, ledger),
     }
 }
 
@@ -35,12 +35,13 @@ pub fn recover<D: Disk>(
 fn recover_off<D: Disk>(
     alloc: Global,
     store: &mut Store<D>,
-    handles: &mut Handles,
+    ledger: &mut Ledger,
 ) -> Result<(), RecoveryFault>
     requires off { mode_of store.old.state ≡ Mode.Off }
-    ensures sound { HasTable store.new.state handles.new }
-    ensures recovers { Recovers D.Disk (view_with store.old handles.old) result
-        (view_with store.new handles.new) }
+    requires sound { IsSound store.old.state ledger.old }
+    ensures sound { IsSound store.new.state ledger.new }
+    ensures recovers { Recovers D.Disk (view_of store.old ledger.old) result
+        (view_of store.new ledger.new) }
 {
     match store.recover() {
         Ok(()) => {}
@@ -53,7 +54,7 @@ fn recover_off<D: Disk>(
         }
         None => unreachable!(),
     };
-    if handles.number(count) {
+    if ledger.handles.number(count) {
         return Ok(());
     }
     replace_with(store, alloc, turn_off);

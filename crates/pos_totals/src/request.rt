@@ -1,3 +1,10 @@
+/// The control that calls, and what its buffered changes cost in sum, where it is in a transaction.
+#[derive(Clone, Copy)]
+pub struct Caller {
+    pub control: usize,
+    pub spent: Option<usize>,
+}
+
 /// A change of the files, as a call asks for it.
 #[derive(Clone, Copy)]
 pub enum Request<'a> {
@@ -23,7 +30,8 @@ pub enum Request<'a> {
     },
 }
 
-/// A change that nothing refuses: its file is known by its index, and its numbers are within their ranges.
+/// A change that nothing refuses: its file is known by its index, one that may be buffered by its handle too, and its
+/// numbers are within their ranges.
 #[derive(Clone, Copy)]
 pub enum Checked<'a> {
     Create {
@@ -39,11 +47,13 @@ pub enum Checked<'a> {
     },
     Write {
         index: u16,
+        handle: u64,
         offset: u32,
         bytes: &'a [u8],
     },
     SetAll {
         index: u16,
+        handle: u64,
         value: u8,
     },
 }

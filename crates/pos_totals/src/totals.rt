@@ -1,14 +1,19 @@
-ghost use Rattle.std.specs.Prelude.{◌≡◌, length};
+ghost use Rattle.std.specs.Prelude.{◌≡◌, [], length, None, OnOk, OnErr};
 
 use crate::asking::{find, find_by_index, read};
 use crate::changing::change;
+use crate::claims::{claim_area, claim_file, release_area, release_file};
+use crate::committing::commit_trans;
 use crate::fault::RecoveryFault;
 use crate::files::{TOTALS_SIZE, count_files, measure_free, see_files};
 use crate::handles::Handles;
+use crate::ledger::Ledger;
 use crate::recovering::recover;
 use crate::request::Request;
+use crate::transacting::{begin_trans, drop_control, rollback};
+use crate::transactions::Transactions;
 use pos_disk::Disk;
-use pos_service::{Answer, NoMemory};
+use pos_service::{Answer, Code, NoMemory};
 use pos_store::{Mode, Store};
 use std::alloc::Global;
 use std::marker::Model;
@@ -25,23 +30,23 @@ use std::marker::Model;
 pub struct Totals<D: Disk> {
     alloc: Global,
     pub(crate) store: Store<D>,
-    pub(crate) handles: Handles,
+    pub(crate) ledger: Ledger,
 }
 
 impl<D: Disk> Model for Totals<D> {
-    ghost use Rattle.pos_totals.specs.Views.{TotalsView, view_with, HasTable};
+    ghost use Rattle.pos_totals.specs.Views.{TotalsView, view_of, IsSound};
 
     ghost Value = { TotalsView D };
 
-    ghost view = { λ t. view_with t.store t.handles };
+    ghost view = { λ t. view_of t.store t.ledger };
 
-    ghost invariant = { λ t. HasTable t.store.state t.handles };
+    ghost invariant = { λ t. IsSound t.store.state t.ledger };
 }
 
 impl<D: Disk> Totals<D> {
     ghost use Rattle.pos_disk.specs.State.{IsAtRest};
-    ghost use Rattle.pos_service.specs.HardTotals.{Off, Create, Delete, Rename, Write, SetAll, Find, FindByIndex, Read, Tells, MayTell, is_ready, files_of, free_data, layout_1};
-    ghost use Rattle.pos_totals.specs.Changes.{Changes};
+    ghost use Rattle.pos_service.specs.HardTotals.{Off, Create, Delete, Rename, Write, SetAll, Find, FindByIndex, Read, Tells, MayTell, ClaimFile, ReleaseFile, BeginTrans, Rollback, ClaimsArea, ReleasesArea, in_transaction, with_control, without_control, is_ready, files_of, free_data, layout_1};
+    ghost use Rattle.pos_totals.specs.Changes.{Arranged, Changes, CommitsBuffer};
     ghost use Rattle.pos_totals.specs.Checks.{change_of};
     ghost use Rattle.pos_totals.specs.Recoveries.{Recovers};
     ghost use Rattle.pos_totals.specs.Views.{IsReady, WhenReady};
@@ -49,12 +54,24 @@ impl<D: Disk> Totals<D> {
     /// Totals that are off, over a disk. Nothing is read yet. The first file gets the first handle;
     /// 18,446,744,073,709,551,615 there means that no handle is left.
     pub fn new(alloc: Global, disk: D, first_handle: u64) -> Totals<D>
-        ensures { result ≡ record { disk = disk; totals = record { mode = Off; next = first_handle } } }
+        ensures { result ≡ record {
+          disk = disk;
+          totals = record {
+            mode = Off;
+            next = first_handle;
+            area = None;
+            transactions = [];
+          };
+        } }
     {
         Totals {
             alloc,
             store: Store::new(alloc, disk),
-            handles: Handles::new(first_handle),
+            ledger: Ledger {
+                handles: Handles::new(first_handle),
+                area: None,
+                transactions: Transactions::new(alloc),
+            },
         }
     }
 
@@ -69,7 +86,7 @@ impl<D: Disk> Totals<D> {
     pub fn recover(&mut self) -> Result<(), RecoveryFault>
         ensures { Recovers D.Disk self.old result self.new }
     {
-        recover(self.alloc, &mut self.store, &mut self.handles)
+        recover(self.alloc, &mut self.store, &mut self.ledger)
     }
 
     /// `create`: adds a file of zero bytes behind the others, and gives its handle. Error detection changes nothing.
@@ -148,7 +165,7 @@ impl<D: Disk> Totals<D> {
         change(
             self.alloc,
             &mut self.store,
-            &mut self.handles,
+            &mut self.ledger,
             control,
             request,
         )
@@ -160,7 +177,7 @@ impl<D: Disk> Totals<D> {
     pub fn find(&self, control: usize, name: &[u8]) -> Answer
         ensures { Tells self.now.totals control (Find name.now) result }
     {
-        find(&self.store, &self.handles, control, name)
+        find(&self.store, &self.ledger, control, name)
     }
 
     /// `findByIndex`: the name of the file at an index, counted from 0 in the order of creation.
@@ -169,7 +186,7 @@ impl<D: Disk> Totals<D> {
     pub fn find_by_index(&self, control: usize, index: i128) -> Result<Answer, NoMemory>
         ensures { MayTell self.now.totals control (FindByIndex index) result }
     {
-        find_by_index(self.alloc, &self.store, &self.handles, control, index)
+        find_by_index(self.alloc, &self.store, &self.ledger, control, index)
     }
 
     /// `read`: so many bytes of a file from an offset on.
@@ -187,12 +204,124 @@ impl<D: Disk> Totals<D> {
         read(
             self.alloc,
             &self.store,
-            &self.handles,
+            &self.ledger,
             control,
             handle,
             offset,
             count,
         )
+    }
+
+    /// `claim`: claims the area, which is the whole device, for a control; where it has it already, nothing changes. It
+    /// takes no memory.
+    ///
+    /// # Errors
+    ///
+    /// E_TIMEOUT where another control has claimed the area, or a file. Nothing changes then.
+    pub fn claim_area(&mut self, control: usize) -> Result<(), Code>
+        ensures claims { ClaimsArea self.old.totals control result self.new.totals }
+        ensures disk { self.new.disk ≡ self.old.disk }
+    {
+        claim_area(&self.store, &mut self.ledger, control)
+    }
+
+    /// `release`: ends a control's claim of the area. Files that it has claimed stay so. It takes no memory.
+    ///
+    /// # Errors
+    ///
+    /// E_ILLEGAL where the control hasn't claimed the area. Nothing changes then.
+    pub fn release_area(&mut self, control: usize) -> Result<(), Code>
+        ensures releases { ReleasesArea self.old.totals control result self.new.totals }
+        ensures disk { self.new.disk ≡ self.old.disk }
+    {
+        release_area(&self.store, &mut self.ledger, control)
+    }
+
+    /// `claimFile`: claims a file for a control; where it has it already, nothing changes. The timeout is at least -1,
+    /// and nothing is waited for. It takes no memory.
+    ///
+    /// Refused with E_ILLEGAL where no file has the handle, or for a timeout below -1, E_TIMEOUT where another control
+    /// has claimed the area or the file.
+    pub fn claim_file(&mut self, control: usize, handle: i128, timeout: i128) -> Answer
+        ensures { Arranged self.old control (ClaimFile handle timeout) result self.new }
+    {
+        claim_file(&self.store, &mut self.ledger, control, handle, timeout)
+    }
+
+    /// `releaseFile`: ends a control's claim of a file. It takes no memory.
+    ///
+    /// Refused with E_ILLEGAL where no file has the handle, or the control hasn't claimed it.
+    pub fn release_file(&mut self, control: usize, handle: i128) -> Answer
+        ensures { Arranged self.old control (ReleaseFile handle) result self.new }
+    {
+        release_file(&self.store, &mut self.ledger, control, handle)
+    }
+
+    /// `beginTrans`: begins a transaction of a control, whose `write` and `set_all` are buffered until it ends. It takes
+    /// no memory: the control's place was made by `add_control`.
+    ///
+    /// Refused with E_ILLEGAL where the control is in a transaction, or has no place for one.
+    pub fn begin_trans(&mut self, control: usize) -> Answer
+        ensures { Arranged self.old control BeginTrans result self.new }
+    {
+        begin_trans(self.alloc, &self.store, &mut self.ledger, control)
+    }
+
+    /// `commitTrans`: does all that a control has buffered together, in its order, and ends the transaction. Where
+    /// nothing is buffered the disk isn't used.
+    ///
+    /// Refused with E_ILLEGAL where the control is in no transaction, E_NOEXIST where a file of what is buffered is gone,
+    /// E_CLAIMED where another control has claimed one, E_FAILURE where no sequence is left: the transaction goes on.
+    /// Where the disk fails, with E_FAILURE, all transactions end.
+    pub fn commit_trans(&mut self, control: usize) -> Result<Answer, NoMemory>
+        ensures { CommitsBuffer D.Disk self.old control result self.new }
+    {
+        commit_trans(self.alloc, &mut self.store, &mut self.ledger, control)
+    }
+
+    /// `rollback`: drops what a control has buffered, and ends the transaction. It takes no memory.
+    ///
+    /// Refused with E_ILLEGAL where the control is in no transaction.
+    pub fn rollback(&mut self, control: usize) -> Answer
+        ensures { Arranged self.old control Rollback result self.new }
+    {
+        rollback(&self.store, &mut self.ledger, control)
+    }
+
+    /// Makes a place for the transaction of one more control; the controls are numbered from 0.
+    ///
+    /// # Errors
+    ///
+    /// `NoMemory`, which changes nothing.
+    pub fn add_control(&mut self) -> Result<(), NoMemory>
+        ensures ok { OnOk result (self.new.totals ≡ with_control self.old.totals) }
+        ensures err { OnErr result (self.new ≡ self.old) }
+        ensures disk { self.new.disk ≡ self.old.disk }
+    {
+        self.ledger.transactions.add()
+    }
+
+    /// Ends all that a control has, as `close` does: its claims of the area and of files, and its transaction. It takes
+    /// no memory.
+    pub fn drop_control(&mut self, control: usize)
+        ensures totals { self.new.totals ≡ without_control self.old.totals control }
+        ensures disk { self.new.disk ≡ self.old.disk }
+    {
+        drop_control(&self.store, &mut self.ledger, control);
+    }
+
+    /// The control that has claimed the area.
+    pub fn area(&self) -> Option<usize>
+        ensures { result ≡ self.now.totals.area }
+    {
+        self.ledger.area
+    }
+
+    /// TransactionInProgress: whether a control is in a transaction.
+    pub fn in_transaction(&self, control: usize) -> bool
+        ensures { result ≡ in_transaction self.now.totals control }
+    {
+        self.ledger.transactions.is_open(control)
     }
 
     /// Whether the files are known.
@@ -214,7 +343,7 @@ impl<D: Disk> Totals<D> {
         requires { IsReady self.now.totals.mode }
         ensures { result ≡ free_data layout_1 (files_of self.now.totals.mode) }
     {
-        match see_files(&self.store, &self.handles) {
+        match see_files(&self.store, &self.ledger) {
             Some(files) => measure_free(files),
             None => unreachable!(),
         }
@@ -225,7 +354,7 @@ impl<D: Disk> Totals<D> {
         requires { IsReady self.now.totals.mode }
         ensures { result ≡ length (files_of self.now.totals.mode) }
     {
-        match see_files(&self.store, &self.handles) {
+        match see_files(&self.store, &self.ledger) {
             Some(files) => count_files(files),
             None => unreachable!(),
         }

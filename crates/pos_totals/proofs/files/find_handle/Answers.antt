@@ -6,27 +6,27 @@ use Rattle.std.specs.List.{position_or_len}
 use Rattle.std.proofs.lemmas.Option.{IfSome_then}
 use Rattle.pos_service.specs.HardTotals.{is_natural, is_called}
 use Rattle.pos_totals.proofs.Found.{index_by_handle, none_below}
-use Rattle.pos_totals.proofs.Pairs.{length-with_handles}
+use Rattle.pos_totals.proofs.Pairs.{length-with_tags}
 use Rattle.pos_totals.proofs.Places.{is_at, is_none, at_index}
 use Rattle.pos_totals.specs.Groups.{index_of}
-use Rattle.pos_totals.specs.Views.{with_handles}
+use Rattle.pos_totals.specs.Views.{with_tags}
 use Rattle.pos_totals.proofs.files.find_handle.Goals as goal
 
 pub returns-in_default : goal.returns-in_default
 returns-in_default c = record {
-  file = sym (none_below c.args.handle (with_handles c.args.files.handles.now c.args.files.directory.now) (subst (λ (h : ℤ). is_natural h ≡ false) (to_z-of_z w128 c.args.handle c.ranges.handle) c.in_default.ensures));
+  file = sym (none_below c.args.handle (with_tags c.args.files.tags.now c.args.files.directory.now) (subst (λ (h : ℤ). is_natural h ≡ false) (to_z-of_z w128 c.args.handle c.ranges.handle) c.in_default.ensures));
   index = tt;
   small = tt;
 }
 
 pub returns-in-Some-search : goal.returns-in-Some-search
 returns-in-Some-search c =
-    let handles = c.args.files.handles.now in
+    let tags = c.args.files.tags.now in
     let files = c.args.files.directory.now in
-    let xs = with_handles handles files in
+    let xs = with_tags tags files in
     let n = c.in-Some.handle in
-    let index = subst (λ (h : ℤ). index_of (is_called h) xs ≡ position_or_len (λ given. nat_eq given n) handles) (sym c.in-Some.ensures ∙ to_z-of_z w128 c.args.handle c.ranges.handle) (index_by_handle handles files n c.requires.paired) in
-    let here = is_at (λ given. nat_eq given n) (is_called c.args.handle) handles xs c.in-Some-search.index index (sym c.in-Some-search.ensures) in
+    let index = subst (λ (h : ℤ). index_of (is_called h) xs ≡ position_or_len (λ tag. nat_eq tag.handle n) tags) (sym c.in-Some.ensures ∙ to_z-of_z w128 c.args.handle c.ranges.handle) (index_by_handle tags files n c.requires.paired) in
+    let here = is_at (λ tag. nat_eq tag.handle n) (is_called c.args.handle) tags xs c.in-Some-search.index index (sym c.in-Some-search.ensures) in
     record {
       file = c.get_file.ensures.file ∙ at_index (is_called c.args.handle) xs c.in-Some-search.index here;
       index = IfSome_then c.get_file.result c.get_file.ensures.index (λ f is. is ∙ here);
@@ -35,13 +35,13 @@ returns-in-Some-search c =
 
 pub returns-in-None : goal.returns-in-None
 returns-in-None c =
-    let handles = c.args.files.handles.now in
+    let tags = c.args.files.tags.now in
     let files = c.args.files.directory.now in
-    let xs = with_handles handles files in
+    let xs = with_tags tags files in
     let n = c.in-Some.handle in
-    let index = subst (λ (h : ℤ). index_of (is_called h) xs ≡ position_or_len (λ given. nat_eq given n) handles) (sym c.in-Some.ensures ∙ to_z-of_z w128 c.args.handle c.ranges.handle) (index_by_handle handles files n c.requires.paired) in
+    let index = subst (λ (h : ℤ). index_of (is_called h) xs ≡ position_or_len (λ tag. nat_eq tag.handle n) tags) (sym c.in-Some.ensures ∙ to_z-of_z w128 c.args.handle c.ranges.handle) (index_by_handle tags files n c.requires.paired) in
     record {
-      file = sym (is_none (λ given. nat_eq given n) (is_called c.args.handle) handles xs (length-with_handles handles files c.requires.paired ∙ sym c.requires.paired) index (sym c.in-None.ensures));
+      file = sym (is_none (λ tag. nat_eq tag.handle n) (is_called c.args.handle) tags xs (length-with_tags tags files c.requires.paired ∙ sym c.requires.paired) index (sym c.in-None.ensures));
       index = tt;
       small = tt;
     }

@@ -1,25 +1,25 @@
 use Rattle.std.proofs.Common.{sym, arith}
 use Rattle.std.proofs.lemmas.Option.{slice_get-get_or, slice_get_past}
-use Rattle.pos_totals.proofs.Pairs.{pair_at, one_of_sum, none_at, length-with_handles}
-use Rattle.pos_totals.specs.Views.{with_handles}
+use Rattle.pos_totals.proofs.Pairs.{pair_at, one_of_sum, none_at, length-with_tags}
+use Rattle.pos_totals.specs.Views.{with_tags}
 use Rattle.pos_totals.proofs.files.get_file.Goals as goal
 
 pub returns-then-index-files-clause-file : goal.returns-then-index-files-clause-file
 returns-then-index-files-clause-file c =
-    let handles = c.args.files.handles.now in
+    let tags = c.args.files.tags.now in
     let files = c.args.files.directory.now in
-    sym (slice_get_past (with_handles handles files) c.args.index (omega (arith, length-with_handles handles files c.requires.paired, c.requires.paired, c.if-index-files.true)))
+    sym (slice_get_past (with_tags tags files) c.args.index (omega (arith, length-with_tags tags files c.requires.paired, c.requires.paired, c.if-index-files.true)))
 
 pub returns-in_default-clause-file : goal.returns-in_default-clause-file
 returns-in_default-clause-file c =
-    sym (none_at c.args.files.handles.now c.args.files.directory.now c.args.index (λ file. file.name) c.requires.paired (sym c.in_default.ensures))
+    sym (none_at c.args.files.tags.now c.args.files.directory.now c.args.index (λ file. file.name) c.requires.paired (sym c.in_default.ensures))
 
 pub returns-clause-file : goal.returns-clause-file
 returns-clause-file c =
-    let handles = c.args.files.handles.now in
+    let tags = c.args.files.tags.now in
     let files = c.args.files.directory.now in
-    sym (pair_at handles files c.args.index _ c.in-Some.name.now c.in-Some-bytes.bytes.now
-    (slice_get-get_or handles c.args.index 0 (omega (arith, c.if-index-files.false)))
+    sym (pair_at tags files c.args.index _ c.in-Some.name.now c.in-Some-bytes.bytes.now
+    (slice_get-get_or tags c.args.index _ (omega (arith, c.if-index-files.false)))
     (sym c.in-Some.ensures) (sym c.in-Some-bytes.ensures))
 
 pub returns-clause-small : goal.returns-clause-small

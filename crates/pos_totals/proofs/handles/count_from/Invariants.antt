@@ -1,6 +1,6 @@
 use Rattle.std.proofs.Common.{◌≡◌}
-use Rattle.pos_totals.specs.Numbering.{numbers_from}
+use Rattle.pos_totals.specs.Numbering.{tags_from}
 use Rattle.pos_totals.proofs.handles.count_from.Given as goal
 
 abbrev pub invariant-loop-place : goal.invariant-loop-place
-invariant-loop-place l = l.numbers.items ≡ numbers_from l.first l.place
+invariant-loop-place l = l.tags.items ≡ tags_from l.first l.place

@@ -1,5 +1,5 @@
 use Rattle.std.proofs.Common.{subst}
-use Rattle.pos_totals.proofs.Changed.{their_files}
+use Rattle.pos_totals.proofs.Putting.{their_files}
 use Rattle.pos_totals.specs.Views.{TotalsView, LeavesTheirFiles}
 use Rattle.pos_totals.proofs.laws.leaves_their_files.Goals as goal
 
@@ -7,4 +7,4 @@ pub returns : goal.returns
 returns g c =
     let inside = c.totals.inside in
     subst (λ (v : TotalsView g.row.D.Denot). g.D.Disk.honest v.disk → LeavesTheirFiles v.totals.mode (g.D.Disk.state v.disk)) c.totals.view_is
-    (λ h. their_files inside.handles.given inside.store.state inside.handles.next (g.D.Disk.state inside.store.disk) c.totals.invariant (c.leaves_its_files.ensures h))
+    (λ h. their_files inside.ledger.handles.given inside.store.state inside.ledger.handles.next (g.D.Disk.state inside.store.disk) c.totals.invariant.handles (c.leaves_its_files.ensures h))

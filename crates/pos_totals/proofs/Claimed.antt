@@ -1,0 +1,163 @@
+-- Claims: the tags with other claims are those of the files with other claims.
+use Rattle.std.proofs.Common.{◌≡◌, ◌∙◌, ℕ, ◌<◌, ℤ, pos, Bool, true, false, ◌||◌, cond, List, [], ◌∷◌, ◌++◌, length, map, Option, Some, None, Ok, Err, refl, sym, ap, subst, arith}
+use Rattle.std.specs.Prelude.{nat_eq, slice_set}
+use Rattle.std.specs.List.{list_any, AllByRecursion}
+use Rattle.std.proofs.lemmas.List.{length-map}
+use Rattle.pos_dir.specs.declared.file.File.{File as PlainFile}
+use Rattle.pos_service.specs.declared.answer.Answer.{Answer}
+use Rattle.pos_service.specs.declared.answer.Answer.TheVariants as answer
+use Rattle.pos_service.specs.declared.answer.Value.TheVariants as value
+use Rattle.pos_service.specs.HardTotals.{File, Mode, Off, Ready, Totals, Change, Arrangement, ClaimFile, ReleaseFile, is_called, is_own, is_own_claim, is_foreign, is_foreign_claim, claimed, with_each, with_files, files_of, refusals_of_arrangement, after_arrangement, Arranges, foreign_area, without_control}
+use Rattle.pos_store.specs.Modes.{StoreState as State}
+use Rattle.pos_store.specs.Modes.{Off as StoreOff, Ready as StoreReady}
+use Rattle.pos_totals.proofs.Buffered.{holds_so, held_with, none_held}
+use Rattle.pos_totals.proofs.Outlined.{outline, outlines, same_buffered}
+use Rattle.pos_totals.proofs.Putting.{open_table}
+use Rattle.pos_totals.specs.Buffers.{HaveBuffers}
+use Rattle.pos_totals.specs.Checks.{files_in, IsSeen, LetsThroughAt}
+use Rattle.pos_totals.specs.Tables.{HandleTable, tag_claimed, tag_released}
+use Rattle.pos_totals.specs.Views.{called, with_tags, numbers_of, mode_of, totals_of, AreDistinct, AreHandles, HasHandles, IsSound}
+use Rattle.pos_totals.specs.declared.files.Files.{Files}
+use Rattle.pos_totals.specs.declared.handles.Tag.{Tag}
+use Rattle.pos_totals.specs.declared.ledger.Ledger.{Ledger}
+
+-- ---- other claims
+
+claimed_files : (handle : ℕ) (claim : Option ℕ) (tags : List Tag) (files : List PlainFile) → with_tags (map (tag_claimed handle claim) tags) files ≡ with_each (is_called (pos handle)) (claimed claim) (with_tags tags files)
+claimed_files handle claim [] files = refl
+claimed_files handle claim (tag ∷ tags) [] = refl
+claimed_files handle claim (tag ∷ tags) (file ∷ files) = by (nat_eq tag.handle handle) (claimed_files handle claim tags files)
+  where
+    by : (b : Bool) → with_tags (map (tag_claimed handle claim) tags) files ≡ with_each (is_called (pos handle)) (claimed claim) (with_tags tags files)
+        → ◌≡◌ {A = List File} (called (cond b (record tag { claim = claim }) tag) file ∷ with_tags (map (tag_claimed handle claim) tags) files)
+        (cond b (claimed claim (called tag file)) (called tag file) ∷ with_each (is_called (pos handle)) (claimed claim) (with_tags tags files))
+    by true rest = ap (λ fs. claimed claim (called tag file) ∷ fs) rest
+    by false rest = ap (λ fs. called tag file ∷ fs) rest
+
+released_files : (control : ℕ) (tags : List Tag) (files : List PlainFile) → with_tags (map (tag_released control) tags) files ≡ with_each (is_own_claim control) (claimed None) (with_tags tags files)
+released_files control [] files = refl
+released_files control (tag ∷ tags) [] = refl
+released_files control (tag ∷ tags) (file ∷ files) = by (is_own control tag.claim) (released_files control tags files)
+  where
+    by : (b : Bool) → with_tags (map (tag_released control) tags) files ≡ with_each (is_own_claim control) (claimed None) (with_tags tags files)
+        → ◌≡◌ {A = List File} (called (cond b (record tag { claim = None }) tag) file ∷ with_tags (map (tag_released control) tags) files)
+        (cond b (claimed None (called tag file)) (called tag file) ∷ with_each (is_own_claim control) (claimed None) (with_tags tags files))
+    by true rest = ap (λ fs. claimed None (called tag file) ∷ fs) rest
+    by false rest = ap (λ fs. called tag file ∷ fs) rest
+
+claimed_mode : (handle : ℕ) (claim : Option ℕ) (tags : List Tag) (state : State) → mode_of (map (tag_claimed handle claim) tags) state ≡ with_files (with_each (is_called (pos handle)) (claimed claim)) (mode_of tags state)
+claimed_mode handle claim tags StoreOff = refl
+claimed_mode handle claim tags (StoreReady files sequence) = ap (λ fs. Ready fs sequence) (claimed_files handle claim tags files)
+
+pub released_mode : (control : ℕ) (tags : List Tag) (state : State) → mode_of (map (tag_released control) tags) state ≡ with_files (with_each (is_own_claim control) (claimed None)) (mode_of tags state)
+released_mode control tags StoreOff = refl
+released_mode control tags (StoreReady files sequence) = ap (λ fs. Ready fs sequence) (released_files control tags files)
+
+-- ---- the handles stay
+
+claimed_numbers : (handle : ℕ) (claim : Option ℕ) (tags : List Tag) → numbers_of (map (tag_claimed handle claim) tags) ≡ numbers_of tags
+claimed_numbers handle claim [] = refl
+claimed_numbers handle claim (tag ∷ tags) = by (nat_eq tag.handle handle) (claimed_numbers handle claim tags)
+  where
+    by : (b : Bool) → numbers_of (map (tag_claimed handle claim) tags) ≡ numbers_of tags → ◌≡◌ {A = List ℕ} ((cond b (record tag { claim = claim }) tag).handle ∷ numbers_of (map (tag_claimed handle claim) tags)) (tag.handle ∷ numbers_of tags)
+    by true rest = ap (λ ns. tag.handle ∷ ns) rest
+    by false rest = ap (λ ns. tag.handle ∷ ns) rest
+
+pub released_numbers : (control : ℕ) (tags : List Tag) → numbers_of (map (tag_released control) tags) ≡ numbers_of tags
+released_numbers control [] = refl
+released_numbers control (tag ∷ tags) = by (is_own control tag.claim) (released_numbers control tags)
+  where
+    by : (b : Bool) → numbers_of (map (tag_released control) tags) ≡ numbers_of tags → ◌≡◌ {A = List ℕ} ((cond b (record tag { claim = None }) tag).handle ∷ numbers_of (map (tag_released control) tags)) (tag.handle ∷ numbers_of tags)
+    by true rest = ap (λ ns. tag.handle ∷ ns) rest
+    by false rest = ap (λ ns. tag.handle ∷ ns) rest
+
+same_outlines : (xs ys : List Tag) (files : List PlainFile) → numbers_of xs ≡ numbers_of ys → outlines (with_tags xs files) ≡ outlines (with_tags ys files)
+same_outlines [] [] files same = refl
+same_outlines [] (y ∷ ys) files same = absurd cc
+same_outlines (x ∷ xs) [] files same = absurd cc
+same_outlines (x ∷ xs) (y ∷ ys) [] same = refl
+same_outlines (x ∷ xs) (y ∷ ys) (file ∷ files) same =
+    let first : x.handle ≡ y.handle = cc in
+    let others : numbers_of xs ≡ numbers_of ys = cc in
+    ap (λ n. (n, length file.bytes) ∷ outlines (with_tags xs files)) first ∙ ap (λ os. (y.handle, length file.bytes) ∷ os) (same_outlines xs ys files others)
+
+-- the ledger with other tags
+abbrev pub retagged : Ledger → List Tag → Ledger
+retagged ledger tags = record ledger { handles = record { given = tags; next = ledger.handles.next } }
+
+-- tags of the same handles are as sound
+pub sound_retagged : (state : State) (ledger : Ledger) (tags : List Tag) → numbers_of tags ≡ numbers_of ledger.handles.given → IsSound state ledger → IsSound state (retagged ledger tags)
+sound_retagged StoreOff ledger tags same sound = record { handles = tt; buffers = sound.buffers }
+sound_retagged (StoreReady files sequence) ledger tags same sound = record {
+  handles = record {
+    count = sym (length-map tags (λ tag. tag.handle)) ∙ ap length same ∙ length-map ledger.handles.given (λ tag. tag.handle) ∙ sound.handles.count;
+    distinct = subst AreDistinct (sym same) sound.handles.distinct;
+    below = subst (AllByRecursion (λ handle. handle < ledger.handles.next)) (sym same) sound.handles.below;
+  };
+  buffers = holds_so (with_tags ledger.handles.given files) (with_tags tags files) sequence sequence ledger.handles.next ledger.handles.next ledger.transactions
+      (λ change is. same_buffered (with_tags ledger.handles.given files) (with_tags tags files) ledger.handles.next change (sym (same_outlines tags ledger.handles.given files same)) is) sound.buffers;
+}
+
+-- ---- claims of a file
+
+-- the file is claimed, or no longer
+with_claim : (state : State) (ledger : Ledger) (table : HandleTable) (number : ℕ) (claim : Option ℕ) → table.given ≡ map (tag_claimed number claim) ledger.handles.given → table.next ≡ ledger.handles.next → IsSound state ledger
+    → (totals_of state (record ledger { handles = table }) ≡ record (totals_of state ledger) { mode = with_files (with_each (is_called (pos number)) (claimed claim)) (mode_of ledger.handles.given state) }) × IsSound state (record ledger { handles = table })
+with_claim state ledger table number claim given next sound = rw (given, next) (
+  ap (λ (m : Mode). record (totals_of state ledger) { mode = m }) (claimed_mode number claim ledger.handles.given state),
+  sound_retagged state ledger (map (tag_claimed number claim) ledger.handles.given) (claimed_numbers number claim ledger.handles.given) sound,
+)
+
+pub file_claimed : (state : State) (ledger : Ledger) (control : ℕ) (handle timeout : ℤ) (number : ℕ) (table : HandleTable) → LetsThroughAt (totals_of state ledger) control (ClaimFile handle timeout) handle (Ok number)
+    → table.given ≡ map (tag_claimed number (Some control)) ledger.handles.given → table.next ≡ ledger.handles.next → IsSound state ledger
+    → Arranges (totals_of state ledger) control (ClaimFile handle timeout) (answer.Done value.Empty) (totals_of state (record ledger { handles = table })) × IsSound state (record ledger { handles = table })
+file_claimed state ledger control handle timeout number table through given next sound =
+    let both = with_claim state ledger table number (Some control) given next sound in
+    let is : handle ≡ pos number = through.1 in (
+      open_table (refusals_of_arrangement (totals_of state ledger) control (ClaimFile handle timeout)) _ _ _ through.0
+          (refl, both.0 ∙ ap (λ (h : ℤ). after_arrangement (totals_of state ledger) control (ClaimFile h timeout)) (sym is)),
+      both.1,
+    )
+
+pub file_released : (state : State) (ledger : Ledger) (control : ℕ) (handle : ℤ) (number : ℕ) (table : HandleTable) → LetsThroughAt (totals_of state ledger) control (ReleaseFile handle) handle (Ok number)
+    → table.given ≡ map (tag_claimed number None) ledger.handles.given → table.next ≡ ledger.handles.next → IsSound state ledger
+    → Arranges (totals_of state ledger) control (ReleaseFile handle) (answer.Done value.Empty) (totals_of state (record ledger { handles = table })) × IsSound state (record ledger { handles = table })
+file_released state ledger control handle number table through given next sound =
+    let both = with_claim state ledger table number None given next sound in
+    let is : handle ≡ pos number = through.1 in (
+      open_table (refusals_of_arrangement (totals_of state ledger) control (ReleaseFile handle)) _ _ _ through.0
+          (refl, both.0 ∙ ap (λ (h : ℤ). after_arrangement (totals_of state ledger) control (ReleaseFile h)) (sym is)),
+      both.1,
+    )
+
+-- ---- claims of others
+
+foreign_tags : (control : ℕ) (tags : List Tag) (files : List PlainFile) → length tags ≡ length files → list_any (λ tag. is_foreign control tag.claim) tags ≡ list_any (is_foreign_claim control) (with_tags tags files)
+foreign_tags control [] [] same = refl
+foreign_tags control [] (file ∷ files) same = absurd (omega (arith, same))
+foreign_tags control (tag ∷ tags) [] same = absurd (omega (arith, same))
+foreign_tags control (tag ∷ tags) (file ∷ files) same = ap (λ b. is_foreign control tag.claim || b) (foreign_tags control tags files (omega (arith, same)))
+
+-- another control has claimed a file of those that are seen
+pub foreign_seen : (mode : Mode) (files : Files) (control : ℕ) → IsSeen mode (Some (files_in files)) → length files.tags.now ≡ length files.directory.now
+    → list_any (λ tag. is_foreign control tag.claim) files.tags.now ≡ list_any (is_foreign_claim control) (files_of mode)
+foreign_seen Off files control seen same = absurd seen
+foreign_seen (Ready fs sequence) files control seen same = foreign_tags control files.tags.now files.directory.now same ∙ ap (list_any (is_foreign_claim control)) seen
+
+-- ---- the end of all that a control has
+
+-- one more place, where there is no transaction
+pub held_more : (mode : Mode) (next : ℕ) (transactions : List (Option (List Change))) → HaveBuffers mode next transactions → HaveBuffers mode next (transactions ++ None ∷ [])
+held_more mode next [] all = (none_held mode next, tt)
+held_more mode next (first ∷ others) all = (all.0, held_more mode next others all.1)
+
+pub control_dropped : (state : State) (ledger : Ledger) (control : ℕ) (table : HandleTable) → table.given ≡ map (tag_released control) ledger.handles.given → table.next ≡ ledger.handles.next → IsSound state ledger
+    → (totals_of state (record { handles = table; area = foreign_area control ledger.area; transactions = slice_set ledger.transactions control None }) ≡ without_control (totals_of state ledger) control)
+    × IsSound state (record { handles = table; area = foreign_area control ledger.area; transactions = slice_set ledger.transactions control None })
+control_dropped state ledger control table given next sound =
+    let tags = map (tag_released control) ledger.handles.given in
+    let still = sound_retagged state ledger tags (released_numbers control ledger.handles.given) sound in
+    rw (given, next) (
+      ap (λ (m : Mode). record (without_control (totals_of state ledger) control) { mode = m }) (released_mode control ledger.handles.given state),
+      record { handles = still.handles; buffers = held_with (mode_of tags state) ledger.handles.next ledger.transactions control None still.buffers (none_held (mode_of tags state) ledger.handles.next) },
+    )

@@ -1,0 +1,181 @@
+-- What is buffered depends on the handles and the sizes of the files alone.
+use Rattle.std.proofs.Common.{◌≡◌, ◌∙◌, ℕ, ◌+◌, ◌≤◌, ℤ, pos, negsuc, nat_abs, Bool, true, false, not, cond, List, [], ◌∷◌, ◌++◌, length, take, drop, map, Option, Some, None, refl, sym, ap, subst, arith}
+use Rattle.std.specs.Prelude.{is_none, nat_eq}
+use Rattle.std.specs.List.{find, filter, list_any, AllByRecursion}
+use Rattle.std.proofs.lemmas.Bool.{leb-true}
+use Rattle.std.proofs.lemmas.List.{length-append, length-take, length-drop}
+use Rattle.std.proofs.lemmas.Option.{same_Some}
+use Rattle.pos_dir.specs.declared.change.Change.TheVariants as file
+use Rattle.pos_service.specs.HardTotals.{File, Change, Create, Delete, Rename, Write, SetAll, is_called, is_range, with_each, overwritten, is_of_none}
+use Rattle.pos_totals.proofs.Grouped.{range_end}
+use Rattle.pos_totals.proofs.Places.{OnlyOne}
+use Rattle.pos_totals.specs.Buffers.{IsBuffered}
+use Rattle.pos_totals.specs.Groups.{index_of, group_of}
+use Rattle.pos_totals.specs.Views.{handles_of, AreDistinct}
+
+-- a file's handle and size, and those of all files
+abbrev pub outline : File → ℕ × ℕ
+outline file = (file.handle, length file.bytes)
+
+abbrev pub outlines : List File → List (ℕ × ℕ)
+outlines files = map outline files
+
+-- ---- files that are alike
+
+same_first : (x y : File) (xs ys : List File) → outlines (x ∷ xs) ≡ outlines (y ∷ ys) → outline x ≡ outline y
+same_first x y xs ys same = cc
+
+same_others : (x y : File) (xs ys : List File) → outlines (x ∷ xs) ≡ outlines (y ∷ ys) → outlines xs ≡ outlines ys
+same_others x y xs ys same = cc
+
+-- a handle's index
+same_index : (handle : ℤ) (xs ys : List File) → outlines xs ≡ outlines ys → index_of (is_called handle) xs ≡ index_of (is_called handle) ys
+same_index handle [] [] same = refl
+same_index handle [] (y ∷ ys) same = absurd cc
+same_index handle (x ∷ xs) [] same = absurd cc
+same_index (pos h) (x ∷ xs) (y ∷ ys) same =
+    ap (λ (p : ℕ × ℕ). cond (not (nat_eq p.0 h)) (1 + index_of (is_called (pos h)) xs) 0) (same_first x y xs ys same)
+    ∙ ap (λ n. cond (not (nat_eq y.handle h)) (1 + n) 0) (same_index (pos h) xs ys (same_others x y xs ys same))
+same_index (negsuc n) (x ∷ xs) (y ∷ ys) same = ap (λ n. 1 + n) (same_index (negsuc n) xs ys (same_others x y xs ys same))
+
+-- whether there is a file with a handle
+same_none : (handle : ℤ) (xs ys : List File) → outlines xs ≡ outlines ys → is_none (find (is_called handle) xs) ≡ is_none (find (is_called handle) ys)
+same_none handle [] [] same = refl
+same_none handle [] (y ∷ ys) same = absurd cc
+same_none handle (x ∷ xs) [] same = absurd cc
+same_none (pos h) (x ∷ xs) (y ∷ ys) same = by (nat_eq x.handle h) (nat_eq y.handle h) (ap (λ (p : ℕ × ℕ). nat_eq p.0 h) (same_first x y xs ys same)) (same_none (pos h) xs ys (same_others x y xs ys same))
+  where
+    by : (a b : Bool) → a ≡ b → is_none (find (is_called (pos h)) xs) ≡ is_none (find (is_called (pos h)) ys)
+        → is_none (cond a (Some x) (find (is_called (pos h)) xs)) ≡ is_none (cond b (Some y) (find (is_called (pos h)) ys))
+    by true true alike rest = refl
+    by true false alike rest = absurd cc
+    by false true alike rest = absurd cc
+    by false false alike rest = rest
+same_none (negsuc n) (x ∷ xs) (y ∷ ys) same = same_none (negsuc n) xs ys (same_others x y xs ys same)
+
+-- whether a range fits each file with a handle
+same_fit : (handle offset : ℤ) (count : ℕ) (xs ys : List File) → outlines xs ≡ outlines ys
+    → AllByRecursion (λ file. is_called handle file ≡ true → is_range (length file.bytes) offset (pos count) ≡ true) xs → AllByRecursion (λ file. is_called handle file ≡ true → is_range (length file.bytes) offset (pos count) ≡ true) ys
+same_fit handle offset count [] [] same all = tt
+same_fit handle offset count [] (y ∷ ys) same all = absurd cc
+same_fit handle offset count (x ∷ xs) [] same all = absurd cc
+same_fit (pos h) offset count (x ∷ xs) (y ∷ ys) same all = (
+  subst (λ (p : ℕ × ℕ). nat_eq p.0 h ≡ true → is_range p.1 offset (pos count) ≡ true) (same_first x y xs ys same) all.0,
+  same_fit (pos h) offset count xs ys (same_others x y xs ys same) all.1,
+)
+same_fit (negsuc n) offset count (x ∷ xs) (y ∷ ys) same all = (λ called. absurd cc, same_fit (negsuc n) offset count xs ys (same_others x y xs ys same) all.1)
+
+-- what is buffered for files may be buffered for files that are like them
+pub same_buffered : (xs ys : List File) (next : ℕ) (change : Change) → outlines xs ≡ outlines ys → IsBuffered xs next change → IsBuffered ys next change
+same_buffered xs ys next (Create name size) same buffered = absurd buffered
+same_buffered xs ys next (Delete name) same buffered = absurd buffered
+same_buffered xs ys next (Rename handle name) same buffered = absurd buffered
+same_buffered xs ys next (Write handle offset bytes) same buffered = (buffered.0, same_fit handle offset (length bytes) xs ys same buffered.1)
+same_buffered xs ys next (SetAll handle n) same buffered = buffered
+
+-- its group is the same, and it is of files that are gone in both alike
+pub same_group : (xs ys : List File) (next : ℕ) (changes : List Change) → outlines xs ≡ outlines ys → AllByRecursion (IsBuffered xs next) changes → group_of xs changes ≡ group_of ys changes
+same_group xs ys next [] same all = refl
+same_group xs ys next (Create name size ∷ changes) same all = absurd all.0
+same_group xs ys next (Delete name ∷ changes) same all = absurd all.0
+same_group xs ys next (Rename handle name ∷ changes) same all = absurd all.0
+same_group xs ys next (Write handle offset bytes ∷ changes) same all =
+    ap (λ i. file.Write i (nat_abs offset) bytes ∷ group_of xs changes) (same_index handle xs ys same)
+    ∙ ap (λ g. file.Write (index_of (is_called handle) ys) (nat_abs offset) bytes ∷ g) (same_group xs ys next changes same all.1)
+same_group xs ys next (SetAll handle n ∷ changes) same all =
+    ap (λ i. file.SetAll i (nat_abs n) ∷ group_of xs changes) (same_index handle xs ys same)
+    ∙ ap (λ g. file.SetAll (index_of (is_called handle) ys) (nat_abs n) ∷ g) (same_group xs ys next changes same all.1)
+
+pub same_gone : (xs ys : List File) (next : ℕ) (changes : List Change) → outlines xs ≡ outlines ys → AllByRecursion (IsBuffered xs next) changes → list_any (is_of_none xs) changes ≡ list_any (is_of_none ys) changes
+same_gone xs ys next [] same all = refl
+same_gone xs ys next (Create name size ∷ changes) same all = absurd all.0
+same_gone xs ys next (Delete name ∷ changes) same all = absurd all.0
+same_gone xs ys next (Rename handle name ∷ changes) same all = absurd all.0
+same_gone xs ys next (Write handle offset bytes ∷ changes) same all = cc (same_none handle xs ys same, same_gone xs ys next changes same all.1)
+same_gone xs ys next (SetAll handle n ∷ changes) same all = cc (same_none handle xs ys same, same_gone xs ys next changes same all.1)
+
+-- files that are alike have the same handles
+same_numbers : (xs ys : List File) → outlines xs ≡ outlines ys → handles_of xs ≡ handles_of ys
+same_numbers [] [] same = refl
+same_numbers [] (y ∷ ys) same = absurd cc
+same_numbers (x ∷ xs) [] same = absurd cc
+same_numbers (x ∷ xs) (y ∷ ys) same =
+    ap (λ (p : ℕ × ℕ). p.0 ∷ handles_of xs) (same_first x y xs ys same) ∙ ap (λ hs. y.handle ∷ hs) (same_numbers xs ys (same_others x y xs ys same))
+
+pub same_distinct : (xs ys : List File) → outlines xs ≡ outlines ys → AreDistinct (handles_of xs) → AreDistinct (handles_of ys)
+same_distinct xs ys same distinct = subst AreDistinct (same_numbers xs ys same) distinct
+
+-- ---- a change of some files
+
+-- a change that keeps the handle and the size of each file that it changes
+pub outlines_kept : (test : File → Bool) (change : File → File) (files : List File) → AllByRecursion (λ file. test file ≡ true → outline (change file) ≡ outline file) files → outlines (with_each test change files) ≡ outlines files
+outlines_kept test change [] keeps = refl
+outlines_kept test change (first ∷ files) keeps = by (test first) refl (outlines_kept test change files keeps.1)
+  where
+    by : (b : Bool) → test first ≡ b → outlines (with_each test change files) ≡ outlines files
+        → ◌≡◌ {A = List (ℕ × ℕ)} (outline (cond b (change first) first) ∷ outlines (with_each test change files)) (outline first ∷ outlines files)
+    by true is rest = ap (λ o. o ∷ outlines (with_each test change files)) (keeps.0 is) ∙ ap (λ os. outline first ∷ os) rest
+    by false is rest = ap (λ os. outline first ∷ os) rest
+
+-- what holds of all files holds of all
+pub all_files : (P : File → Type 0) (files : List File) → ((file : File) → P file) → AllByRecursion P files
+all_files P [] each = tt
+all_files P (first ∷ files) each = (each first, all_files P files each)
+
+-- the bytes that are overwritten stay as many
+length_kept : (old bytes : List ℕ) (offset : ℕ) → offset + length bytes ≤ length old → length (overwritten old offset bytes) ≡ length old
+length_kept old bytes offset fits =
+    let rest = drop (offset + length bytes) old in
+    let same : length (take offset old ++ bytes ++ rest) ≡ length old =
+    omega (arith, length-append (take offset old ++ bytes) rest, length-append (take offset old) bytes, length-take offset old, length-drop (offset + length bytes) old) in
+    same
+
+-- a write that fits keeps the size
+pub write_keeps : (file : File) (offset : ℤ) (bytes : List ℕ) → is_range (length file.bytes) offset (pos (length bytes)) ≡ true → outline (record file { bytes = overwritten file.bytes (nat_abs offset) bytes }) ≡ outline file
+write_keeps file offset bytes fits = ap (λ n. (file.handle, n)) (length_kept file.bytes bytes (nat_abs offset) (leb-true _ _ (range_end (length file.bytes) offset (length bytes) fits)))
+
+-- ---- the one file that a test finds
+
+-- no file meets the test
+pub none_meets : (test : File → Bool) (P : File → Type 0) (files : List File) → find test files ≡ None → AllByRecursion (λ file. test file ≡ true → P file) files
+none_meets test P [] none = tt
+none_meets test P (first ∷ files) none = by (test first) refl none (none_meets test P files)
+  where
+    by : (b : Bool) → test first ≡ b → cond b (Some first) (find test files) ≡ None → (find test files ≡ None → AllByRecursion (λ file. test file ≡ true → P file) files)
+        → (test first ≡ true → P first) × AllByRecursion (λ file. test file ≡ true → P file) files
+    by true is found rest = absurd cc
+    by false is found rest = (λ meets. absurd cc, rest found)
+
+-- what holds of the one file that meets the test holds of each that does
+pub one_meets : (test : File → Bool) (P : File → Type 0) (files : List File) (file : File) → OnlyOne test files → find test files ≡ Some file → P file → AllByRecursion (λ file. test file ≡ true → P file) files
+one_meets test P [] file only found here = absurd cc
+one_meets test P (first ∷ files) file only found here = by (test first) refl found only.0 (one_meets test P files file only.1)
+  where
+    by : (b : Bool) → test first ≡ b → cond b (Some first) (find test files) ≡ Some file → (test first ≡ true → find test files ≡ None)
+        → (find test files ≡ Some file → P file → AllByRecursion (λ file. test file ≡ true → P file) files)
+        → (test first ≡ true → P first) × AllByRecursion (λ file. test file ≡ true → P file) files
+    by true is found alone rest = (λ meets. subst P (sym (same_Some first file found)) here, none_meets test P files (alone is))
+    by false is found alone rest = (λ meets. absurd cc, rest found here)
+
+-- what holds of each file that meets the test holds of the one that is found
+pub found_has : (test : File → Bool) (P : File → Type 0) (files : List File) (file : File) → AllByRecursion (λ file. test file ≡ true → P file) files → find test files ≡ Some file → P file
+found_has test P [] file all found = absurd cc
+found_has test P (first ∷ files) file all found = by (test first) refl found (found_has test P files file all.1)
+  where
+    by : (b : Bool) → test first ≡ b → cond b (Some first) (find test files) ≡ Some file → (find test files ≡ Some file → P file) → P file
+    by true is found rest = subst P (same_Some first file found) (all.0 is)
+    by false is found rest = rest found
+
+-- what holds of all files holds of those that are left
+pub all_left : (P : File → Type 0) (test : File → Bool) (files : List File) → AllByRecursion P files → AllByRecursion P (filter test files)
+all_left P test [] all = tt
+all_left P test (first ∷ files) all = by (test first) (all_left P test files all.1)
+  where
+    by : (b : Bool) → AllByRecursion P (filter test files) → AllByRecursion P (cond b (first ∷ filter test files) (filter test files))
+    by true rest = (all.0, rest)
+    by false rest = rest
+
+-- and of those with one more
+pub all_more : (P : File → Type 0) (files : List File) (file : File) → AllByRecursion P files → P file → AllByRecursion P (files ++ file ∷ [])
+all_more P [] file all one = (one, tt)
+all_more P (first ∷ files) file all one = (all.0, all_more P files file all.1 one)

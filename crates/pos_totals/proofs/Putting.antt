@@ -1,0 +1,150 @@
+-- A group that is put on the disk: what the store did, and what it says of the totals.
+use Rattle.std.proofs.Common.{◌≡◌, ◌∙◌, inl, inr, ⊎_elim, ℕ, ◌+◌, List, [], ◌∷◌, length, Option, Some, None, Result, Ok, Err, MatchOption, MatchResult, refl, sym, ap, subst, arith}
+use Rattle.std.specs.List.{AllByRecursion}
+use Rattle.pos_dir.specs.Changes.{outcome_of_all}
+use Rattle.pos_dir.specs.Files.{IsDirectory}
+use Rattle.pos_dir.specs.declared.change.Change.{Change as FileChange}
+use Rattle.pos_dir.specs.declared.fault.DirectoryFault.{DirectoryFault}
+use Rattle.pos_dir.specs.declared.file.File.{File as PlainFile}
+use Rattle.pos_dir.specs.declared.limits.TheConstants.{LAYOUT_1}
+use Rattle.pos_disk.proofs.Moments.{started, weaker}
+use Rattle.pos_disk.specs.State.{DiskState, MayLeave}
+use Rattle.pos_disk.specs.Keeps.{KeepsDisk}
+use Rattle.pos_disk.specs.declared.device.Disk.{Ghosts}
+use Rattle.pos_service.specs.declared.answer.Answer.{Answer}
+use Rattle.pos_service.specs.declared.answer.Answer.TheVariants as answer
+use Rattle.pos_service.specs.declared.answer.Value.{Value}
+use Rattle.pos_service.specs.declared.memory.NoMemory.{NoMemory}
+use Rattle.pos_service.specs.HardTotals.{File, Mode, Off, Ready, Totals, Change, files_after_all}
+use Rattle.pos_service.specs.Refusals.{Row, first_refusal, Decided}
+use Rattle.pos_store.specs.Commits.{Commits, PutsDown}
+use Rattle.pos_store.specs.Commits as store
+use Rattle.pos_store.specs.Modes.{StoreState as State, LeavesItsFiles}
+use Rattle.pos_store.specs.Modes.{Off as StoreOff, Ready as StoreReady, StoreView}
+use Rattle.pos_store.specs.Standing.{Standing, Stands, StandsForOneOf}
+use Rattle.pos_store.specs.declared.fault.StoreFault.{StoreFault}
+use Rattle.pos_store.specs.declared.fault.StoreFault.TheVariants as fault
+use Rattle.pos_totals.proofs.Pairs.{plain_of, numbers_in}
+use Rattle.pos_totals.specs.Changes.{PutsGroup, IsBeforeOrAfter, IsOneGroup, IsDone, before_or_after}
+use Rattle.pos_totals.specs.Groups.{group_of}
+use Rattle.pos_totals.specs.Views.{TotalsView, plain, stored, handles_of, numbers_of, mode_of, totals_of, view_of, with_tags, AreDistinct, AreHandles, HasHandles, TurnsOff, LeavesTheirFiles}
+use Rattle.pos_totals.specs.declared.handles.Tag.{Tag}
+use Rattle.pos_totals.specs.declared.ledger.Ledger.{Ledger}
+
+-- ---- tables
+
+pub open_table : (rows : List Row) (result : Answer) (Same Done : Type 0) → first_refusal rows ≡ None → Done → Decided rows result Same Done
+open_table rows result Same Done none done = record { outcome = subst (λ (o : Option Answer). MatchOption o Done (λ refusal. (result ≡ refusal) × Same)) (sym none) done }
+
+pub closed_table : (rows : List Row) (result refusal : Answer) (Same Done : Type 0) → first_refusal rows ≡ Some refusal → result ≡ refusal → Same → Decided rows result Same Done
+closed_table rows result refusal Same Done some is same = record { outcome = subst (λ (o : Option Answer). MatchOption o Done (λ r. (result ≡ r) × Same)) (sym some) (is, same) }
+
+-- ---- the view
+
+pub same_state : (tags : List Tag) (state : State) (next : ℕ) → HasHandles state tags next → stored (mode_of tags state) ≡ state
+same_state tags StoreOff next sound = refl
+same_state tags (StoreReady files sequence) next sound = ap (λ (fs : List PlainFile). StoreReady fs sequence) (plain_of tags files sound.count)
+
+pub their_files : (tags : List Tag) (state : State) (next : ℕ) (disk : DiskState) → HasHandles state tags next → LeavesItsFiles state disk → LeavesTheirFiles (mode_of tags state) disk
+their_files tags state next disk sound leaves = subst (λ (s : State). LeavesItsFiles s disk) (sym (same_state tags state next sound)) leaves
+
+never_turns : (mode : Mode) → TurnsOff mode mode → ⊥
+never_turns Off turns = turns
+never_turns (Ready files sequence) turns = turns
+
+-- a disk that no call has touched
+pub keeps : {D : Type 0} (bound : Ghosts D) (disk : D) → KeepsDisk bound disk disk
+keeps bound disk = record { size = refl; honest = (λ h. h, λ h. h); later = λ h. omega arith }
+
+left_here : (disk : DiskState) (mode : Mode) (next : ℕ) (changes : List Change) → LeavesTheirFiles mode disk → (bytes : List ℕ) → MayLeave disk bytes → IsBeforeOrAfter disk next mode changes bytes
+left_here disk Off next changes leaves bytes may = may
+left_here disk (Ready files sequence) next [] leaves bytes may = ⊎_elim (λ this. inl this) (λ none. absurd none) (leaves bytes may)
+left_here disk (Ready files sequence) next (change ∷ changes) leaves bytes may = ⊎_elim (λ this. inl this) (λ none. absurd none) (leaves bytes may)
+
+-- the files that a store has, with their tags, are sound
+pub sound_files : (tags : List Tag) (files : List PlainFile) (next : ℕ) → IsDirectory LAYOUT_1 files → AreHandles tags files next
+    → IsDirectory LAYOUT_1 (plain (with_tags tags files)) × AreDistinct (handles_of (with_tags tags files))
+sound_files tags files next directory sound =
+    (subst (IsDirectory LAYOUT_1) (sym (plain_of tags files sound.count)) directory, subst AreDistinct (sym (numbers_in tags files sound.count)) sound.distinct)
+
+-- ---- where the disk isn't touched
+
+module _ {D : Type 0} (bound : Ghosts D) (disk : D) (only : bound.honest disk → (bytes : List ℕ) → (bound.state disk).left_since (bound.state disk).moment bytes → MayLeave (bound.state disk) bytes) where
+  -- a call that leaves the disk as it is, and the mode, whatever its group
+  pub idles : (old new : Totals) (changes : List Change) (outcome : Result Answer NoMemory) → new.mode ≡ old.mode → IsOneGroup old changes → (¬ (IsDone outcome) → new ≡ old) → (bound.honest disk → LeavesTheirFiles old.mode (bound.state disk))
+      → PutsGroup bound (record { disk = disk; totals = old }) changes outcome (record { disk = disk; totals = new })
+  idles old new changes outcome mode group same now = record {
+    group = group;
+    untouched = λ none. refl;
+    unchanged = λ refused. inr (ap (λ (t : Totals). record { disk = disk; totals = t }) (same refused));
+    any_moment = λ h. started (bound.state disk) (IsBeforeOrAfter (bound.state disk) old.next old.mode changes)
+        (λ c left. left_here (bound.state disk) old.mode old.next changes (now h) c (only h c left));
+    now = λ h. subst (λ (m : Mode). LeavesTheirFiles m (bound.state disk)) (sym mode) (now h);
+    in_doubt = λ h turns. absurd (never_turns old.mode (subst (λ (m : Mode). TurnsOff old.mode m) mode turns));
+    kept = keeps bound disk;
+  }
+
+  -- a call that leaves everything as it is
+  pub rests : (totals : Totals) (changes : List Change) (outcome : Result Answer NoMemory) → IsOneGroup totals changes → (bound.honest disk → LeavesTheirFiles totals.mode (bound.state disk))
+      → PutsGroup bound (record { disk = disk; totals = totals }) changes outcome (record { disk = disk; totals = totals })
+  rests totals changes outcome group now = idles totals totals changes outcome refl group (λ refused. refl) now
+
+-- ---- a group that the store takes
+
+module _ {D : Type 0} (bound : Ghosts D) (disk : D) (files : List PlainFile) (sequence : ℕ) (ledger : Ledger) (change : Change) (changes : List Change)
+    (sound : AreHandles ledger.handles.given files ledger.handles.next)
+    (group : IsOneGroup (totals_of (StoreReady files sequence) ledger) (change ∷ changes)) where
+  abbrev xs : List File
+  xs = with_tags ledger.handles.given files
+
+  abbrev all : List FileChange
+  all = group_of xs (change ∷ changes)
+
+  abbrev after : List File
+  after = files_after_all ledger.handles.next xs (change ∷ changes)
+
+  abbrev old_store : StoreView D
+  old_store = record { disk = disk; state = StoreReady files sequence }
+
+  -- what the group makes of the store's files
+  made : outcome_of_all LAYOUT_1 files all ≡ Ok (plain after)
+  made = subst (λ (fs : List PlainFile). outcome_of_all LAYOUT_1 fs all ≡ Ok (plain after)) (plain_of ledger.handles.given files sound.count) group
+
+  -- the candidates of the call are those of the store's commit
+  same_candidates : store.before_or_after files sequence (outcome_of_all LAYOUT_1 files all) ≡ before_or_after ledger.handles.next (Ready xs sequence) (change ∷ changes)
+  same_candidates = ap (store.before_or_after files sequence) made
+      ∙ ap (λ (fs : List PlainFile). Stands fs sequence ∷ Stands (plain after) (sequence + 1) ∷ []) (sym (plain_of ledger.handles.given files sound.count))
+
+  -- what the store's commit answered
+  pub put_down : (result : Result (Unit {0}) StoreFault) (new : State) → store.Answers (StoreReady files sequence) all result new → PutsDown sequence (plain after) (StoreReady files sequence) result new
+  put_down result new answers =
+      subst (λ (o : Result (List PlainFile) DirectoryFault). MatchResult o (λ next. PutsDown sequence next (StoreReady files sequence) result new) (λ refusal. (result ≡ Err (fault.Refused refusal)) × (new ≡ StoreReady files sequence)))
+      made answers
+
+  -- the group was put down
+  pub put_group : (new : StoreView D) (totals : Totals) (given : Value) → Commits bound old_store all (Ok tt) new → totals.mode ≡ Ready after (sequence + 1)
+      → PutsGroup bound (view_of old_store ledger) (change ∷ changes) (Ok (answer.Done given)) (record { disk = new.disk; totals = totals })
+  put_group new totals given commits mode =
+      let down = put_down (Ok tt) new.state commits.answer in
+      record {
+        group = group;
+        untouched = λ none. absurd cc;
+        unchanged = λ refused. absurd (refused tt);
+        any_moment = λ h. weaker (bound.state disk) (bound.state new.disk) _ _ (λ c among. subst (λ (cs : List Standing). StandsForOneOf cs c) same_candidates among) (commits.any_moment h);
+        now = λ h. subst (λ (m : Mode). LeavesTheirFiles m (bound.state new.disk)) (sym mode) (subst (λ (s : State). LeavesItsFiles s (bound.state new.disk)) down.1 (commits.now h));
+        in_doubt = λ h turns. absurd (subst (λ (m : Mode). TurnsOff (Ready xs sequence) m) mode turns);
+        kept = commits.keeps;
+      }
+
+  -- the disk failed in it
+  pub doubt_group : (new : StoreView D) (totals : Totals) (outcome : Result Answer NoMemory) → Commits bound old_store all (Err fault.Device) new → totals.mode ≡ Off
+      → PutsGroup bound (view_of old_store ledger) (change ∷ changes) outcome (record { disk = new.disk; totals = totals })
+  doubt_group new totals outcome commits mode = record {
+    group = group;
+    untouched = λ none. absurd cc;
+    unchanged = λ refused. inl (subst (λ (m : Mode). TurnsOff (Ready xs sequence) m) (sym mode) tt);
+    any_moment = λ h. weaker (bound.state disk) (bound.state new.disk) _ _ (λ c among. subst (λ (cs : List Standing). StandsForOneOf cs c) same_candidates among) (commits.any_moment h);
+    now = λ h. subst (λ (m : Mode). LeavesTheirFiles m (bound.state new.disk)) (sym mode) tt;
+    in_doubt = λ h turns bytes may. subst (λ (cs : List Standing). StandsForOneOf cs bytes) same_candidates (commits.in_doubt h refl bytes may);
+    kept = commits.keeps;
+  }

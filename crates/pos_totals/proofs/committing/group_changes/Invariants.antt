@@ -1,0 +1,8 @@
+use Rattle.std.proofs.Common.{◌≡◌, take}
+use Rattle.pos_totals.specs.Checks.{files_in}
+use Rattle.pos_totals.specs.Groups.{group_of}
+use Rattle.pos_totals.proofs.committing.group_changes.Given as goal
+
+-- the changes so far
+abbrev pub invariant-loop-change : goal.invariant-loop-change
+invariant-loop-change l = l.group ≡ group_of (files_in l.files) (take l.change-index l.changes)

@@ -1,0 +1,13 @@
+use Rattle.std.proofs.Common.{◌∙◌, None, get_or, set, ap, arith}
+use Rattle.std.proofs.lemmas.List.{get_or_default}
+use Rattle.std.proofs.lemmas.List.Edits.{map_over_more}
+use Rattle.pos_totals.specs.Tables.{tag_claimed}
+use Rattle.pos_totals.specs.declared.handles.Tag.{Tag}
+use Rattle.pos_totals.proofs.handles.claim_tags.Goals as goal
+
+pub loop-tag-preserved : goal.loop-tag-preserved
+loop-tag-preserved c =
+    let tags = c.loop-tag.tags in
+    let i = c.loop-tag.tag-index in
+    let tag : Tag = get_or tags i (record { handle = 0; claim = None }) in
+    ap (set tags i) c.claim_tag.ensures ∙ map_over_more (tag_claimed c.args.handle c.args.claim) c.args.tags.now tags i tag (omega arith) c.loop-tag.invariant (get_or_default tags i _ tag (omega arith))

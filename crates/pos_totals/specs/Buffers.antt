@@ -1,0 +1,121 @@
+-- What may be buffered in transactions.
+use Rattle.std.specs.Prelude.{◌≡◌, ◌<◌, ◌≤◌, ◌+◌, ℕ, ℤ, pos, negsuc, nat_abs, Bool, true, false, List, [], ◌∷◌, ◌++◌, length, Option, Some, None, IfSome, Result, Ok, Err, slice_set, ⊤}
+use Rattle.std.specs.List.{AllByRecursion}
+use Rattle.std.specs.Option.{option_map}
+use Rattle.pos_service.specs.declared.answer.Answer.{Answer}
+use Rattle.pos_service.specs.declared.answer.Answer.TheVariants as answer
+use Rattle.pos_service.specs.declared.answer.Value.TheVariants as value
+use Rattle.pos_service.specs.declared.memory.NoMemory.{NoMemory}
+use Rattle.pos_service.specs.HardTotals.{File, Mode, Off, Ready, Change, Create, Delete, Rename, Write, SetAll, is_called, is_range, is_up_to, cost_of_all, transaction_at, without_transactions}
+use Rattle.pos_dir.specs.declared.change.Change.{Change as FileChange}
+use Rattle.pos_dir.specs.declared.change.Change.TheVariants as file
+use Rattle.pos_store.specs.declared.fault.StoreFault.{StoreFault}
+use Rattle.pos_store.specs.declared.fault.StoreFault.TheVariants as fault
+use Rattle.pos_totals.specs.declared.request.Checked.{Checked}
+use Rattle.pos_totals.specs.declared.request.Checked.TheVariants as checked
+use Rattle.pos_totals.specs.declared.transactions.Action.{Action}
+use Rattle.pos_totals.specs.declared.transactions.Action.TheVariants as action
+
+-- the change that does something to the file with a handle
+abbrev pub buffered_change : ℕ → Action → Change
+buffered_change handle (action.Write offset bytes) = Write (pos handle) (pos offset) bytes
+buffered_change handle (action.SetAll n) = SetAll (pos handle) (pos n)
+
+-- a buffered change is of the file with a handle
+abbrev pub IsOf : Change → ℕ → Type 0
+IsOf (Create name size) number = ⊥
+IsOf (Delete name) number = ⊥
+IsOf (Rename handle name) number = ⊥
+IsOf (Write handle offset bytes) number = handle ≡ pos number
+IsOf (SetAll handle n) number = handle ≡ pos number
+
+-- the change of the directory that a buffered change is, the file's index being known
+abbrev pub placed_change : ℕ → Change → FileChange
+placed_change index (Create name size) = file.Create name (nat_abs size)
+placed_change index (Delete name) = file.Delete index
+placed_change index (Rename handle name) = file.Rename index name
+placed_change index (Write handle offset bytes) = file.Write index (nat_abs offset) bytes
+placed_change index (SetAll handle n) = file.SetAll index (nat_abs n)
+
+-- a handle that was given, the next one being known
+abbrev pub IsGiven : ℕ → ℤ → Type 0
+IsGiven next (pos handle) = handle < next
+IsGiven next (negsuc n) = ⊥
+
+-- what is buffered is a Write of bytes that fit each file with its handle, or a SetAll to the value of a byte
+abbrev pub IsBuffered : List File → ℕ → Change → Type 0
+IsBuffered files next (Create name size) = ⊥
+IsBuffered files next (Delete name) = ⊥
+IsBuffered files next (Rename handle name) = ⊥
+IsBuffered files next (Write handle offset bytes) = IsGiven next handle
+    × AllByRecursion (λ file. is_called handle file ≡ true → is_range (length file.bytes) offset (pos (length bytes)) ≡ true) files
+IsBuffered files next (SetAll handle n) = is_up_to 255 n ≡ true
+
+-- what a control may have buffered, by the mode of the totals
+abbrev pub MayHold : Mode → ℕ → Option (List Change) → Type 0
+MayHold Off next transaction = transaction ≡ None
+MayHold (Ready files sequence) next transaction = IfSome transaction (AllByRecursion (IsBuffered files next))
+
+-- what all controls have buffered
+abbrev pub HaveBuffers : Mode → ℕ → List (Option (List Change)) → Type 0
+HaveBuffers mode next transactions = AllByRecursion (MayHold mode next) transactions
+
+-- a checked change may be buffered
+abbrev pub is_bufferable : Checked → Bool
+is_bufferable (checked.Create name size) = false
+is_bufferable (checked.Delete index) = false
+is_bufferable (checked.Rename index name) = false
+is_bufferable (checked.Write index handle offset bytes) = true
+is_bufferable (checked.SetAll index handle n) = true
+
+-- a checked change that may be buffered was asked for as this one
+abbrev pub IsAsked : Change → Checked → Type 0
+IsAsked change (checked.Create name size) = ⊤
+IsAsked change (checked.Delete index) = ⊤
+IsAsked change (checked.Rename index name) = ⊤
+IsAsked change (checked.Write index handle offset bytes) = change ≡ Write (pos handle) (pos offset) bytes.now
+IsAsked change (checked.SetAll index handle n) = change ≡ SetAll (pos handle) (pos n)
+
+-- what it costs
+abbrev pub cost_of_checked : Checked → ℕ
+cost_of_checked (checked.Create name size) = 0
+cost_of_checked (checked.Delete index) = 0
+cost_of_checked (checked.Rename index name) = 0
+cost_of_checked (checked.Write index handle offset bytes) = length bytes.now + 16
+cost_of_checked (checked.SetAll index handle n) = 16
+
+-- a transaction has so much left
+abbrev pub HasLeft : Option (List Change) → ℕ → Type 0
+HasLeft None cost = ⊥
+HasLeft (Some buffer) cost = cost_of_all buffer + cost ≤ 8192
+
+-- A checked change may be buffered, and the control is in a transaction that has enough left for it.
+pub record MayBuffer (transactions : List (Option (List Change))) (control : ℕ) (made : Checked) : Type 0 where
+  pub bufferable : is_bufferable made ≡ true
+  pub left : HasLeft (transaction_at transactions control) (cost_of_checked made)
+
+-- the transactions with one more change behind those that a control has buffered
+abbrev pub with_buffered : List (Option (List Change)) → ℕ → Change → List (Option (List Change))
+with_buffered transactions control change =
+    slice_set transactions control (option_map (λ buffer. buffer ++ change ∷ []) (transaction_at transactions control))
+
+-- A change was added to those that a control has buffered.
+pub record Adds (old : List (Option (List Change))) (control : ℕ) (made : Checked) (new : List (Option (List Change))) : Type 0 where
+  pub change : Change
+  pub asked : IsAsked change made
+  pub added : new ≡ with_buffered old control change
+
+-- what a call does that buffers a change; want of memory changes nothing
+abbrev pub Buffers : List (Option (List Change)) → ℕ → Checked → Result Answer NoMemory → List (Option (List Change)) → Type 0
+Buffers old control made (Ok result) new = (result ≡ answer.Done value.Empty) × Adds old control made new
+Buffers old control made (Err want) new = new ≡ old
+
+-- the transactions after a call whose group the store refused: a fault of the disk ends them all
+abbrev pub transactions_after : StoreFault → List (Option (List Change)) → List (Option (List Change))
+transactions_after fault.Device transactions = without_transactions transactions
+transactions_after fault.NoMemory transactions = transactions
+transactions_after fault.Off transactions = transactions
+transactions_after (fault.Refused refusal) transactions = transactions
+transactions_after fault.Exhausted transactions = transactions
+transactions_after fault.Unformatted transactions = transactions
+transactions_after fault.Damaged transactions = transactions

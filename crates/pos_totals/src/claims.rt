@@ -1,0 +1,204 @@
+//! Claims: of the area, which is the whole device, and of files.
+ghost use Rattle.std.specs.Prelude.{◌≡◌};
+ghost use Rattle.std.specs.List.{list_any};
+ghost use Rattle.pos_service.specs.HardTotals.{is_area_taken, is_foreign, is_own, Arranges, ClaimFile, ReleaseFile, ClaimsArea, ReleasesArea};
+ghost use Rattle.pos_totals.specs.Checks.{files_in, AreFiles, LetsThrough, LetsThroughAt};
+ghost use Rattle.pos_totals.specs.Views.{IsSound, totals_of};
+
+use crate::files::{Files, find_handle, see_files};
+use crate::handles::Tag;
+use crate::ledger::Ledger;
+use crate::numbers::is_timeout;
+use pos_disk::Disk;
+use pos_service::{Answer, Code, Value};
+use pos_store::Store;
+
+/// Whether a control has made a claim.
+pub fn is_own(claim: Option<usize>, control: usize) -> bool
+    ensures { result ≡ is_own control claim }
+{
+    match claim {
+        Some(holder) => holder == control,
+        None => false,
+    }
+}
+
+/// Whether another control has made a claim.
+pub fn is_foreign(claim: Option<usize>, control: usize) -> bool
+    ensures { result ≡ is_foreign control claim }
+{
+    match claim {
+        Some(holder) => holder != control,
+        None => false,
+    }
+}
+
+/// Claims the file with a handle.
+pub fn claim_file<D: Disk>(
+    store: &Store<D>,
+    ledger: &mut Ledger,
+    control: usize,
+    handle: i128,
+    timeout: i128,
+) -> Answer
+    requires sound { IsSound store.now.state ledger.old }
+    ensures sound { IsSound store.now.state ledger.new }
+    ensures arranges { Arranges (totals_of store.now.state ledger.old) control (ClaimFile handle timeout) result
+        (totals_of store.now.state ledger.new) }
+{
+    match check_claim(store, ledger, control, handle, timeout) {
+        Ok(number) => {
+            ledger.handles.claim(number, Some(control));
+            Answer::Done(Value::Empty)
+        }
+        Err(refusal) => refusal,
+    }
+}
+
+/// Checks a claim by its table, and gives the file's handle.
+fn check_claim<D: Disk>(
+    store: &Store<D>,
+    ledger: &Ledger,
+    control: usize,
+    handle: i128,
+    timeout: i128,
+) -> Result<u64, Answer>
+    requires sound { IsSound store.now.state ledger.now }
+    ensures { LetsThroughAt (totals_of store.now.state ledger.now) control (ClaimFile handle timeout) handle result }
+{
+    match see_files(store, ledger) {
+        Some(files) => check_claim_in(files, ledger.area, control, handle, timeout),
+        None => Err(Answer::Refused(Code::Failure, 0)),
+    }
+}
+
+/// Checks a claim where the totals are ready.
+fn check_claim_in(
+    files: Files<'_>,
+    area: Option<usize>,
+    control: usize,
+    handle: i128,
+    timeout: i128,
+) -> Result<u64, Answer>
+    requires { AreFiles files }
+    ensures { LetsThrough area None (files_in files.entry) control (ClaimFile handle timeout) handle result }
+{
+    let Some(found) = find_handle(files, handle) else {
+        return Err(Answer::Refused(Code::Illegal, 0));
+    };
+    if !is_timeout(timeout) {
+        return Err(Answer::Refused(Code::Illegal, 0));
+    }
+    if is_foreign(area, control) || is_foreign(found.claim, control) {
+        return Err(Answer::Refused(Code::Timeout, 0));
+    }
+    Ok(found.handle)
+}
+
+/// Ends the claim of the file with a handle.
+pub fn release_file<D: Disk>(
+    store: &Store<D>,
+    ledger: &mut Ledger,
+    control: usize,
+    handle: i128,
+) -> Answer
+    requires sound { IsSound store.now.state ledger.old }
+    ensures sound { IsSound store.now.state ledger.new }
+    ensures arranges { Arranges (totals_of store.now.state ledger.old) control (ReleaseFile handle) result
+        (totals_of store.now.state ledger.new) }
+{
+    match check_release(store, ledger, control, handle) {
+        Ok(number) => {
+            ledger.handles.claim(number, None);
+            Answer::Done(Value::Empty)
+        }
+        Err(refusal) => refusal,
+    }
+}
+
+/// Checks a release by its table, and gives the file's handle.
+fn check_release<D: Disk>(
+    store: &Store<D>,
+    ledger: &Ledger,
+    control: usize,
+    handle: i128,
+) -> Result<u64, Answer>
+    requires sound { IsSound store.now.state ledger.now }
+    ensures { LetsThroughAt (totals_of store.now.state ledger.now) control (ReleaseFile handle) handle result }
+{
+    match see_files(store, ledger) {
+        Some(files) => check_release_in(files, control, handle),
+        None => Err(Answer::Refused(Code::Failure, 0)),
+    }
+}
+
+/// Checks a release where the totals are ready.
+fn check_release_in(files: Files<'_>, control: usize, handle: i128) -> Result<u64, Answer>
+    requires { AreFiles files }
+    ensures { LetsThrough None None (files_in files.entry) control (ReleaseFile handle) handle result }
+{
+    let Some(found) = find_handle(files, handle) else {
+        return Err(Answer::Refused(Code::Illegal, 0));
+    };
+    if !is_own(found.claim, control) {
+        return Err(Answer::Refused(Code::Illegal, 0));
+    }
+    Ok(found.handle)
+}
+
+/// Claims the area.
+pub fn claim_area<D: Disk>(
+    store: &Store<D>,
+    ledger: &mut Ledger,
+    control: usize,
+) -> Result<(), Code>
+    requires sound { IsSound store.now.state ledger.old }
+    ensures sound { IsSound store.now.state ledger.new }
+    ensures claims { ClaimsArea (totals_of store.now.state ledger.old) control result
+        (totals_of store.now.state ledger.new) }
+{
+    if is_area_taken(store, ledger, control) {
+        return Err(Code::Timeout);
+    }
+    ledger.area = Some(control);
+    Ok(())
+}
+
+/// Whether another control has claimed the area, or a file.
+fn is_area_taken<D: Disk>(store: &Store<D>, ledger: &Ledger, control: usize) -> bool
+    requires sound { IsSound store.now.state ledger.now }
+    ensures { result ≡ is_area_taken (totals_of store.now.state ledger.now) control }
+{
+    if is_foreign(ledger.area, control) {
+        return true;
+    }
+    match see_files(store, ledger) {
+        Some(files) => has_foreign_claim(files.tags, control),
+        None => false,
+    }
+}
+
+/// Whether another control has claimed a file.
+fn has_foreign_claim(tags: &[Tag], control: usize) -> bool
+    ensures { result ≡ list_any (λ tag. is_foreign control tag.claim) tags.now }
+{
+    tags.iter().any(|tag| is_foreign(tag.claim, control))
+}
+
+/// Ends the claim of the area.
+pub fn release_area<D: Disk>(
+    store: &Store<D>,
+    ledger: &mut Ledger,
+    control: usize,
+) -> Result<(), Code>
+    requires sound { IsSound store.now.state ledger.old }
+    ensures sound { IsSound store.now.state ledger.new }
+    ensures releases { ReleasesArea (totals_of store.now.state ledger.old) control result
+        (totals_of store.now.state ledger.new) }
+{
+    if !is_own(ledger.area, control) {
+        return Err(Code::Illegal);
+    }
+    ledger.area = None;
+    Ok(())
+}

@@ -1,0 +1,73 @@
+//! The calls that begin a transaction and that drop one.
+ghost use Rattle.std.specs.Prelude.{◌≡◌};
+ghost use Rattle.pos_service.specs.HardTotals.{foreign_area, without_control, Arranges, BeginTrans, Rollback};
+ghost use Rattle.pos_totals.specs.Views.{IsSound, totals_of};
+
+use crate::claims::is_own;
+use crate::ledger::Ledger;
+use crate::transactions::Buffer;
+use pos_disk::Disk;
+use pos_service::{Answer, Code, Value};
+use pos_store::{Mode, Store};
+use std::alloc::Global;
+
+/// Begins a transaction.
+pub fn begin_trans<D: Disk>(
+    alloc: Global,
+    store: &Store<D>,
+    ledger: &mut Ledger,
+    control: usize,
+) -> Answer
+    requires sound { IsSound store.now.state ledger.old }
+    ensures sound { IsSound store.now.state ledger.new }
+    ensures arranges { Arranges (totals_of store.now.state ledger.old) control BeginTrans result
+        (totals_of store.now.state ledger.new) }
+{
+    if store.mode() == Mode::Off {
+        return Answer::Refused(Code::Failure, 0);
+    }
+    if !ledger.transactions.may_begin(control) {
+        return Answer::Refused(Code::Illegal, 0);
+    }
+    ledger.transactions.set(control, Some(Buffer::new(alloc)));
+    Answer::Done(Value::Empty)
+}
+
+/// Drops a transaction.
+pub fn rollback<D: Disk>(store: &Store<D>, ledger: &mut Ledger, control: usize) -> Answer
+    requires sound { IsSound store.now.state ledger.old }
+    ensures sound { IsSound store.now.state ledger.new }
+    ensures arranges { Arranges (totals_of store.now.state ledger.old) control Rollback result
+        (totals_of store.now.state ledger.new) }
+{
+    if store.mode() == Mode::Off {
+        return Answer::Refused(Code::Failure, 0);
+    }
+    if !ledger.transactions.is_open(control) {
+        return Answer::Refused(Code::Illegal, 0);
+    }
+    ledger.transactions.set(control, None);
+    Answer::Done(Value::Empty)
+}
+
+/// Ends all claims of a control and drops its transaction.
+pub fn drop_control<D: Disk>(store: &Store<D>, ledger: &mut Ledger, control: usize)
+    requires sound { IsSound store.now.state ledger.old }
+    ensures sound { IsSound store.now.state ledger.new }
+    ensures totals { totals_of store.now.state ledger.new
+        ≡ without_control (totals_of store.now.state ledger.old) control }
+{
+    ledger.handles.release_all(control);
+    ledger.area = keep_foreign(ledger.area, control);
+    ledger.transactions.set(control, None);
+}
+
+/// A claim, where another control has made it.
+fn keep_foreign(claim: Option<usize>, control: usize) -> Option<usize>
+    ensures { result ≡ foreign_area control claim }
+{
+    if is_own(claim, control) {
+        return None;
+    }
+    claim
+}

@@ -1,0 +1,259 @@
+//! Transactions: the changes that each control has buffered.
+ghost use Rattle.std.specs.Prelude.{◌≡◌, ◌≤◌, ◌+◌, ◌++◌, ◌∷◌, [], Some, None, IfOk, OnOk, OnErr, is_some, slice_get, slice_set};
+ghost use Rattle.std.specs.Option.{option_copied, option_map};
+ghost use Rattle.pos_service.specs.HardTotals.{cost_of, cost_of_all, may_begin, transaction_at, without_transactions};
+ghost use Rattle.pos_totals.specs.Buffers.{buffered_change, placed_change, with_buffered, HasLeft, IsOf};
+
+use pos_dir::{Bytes, Change as FileChange};
+use pos_service::NoMemory;
+use std::alloc::Global;
+use std::marker::Model;
+
+/// What a change costs beside its bytes.
+pub const COST_OF_CHANGE: usize = 16;
+
+/// What a buffered change does to its file.
+#[derive(Drop)]
+pub enum Action {
+    /// Puts bytes in the place of those from an offset on.
+    Write { offset: u32, bytes: Bytes },
+    /// Makes each byte the same.
+    SetAll { value: u8 },
+}
+
+/// A change that waits for the commit of its transaction. Contracts see the change.
+#[derive(Drop)]
+pub struct Buffered {
+    handle: u64,
+    action: Action,
+}
+
+impl Model for Buffered {
+    ghost use Rattle.pos_service.specs.HardTotals.{Change};
+    ghost use Rattle.pos_totals.specs.Buffers.{buffered_change};
+
+    ghost Value = { Change };
+
+    ghost view = { λ b. buffered_change b.handle b.action };
+}
+
+impl Buffered {
+    /// What is to be done to the file with a handle.
+    pub fn new(handle: u64, action: Action) -> Self
+        ensures { result ≡ buffered_change handle action }
+    {
+        Buffered { handle, action }
+    }
+
+    /// The handle of its file.
+    pub fn handle(&self) -> u64
+        ensures { IsOf self.now result }
+    {
+        self.handle
+    }
+
+    /// The change of the directory that it is, the file's index being known.
+    pub fn to_change(&self, alloc: Global, index: u16) -> Result<FileChange, NoMemory>
+        ensures { IfOk result (λ change. change ≡ placed_change index self.now) }
+    {
+        match &self.action {
+            Action::Write { offset, bytes } => Ok(FileChange::Write {
+                index,
+                offset: *offset,
+                bytes: Bytes::from_vec(Vec::from_slice(alloc, bytes.as_slice())?),
+            }),
+            Action::SetAll { value } => Ok(FileChange::SetAll {
+                index,
+                value: *value,
+            }),
+        }
+    }
+
+    /// What it costs.
+    pub fn cost(&self) -> usize
+        requires { cost_of self.now ≤ 8192 }
+        ensures { result ≡ cost_of self.now }
+    {
+        match &self.action {
+            Action::Write { offset: _, bytes } => bytes.as_slice().len() + COST_OF_CHANGE,
+            Action::SetAll { value: _ } => COST_OF_CHANGE,
+        }
+    }
+}
+
+/// The changes that a control has buffered, in their order. Contracts see the list.
+#[derive(Drop)]
+pub struct Buffer {
+    changes: Vec<Buffered>,
+    cost: usize,
+}
+
+impl Model for Buffer {
+    ghost use Rattle.std.specs.Prelude.{◌≡◌, List};
+    ghost use Rattle.pos_service.specs.HardTotals.{Change, cost_of_all};
+
+    ghost Value = { List Change };
+
+    ghost view = { λ b. b.changes.items };
+
+    ghost invariant = { λ b. b.cost ≡ cost_of_all b.changes.items };
+}
+
+impl Buffer {
+    /// No changes.
+    pub fn new(alloc: Global) -> Self
+        ensures { result ≡ [] }
+    {
+        Buffer {
+            changes: Vec::new(alloc),
+            cost: 0,
+        }
+    }
+
+    /// What the changes cost in sum.
+    pub fn cost(&self) -> usize
+        ensures { result ≡ cost_of_all self.now }
+    {
+        self.cost
+    }
+
+    /// The changes.
+    pub fn as_slice(&self) -> &[Buffered]
+        ensures { result.now ≡ self.now }
+    {
+        &self.changes
+    }
+
+    /// Adds a change behind the others. Want of memory changes nothing.
+    pub fn push(&mut self, change: Buffered) -> Result<(), NoMemory>
+        requires { cost_of_all self.old + cost_of change ≤ 8192 }
+        ensures ok { OnOk result (self.new ≡ self.old ++ change ∷ []) }
+        ensures err { OnErr result (self.new ≡ self.old) }
+    {
+        let cost = change.cost();
+        match self.changes.push(change) {
+            Ok(()) => {
+                self.cost += cost;
+                Ok(())
+            }
+            Err(_) => Err(NoMemory),
+        }
+    }
+}
+
+/// What each control has buffered, by the controls' numbers: None outside a transaction. Contracts see the list of these.
+#[derive(Drop)]
+pub struct Transactions {
+    places: Vec<Option<Buffer>>,
+}
+
+impl Model for Transactions {
+    ghost use Rattle.std.specs.Prelude.{List, Option};
+    ghost use Rattle.pos_service.specs.HardTotals.{Change};
+
+    ghost Value = { List (Option (List Change)) };
+
+    ghost view = { λ t. t.places.items };
+}
+
+impl Transactions {
+    /// No controls.
+    pub fn new(alloc: Global) -> Self
+        ensures { result ≡ [] }
+    {
+        Transactions {
+            places: Vec::new(alloc),
+        }
+    }
+
+    /// Makes a place for one more control. Want of memory changes nothing.
+    pub fn add(&mut self) -> Result<(), NoMemory>
+        ensures ok { OnOk result (self.new ≡ self.old ++ None ∷ []) }
+        ensures err { OnErr result (self.new ≡ self.old) }
+    {
+        match self.places.push(None) {
+            Ok(()) => Ok(()),
+            Err(_) => Err(NoMemory),
+        }
+    }
+
+    /// Whether a control may begin a transaction: it has a place for one, and is in none.
+    pub fn may_begin(&self, control: usize) -> bool
+        ensures { result ≡ may_begin (slice_get self.now control) }
+    {
+        matches!(self.places.get(control), Some(None))
+    }
+
+    /// What a control has buffered, where it is in a transaction.
+    pub fn buffer(&self, control: usize) -> Option<&Buffer>
+        ensures { option_copied result ≡ transaction_at self.now control }
+    {
+        match self.places.get(control) {
+            Some(Some(buffer)) => Some(buffer),
+            _ => None,
+        }
+    }
+
+    /// Whether a control is in a transaction.
+    pub fn is_open(&self, control: usize) -> bool
+        ensures { result ≡ is_some (transaction_at self.now control) }
+    {
+        self.buffer(control).is_some()
+    }
+
+    /// What a control's buffered changes cost in sum, where it is in a transaction.
+    pub fn spent(&self, control: usize) -> Option<usize>
+        ensures { result ≡ option_map cost_of_all (transaction_at self.now control) }
+    {
+        match self.buffer(control) {
+            Some(buffer) => Some(buffer.cost()),
+            None => None,
+        }
+    }
+
+    /// Another transaction of a control, or None; a control that has no place gets none.
+    pub fn set(&mut self, control: usize, transaction: Option<Buffer>)
+        ensures { self.new ≡ slice_set self.old control transaction }
+    {
+        if control < self.places.len() {
+            self.places[control] = transaction;
+        }
+    }
+
+    /// Adds a change to those that a control has buffered. Want of memory changes nothing.
+    pub fn push(&mut self, control: usize, change: Buffered) -> Result<(), NoMemory>
+        requires { HasLeft (transaction_at self.old control) (cost_of change) }
+        ensures ok { OnOk result (self.new ≡ with_buffered self.old control change) }
+        ensures err { OnErr result (self.new ≡ self.old) }
+    {
+        match self.take(control) {
+            Some(mut buffer) => {
+                let outcome = buffer.push(change);
+                self.set(control, Some(buffer));
+                outcome
+            }
+            None => unreachable!(),
+        }
+    }
+
+    /// Takes out what a control has buffered, and ends its transaction.
+    fn take(&mut self, control: usize) -> Option<Buffer>
+        ensures taken { result ≡ transaction_at self.old control }
+        ensures ended { self.new ≡ slice_set self.old control None }
+    {
+        if control < self.places.len() {
+            self.places[control].take()
+        } else {
+            None
+        }
+    }
+
+    /// Ends the transactions of all controls.
+    pub fn end_all(&mut self)
+        ensures { self.new ≡ without_transactions self.old }
+    {
+        for place in self.places.iter_mut() {
+            *place = None;
+        }
+    }
+}
