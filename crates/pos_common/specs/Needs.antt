@@ -1,7 +1,7 @@
 -- What a call asks of its control before it does anything.
 use Rattle.std.specs.Prelude.{ℕ, Bool, true, false, not, List, [], ◌∷◌, Option, ◌&&◌}
 use Rattle.pos_service.specs.declared.code.Code.TheVariants as code
-use Rattle.pos_service.specs.Claims.{is_held_by_another}
+use Rattle.pos_service.specs.Claims.{is_foreign}
 use Rattle.pos_service.specs.Controls.{Control}
 use Rattle.pos_service.specs.Refusals.{Row, when}
 use Rattle.pos_common.specs.declared.need.ClaimNeed.{ClaimNeed}
@@ -16,5 +16,5 @@ needs_no_other claim_need.NoOther = true
 -- the refusals of an open control that isn't as a call asks it to be, by its number and the holder of its device
 abbrev pub need_rows : Control → ℕ → Option ℕ → Need → List Row
 need_rows control number holder need =
-    when (needs_no_other need.claim && is_held_by_another holder number) code.Claimed
+    when (needs_no_other need.claim && is_foreign number holder) code.Claimed
     ∷ when (need.is_enabled && not control.enabled) code.Disabled ∷ []

@@ -1,5 +1,5 @@
 ghost use Rattle.std.specs.Prelude.{◌≡◌, ◌<◌, Some, None, IfOk, length, replicate};
-ghost use Rattle.pos_service.specs.Claims.{claimed_by, holder_at, is_held_by_another, released_by};
+ghost use Rattle.pos_service.specs.Claims.{claimed_by, holder_at, is_foreign, released_by};
 
 use pos_service::NoMemory;
 use std::alloc::Global;
@@ -63,8 +63,8 @@ impl Claims {
 }
 
 /// Whether a control holds the device, and another than the one with a number.
-pub(crate) fn is_held_by_another(holder: Option<usize>, number: usize) -> bool
-    ensures { result ≡ is_held_by_another holder number }
+pub(crate) fn is_foreign(number: usize, holder: Option<usize>) -> bool
+    ensures { result ≡ is_foreign number holder }
 {
     match holder {
         Some(holder) => holder != number,

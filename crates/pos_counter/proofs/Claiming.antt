@@ -13,7 +13,7 @@ use Rattle.pos_service.specs.declared.category.Category.{Category}
 use Rattle.pos_service.specs.declared.category.Category.TheVariants as category
 use Rattle.pos_service.specs.declared.code.Code.TheVariants as code
 use Rattle.pos_service.specs.Calls.{close_rows}
-use Rattle.pos_service.specs.Claims.{is_held_by, is_held_by_another, holder_at, claim_rows, claimed_by, release_rows, released_by, after_release}
+use Rattle.pos_service.specs.Claims.{is_own, is_foreign, holder_at, claim_rows, claimed_by, release_rows, released_by, after_release}
 use Rattle.pos_service.specs.Controls.{Control, closed}
 use Rattle.pos_service.specs.Peripherals.{PeripheralState}
 use Rattle.pos_service.specs.Refusals.{Row, Decided, first_refusal, when}
@@ -89,14 +89,14 @@ close_device hs cl dl es ss part n c h g r at is there turns free =
 -- a claim of a device with a peripheral
 pub claim_device : (hs : List Held) (cl dl : List (Option ℕ)) (es : List Entry) (ss : List PeripheralState) (part : TotalsPart) (n : ℕ) (c : Control) (timeout : ℤ) (r : Answer)
     → slice_get (controls_of hs) n ≡ Some c → c.category ≡ category.CashDrawer
-    → Decided (claim_rows c (is_held_by_another (holder_at cl c.device) n) timeout) r (dl ≡ cl) ((r ≡ answer.Done value.Empty) × (dl ≡ claimed_by cl c.device n))
+    → Decided (claim_rows c (is_foreign n (holder_at cl c.device)) timeout) r (dl ≡ cl) ((r ≡ answer.Done value.Empty) × (dl ≡ claimed_by cl c.device n))
     → Step (machine_with hs cl es ss part) (CallOf n (call.Claim timeout)) (Answered r) (machine_with hs dl es ss part)
 claim_device hs cl dl es ss part n c timeout r at is d =
     let m : Machine = machine_with hs cl es ss part in
     let rows = subst (λ k. first_refusal (refusals m n c (call.Claim timeout)) ≡ first_refusal (claim_rows c (taken k) timeout)) is refl in
     match_at_some _ c _ _ at (record {
       outcome = match_by (first_refusal (refusals m n c (call.Claim timeout))) _ _ _ rows
-          (match_weaker (first_refusal (claim_rows c (is_held_by_another (holder_at cl c.device) n) timeout)) _ _ _ _
+          (match_weaker (first_refusal (claim_rows c (is_foreign n (holder_at cl c.device)) timeout)) _ _ _ _
           (λ y. (y.0, subst (λ k. machine_with hs dl es ss part ≡ claimed k m n c) (sym is) (ap (λ claims. let o : Machine = record m { claims = claims } in o) y.1)))
           (λ refusal y. (y.0, ap (λ claims. let o : Machine = record m { claims = claims } in o) y.1))
           d.outcome);
@@ -108,14 +108,14 @@ claim_device hs cl dl es ss part n c timeout r at is d =
 -- a release of a device with a peripheral
 pub release_device : (hs : List Held) (cl dl : List (Option ℕ)) (es : List Entry) (ss : List PeripheralState) (part : TotalsPart) (n : ℕ) (c : Control) (h g : Held) (r : Answer)
     → slice_get (controls_of hs) n ≡ Some c → c.category ≡ category.CashDrawer → h ≡ get_or hs n h
-    → Decided (release_rows c (is_held_by (holder_at cl c.device) n)) r ((g ≡ h) × (dl ≡ cl)) ((r ≡ answer.Done value.Empty) × (g.control ≡ after_release c.category c) × (dl ≡ released_by cl c.device n))
+    → Decided (release_rows c (is_own n (holder_at cl c.device))) r ((g ≡ h) × (dl ≡ cl)) ((r ≡ answer.Done value.Empty) × (g.control ≡ after_release c.category c) × (dl ≡ released_by cl c.device n))
     → Step (machine_with hs cl es ss part) (CallOf n call.Release) (Answered r) (machine_with (set hs n g) dl es ss part)
 release_device hs cl dl es ss part n c h g r at is here d =
     let m : Machine = machine_with hs cl es ss part in
-    let rows = subst (λ k. first_refusal (refusals m n c call.Release) ≡ first_refusal (release_rows c (is_held_by (holder_in k cl c.device) n))) is refl in
+    let rows = subst (λ k. first_refusal (refusals m n c call.Release) ≡ first_refusal (release_rows c (is_own n (holder_in k cl c.device)))) is refl in
     match_at_some _ c _ _ at (record {
       outcome = match_by (first_refusal (refusals m n c call.Release)) _ _ _ rows
-          (match_weaker (first_refusal (release_rows c (is_held_by (holder_at cl c.device) n))) _ _ _ _
+          (match_weaker (first_refusal (release_rows c (is_own n (holder_at cl c.device)))) _ _ _ _
           (λ y. (y.0, subst (λ k. machine_with (set hs n g) dl es ss part ≡ released k (with_control m n (after_release c.category c)) n c) (sym is)
           (claims_machine hs cl dl es ss n g (after_release c.category c) part y.1 ∙ ap (λ claims. let o : Machine = record (with_control m n (after_release c.category c)) { claims = claims } in o) y.2)))
           (λ refusal y. (y.0, ap (λ (ks : List Held). machine_with ks dl es ss part) (ap (set hs n) (y.1 ∙ here) ∙ set-get_or hs n h) ∙ ap (λ claims. let o : Machine = record m { claims = claims } in o) y.2))

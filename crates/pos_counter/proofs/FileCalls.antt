@@ -1,66 +1,87 @@
 -- What the totals do with a call, for all that their disk may leave before it.
-use Rattle.std.proofs.Common.{◌≡◌, ◌≤◌, ◌⊎◌, inl, inr, ℕ, ◌+◌, List, [], ◌∷◌, Option, Some, None, Result, Ok, Err, Bool, true, false, cond, not, refl, sym, ap, ◌∙◌, subst, arith}
-use Rattle.std.specs.Prelude.{MatchOption, MatchResult, IsTrue, is_none}
+use Rattle.std.proofs.Common.{◌≡◌, ◌≤◌, ◌⊎◌, inl, inr, ℕ, ◌+◌, List, [], ◌∷◌, ◌++◌, Option, Some, None, Result, Ok, Err, Bool, true, false, cond, not, ◌&&◌, refl, sym, ap, ◌∙◌, subst, arith}
+use Rattle.std.specs.Prelude.{MatchOption, MatchResult, IsTrue, is_none, is_some}
+use Rattle.pos_disk.specs.Keeps.{KeepsDisk}
 use Rattle.pos_disk.specs.State.{DiskState, MayLeave, LeavesOnly, Rises}
 use Rattle.pos_disk.specs.declared.device.Disk.{Ghosts}
 use Rattle.pos_disk.proofs.Moments.{started, weaker}
 use Rattle.pos_service.specs.declared.answer.Answer.{Answer}
 use Rattle.pos_service.specs.declared.answer.Answer.TheVariants as answer
 use Rattle.pos_service.specs.declared.answer.Value.{Value}
+use Rattle.pos_service.specs.declared.answer.Value.TheVariants as value
 use Rattle.pos_service.specs.declared.call.Call.{Call}
 use Rattle.pos_service.specs.declared.category.Category.TheVariants as category
 use Rattle.pos_service.specs.declared.code.Code.TheVariants as code
 use Rattle.pos_service.specs.declared.memory.NoMemory.{NoMemory}
 use Rattle.pos_service.specs.Calls.{has_call, takes_memory}
-use Rattle.pos_service.specs.HardTotals.{File, Mode, Off, Ready, Totals, Change, Question, layout_1, files_of, files_after_all, next_sequences, refusals_of_change, refusals_of_question, number_rows, after_changes, after_disk_fault, given_by, Done, DoesChange, Changed, Tells, MayTell, group_by_change}
+use Rattle.pos_service.specs.HardTotals.{File, Mode, Off, Ready, Totals, Change, Question, layout_1, files_of, files_after_all, next_sequences, refusals_of_change, refusals_of_question, number_rows, given_by, Done, DoesChange, MayTell}
+use Rattle.pos_service.specs.HardTotals.{Arrangement, ClaimFile, ReleaseFile, BeginTrans, Rollback, DoesCommit, Arranges, after_arrangement, changes_in, claimed, in_transaction, is_last, refusals_of_arrangement, refusals_of_commit, transaction_of, with_each, with_files, with_transaction, is_called}
+use Rattle.pos_service.specs.Claims.{is_foreign}
+use Rattle.pos_service.specs.HardTotals.{mode_after, IsAmong, sequences_after, when_foreign_area, while_ready, change_rows, spent_by, commit_rows}
 use Rattle.pos_service.specs.Refusals.{Row, Decided, first_refusal, when}
-use Rattle.pos_service.specs.TotalsCalls.{Asks, Makes, file_call, file_rows}
+use Rattle.pos_service.specs.TotalsCalls.{FileCall, Arranges as ArrangesCall, Asks, Commits, Makes, file_call, file_rows}
 use Rattle.pos_store.specs.Standing.{Standing, Stands, LeavesOneOf, StandsForOneOf}
-use Rattle.pos_totals.specs.Changes.{Changes, PutsGroup, HasFailed, IsDone, IsOneGroup, IsBeforeOrAfter, before_or_after}
-use Rattle.pos_disk.specs.Keeps.{KeepsDisk}
-use Rattle.pos_totals.specs.Views.{TotalsView, TurnsOff, LeavesTheirFiles, plain}
+use Rattle.pos_totals.specs.Changes.{Arranged, Changes, CommitsBuffer, PutsGroup, HasFailed, IsDone, IsOneGroup, IsBeforeOrAfter, before_or_after}
+use Rattle.pos_totals.specs.Views.{TotalsView, TurnsOff, LeavesTheirFiles, plain, plain_file}
 use Rattle.pos_counter.specs.Parts.{CallsFiles, FilesStepped, IsLeft, Leaves, part_of}
-use Rattle.pos_counter.specs.Totals.{TotalsPart, TotalsDo, ChangesTotals, FilesCalled, settled, left_after, is_change}
+use Rattle.pos_counter.specs.Totals.{TotalsPart, TotalsDo, ChangesTotals, CommitsTotals, PutsChanges, FilesCalled, put_at_once, settled, left_after, in_doubt, is_change}
 use Rattle.pos_counter.proofs.Lifts.{match_cases, match_weaker, match_at_none, match_at_some}
-use Rattle.pos_counter.proofs.Serving.{kept_disk}
+use Rattle.pos_counter.proofs.Serving.{OnlyNow, kept_disk}
 
--- a crash now leaves what may be left now
-abbrev OnlyNow : {D : Type 0} → Ghosts D → D → Type 0
-OnlyNow bound disk = (bytes : List ℕ) → bound.honest disk → (bound.state disk).left_since (bound.state disk).moment bytes → MayLeave (bound.state disk) bytes
+-- ---- what is answered to a call of the totals' own
 
--- what a change is answered, and what it does to the totals of the machine
-abbrev ChangeCalled : ℕ → Change → TotalsPart → Result Answer NoMemory → TotalsPart → Type 0
-ChangeCalled n change old outcome new =
-    MatchResult outcome
-    (λ result. Decided (refusals_of_change layout_1 old.totals n change) result (new ≡ old) (ChangesTotals old n change result new))
-    (λ want. (first_refusal (refusals_of_change layout_1 old.totals n change) ≡ None) × (new ≡ old))
+-- a call is answered by its table and by what it does
+called_ok : (n : ℕ) (fc : FileCall) (asked : Call) (old new : TotalsPart) (result : Answer) → file_call asked ≡ fc → has_call category.HardTotals asked ≡ true
+    → Decided (file_rows old.totals n fc) result (new ≡ old) (TotalsDo fc old n result new) → FilesCalled n asked old (Ok result) new
+called_ok n fc asked old new result is has d =
+    subst (λ c. Decided (when (not (has_call category.HardTotals asked)) code.Illegal ∷ file_rows old.totals n c) result (new ≡ old) (TotalsDo c old n result new)) (sym is)
+    (subst (λ b. Decided (when (not b) code.Illegal ∷ file_rows old.totals n fc) result (new ≡ old) (TotalsDo fc old n result new)) (sym has)
+    (record { outcome = d.outcome }))
 
--- the same for a call that asks for the change
-as_call : (n : ℕ) (change : Change) (asked : Call) (old new : TotalsPart) (outcome : Result Answer NoMemory) → file_call asked ≡ Makes change → has_call category.HardTotals asked ≡ true → takes_memory asked ≡ true → ChangeCalled n change old outcome new → FilesCalled n asked old outcome new
-as_call n change asked old new outcome is has takes h =
-    let rows : List Row = when false code.Illegal ∷ file_rows old.totals n (Makes change) in
-    subst (λ call. MatchResult outcome
-    (λ result. Decided (when (not (has_call category.HardTotals asked)) code.Illegal ∷ file_rows old.totals n call) result (new ≡ old) (TotalsDo call old n result new))
-    (λ want. IsTrue (takes_memory asked) × (first_refusal (when (not (has_call category.HardTotals asked)) code.Illegal ∷ file_rows old.totals n call) ≡ None) × (new ≡ old))) (sym is)
-    (subst (λ b. MatchResult outcome
-    (λ result. Decided (when (not b) code.Illegal ∷ file_rows old.totals n (Makes change)) result (new ≡ old) (TotalsDo (Makes change) old n result new))
-    (λ want. IsTrue (takes_memory asked) × (first_refusal (when (not b) code.Illegal ∷ file_rows old.totals n (Makes change)) ≡ None) × (new ≡ old))) (sym has)
-    (by_outcome outcome h))
-  where
-    by_outcome : (o : Result Answer NoMemory) → ChangeCalled n change old o new → MatchResult o
-        (λ result. Decided (when false code.Illegal ∷ file_rows old.totals n (Makes change)) result (new ≡ old) (TotalsDo (Makes change) old n result new))
-        (λ want. IsTrue (takes_memory asked) × (first_refusal (when false code.Illegal ∷ file_rows old.totals n (Makes change)) ≡ None) × (new ≡ old))
-    by_outcome (Ok result) d = record { outcome = d.outcome }
-    by_outcome (Err want) d = (takes, d.0, d.1)
+-- it finds no memory
+called_err : (n : ℕ) (fc : FileCall) (asked : Call) (part : TotalsPart) (want : NoMemory) → file_call asked ≡ fc → has_call category.HardTotals asked ≡ true → takes_memory asked ≡ true
+    → first_refusal (file_rows part.totals n fc) ≡ None → FilesCalled n asked part (Err want) part
+called_err n fc asked part want is has takes none =
+    subst (λ c. IsTrue (takes_memory asked) × (first_refusal (when (not (has_call category.HardTotals asked)) code.Illegal ∷ file_rows part.totals n c) ≡ None) × (part ≡ part)) (sym is)
+    (subst (λ b. IsTrue (takes_memory asked) × (first_refusal (when (not b) code.Illegal ∷ file_rows part.totals n fc) ≡ None) × (part ≡ part)) (sym has)
+    (takes, none, refl))
 
--- totals that rest: what a crash leaves is as it was
-rests : {D : Type 0} (bound : Ghosts D) (view : TotalsView D) (left : List Standing) (n : ℕ) (asked : Call) (outcome : Result Answer NoMemory) → OnlyNow bound view.disk → Leaves bound view left → FilesCalled n asked (part_of bound view left) outcome (part_of bound view left) → FilesStepped bound left view n asked outcome view
-rests bound view left n asked outcome only leaves called = record {
+-- ---- what a crash leaves
+
+-- totals that know the same files on a disk that wasn't touched: what a crash leaves is as it was
+beside : {D : Type 0} (bound : Ghosts D) (view : TotalsView D) (totals : Totals) (left : List Standing) (n : ℕ) (asked : Call) (outcome : Result Answer NoMemory) → OnlyNow bound view.disk → Leaves bound view left → settled totals.mode left ≡ settled view.totals.mode left
+    → FilesCalled n asked (part_of bound view left) outcome (part_of bound (record { disk = view.disk; totals = totals }) left) → FilesStepped bound left view n asked outcome (record { disk = view.disk; totals = totals })
+beside bound view totals left n asked outcome only leaves same called = record {
   after = left;
-  leaves = leaves;
+  leaves = record { honest = leaves.honest; leaves = leaves.leaves; is_settled = leaves.is_settled ∙ sym same };
   answer = called;
   any_moment = started (bound.state view.disk) (IsLeft left left) (λ bytes since. inl (leaves.leaves bytes (only bytes leaves.honest since)));
 }
+
+-- totals that rest
+rests : {D : Type 0} (bound : Ghosts D) (view : TotalsView D) (left : List Standing) (n : ℕ) (asked : Call) (outcome : Result Answer NoMemory) → OnlyNow bound view.disk → Leaves bound view left → FilesCalled n asked (part_of bound view left) outcome (part_of bound view left) → FilesStepped bound left view n asked outcome view
+rests bound view left n asked outcome only leaves called = beside bound view view.totals left n asked outcome only leaves refl called
+
+-- what a crash leaves is said of the files that the totals have
+pub kept_left : (changes : List Change) (old : TotalsPart) → old.left ≡ settled old.totals.mode old.left → left_after old changes old.totals.mode ≡ old.left
+kept_left changes old is = by old.totals.mode refl is
+  where
+    by : (m : Mode) → old.totals.mode ≡ m → old.left ≡ settled m old.left → settled m (in_doubt old changes old.totals.mode) ≡ old.left
+    by Off off is = ap (in_doubt old changes) off
+    by (Ready files sequence) ready is = sym is
+
+-- files with other claims are the same files
+pub plain_claimed : (test : File → Bool) (claim : Option ℕ) (files : List File) → plain (with_each test (claimed claim) files) ≡ plain files
+plain_claimed test claim [] = refl
+plain_claimed test claim (file ∷ files) = by (test file)
+  where
+    by : (b : Bool) → plain_file (cond b (claimed claim file) file) ∷ plain (with_each test (claimed claim) files) ≡ plain_file file ∷ plain files
+    by true = ap (λ fs. plain_file file ∷ fs) (plain_claimed test claim files)
+    by false = ap (λ fs. plain_file file ∷ fs) (plain_claimed test claim files)
+
+pub settled_claimed : (test : File → Bool) (claim : Option ℕ) (mode : Mode) (left : List Standing) → settled (with_files (with_each test (claimed claim)) mode) left ≡ settled mode left
+settled_claimed test claim Off left = refl
+settled_claimed test claim (Ready files sequence) left = ap (λ fs. Stands fs sequence ∷ []) (plain_claimed test claim files)
 
 never_turns : (mode : Mode) → TurnsOff mode mode → ⊥
 never_turns Off turns = turns
@@ -73,206 +94,388 @@ not_done (Ok (answer.Done v)) c never e h =
 not_done (Ok (answer.Refused k x)) c never e h = h
 not_done (Err want) c never e h = h
 
--- ---- a change
+-- what refuses by a number is no success
+number_refusal : (b : Bool) (refusal : Answer) → first_refusal (when b code.Failure ∷ []) ≡ Some refusal → (v : Value) → refusal ≡ answer.Done v → ⊥
+number_refusal true refusal e v d = let bad = sym e in cc
+number_refusal false refusal e v d = cc
 
-module _ {D : Type 0} (bound : Ghosts D) (disk : D) (only : OnlyNow bound disk) (next : ℕ) (n : ℕ) (change : Change) where
-  abbrev before : Mode → TotalsView D
-  before mode = record { disk = disk; totals = record { mode = mode; next = next } }
+-- the sequences that are next are one
+only_next : (q s : ℕ) → (s ≡ q + 1) ⊎ ⊥ → s ≡ q + 1
+only_next q s (inl e) = e
+only_next q s (inr h) = absurd h
 
-  -- a change that leaves the totals as they are
-  unchanged_calls : (mode : Mode) (left : List Standing) (outcome : Result Answer NoMemory) (new : TotalsView D) → new ≡ before mode → Leaves bound (before mode) left
-      → ChangeCalled n change (part_of bound (before mode) left) outcome (part_of bound (before mode) left)
-      → (asked : Call) → file_call asked ≡ Makes change → has_call category.HardTotals asked ≡ true → takes_memory asked ≡ true
-      → FilesStepped bound left (before mode) n asked outcome new
-  unchanged_calls mode left outcome new same leaves called asked is has takes =
-      let part = part_of bound (before mode) left in
-      subst (λ v. FilesStepped bound left (before mode) n asked outcome v) (sym same)
-      (rests bound (before mode) left n asked outcome only leaves (as_call n change asked part part outcome is has takes called))
+-- totals on the same disk
+same_view : {D : Type 0} (old new : TotalsView D) (totals : Totals) → new.disk ≡ old.disk → new.totals ≡ totals → new ≡ record { disk = old.disk; totals = totals }
+same_view {D = D} old new totals d t = ap (λ (x : D). let v : TotalsView D = record { disk = x; totals = new.totals } in v) d ∙ ap (λ (x : Totals). let v : TotalsView D = record { disk = old.disk; totals = x } in v) t
 
-  -- the sequences that are next are one
-  only_next : (q s : ℕ) → (s ≡ q + 1) ⊎ ⊥ → s ≡ q + 1
-  only_next q s (inl e) = e
-  only_next q s (inr h) = absurd h
+-- ---- a group
 
-  -- a change that was done, or in which the disk failed: what a crash may have left since it began, and what it leaves now
-  group_moves : (files : List File) (q : ℕ) (left : List Standing) (outcome : Result Answer NoMemory) (new : TotalsView D) → Leaves bound (before (Ready files q)) left
-      → PutsGroup bound (before (Ready files q)) (change ∷ []) outcome new
-      → ((f : List File) (s : ℕ) → new.totals.mode ≡ Ready f s → (f ≡ files_after_all next files (change ∷ [])) × (s ≡ q + 1))
-      → (mode : Mode) → new.totals.mode ≡ mode
-      → Leaves bound new (left_after (part_of bound (before (Ready files q)) left) (change ∷ []) mode)
-      × LeavesOnly (bound.state disk) (bound.state new.disk) (IsLeft left (left_after (part_of bound (before (Ready files q)) left) (change ∷ []) mode))
-  group_moves files q left outcome new leaves puts found Off off = (
-    record {
-      honest = puts.kept.honest.0 leaves.honest;
-      leaves = puts.in_doubt leaves.honest (subst (λ m. TurnsOff (Ready files q) m) (sym off) tt);
-      is_settled = subst (λ m. in_doubt_list ≡ settled m in_doubt_list) (sym off) refl;
-    },
-    weaker (bound.state disk) (bound.state new.disk) (IsBeforeOrAfter (bound.state disk) next (Ready files q) (change ∷ [])) (IsLeft left in_doubt_list) (λ c p. inr p) (puts.any_moment leaves.honest),
-  )
-    where
-      in_doubt_list : List Standing
-      in_doubt_list = before_or_after next (Ready files q) (change ∷ [])
-  group_moves files q left outcome new leaves puts found (Ready f s) ready = (
-    record {
-      honest = puts.kept.honest.0 leaves.honest;
-      leaves = subst (λ m. LeavesTheirFiles m (bound.state new.disk)) ready (puts.now leaves.honest);
-      is_settled = subst (λ m. now_list ≡ settled m now_list) (sym ready) refl;
-    },
-    weaker (bound.state disk) (bound.state new.disk) (IsBeforeOrAfter (bound.state disk) next (Ready files q) (change ∷ [])) (IsLeft left now_list) moves (puts.any_moment leaves.honest),
-  )
-    where
-      now_list : List Standing
-      now_list = Stands (plain f) s ∷ []
-
-      after_list : List Standing
-      after_list = Stands (plain (files_after_all next files (change ∷ []))) (q + 1) ∷ []
-
-      same : now_list ≡ after_list
-      same = ap (λ g. Stands (plain g) s ∷ []) (found f s ready).0 ∙ ap (λ k. Stands (plain (files_after_all next files (change ∷ []))) k ∷ []) (found f s ready).1
-
-      moves : (c : List ℕ) → StandsForOneOf (before_or_after next (Ready files q) (change ∷ [])) c → IsLeft left now_list c
-      moves c (inl p) = inl (subst (λ l. StandsForOneOf l c) (sym leaves.is_settled) (inl p))
-      moves c (inr p) = inr (subst (λ l. StandsForOneOf l c) (sym same) p)
-
-  -- what refuses a change by its numbers is no success
-  number_refusal : (b : Bool) (refusal : Answer) → first_refusal (when b code.Failure ∷ []) ≡ Some refusal → (v : Value) → refusal ≡ answer.Done v → ⊥
-  number_refusal true refusal e v d = let bad = sym e in cc
-  number_refusal false refusal e v d = cc
-
-  -- totals with the same files on the same disk
-  same_view : (mode : Mode) (new : TotalsView D) → new.disk ≡ disk → new.totals ≡ record { mode = mode; next = next } → new ≡ before mode
-  same_view mode new d t = ap (λ (x : D). let v : TotalsView D = record { disk = x; totals = new.totals } in v) d ∙ ap (λ (x : Totals). let v : TotalsView D = record { disk = disk; totals = x } in v) t
-
+module _ {D : Type 0} (bound : Ghosts D) (old new : TotalsView D) (only : OnlyNow bound old.disk) (left : List Standing) (leaves : Leaves bound old left) where
   -- a call that wasn't done and left the totals as they are hasn't touched the disk
-  rested : (mode : Mode) (new : TotalsView D) → TurnsOff mode new.totals.mode ⊎ (new ≡ before mode) → new.totals ≡ record { mode = mode; next = next } → new ≡ before mode
-  rested mode new (inl turns) same = absurd (never_turns mode (subst (λ (x : Totals). TurnsOff mode x.mode) same turns))
-  rested mode new (inr is) same = is
+  rested : TurnsOff old.totals.mode new.totals.mode ⊎ (new ≡ old) → new.totals ≡ old.totals → new ≡ old
+  rested (inl turns) same = absurd (never_turns old.totals.mode (subst (λ (x : Totals). TurnsOff old.totals.mode x.mode) same turns))
+  rested (inr is) same = is
 
   -- the cause of a disk fault, over an honest disk
-  caused : (old : Totals) (result : Answer) (new : TotalsView D) (given : Value) → bound.honest disk → Done (HasFailed bound disk new.disk) old (change ∷ []) given result new.totals → Done (Rises (bound.state disk).failures (bound.state new.disk).failures) old (change ∷ []) given result new.totals
-  caused old result new given honest (inl done) = inl done
-  caused old result new given honest (inr failed) = inr (failed.0, failed.1 honest, failed.2)
+  caused : (ended : Totals) (changes : List Change) (result : Answer) (given : Value) → Done (HasFailed bound old.disk new.disk) ended changes given result new.totals → Done (Rises (bound.state old.disk).failures (bound.state new.disk).failures) ended changes given result new.totals
+  caused ended changes result given (inl done) = inl done
+  caused ended changes result given (inr failed) = inr (failed.0, failed.1 leaves.honest, failed.2)
 
-  -- the files and the sequence after a change that was done
-  led_to : (files : List File) (q : ℕ) (result : Answer) (new : TotalsView D) (given : Value) → Done (HasFailed bound disk new.disk) (record { mode = Ready files q; next = next }) (change ∷ []) given result new.totals
-      → (f : List File) (s : ℕ) → new.totals.mode ≡ Ready f s → (f ≡ files_after_all next files (change ∷ [])) × (s ≡ q + 1)
-  led_to files q result new given (inl done) f s ready =
-      let is : Ready f s ≡ Ready (files_after_all next files (change ∷ [])) done.1.sequence = sym ready ∙ ap (λ (x : Totals). x.mode) done.1.totals in
-      (cc, (let same : s ≡ done.1.sequence = cc in same) ∙ only_next q done.1.sequence done.1.follows)
-  led_to files q result new given (inr failed) f s ready =
-      let bad : Ready f s ≡ Off = sym ready ∙ ap (λ (x : Totals). x.mode) failed.2 in
-      cc
+  module _ (files : List File) (q : ℕ) (ready : old.totals.mode ≡ Ready files q) (change : Change) (changes : List Change) (outcome : Result Answer NoMemory) (puts : PutsGroup bound old (change ∷ changes) outcome new) where
+    -- the files and the sequence after a group that was done
+    led_to : (ended : Totals) (result : Answer) (given : Value) → ended.mode ≡ Ready files q → ended.next ≡ old.totals.next → Done (HasFailed bound old.disk new.disk) ended (change ∷ changes) given result new.totals
+        → (f : List File) (s : ℕ) → new.totals.mode ≡ Ready f s → (f ≡ files_after_all old.totals.next files (change ∷ changes)) × (s ≡ q + 1)
+    led_to ended result given at same (inl done) f s now =
+        let next = ap (λ (x : Totals). x.mode) done.1.totals
+        ∙ ap (λ m. mode_after ended.next m (change ∷ changes) done.1.sequence) at
+        ∙ ap (λ k. Ready (files_after_all k files (change ∷ changes)) done.1.sequence) same in
+        let is : Ready f s ≡ Ready (files_after_all old.totals.next files (change ∷ changes)) done.1.sequence = sym now ∙ next in
+        let follows = subst (λ m. IsAmong done.1.sequence (sequences_after m)) at done.1.follows in
+        (cc, (let equal : s ≡ done.1.sequence = cc in equal) ∙ only_next q done.1.sequence follows)
+    led_to ended result given at same (inr failed) f s now =
+        let bad : Ready f s ≡ Off = sym now ∙ ap (λ (x : Totals). x.mode) failed.2 in
+        cc
 
-  module _ (left : List Standing) (asked : Call) (is : file_call asked ≡ Makes change) (has : has_call category.HardTotals asked ≡ true) (takes : takes_memory asked ≡ true) where
-    abbrev table : Mode → List Row
-    table mode = refusals_of_change layout_1 (record { mode = mode; next = next }) n change
+    abbrev list_after : Mode → List Standing
+    list_after mode = left_after (part_of bound old left) (change ∷ changes) mode
 
-    -- a change that nothing refuses
-    moved : (mode : Mode) (result : Answer) (new : TotalsView D) → Leaves bound (before mode) left → first_refusal (table mode) ≡ None
-        → PutsGroup bound (before mode) (change ∷ []) (Ok result) new
-        → first_refusal (number_rows (record { mode = mode; next = next }) change) ≡ None
-        → Done (HasFailed bound disk new.disk) (record { mode = mode; next = next }) (change ∷ []) (given_by next change) result new.totals
-        → FilesStepped bound left (before mode) n asked (Ok result) new
-    moved Off result new leaves none puts numbers done =
-        let bad : ⊥ = cc in
-        absurd bad
-    moved (Ready files q) result new leaves none puts numbers done =
-        let part = part_of bound (before (Ready files q)) left in
-        let after = left_after part (change ∷ []) new.totals.mode in
-        let moves = group_moves files q left (Ok result) new leaves puts (led_to files q result new _ done) new.totals.mode refl in
+    -- what a crash may have left since it began, and what it leaves now
+    group_moves : ((f : List File) (s : ℕ) → new.totals.mode ≡ Ready f s → (f ≡ files_after_all old.totals.next files (change ∷ changes)) × (s ≡ q + 1))
+        → (mode : Mode) → new.totals.mode ≡ mode
+        → Leaves bound new (list_after mode) × LeavesOnly (bound.state old.disk) (bound.state new.disk) (IsLeft left (list_after mode))
+    group_moves found Off off = (
+      record {
+        honest = puts.kept.honest.0 leaves.honest;
+        leaves = subst (λ l. LeavesOneOf l (bound.state new.disk)) (sym doubted) (puts.in_doubt leaves.honest (subst (λ m. TurnsOff old.totals.mode m) (sym off) (subst (λ m. TurnsOff m Off) (sym ready) tt)));
+        is_settled = subst (λ m. list_after Off ≡ settled m (list_after Off)) (sym off) refl;
+      },
+      weaker (bound.state old.disk) (bound.state new.disk) (IsBeforeOrAfter (bound.state old.disk) old.totals.next old.totals.mode (change ∷ changes)) (IsLeft left (list_after Off)) (λ c p. inr (subst (λ l. StandsForOneOf l c) (sym listed) (at_ready c p))) (puts.any_moment leaves.honest),
+    )
+      where
+        listed : list_after Off ≡ before_or_after old.totals.next (Ready files q) (change ∷ changes)
+        listed = ap (in_doubt (part_of bound old left) (change ∷ changes)) ready
+
+        doubted : list_after Off ≡ before_or_after old.totals.next old.totals.mode (change ∷ changes)
+        doubted = listed ∙ ap (λ m. before_or_after old.totals.next m (change ∷ changes)) (sym ready)
+
+        at_ready : (c : List ℕ) → IsBeforeOrAfter (bound.state old.disk) old.totals.next old.totals.mode (change ∷ changes) c → StandsForOneOf (before_or_after old.totals.next (Ready files q) (change ∷ changes)) c
+        at_ready c p = subst (λ m. IsBeforeOrAfter (bound.state old.disk) old.totals.next m (change ∷ changes) c) ready p
+    group_moves found (Ready f s) now = (
+      record {
+        honest = puts.kept.honest.0 leaves.honest;
+        leaves = subst (λ m. LeavesTheirFiles m (bound.state new.disk)) now (puts.now leaves.honest);
+        is_settled = subst (λ m. now_list ≡ settled m now_list) (sym now) refl;
+      },
+      weaker (bound.state old.disk) (bound.state new.disk) (IsBeforeOrAfter (bound.state old.disk) old.totals.next old.totals.mode (change ∷ changes)) (IsLeft left now_list) (λ c p. moves c (subst (λ m. IsBeforeOrAfter (bound.state old.disk) old.totals.next m (change ∷ changes) c) ready p)) (puts.any_moment leaves.honest),
+    )
+      where
+        now_list : List Standing
+        now_list = Stands (plain f) s ∷ []
+
+        after_list : List Standing
+        after_list = Stands (plain (files_after_all old.totals.next files (change ∷ changes))) (q + 1) ∷ []
+
+        same : now_list ≡ after_list
+        same = ap (λ g. Stands (plain g) s ∷ []) (found f s now).0 ∙ ap (λ k. Stands (plain (files_after_all old.totals.next files (change ∷ changes))) k ∷ []) (found f s now).1
+
+        is_left : left ≡ Stands (plain files) q ∷ []
+        is_left = leaves.is_settled ∙ ap (λ m. settled m left) ready
+
+        moves : (c : List ℕ) → StandsForOneOf (before_or_after old.totals.next (Ready files q) (change ∷ changes)) c → IsLeft left now_list c
+        moves c (inl p) = inl (subst (λ l. StandsForOneOf l c) (sym is_left) (inl p))
+        moves c (inr p) = inr (subst (λ l. StandsForOneOf l c) (sym same) p)
+
+    -- a group that was done, or in which the disk failed, is a step
+    pub moved : (n : ℕ) (fc : FileCall) (asked : Call) (result : Answer) (ended : Totals) (given : Value) → outcome ≡ Ok result → ended.mode ≡ Ready files q → ended.next ≡ old.totals.next
+        → Done (HasFailed bound old.disk new.disk) ended (change ∷ changes) given result new.totals
+        → ((after : List Standing) → after ≡ list_after new.totals.mode → FilesCalled n asked (part_of bound old left) outcome (part_of bound new after))
+        → FilesStepped bound left old n asked outcome new
+    moved n fc asked result ended given is at same done called =
+        let moves = group_moves (led_to ended result given at same done) new.totals.mode refl in
         record {
-          after = after;
+          after = list_after new.totals.mode;
           leaves = moves.0;
-          answer = as_call n change asked part (part_of bound new after) (Ok result) is has takes (record {
-            outcome = match_at_none (first_refusal (table (Ready files q))) _ _ none (record {
-              does = record { outcome = match_at_none (first_refusal (number_rows (record { mode = Ready files q; next = next }) change)) _ _ numbers (caused _ result new _ leaves.honest done) };
-              group = puts.group;
-              left = refl;
-              later = puts.kept.later leaves.honest;
-            });
-          });
+          answer = called (list_after new.totals.mode) refl;
           any_moment = moves.1;
         }
 
-    by_table : (mode : Mode) (outcome : Result Answer NoMemory) (new : TotalsView D) → Changes bound (before mode) n change outcome new → Leaves bound (before mode) left → (o : Option Answer) → first_refusal (table mode) ≡ o → FilesStepped bound left (before mode) n asked outcome new
-    by_table mode (Ok result) new changes leaves (Some refusal) e =
-        let y = subst (λ o. MatchOption o (DoesChange (HasFailed bound disk new.disk) (record { mode = mode; next = next }) n change result new.totals) (λ refusal. (result ≡ refusal) × (new.totals ≡ record { mode = mode; next = next }))) e changes.answer.outcome in
-        let untouched = changes.disk.untouched (ap (λ (o : Option Answer). cond (is_none o) (change ∷ []) []) e) in
-        unchanged_calls mode left (Ok result) new (same_view mode new untouched y.1) leaves
-        (record { outcome = match_at_some (first_refusal (table mode)) refusal _ _ e (y.0, refl) }) asked is has takes
-    by_table mode (Err want) new changes leaves (Some refusal) e = let bad = sym e ∙ changes.answer.0 in cc
-    by_table mode (Err want) new changes leaves None e =
-        unchanged_calls mode left (Err want) new (rested mode new (changes.disk.unchanged (λ h. h)) changes.answer.1) leaves (e, refl) asked is has takes
-    by_table mode (Ok result) new changes leaves None e =
-        let group = (subst (λ g. PutsGroup bound (before mode) g (Ok result) new) (ap (λ (o : Option Answer). cond (is_none o) (change ∷ []) []) e) changes.disk).group in
-        let does = subst (λ o. MatchOption o (DoesChange (HasFailed bound disk new.disk) (record { mode = mode; next = next }) n change result new.totals) (λ refusal. (result ≡ refusal) × (new.totals ≡ record { mode = mode; next = next }))) e changes.answer.outcome in
-        elim (match_cases (first_refusal (number_rows (record { mode = mode; next = next }) change)) _ _ does.outcome) [
-          | inl x ↦ moved mode result new leaves e (subst (λ g. PutsGroup bound (before mode) g (Ok result) new) (ap (λ (o : Option Answer). cond (is_none o) (change ∷ []) []) e) changes.disk) x.0 x.1
-          | inr x ↦ unchanged_calls mode left (Ok result) new (rested mode new (changes.disk.unchanged (λ d. not_done (Ok result) x.0 (number_refusal _ x.0 x.1) (ap (λ (a : Answer). let r : Result Answer NoMemory = Ok a in r) x.2.0) d)) x.2.1) leaves
-              (record { outcome = match_at_none (first_refusal (table mode)) _ _ e (number_refused mode result x.0 leaves.is_settled group x.1 x.2.0) }) asked is has takes
-        ]
-      where
-        still : (mode : Mode) → left ≡ settled mode left → left ≡ left_after (part_of bound (before mode) left) (change ∷ []) mode
-        still Off s = refl
-        still (Ready files q) s = s
+-- ---- a change
 
-        number_refused : (mode : Mode) (result refusal : Answer) → left ≡ settled mode left → IsOneGroup (record { mode = mode; next = next }) (change ∷ []) → first_refusal (number_rows (record { mode = mode; next = next }) change) ≡ Some refusal → result ≡ refusal → ChangesTotals (part_of bound (before mode) left) n change result (part_of bound (before mode) left)
-        number_refused mode result refusal settled group e s = record {
-          does = record { outcome = match_at_some (first_refusal (number_rows (record { mode = mode; next = next }) change)) refusal _ _ e (s, refl) };
-          group = group;
-          left = still mode settled;
+module _ {D : Type 0} (bound : Ghosts D) (old new : TotalsView D) (only : OnlyNow bound old.disk) (n : ℕ) (change : Change) (asked : Call) (is : file_call asked ≡ Makes change) (has : has_call category.HardTotals asked ≡ true) (takes : takes_memory asked ≡ true) (left : List Standing) (leaves : Leaves bound old left) where
+  abbrev part : TotalsPart
+  part = part_of bound old left
+
+  abbrev rows : List Row
+  rows = refusals_of_change layout_1 old.totals n change
+
+  -- the group of a change that nothing refuses
+  group_of_change : Bool → List Change
+  group_of_change transacting = cond (true && not transacting) (change ∷ []) []
+
+  -- a change that is refused, or finds no memory, leaves all as it is
+  change_rests : (outcome : Result Answer NoMemory) → new ≡ old → FilesCalled n asked part outcome part → FilesStepped bound left old n asked outcome new
+  change_rests outcome same called =
+      subst (λ v. FilesStepped bound left old n asked outcome v) (sym same) (rests bound old left n asked outcome only leaves called)
+
+  -- a change that is buffered
+  buffered : (result : Answer) (buffer : List Change) → first_refusal rows ≡ None → transaction_of old.totals n ≡ Some buffer → PutsGroup bound old [] (Ok result) new
+      → (result ≡ answer.Done value.Empty) × (new.totals ≡ with_transaction old.totals n (Some (buffer ++ change ∷ []))) → FilesStepped bound left old n asked (Ok result) new
+  buffered result buffer none transacting puts done =
+      let totals = with_transaction old.totals n (Some (buffer ++ change ∷ [])) in
+      let view : TotalsView D = record { disk = old.disk; totals = totals } in
+      let after = part_of bound view left in
+      subst (λ v. FilesStepped bound left old n asked (Ok result) v) (sym (same_view old new totals (puts.untouched refl) done.1))
+      (beside bound old totals left n asked (Ok result) only leaves refl
+      (called_ok n (Makes change) asked part after result is has (record {
+        outcome = match_at_none (first_refusal rows) _ _ none (record {
+          does = subst (λ o. MatchOption o _ _) (sym transacting) (done.0, refl);
+          group = subst (λ b. IsOneGroup old.totals (put_at_once b change)) (sym (ap is_some transacting)) puts.group;
+          left = sym (subst (λ b. left_after part (put_at_once b change) old.totals.mode ≡ left) (sym (ap is_some transacting)) (kept_left [] part leaves.is_settled));
           later = omega arith;
-        }
+        });
+      })))
 
-    -- a change of the totals, for all that their disk may leave
-    pub change_steps : (mode : Mode) (outcome : Result Answer NoMemory) (new : TotalsView D) → Changes bound (before mode) n change outcome new → Leaves bound (before mode) left → FilesStepped bound left (before mode) n asked outcome new
-    change_steps mode outcome new changes leaves = by_table mode outcome new changes leaves (first_refusal (table mode)) refl
+  -- a change that a number refuses
+  number_refused : (result refusal : Answer) → first_refusal rows ≡ None → transaction_of old.totals n ≡ None → PutsGroup bound old (change ∷ []) (Ok result) new
+      → first_refusal (number_rows old.totals change) ≡ Some refusal → result ≡ refusal → new.totals ≡ old.totals → FilesStepped bound left old n asked (Ok result) new
+  number_refused result refusal none free puts e s same =
+      let undone = puts.unchanged (λ d. not_done (Ok result) refusal (number_refusal _ refusal e) (ap (λ (a : Answer). let r : Result Answer NoMemory = Ok a in r) s) d) in
+      change_rests (Ok result) (rested bound old new only left leaves undone same)
+      (called_ok n (Makes change) asked part part result is has (record {
+        outcome = match_at_none (first_refusal rows) _ _ none (record {
+          does = subst (λ o. MatchOption o _ _) (sym free) (record { outcome = match_at_some (first_refusal (number_rows old.totals change)) refusal _ _ e (s, refl) });
+          group = subst (λ b. IsOneGroup old.totals (put_at_once b change)) (sym (ap is_some free)) puts.group;
+          left = sym (kept_left (put_at_once (in_transaction old.totals n) change) part leaves.is_settled);
+          later = omega arith;
+        });
+      }))
 
--- a call that asks for a change isn't one that asks for none
-changes_files : (asked : Call) (change : Change) → file_call asked ≡ Makes change → is_change (file_call asked) ≡ false → ⊥
-changes_files asked change is spares =
-    let changing : is_change (file_call asked) ≡ true = ap is_change is in
+  -- a change that is done, or in which the disk fails
+  change_moves : (result : Answer) → first_refusal rows ≡ None → transaction_of old.totals n ≡ None → PutsGroup bound old (change ∷ []) (Ok result) new
+      → first_refusal (number_rows old.totals change) ≡ None → Done (HasFailed bound old.disk new.disk) old.totals (change ∷ []) (given_by old.totals.next change) result new.totals
+      → (mode : Mode) → old.totals.mode ≡ mode → FilesStepped bound left old n asked (Ok result) new
+  change_moves result none free puts numbers done Off off =
+      let bad : first_refusal (when_foreign_area old.totals n ∷ when true code.Failure ∷ []) ≡ None = subst (λ m. first_refusal (when_foreign_area old.totals n ∷ while_ready m (λ files. change_rows layout_1 files n (spent_by old.totals n) change)) ≡ None) off none in
+      absurd (off_refuses (is_foreign n old.totals.area) bad)
+    where
+      off_refuses : (b : Bool) → first_refusal (when b code.Claimed ∷ when true code.Failure ∷ []) ≡ None → ⊥
+      off_refuses true e = cc
+      off_refuses false e = cc
+  change_moves result none free puts numbers done (Ready files q) ready =
+      moved bound old new only left leaves files q ready change [] (Ok result) puts n (Makes change) asked result old.totals (given_by old.totals.next change) refl ready refl done
+      (λ after at. called_ok n (Makes change) asked part (part_of bound new after) result is has (record {
+        outcome = match_at_none (first_refusal rows) _ _ none (record {
+          does = subst (λ o. MatchOption o _ _) (sym free) (record { outcome = match_at_none (first_refusal (number_rows old.totals change)) _ _ numbers (caused bound old new only left leaves old.totals (change ∷ []) result (given_by old.totals.next change) done) });
+          group = subst (λ b. IsOneGroup old.totals (put_at_once b change)) (sym (ap is_some free)) puts.group;
+          left = subst (λ b. after ≡ left_after part (put_at_once b change) new.totals.mode) (sym (ap is_some free)) at;
+          later = puts.kept.later leaves.honest;
+        });
+      }))
+
+  by_transaction : (result : Answer) → first_refusal rows ≡ None → (o : Option (List Change)) → transaction_of old.totals n ≡ o
+      → PutsGroup bound old (group_of_change (is_some o)) (Ok result) new
+      → MatchOption o (Decided (number_rows old.totals change) result (new.totals ≡ old.totals) (Done (HasFailed bound old.disk new.disk) old.totals (change ∷ []) (given_by old.totals.next change) result new.totals))
+      (λ buffer. (result ≡ answer.Done value.Empty) × (new.totals ≡ with_transaction old.totals n (Some (buffer ++ change ∷ []))))
+      → FilesStepped bound left old n asked (Ok result) new
+  by_transaction result none (Some buffer) transacting puts does = buffered result buffer none transacting puts does
+  by_transaction result none None free puts does =
+      elim (match_cases (first_refusal (number_rows old.totals change)) _ _ does.outcome) [
+        | inl x ↦ change_moves result none free puts x.0 x.1 old.totals.mode refl
+        | inr x ↦ number_refused result x.0 none free puts x.1 x.2.0 x.2.1
+      ]
+
+  by_table : (outcome : Result Answer NoMemory) → Changes bound old n change outcome new → (o : Option Answer) → first_refusal rows ≡ o → FilesStepped bound left old n asked outcome new
+  by_table (Ok result) changes (Some refusal) e =
+      let y = subst (λ o. MatchOption o (DoesChange (HasFailed bound old.disk new.disk) old.totals n change result new.totals) (λ refusal. (result ≡ refusal) × (new.totals ≡ old.totals))) e changes.answer.outcome in
+      let untouched = changes.disk.untouched (ap (λ (o : Option Answer). cond (is_none o && not (in_transaction old.totals n)) (change ∷ []) []) e) in
+      change_rests (Ok result) (same_view old new old.totals untouched y.1)
+      (called_ok n (Makes change) asked part part result is has (record { outcome = match_at_some (first_refusal rows) refusal _ _ e (y.0, refl) }))
+  by_table (Err want) changes (Some refusal) e = let bad = sym e ∙ changes.answer.0 in cc
+  by_table (Err want) changes None e =
+      change_rests (Err want) (rested bound old new only left leaves (changes.disk.unchanged (λ h. h)) changes.answer.1) (called_err n (Makes change) asked part want is has takes e)
+  by_table (Ok result) changes None e =
+      let puts = subst (λ g. PutsGroup bound old g (Ok result) new) (ap (λ (o : Option Answer). cond (is_none o && not (in_transaction old.totals n)) (change ∷ []) []) e) changes.disk in
+      let does = subst (λ o. MatchOption o (DoesChange (HasFailed bound old.disk new.disk) old.totals n change result new.totals) (λ refusal. (result ≡ refusal) × (new.totals ≡ old.totals))) e changes.answer.outcome in
+      by_transaction result e (transaction_of old.totals n) refl puts does
+
+  -- a change of the totals, for all that their disk may leave
+  pub change_steps : (outcome : Result Answer NoMemory) → Changes bound old n change outcome new → FilesStepped bound left old n asked outcome new
+  change_steps outcome changes = by_table outcome changes (first_refusal rows) refl
+
+-- a call that uses the disk isn't one that spares it
+uses_files : (asked : Call) (fc : FileCall) → file_call asked ≡ fc → is_change fc ≡ true → is_change (file_call asked) ≡ false → ⊥
+uses_files asked fc is uses spares =
+    let changing : is_change (file_call asked) ≡ true = ap is_change is ∙ uses in
     let none : ⊥ = cc in
     none
 
 -- a call that asks for a change
 pub change_calls : {D : Type 0} (bound : Ghosts D) (view new : TotalsView D) (n : ℕ) (change : Change) (asked : Call) (outcome : Result Answer NoMemory) → OnlyNow bound view.disk → file_call asked ≡ Makes change → has_call category.HardTotals asked ≡ true → takes_memory asked ≡ true → Changes bound view n change outcome new → CallsFiles bound view n asked outcome new
 change_calls bound view new n change asked outcome only is has takes changes = record {
-  steps = λ left leaves. change_steps bound view.disk only view.totals.next n change left asked is has takes view.totals.mode outcome new changes leaves;
-  alone = λ spares. absurd (changes_files asked change is spares);
+  steps = λ left leaves. change_steps bound view new only n change asked is has takes left leaves outcome changes;
+  alone = λ spares. absurd (uses_files asked (Makes change) is refl spares);
   kept = changes.disk.kept;
 }
+
+-- ---- a commit
+
+module _ {D : Type 0} (bound : Ghosts D) (old new : TotalsView D) (only : OnlyNow bound old.disk) (n : ℕ) (asked : Call) (is : file_call asked ≡ Commits) (has : has_call category.HardTotals asked ≡ true) (takes : takes_memory asked ≡ true) (left : List Standing) (leaves : Leaves bound old left) where
+  abbrev commit_part : TotalsPart
+  commit_part = part_of bound old left
+
+  abbrev commit_table : List Row
+  commit_table = refusals_of_commit old.totals n
+
+  abbrev buffered_changes : List Change
+  buffered_changes = changes_in (transaction_of old.totals n)
+
+  abbrev ended : Totals
+  ended = with_transaction old.totals n None
+
+  commit_rests : (outcome : Result Answer NoMemory) → new ≡ old → FilesCalled n asked commit_part outcome commit_part → FilesStepped bound left old n asked outcome new
+  commit_rests outcome same called =
+      subst (λ v. FilesStepped bound left old n asked outcome v) (sym same) (rests bound old left n asked outcome only leaves called)
+
+  -- what a commit that its table lets through is, by the changes that were buffered
+  answers_commit : (result : Answer) (changes : List Change) (after : List Standing) → first_refusal commit_table ≡ None → buffered_changes ≡ changes → IsOneGroup old.totals changes
+      → DoesCommit (Rises (bound.state old.disk).failures (bound.state new.disk).failures) old.totals ended changes result new.totals
+      → after ≡ left_after commit_part changes new.totals.mode → (bound.state old.disk).failures ≤ (bound.state new.disk).failures
+      → FilesCalled n asked commit_part (Ok result) (part_of bound new after)
+  answers_commit result changes after none same group does at later =
+      called_ok n Commits asked commit_part (part_of bound new after) result is has (record {
+        outcome = match_at_none (first_refusal commit_table) _ _ none (record {
+          does = subst (λ cs. DoesCommit (Rises (bound.state old.disk).failures (bound.state new.disk).failures) old.totals ended cs result new.totals) (sym same) does;
+          group = subst (λ cs. IsOneGroup old.totals cs) (sym same) group;
+          left = subst (λ cs. after ≡ left_after commit_part cs new.totals.mode) (sym same) at;
+          later = later;
+        });
+      })
+
+  -- nothing is refused while the totals are off
+  off_refused : old.totals.mode ≡ Off → first_refusal commit_table ≡ None → ⊥
+  off_refused off none =
+      let bad : first_refusal (when_foreign_area old.totals n ∷ when true code.Failure ∷ []) ≡ None = subst (λ m. first_refusal (when_foreign_area old.totals n ∷ while_ready m (λ files. commit_rows files n (transaction_of old.totals n))) ≡ None) off none in
+      refuses (is_foreign n old.totals.area) bad
+    where
+      refuses : (b : Bool) → first_refusal (when b code.Claimed ∷ when true code.Failure ∷ []) ≡ None → ⊥
+      refuses true e = cc
+      refuses false e = cc
+
+  by_buffer : (result : Answer) (changes : List Change) → first_refusal commit_table ≡ None → buffered_changes ≡ changes → PutsGroup bound old changes (Ok result) new
+      → DoesCommit (HasFailed bound old.disk new.disk) old.totals ended changes result new.totals → FilesStepped bound left old n asked (Ok result) new
+  by_buffer result [] none same puts does =
+      let view : TotalsView D = record { disk = old.disk; totals = ended } in
+      let at = same_view old new ended (puts.untouched refl) does.1 in
+      subst (λ v. FilesStepped bound left old n asked (Ok result) v) (sym at)
+      (beside bound old ended left n asked (Ok result) only leaves refl
+      (called_ok n Commits asked commit_part (part_of bound view left) result is has (record {
+        outcome = match_at_none (first_refusal commit_table) _ _ none (record {
+          does = subst (λ cs. DoesCommit (Rises (bound.state old.disk).failures (bound.state old.disk).failures) old.totals ended cs result ended) (sym same) (does.0, refl);
+          group = subst (λ cs. IsOneGroup old.totals cs) (sym same) puts.group;
+          left = sym (kept_left buffered_changes commit_part leaves.is_settled);
+          later = omega arith;
+        });
+      })))
+  by_buffer result (change ∷ changes) none same puts does =
+      elim (match_cases (first_refusal (when (is_last old.totals.mode) code.Failure ∷ [])) _ _ does.outcome) [
+        | inl x ↦ by_mode old.totals.mode refl x.0 x.1
+        | inr x ↦
+            let undone = puts.unchanged (λ d. not_done (Ok result) x.0 (number_refusal _ x.0 x.1) (ap (λ (a : Answer). let r : Result Answer NoMemory = Ok a in r) x.2.0) d) in
+            let kept = rested bound old new only left leaves undone x.2.1 in
+            commit_rests (Ok result) kept (subst (λ (v : TotalsView D). FilesCalled n asked commit_part (Ok result) (part_of bound v left)) kept
+            (answers_commit result (change ∷ changes) left none same puts.group
+            (record { outcome = match_at_some (first_refusal (when (is_last old.totals.mode) code.Failure ∷ [])) x.0 _ _ x.1 (x.2.0, x.2.1) })
+            (sym (subst (λ (t : Totals). left_after commit_part (change ∷ changes) t.mode ≡ left) (sym x.2.1) (kept_left (change ∷ changes) commit_part leaves.is_settled)))
+            (puts.kept.later leaves.honest)))
+      ]
+    where
+      by_mode : (mode : Mode) → old.totals.mode ≡ mode → first_refusal (when (is_last old.totals.mode) code.Failure ∷ []) ≡ None → Done (HasFailed bound old.disk new.disk) ended (change ∷ changes) value.Empty result new.totals → FilesStepped bound left old n asked (Ok result) new
+      by_mode Off off numbers done = absurd (off_refused off none)
+      by_mode (Ready files q) ready numbers done =
+          moved bound old new only left leaves files q ready change changes (Ok result) puts n Commits asked result ended value.Empty refl ready refl done
+          (λ after at. answers_commit result (change ∷ changes) after none same puts.group
+          (record { outcome = match_at_none (first_refusal (when (is_last old.totals.mode) code.Failure ∷ [])) _ _ numbers (caused bound old new only left leaves ended (change ∷ changes) result value.Empty done) })
+          at (puts.kept.later leaves.honest))
+
+  by_commit_table : (outcome : Result Answer NoMemory) → CommitsBuffer bound old n outcome new → (o : Option Answer) → first_refusal commit_table ≡ o → FilesStepped bound left old n asked outcome new
+  by_commit_table (Ok result) commits (Some refusal) e =
+      let y = subst (λ o. MatchOption o (DoesCommit (HasFailed bound old.disk new.disk) old.totals ended buffered_changes result new.totals) (λ refusal. (result ≡ refusal) × (new.totals ≡ old.totals))) e commits.answer.outcome in
+      let untouched = commits.disk.untouched (ap (λ (o : Option Answer). cond (is_none o) buffered_changes []) e) in
+      commit_rests (Ok result) (same_view old new old.totals untouched y.1)
+      (called_ok n Commits asked commit_part commit_part result is has (record { outcome = match_at_some (first_refusal commit_table) refusal _ _ e (y.0, refl) }))
+  by_commit_table (Err want) commits (Some refusal) e = let bad = sym e ∙ commits.answer.0 in cc
+  by_commit_table (Err want) commits None e =
+      commit_rests (Err want) (rested bound old new only left leaves (commits.disk.unchanged (λ h. h)) commits.answer.1) (called_err n Commits asked commit_part want is has takes e)
+  by_commit_table (Ok result) commits None e =
+      let puts = subst (λ g. PutsGroup bound old g (Ok result) new) (ap (λ (o : Option Answer). cond (is_none o) buffered_changes []) e) commits.disk in
+      let does = subst (λ o. MatchOption o (DoesCommit (HasFailed bound old.disk new.disk) old.totals ended buffered_changes result new.totals) (λ refusal. (result ≡ refusal) × (new.totals ≡ old.totals))) e commits.answer.outcome in
+      by_buffer result buffered_changes e refl puts does
+
+  -- a commit, for all that the disk may leave
+  pub commit_steps : (outcome : Result Answer NoMemory) → CommitsBuffer bound old n outcome new → FilesStepped bound left old n asked outcome new
+  commit_steps outcome commits = by_commit_table outcome commits (first_refusal commit_table) refl
+
+-- a call that commits
+pub commit_calls : {D : Type 0} (bound : Ghosts D) (view new : TotalsView D) (n : ℕ) (asked : Call) (outcome : Result Answer NoMemory) → OnlyNow bound view.disk → file_call asked ≡ Commits → has_call category.HardTotals asked ≡ true → takes_memory asked ≡ true → CommitsBuffer bound view n outcome new → CallsFiles bound view n asked outcome new
+commit_calls bound view new n asked outcome only is has takes commits = record {
+  steps = λ left leaves. commit_steps bound view new only n asked is has takes left leaves outcome commits;
+  alone = λ spares. absurd (uses_files asked Commits is refl spares);
+  kept = commits.disk.kept;
+}
+
+-- ---- an arrangement
+
+-- it leaves the files as they are, but for their claims
+arranged_settled : (old : Totals) (n : ℕ) (arrangement : Arrangement) (left : List Standing) → settled (after_arrangement old n arrangement).mode left ≡ settled old.mode left
+arranged_settled old n (ClaimFile handle timeout) left = settled_claimed (is_called handle) (Some n) old.mode left
+arranged_settled old n (ReleaseFile handle) left = settled_claimed (is_called handle) None old.mode left
+arranged_settled old n BeginTrans left = refl
+arranged_settled old n Rollback left = refl
+
+-- a call that makes an arrangement
+pub arrangement_calls : {D : Type 0} (bound : Ghosts D) (view new : TotalsView D) (n : ℕ) (arrangement : Arrangement) (asked : Call) (result : Answer) → OnlyNow bound view.disk → file_call asked ≡ ArrangesCall arrangement → has_call category.HardTotals asked ≡ true → Arranged view n arrangement result new → CallsFiles bound view n asked (Ok result) new
+arrangement_calls {D = D} bound view new n arrangement asked result only is has arranged = record {
+  steps = λ left leaves. by_table left leaves (first_refusal rows) refl;
+  alone = λ spares. arranged.disk;
+  kept = subst (λ d. KeepsDisk bound view.disk d) (sym arranged.disk) (kept_disk bound view.disk);
+}
+  where
+    rows : List Row
+    rows = refusals_of_arrangement view.totals n arrangement
+
+    by_table : (left : List Standing) → Leaves bound view left → (o : Option Answer) → first_refusal rows ≡ o → FilesStepped bound left view n asked (Ok result) new
+    by_table left leaves (Some refusal) e =
+        let y = subst (λ o. MatchOption o ((result ≡ answer.Done value.Empty) × (new.totals ≡ after_arrangement view.totals n arrangement)) (λ refusal. (result ≡ refusal) × (new.totals ≡ view.totals))) e arranged.answer.outcome in
+        let part = part_of bound view left in
+        subst (λ v. FilesStepped bound left view n asked (Ok result) v) (sym (same_view view new view.totals arranged.disk y.1))
+        (rests bound view left n asked (Ok result) only leaves
+        (called_ok n (ArrangesCall arrangement) asked part part result is has (record { outcome = match_at_some (first_refusal rows) refusal _ _ e (y.0, refl) })))
+    by_table left leaves None e =
+        let y = subst (λ o. MatchOption o ((result ≡ answer.Done value.Empty) × (new.totals ≡ after_arrangement view.totals n arrangement)) (λ refusal. (result ≡ refusal) × (new.totals ≡ view.totals))) e arranged.answer.outcome in
+        let totals = after_arrangement view.totals n arrangement in
+        let after : TotalsView D = record { disk = view.disk; totals = totals } in
+        subst (λ v. FilesStepped bound left view n asked (Ok result) v) (sym (same_view view new totals arranged.disk y.1))
+        (beside bound view totals left n asked (Ok result) only leaves (arranged_settled view.totals n arrangement left)
+        (called_ok n (ArrangesCall arrangement) asked (part_of bound view left) (part_of bound after left) result is has (record { outcome = match_at_none (first_refusal rows) _ _ e (y.0, refl) })))
+
+-- ---- a question
 
 -- a call that asks about the files
 pub question_calls : {D : Type 0} (bound : Ghosts D) (view : TotalsView D) (n : ℕ) (question : Question) (asked : Call) (outcome : Result Answer NoMemory) → OnlyNow bound view.disk → file_call asked ≡ Asks question → has_call category.HardTotals asked ≡ true → (takes_memory asked ≡ true) ⊎ ((a : Answer) × (outcome ≡ Ok a)) → MayTell view.totals n question outcome → CallsFiles bound view n asked outcome view
 question_calls bound view n question asked outcome only is has takes tells = record {
-  steps = λ left leaves. rests bound view left n asked outcome only leaves (told left);
+  steps = λ left leaves. rests bound view left n asked outcome only leaves (told left outcome takes tells);
   alone = λ spares. refl;
   kept = kept_disk bound view.disk;
 }
   where
-    rows : List Row
-    rows = refusals_of_question view.totals n question
-
-    by_outcome : (left : List Standing) (o : Result Answer NoMemory) → (takes_memory asked ≡ true) ⊎ ((a : Answer) × (o ≡ Ok a)) → MayTell view.totals n question o → MatchResult o
-        (λ result. Decided (when false code.Illegal ∷ rows) result (part_of bound view left ≡ part_of bound view left) (TotalsDo (Asks question) (part_of bound view left) n result (part_of bound view left)))
-        (λ want. IsTrue (takes_memory asked) × (first_refusal (when false code.Illegal ∷ rows) ≡ None) × (part_of bound view left ≡ part_of bound view left))
-    by_outcome left (Ok result) takes h = record {
-      outcome = match_weaker (first_refusal rows) _ _ _ _ (λ y. (y, refl)) (λ refusal y. (y.0, refl)) h.outcome;
-    }
-    by_outcome left (Err want) (inl takes) h = (takes, h, refl)
-    by_outcome left (Err want) (inr fine) h =
+    told : (left : List Standing) (o : Result Answer NoMemory) → (takes_memory asked ≡ true) ⊎ ((a : Answer) × (o ≡ Ok a)) → MayTell view.totals n question o → FilesCalled n asked (part_of bound view left) o (part_of bound view left)
+    told left (Ok result) takes h =
+        let part = part_of bound view left in
+        called_ok n (Asks question) asked part part result is has (record {
+          outcome = match_weaker (first_refusal (refusals_of_question view.totals n question)) _ _ _ _ (λ y. (y, refl)) (λ refusal y. (y.0, refl)) h.outcome;
+        })
+    told left (Err want) (inl takes) h = called_err n (Asks question) asked (part_of bound view left) want is has takes h
+    told left (Err want) (inr fine) h =
         let bad : Err want ≡ Ok fine.0 = fine.1 in
         let none : ⊥ = cc in
         absurd none
-
-    told : (left : List Standing) → FilesCalled n asked (part_of bound view left) outcome (part_of bound view left)
-    told left =
-        let part = part_of bound view left in
-        subst (λ call. MatchResult outcome
-        (λ result. Decided (when (not (has_call category.HardTotals asked)) code.Illegal ∷ file_rows part.totals n call) result (part ≡ part) (TotalsDo call part n result part))
-        (λ want. IsTrue (takes_memory asked) × (first_refusal (when (not (has_call category.HardTotals asked)) code.Illegal ∷ file_rows part.totals n call) ≡ None) × (part ≡ part))) (sym is)
-        (subst (λ b. MatchResult outcome
-        (λ result. Decided (when (not b) code.Illegal ∷ rows) result (part ≡ part) (TotalsDo (Asks question) part n result part))
-        (λ want. IsTrue (takes_memory asked) × (first_refusal (when (not b) code.Illegal ∷ rows) ≡ None) × (part ≡ part))) (sym has)
-        (by_outcome left outcome takes tells))

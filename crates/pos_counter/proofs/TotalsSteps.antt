@@ -1,5 +1,5 @@
 -- A call of the totals' own as a step of the machine.
-use Rattle.std.proofs.Common.{◌≡◌, ◌<◌, ℕ, List, [], ◌∷◌, length, get_or, arith, Option, Some, None, Result, Ok, Err, Bool, true, false, cond, not, refl, sym, ap, ◌∙◌, subst}
+use Rattle.std.proofs.Common.{◌≡◌, ◌<◌, ℕ, List, [], ◌∷◌, length, get_or, arith, Option, Some, None, Result, Ok, Err, Bool, true, false, cond, not, ◌&&◌, refl, sym, ap, ◌∙◌, subst}
 use Rattle.std.specs.Prelude.{MatchOption, MatchResult, IsTrue, is_none, is_some, slice_get, ⊤}
 use Rattle.std.proofs.lemmas.List.{length-map}
 use Rattle.std.proofs.lemmas.Option.{slice_get_within}
@@ -16,9 +16,10 @@ use Rattle.pos_service.specs.declared.memory.NoMemory.{NoMemory}
 use Rattle.pos_service.specs.Calls.{is_common, has_call}
 use Rattle.pos_service.specs.Controls.{Control}
 use Rattle.pos_service.specs.Peripherals.{PeripheralState}
-use Rattle.pos_service.specs.Refusals.{first_refusal, when}
+use Rattle.pos_service.specs.Refusals.{Row, first_refusal, when}
 use Rattle.pos_service.specs.Stations.{IsOpen}
-use Rattle.pos_service.specs.TotalsCalls.{file_call, file_rows}
+use Rattle.pos_service.specs.Claims.{is_foreign}
+use Rattle.pos_service.specs.TotalsCalls.{asks_area, file_call, file_rows}
 use Rattle.pos_common.specs.Held.{Held, controls_of}
 use Rattle.pos_store.specs.Standing.{Standing}
 use Rattle.pos_totals.specs.Views.{TotalsView}
@@ -36,30 +37,33 @@ pub refused_step : (m : Machine) (n : ℕ) (c : Control) (asked : Call) (refusal
 refused_step m n c asked refusal at refused =
     match_at_some _ c _ _ at (record { outcome = match_at_some (first_refusal (refusals m n c asked)) refusal _ _ refused (refl, refl) })
 
--- the refusals of a call on an open control of Hard Totals, by whether it is theirs and the control enabled
-pub totals_refusals : (m : Machine) (n : ℕ) (c : Control) (asked : Call) (has enabled : Bool) → is_common asked ≡ false → c.category ≡ category.HardTotals → IsTrue (is_some c.device) → has_call category.HardTotals asked ≡ has → c.enabled ≡ enabled
-    → first_refusal (refusals m n c asked) ≡ first_refusal (when (not has) code.Illegal ∷ when (not enabled) code.Disabled ∷ file_rows m.totals.totals n (file_call asked))
-totals_refusals m n c asked has enabled own is device theirs able =
+-- the refusals of a call on an open control of Hard Totals, by whether it is theirs, another control has claimed the
+-- area that it asks for, and the control is enabled
+pub totals_refusals : (m : Machine) (n : ℕ) (c : Control) (asked : Call) (has foreign enabled : Bool) → is_common asked ≡ false → c.category ≡ category.HardTotals → IsTrue (is_some c.device) → has_call category.HardTotals asked ≡ has → (asks_area (file_call asked) && is_foreign n m.totals.totals.area) ≡ foreign → c.enabled ≡ enabled
+    → first_refusal (refusals m n c asked) ≡ first_refusal (when (not has) code.Illegal ∷ when foreign code.Claimed ∷ when (not enabled) code.Disabled ∷ file_rows m.totals.totals n (file_call asked))
+totals_refusals m n c asked has foreign enabled own is device theirs taken able =
+    let rows = file_rows m.totals.totals n (file_call asked) in
     open_refusals m n c category.HardTotals asked own is device
-    ∙ ap (λ k. first_refusal (when (not (has_call k asked)) code.Illegal ∷ when (not c.enabled) code.Disabled ∷ file_rows m.totals.totals n (file_call asked))) is
-    ∙ ap (λ b. first_refusal (when (not b) code.Illegal ∷ when (not c.enabled) code.Disabled ∷ file_rows m.totals.totals n (file_call asked))) theirs
-    ∙ ap (λ b. first_refusal (when (not has) code.Illegal ∷ when (not b) code.Disabled ∷ file_rows m.totals.totals n (file_call asked))) able
+    ∙ ap (λ k. first_refusal (when (not (has_call k asked)) code.Illegal ∷ when (asks_area (file_call asked) && is_foreign n m.totals.totals.area) code.Claimed ∷ when (not c.enabled) code.Disabled ∷ rows)) is
+    ∙ ap (λ b. first_refusal (when (not b) code.Illegal ∷ when (asks_area (file_call asked) && is_foreign n m.totals.totals.area) code.Claimed ∷ when (not c.enabled) code.Disabled ∷ rows)) theirs
+    ∙ ap (λ b. first_refusal (when (not has) code.Illegal ∷ when b code.Claimed ∷ when (not c.enabled) code.Disabled ∷ rows)) taken
+    ∙ ap (λ b. first_refusal (when (not has) code.Illegal ∷ when foreign code.Claimed ∷ when (not b) code.Disabled ∷ rows)) able
 
 -- what the totals do with a call on an enabled control is a step
-called_step : (m : Machine) (part : TotalsPart) (n : ℕ) (c : Control) (asked : Call) (outcome : Result Answer NoMemory) → is_common asked ≡ false → slice_get m.controls n ≡ Some c → c.category ≡ category.HardTotals → IsTrue (is_some c.device) → c.enabled ≡ true
+called_step : (m : Machine) (part : TotalsPart) (n : ℕ) (c : Control) (asked : Call) (outcome : Result Answer NoMemory) → is_common asked ≡ false → slice_get m.controls n ≡ Some c → c.category ≡ category.HardTotals → IsTrue (is_some c.device) → (asks_area (file_call asked) && is_foreign n m.totals.totals.area) ≡ false → c.enabled ≡ true
     → FilesCalled n asked m.totals outcome part → Step m (CallOf n asked) (answered outcome) (record m { totals = part })
-called_step m part n c asked (Ok result) own at is device able h =
+called_step m part n c asked (Ok result) own at is device area able h =
     match_at_some _ c _ _ at (record {
-      outcome = match_by _ _ _ _ (totals_refusals m n c asked (has_call category.HardTotals asked) true own is device refl able)
+      outcome = match_by _ _ _ _ (totals_refusals m n c asked (has_call category.HardTotals asked) false true own is device refl area able)
           (match_weaker (first_refusal (when (not (has_call category.HardTotals asked)) code.Illegal ∷ file_rows m.totals.totals n (file_call asked))) _ _ _ _
           (λ does. own_does m n c asked result (record m { totals = part }) own (subst (λ k. CategoryDoes k m n c asked result (record m { totals = part })) (sym is) (does, refl)))
           (λ refusal y. (y.0, ap (λ (p : TotalsPart). let o : Machine = record m { totals = p } in o) y.1))
           h.outcome);
     })
-called_step m part n c asked (Err want) own at is device able h =
+called_step m part n c asked (Err want) own at is device area able h =
     match_at_some _ c _ _ at (
       own_takes m c asked own h.0,
-      totals_refusals m n c asked (has_call category.HardTotals asked) true own is device refl able ∙ h.1,
+      totals_refusals m n c asked (has_call category.HardTotals asked) false true own is device refl area able ∙ h.1,
       own_stays m (record m { totals = part }) c asked own (ap (λ (p : TotalsPart). let o : Machine = record m { totals = p } in o) h.2),
     )
 
@@ -73,31 +77,35 @@ spares_own c asked own is spares = by_call asked own (subst (λ k. uses_disk (re
 
 -- a call of the totals' own on an enabled control
 pub files_serve : {D : Type 0} (bound : Ghosts D) (view new : TotalsView D) (hs : List Held) (cl : List (Option ℕ)) (es : List Entry) (ss : List PeripheralState) (n : ℕ) (c : Control) (asked : Call) (outcome : Result Answer NoMemory)
-    → is_common asked ≡ false → slice_get (controls_of hs) n ≡ Some c → c.category ≡ category.HardTotals → IsTrue (is_some c.device) → c.enabled ≡ true
+    → is_common asked ≡ false → slice_get (controls_of hs) n ≡ Some c → c.category ≡ category.HardTotals → IsTrue (is_some c.device) → (asks_area (file_call asked) && is_foreign n view.totals.area) ≡ false → c.enabled ≡ true
     → CallsFiles bound view n asked outcome new → ArePartsSound hs es ss → Serves bound hs cl es ss view (CallOf n asked) (answered outcome) hs cl ss new
-files_serve {D = D} bound view new hs cl es ss n c asked outcome own at is device able calls sound = record {
+files_serve {D = D} bound view new hs cl es ss n c asked outcome own at is device area able calls sound = record {
   steps = λ left leaves.
       let f = calls.steps left leaves in
       record {
         after = f.after;
         leaves = f.leaves;
-        step = called_step (machine_with hs cl es ss (part_of bound view left)) (part_of bound new f.after) n c asked outcome own at is device able f.answer;
+        step = called_step (machine_with hs cl es ss (part_of bound view left)) (part_of bound new f.after) n c asked outcome own at is device area able f.answer;
         any_moment = f.any_moment;
       };
   sound = sound;
   covers = refl;
-  alone = λ spares. ap (λ (v : TotalsView D). v.disk) (calls.alone (spares_own c asked own is (subst (λ (o : Option Control). MatchOption o ⊤ (λ control. uses_disk control asked ≡ false)) at spares)));
+  alone = λ spares. calls.alone (spares_own c asked own is (subst (λ (o : Option Control). MatchOption o ⊤ (λ control. uses_disk control asked ≡ false)) at spares));
   kept = calls.kept;
 }
 
--- what a check that asks for an enabled control says
-pub was_enabled : (b : Bool) → first_refusal (when (not b) code.Disabled ∷ []) ≡ None → b ≡ true
-was_enabled true e = refl
-was_enabled false e = cc
+-- what a check of the claim and of DeviceEnabled lets through
+pub was_let : (b e : Bool) → first_refusal (when b code.Claimed ∷ when (not e) code.Disabled ∷ []) ≡ None → (b ≡ false) × (e ≡ true)
+was_let false true h = (refl, refl)
+was_let false false h = cc
+was_let true e h = cc
 
-pub was_disabled : (b : Bool) (k : Code) → first_refusal (when (not b) code.Disabled ∷ []) ≡ Some (answer.Refused k 0) → (b ≡ false) × (k ≡ code.Disabled)
-was_disabled true k e = cc
-was_disabled false k e = (refl, cc)
+-- what it refuses is what the whole table does
+pub was_refused : (b e : Bool) (k : Code) (rows : List Row) → first_refusal (when b code.Claimed ∷ when (not e) code.Disabled ∷ []) ≡ Some (answer.Refused k 0)
+    → first_refusal (when false code.Illegal ∷ when b code.Claimed ∷ when (not e) code.Disabled ∷ rows) ≡ Some (answer.Refused k 0)
+was_refused true e k rows h = h
+was_refused false false k rows h = h
+was_refused false true k rows h = cc
 
 -- the control that a number has is open, of Hard Totals
 pub opened_there : (hs : List Held) (n : ℕ) (d : Held) → IsOpen category.HardTotals (controls_of hs) n → (slice_get (controls_of hs) n ≡ Some (get_or hs n d).control) × ((get_or hs n d).control.category ≡ category.HardTotals) × IsTrue (is_some (get_or hs n d).control.device)

@@ -1,5 +1,5 @@
 -- The history of the totals' files in a run: the groups of changes that were put on their disk (chapter Hard Totals).
-use Rattle.std.specs.Prelude.{Bool, false, ◌&&◌, List, [], ◌∷◌, ◌++◌, Option, Some, None, Result, Ok, Err, bytes_eq, if◌then◌else◌}
+use Rattle.std.specs.Prelude.{ℕ, Bool, false, ◌&&◌, List, [], ◌∷◌, ◌++◌, Option, Some, None, Result, Ok, Err, bytes_eq, if◌then◌else◌}
 use Rattle.std.specs.Cmp.Lexicographic.{pointwise}
 use Rattle.pos_dir.specs.Changes.{outcome_of_all, and_then}
 use Rattle.pos_dir.specs.declared.change.Change.{Change as FileChange}
@@ -7,12 +7,13 @@ use Rattle.pos_dir.specs.declared.fault.DirectoryFault.{DirectoryFault}
 use Rattle.pos_dir.specs.declared.file.File.{File as PlainFile}
 use Rattle.pos_dir.specs.declared.limits.TheConstants.{LAYOUT_1}
 use Rattle.pos_service.specs.declared.answer.Answer.TheVariants as answer
-use Rattle.pos_service.specs.HardTotals.{Change, Mode, Off, Ready}
-use Rattle.pos_service.specs.TotalsCalls.{FileCall, Makes, file_call}
+use Rattle.pos_service.specs.HardTotals.{Change, Mode, Off, Ready, Totals, changes_in, in_transaction, transaction_of}
+use Rattle.pos_service.specs.TotalsCalls.{FileCall, Commits, Makes, file_call}
 use Rattle.pos_totals.specs.Groups.{group_of}
 use Rattle.pos_totals.specs.Views.{plain}
 use Rattle.pos_counter.specs.Machine.{Machine}
 use Rattle.pos_counter.specs.Steps.{Request, CallOf, Response, Answered, Run}
+use Rattle.pos_counter.specs.Totals.{put_at_once}
 
 -- changes that are done together, as they were put on the disk
 abbrev pub Group : Type 0
@@ -86,14 +87,15 @@ told history (GroupInDoubt group) = with_doubt history group
 told history (FilesFound found) = decided history history.doubt found
 told history NothingDone = history
 
--- the changes that a call asks for
-abbrev pub changes_asked : FileCall → List Change
-changes_asked (Makes change) = change ∷ []
-changes_asked other = []
+-- the changes that a call of the control with a number puts on the disk: none where they are buffered
+abbrev pub changes_asked : Totals → ℕ → FileCall → List Change
+changes_asked totals number (Makes change) = put_at_once (in_transaction totals number) change
+changes_asked totals number Commits = changes_in (transaction_of totals number)
+changes_asked totals number other = []
 
 -- the changes that a request asks of a machine to be done together
 abbrev pub changes_of : Machine → Request → List Change
-changes_of machine (CallOf number asked) = changes_asked (file_call asked)
+changes_of machine (CallOf number asked) = changes_asked machine.totals.totals number (file_call asked)
 changes_of machine other = []
 
 -- What changes, a response and the modes before and after say: changes that are answered with success are a group that

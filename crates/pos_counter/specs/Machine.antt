@@ -8,6 +8,7 @@ use Rattle.pos_service.specs.declared.kind.Kind.{Kind}
 use Rattle.pos_service.specs.Calls.{serves}
 use Rattle.pos_service.specs.Claims.{holder_at}
 use Rattle.pos_service.specs.Controls.{Control}
+use Rattle.pos_service.specs.HardTotals.{Totals}
 use Rattle.pos_service.specs.Stations.{Station}
 use Rattle.pos_counter.specs.Totals.{TotalsPart}
 
@@ -75,10 +76,16 @@ with_station machine controls place device station = record machine {
   devices = slice_set machine.devices place (record device { station = Some station });
 }
 
--- the control that holds a device of a category: of Hard Totals, the one that holds the area
-abbrev pub holder_in : Category → List (Option ℕ) → Option ℕ → Option ℕ
-holder_in category.CashDrawer claims device = holder_at claims device
-holder_in category.HardTotals claims device = None
+-- the control that holds a device of a category, by the claims and the claim of the area: of Hard Totals, the one that
+-- holds the area
+abbrev pub holder_in : Category → List (Option ℕ) → Option ℕ → Option ℕ → Option ℕ
+holder_in category.CashDrawer claims area device = holder_at claims device
+holder_in category.HardTotals claims area device = area
 
+-- the control that holds a control's device
 abbrev pub holder_of : Machine → Control → Option ℕ
-holder_of machine control = holder_in control.category machine.claims control.device
+holder_of machine control = holder_in control.category machine.claims machine.totals.totals.area control.device
+
+-- the machine with other totals over the same disk
+abbrev pub with_totals : Machine → Totals → Machine
+with_totals machine totals = record machine { totals = record machine.totals { totals = totals } }

@@ -144,7 +144,7 @@ pub record CallsFiles {D : Type 0} (bound : Ghosts D) (before : TotalsView D) (n
     (outcome : Result Answer NoMemory) (now : TotalsView D) : Type 0 where
   pub steps : (left : List Standing) → Leaves bound before left
       → FilesStepped bound left before number asked outcome now
-  pub alone : is_change (file_call asked) ≡ false → now ≡ before
+  pub alone : is_change (file_call asked) ≡ false → now.disk ≡ before.disk
   pub kept : KeepsDisk bound before.disk now.disk
 
 -- setting the property of the control that a number has recovers totals of this mode

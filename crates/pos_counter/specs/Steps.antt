@@ -15,7 +15,7 @@ use Rattle.pos_service.specs.declared.answer.Value.TheVariants as value
 use Rattle.pos_service.specs.declared.code.Code.TheVariants as code
 use Rattle.pos_service.specs.Peripherals.{input_fits}
 use Rattle.pos_service.specs.Controls.{Control, new_control, opened, closed, deliverable, delivered}
-use Rattle.pos_service.specs.Claims.{is_held_by, is_held_by_another, holder_at, claimed_by, released_by, claim_rows, release_rows, after_release}
+use Rattle.pos_service.specs.Claims.{is_own, is_foreign, holder_at, claimed_by, released_by, claim_rows, release_rows, after_release}
 use Rattle.pos_service.specs.Refusals.{Row, Decided, first_refusal, when}
 use Rattle.pos_service.specs.Calls.{takes_memory as own_takes_memory}
 use Rattle.pos_service.specs.Calls.{serves, own_rows, place_found, open_rows, close_rows, set_rows, after_set, get_rows, property_of}
@@ -24,10 +24,10 @@ use Rattle.pos_service.specs.DrawerCalls.{drawer_rows, DrawerDoes}
 use Rattle.pos_service.specs.declared.property.Property.{Property}
 use Rattle.pos_service.specs.declared.answer.Value.{Value}
 use Rattle.pos_service.specs.declared.facts.Facts.{Facts}
-use Rattle.pos_service.specs.HardTotals.{layout_1}
+use Rattle.pos_service.specs.HardTotals.{layout_1, in_transaction, is_area_taken, without_control, with_control as with_place}
 use Rattle.pos_service.specs.TotalsCalls.{file_call, totals_rows}
 use Rattle.pos_counter.specs.Totals.{TotalsDo, Recovered, Recovers, Rests, recovers, file_facts}
-use Rattle.pos_counter.specs.Machine.{Device, Machine, place_of, device_at, station_in, station_named, found_under, holder_of, with_control, with_station}
+use Rattle.pos_counter.specs.Machine.{Device, Machine, place_of, device_at, station_in, station_named, found_under, holder_of, with_control, with_station, with_totals}
 
 -- what may be asked of the machine: controls by their numbers, devices by their names
 pub data Request : Type 0 where
@@ -55,8 +55,8 @@ facts_of machine number control = record {
   signs = signs_in (station_in (device_at machine.devices control.device));
   totals_size = layout_1.bytes;
   files = file_facts machine.totals.totals.mode;
-  is_claimed = is_held_by (holder_of machine control) number;
-  in_transaction = false;
+  is_claimed = is_own number (holder_of machine control);
+  in_transaction = in_transaction machine.totals.totals number;
 }
 
 -- how many controls there may be
@@ -100,26 +100,29 @@ CategoryDoes category.HardTotals old number control own result new =
 
 -- another control keeps a device of a category from the control with a number
 abbrev pub is_taken : Category → Machine → ℕ → Option ℕ → Bool
-is_taken category.CashDrawer machine number device = is_held_by_another (holder_at machine.claims device) number
-is_taken category.HardTotals machine number device = false
+is_taken category.CashDrawer machine number device = is_foreign number (holder_at machine.claims device)
+is_taken category.HardTotals machine number device = is_area_taken machine.totals.totals number
 
 -- the machine, once the control with a number holds its device
 abbrev pub claimed : Category → Machine → ℕ → Control → Machine
 claimed category.CashDrawer machine number control =
     record machine { claims = claimed_by machine.claims control.device number }
-claimed category.HardTotals machine number control = machine
+claimed category.HardTotals machine number control =
+    with_totals machine (record machine.totals.totals { area = Some number })
 
 -- the machine, once the control with a number has released its device
 abbrev pub released : Category → Machine → ℕ → Control → Machine
 released category.CashDrawer machine number control =
     record machine { claims = released_by machine.claims control.device number }
-released category.HardTotals machine number control = machine
+released category.HardTotals machine number control =
+    with_totals machine (record machine.totals.totals { area = None })
 
 -- the machine, once the control with a number has nothing any more
 abbrev pub dropped : Category → Machine → ℕ → Control → Machine
 dropped category.CashDrawer machine number control =
     record machine { claims = released_by machine.claims control.device number }
-dropped category.HardTotals machine number control = machine
+dropped category.HardTotals machine number control =
+    with_totals machine (without_control machine.totals.totals number)
 
 -- The refusals of the call of the control with a number, in their order.
 abbrev pub refusals : Machine → ℕ → Control → Call → List Row
@@ -128,7 +131,7 @@ refusals machine number control call.Close = close_rows control
 refusals machine number control (call.Claim timeout) =
     claim_rows control (is_taken control.category machine number control.device) timeout
 refusals machine number control call.Release =
-    release_rows control (is_held_by (holder_of machine control) number)
+    release_rows control (is_own number (holder_of machine control))
 refusals machine number control (call.Set property v) = set_rows control property v
 refusals machine number control (call.Get property) = get_rows control (facts_of machine number control) property
 refusals machine number control own =
@@ -192,7 +195,7 @@ pub record FindsFit (station : Option Station) (input : Input) (fits : Bool) : T
 abbrev pub Step : Machine → Request → Response → Machine → Type 0
 Step old (NewControl category) (Made number) new =
     (length old.controls < most_controls) × (number ≡ length old.controls)
-    × (new ≡ record old { controls = old.controls ++ new_control category ∷ [] })
+    × (new ≡ record (with_totals old (with_place old.totals.totals)) { controls = old.controls ++ new_control category ∷ [] })
 Step old (NewControl category) Full new = (most_controls ≤ length old.controls) × (new ≡ old)
 Step old (NewControl category) OutOfMemory new = (length old.controls < most_controls) × (new ≡ old)
 -- a call on a control that isn't there is illegal

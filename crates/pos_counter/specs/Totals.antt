@@ -1,5 +1,5 @@
 -- Hard Totals in the device machine (chapter Hard Totals).
-use Rattle.std.specs.Prelude.{◌≡◌, ◌≤◌, ◌⊎◌, ℕ, Bool, true, false, not, ◌&&◌, List, [], ◌∷◌, Option, Some, None, Result, MatchResult, IsTrue, is_some, length}
+use Rattle.std.specs.Prelude.{◌≡◌, ◌≤◌, ◌⊎◌, ℕ, Bool, true, false, not, ◌&&◌, List, [], ◌∷◌, Option, Some, None, Result, MatchResult, IsTrue, is_some, length, if◌then◌else◌}
 use Rattle.pos_disk.specs.State.{Rises}
 use Rattle.pos_service.specs.declared.answer.Answer.{Answer}
 use Rattle.pos_service.specs.declared.answer.Answer.TheVariants as answer
@@ -16,10 +16,11 @@ use Rattle.pos_service.specs.declared.facts.FileFacts.{FileFacts}
 use Rattle.pos_service.specs.declared.property.Property.{Property}
 use Rattle.pos_service.specs.declared.property.Property.TheVariants as property
 use Rattle.pos_service.specs.Controls.{Control}
-use Rattle.pos_service.specs.HardTotals.{Totals, Mode, Off, Ready, Change, Question, layout_1, free_data, files_of, is_ready, told_of, DoesChange}
+use Rattle.pos_service.specs.HardTotals.{Totals, Mode, Off, Ready, Change, Question, layout_1, free_data, files_of, is_ready, told_of}
+use Rattle.pos_service.specs.HardTotals.{DoesChange, DoesCommit, changes_in, in_transaction, transaction_of, with_transaction, after_arrangement}
 use Rattle.pos_service.specs.Calls.{has_call, takes_memory}
 use Rattle.pos_service.specs.Refusals.{Decided, first_refusal, when}
-use Rattle.pos_service.specs.TotalsCalls.{FileCall, Asks, Makes, Nothing, file_call, file_rows}
+use Rattle.pos_service.specs.TotalsCalls.{FileCall, Asks, Makes, Arranges, Commits, Nothing, file_call, file_rows}
 use Rattle.pos_store.specs.Standing.{Standing, Unformatted, Damaged, Stands, IsOneOf}
 use Rattle.pos_totals.specs.Changes.{IsOneGroup, before_or_after}
 use Rattle.pos_totals.specs.Recoveries.{HasFound, HasTooMany}
@@ -51,19 +52,43 @@ in_doubt old changes (Ready files sequence) = before_or_after old.totals.next (R
 abbrev pub left_after : TotalsPart → List Change → Mode → List Standing
 left_after old changes now = settled now (in_doubt old changes old.totals.mode)
 
--- A change is refused by a number that has run out, or is done as one group, or the disk fails in it.
-pub record ChangesTotals (old : TotalsPart) (number : ℕ) (change : Change) (result : Answer) (new : TotalsPart)
-    : Type 0 where
-  pub does : DoesChange (Rises old.failures new.failures) old.totals number change result new.totals
-  pub group : IsOneGroup old.totals (change ∷ [])
-  pub left : new.left ≡ left_after old (change ∷ []) new.totals.mode
+-- Changes are put on the disk as one group, or the disk fails in them; and what a crash leaves then. Without changes the
+-- disk is left alone.
+pub record PutsChanges (Does : Answer → Totals → Type 0) (old : TotalsPart) (changes : List Change) (result : Answer)
+    (new : TotalsPart) : Type 0 where
+  pub does : Does result new.totals
+  pub group : IsOneGroup old.totals changes
+  pub left : new.left ≡ left_after old changes new.totals.mode
   pub later : old.failures ≤ new.failures
+
+-- the changes that a change puts on the disk: none in a transaction, which buffers it
+abbrev pub put_at_once : Bool → Change → List Change
+put_at_once in_transaction change = if in_transaction then [] else change ∷ []
+
+-- A change is buffered, or refused by a number that has run out, or is done as one group, or the disk fails in it.
+abbrev pub ChangesTotals : TotalsPart → ℕ → Change → Answer → TotalsPart → Type 0
+ChangesTotals old number change result new =
+    PutsChanges (λ answer totals. DoesChange (Rises old.failures new.failures) old.totals number change answer totals) old
+    (put_at_once (in_transaction old.totals number) change) result new
+
+-- A commit is refused by a sequence that has run out, or what was buffered is done as one group, or the disk fails in
+-- it.
+abbrev pub CommitsTotals : TotalsPart → ℕ → Answer → TotalsPart → Type 0
+CommitsTotals old number result new =
+    let changes = changes_in (transaction_of old.totals number) in
+    let ended = with_transaction old.totals number None in
+    PutsChanges (λ answer totals. DoesCommit (Rises old.failures new.failures) old.totals ended changes answer totals) old
+    changes result new
 
 -- what each call does with the totals, where nothing refuses it
 abbrev pub TotalsDo : FileCall → TotalsPart → ℕ → Answer → TotalsPart → Type 0
 TotalsDo (Asks question) old number result new =
     (result ≡ answer.Done (told_of (files_of old.totals.mode) question)) × (new ≡ old)
 TotalsDo (Makes change) old number result new = ChangesTotals old number change result new
+TotalsDo (Arranges arrangement) old number result new =
+    (result ≡ answer.Done value.Empty)
+    × (new ≡ record old { totals = after_arrangement old.totals number arrangement })
+TotalsDo Commits old number result new = CommitsTotals old number result new
 TotalsDo Nothing old number result new = ⊥
 
 -- A call of the totals' own on an enabled control: by what the totals refuse, and then by what it does. Want of memory
@@ -121,6 +146,8 @@ recovers part control p v = asks_recovery control p v && not (is_ready part.tota
 abbrev pub is_change : FileCall → Bool
 is_change (Asks question) = false
 is_change (Makes change) = true
+is_change (Arranges arrangement) = false
+is_change Commits = true
 is_change Nothing = false
 
 -- the call of a control may use the disk: a change of the files, or the recovery of totals that are to be enabled

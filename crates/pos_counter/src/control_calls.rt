@@ -1,7 +1,7 @@
 //! The calls that every category has.
 ghost use Rattle.std.specs.Prelude.{◌≡◌, ◌<◌, List, IfSome, length, map};
 ghost use Rattle.pos_service.specs.declared.call.Call.TheVariants as call;
-ghost use Rattle.pos_service.specs.Claims.{holder_at, is_held_by, is_held_by_another, claim_rows, claimed_by, release_rows, released_by, after_release};
+ghost use Rattle.pos_service.specs.Claims.{holder_at, is_own, is_foreign, claim_rows, claimed_by, release_rows, released_by, after_release};
 ghost use Rattle.pos_service.specs.Peripherals.{PeripheralState};
 ghost use Rattle.pos_service.specs.Refusals.{Decided};
 ghost use Rattle.pos_counter.specs.declared.entry.Entry.{Entry as OneEntry};
@@ -84,7 +84,7 @@ pub(crate) fn claim<D: Disk>(
 fn claim_device(control: &Control, claims: &mut Claims, number: usize, timeout: i128) -> Answer
     requires { IfSome control.now.control.device (λ place. place < length claims.old) }
     ensures { let device = control.now.control.device in
-        Decided (claim_rows control.now.control (is_held_by_another (holder_at claims.old device) number) timeout)
+        Decided (claim_rows control.now.control (is_foreign number (holder_at claims.old device)) timeout)
         result (claims.new ≡ claims.old)
         ((result ≡ Answer.Done Value.Empty) × (claims.new ≡ claimed_by claims.old device number)) }
 {
@@ -122,7 +122,7 @@ pub(crate) fn release<D: Disk>(
 /// `release` of a peripheral.
 fn release_device(control: &mut Control, claims: &mut Claims, number: usize) -> Answer
     ensures { let device = control.old.control.device in
-        Decided (release_rows control.old.control (is_held_by (holder_at claims.old device) number)) result
+        Decided (release_rows control.old.control (is_own number (holder_at claims.old device))) result
         ((control.new ≡ control.old) × (claims.new ≡ claims.old))
         ((result ≡ Answer.Done Value.Empty)
         × (control.new.control ≡ after_release control.old.control.category control.old.control)

@@ -45,18 +45,28 @@ impl Desk {
         self.alloc
     }
 
-    /// A new control of a category: its number.
-    pub(crate) fn control(&mut self, category: Category) -> Result<usize, ControlFault>
-        ensures { (devices : List Device) (shared : Shared) →
-            Step (over self.old devices shared) (NewControl category) (made result) (over self.new devices shared) }
+    /// A new control of a category, which gets a place for its transaction of the totals: its number.
+    pub(crate) fn control<D: Disk>(
+        &mut self,
+        totals: &mut Totals<D>,
+        category: Category,
+    ) -> Result<usize, ControlFault>
+        ensures { MakesControl self.old totals.old category result self.new totals.new }
     {
         let number = self.controls.len();
         if number >= MOST_CONTROLS {
             return Err(ControlFault::Full);
         }
-        match self.controls.push(Control::new(self.alloc, category)) {
-            Ok(()) => Ok(number),
-            Err(_) => Err(ControlFault::NoMemory),
+        if self.controls.reserve(1).is_err() {
+            return Err(ControlFault::NoMemory);
+        }
+        match totals.add_control() {
+            Ok(()) => {
+                self.controls
+                    .push_reserved(Control::new(self.alloc, category));
+                Ok(number)
+            }
+            Err(NoMemory) => Err(ControlFault::NoMemory),
         }
     }
 

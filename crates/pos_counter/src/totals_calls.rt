@@ -4,6 +4,8 @@ ghost use Rattle.pos_service.specs.declared.category.Category.TheVariants as cat
 ghost use Rattle.pos_service.specs.Calls.{is_common};
 ghost use Rattle.pos_service.specs.Peripherals.{PeripheralState};
 ghost use Rattle.pos_service.specs.Stations.{IsOpen};
+ghost use Rattle.pos_service.specs.TotalsCalls.{asks_area, file_call};
+ghost use Rattle.pos_common.specs.Needs.{needs_no_other};
 ghost use Rattle.pos_common.specs.Held.{controls_of};
 ghost use Rattle.pos_counter.specs.declared.entry.Entry.{Entry as OneEntry};
 ghost use Rattle.pos_counter.specs.Parts.{ArePartsSound, Serves, CallsFiles};
@@ -32,14 +34,35 @@ pub(crate) fn call_totals<D: Disk>(
         Serves D.Disk controls.now claims.now entries states totals.old
         (CallOf number call.now) (answered result) controls.now claims.now states totals.new }
 {
+    if !Category::HardTotals.has_call(call) {
+        return Ok(Answer::Refused(Code::Illegal, 0));
+    }
     let need = Need {
-        claim: ClaimNeed::Any,
+        claim: need_of(call),
         is_enabled: true,
     };
-    match controls[number].check(number, None, need) {
+    match controls[number].check(number, totals.area(), need) {
         Ok(()) => call_files(totals, number, call),
-        Err(code) if Category::HardTotals.has_call(call) => Ok(Answer::Refused(code, 0)),
-        Err(_) => Ok(Answer::Refused(Code::Illegal, 0)),
+        Err(code) => Ok(Answer::Refused(code, 0)),
+    }
+}
+
+/// What a call asks of the claim of the area: that no other control has it, or nothing where it makes an arrangement for
+/// its own control.
+fn need_of(call: &Call) -> ClaimNeed
+    ensures { needs_no_other result ≡ asks_area (file_call call.now) }
+{
+    match call {
+        Call::Create(..)
+        | Call::Delete(_)
+        | Call::Find(_)
+        | Call::FindByIndex(_)
+        | Call::Read(..)
+        | Call::Write(..)
+        | Call::SetAll(..)
+        | Call::Rename(..)
+        | Call::CommitTrans => ClaimNeed::NoOther,
+        _ => ClaimNeed::Any,
     }
 }
 
@@ -64,6 +87,11 @@ fn call_files<D: Disk>(
         }
         Call::SetAll(handle, value) => totals.set_all(number, *handle, *value),
         Call::Rename(handle, name) => totals.rename(number, *handle, name.as_slice()),
+        Call::ClaimFile(handle, timeout) => Ok(totals.claim_file(number, *handle, *timeout)),
+        Call::ReleaseFile(handle) => Ok(totals.release_file(number, *handle)),
+        Call::BeginTrans => Ok(totals.begin_trans(number)),
+        Call::CommitTrans => totals.commit_trans(number),
+        Call::Rollback => Ok(totals.rollback(number)),
         _ => Ok(Answer::Refused(Code::Illegal, 0)),
     }
 }

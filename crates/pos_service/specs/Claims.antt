@@ -13,15 +13,15 @@ abbrev pub holder_at : List (Option ℕ) → Option ℕ → Option ℕ
 holder_at claims None = None
 holder_at claims (Some place) = slice_index_or claims place None
 
--- the holder is the control with this number
-abbrev pub is_held_by : Option ℕ → ℕ → Bool
-is_held_by None number = false
-is_held_by (Some holder) number = nat_eq holder number
+-- the control with a number is the holder
+abbrev pub is_own : ℕ → Option ℕ → Bool
+is_own number None = false
+is_own number (Some holder) = nat_eq holder number
 
--- the holder is a control, and another than the one with this number
-abbrev pub is_held_by_another : Option ℕ → ℕ → Bool
-is_held_by_another None number = false
-is_held_by_another (Some holder) number = not (nat_eq holder number)
+-- there is a holder, and it is another control than the one with the number
+abbrev pub is_foreign : ℕ → Option ℕ → Bool
+is_foreign number None = false
+is_foreign number (Some holder) = not (nat_eq holder number)
 
 -- the table, once the control with a number has claimed its device
 abbrev pub claimed_by : List (Option ℕ) → Option ℕ → ℕ → List (Option ℕ)
@@ -32,7 +32,7 @@ claimed_by claims (Some place) number = slice_set claims place (Some number)
 abbrev pub released_by : List (Option ℕ) → Option ℕ → ℕ → List (Option ℕ)
 released_by claims None number = claims
 released_by claims (Some place) number =
-    if is_held_by (slice_index_or claims place None) number then slice_set claims place None else claims
+    if is_own number (slice_index_or claims place None) then slice_set claims place None else claims
 
 -- the time for which a claim may be waited for: any number of milliseconds, or -1 for no end
 abbrev pub is_timeout : ℤ → Bool

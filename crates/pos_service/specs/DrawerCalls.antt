@@ -8,7 +8,7 @@ use Rattle.pos_service.specs.declared.call.Call.{Call}
 use Rattle.pos_service.specs.declared.call.Call.TheVariants as call
 use Rattle.pos_service.specs.declared.order.Order.TheVariants as order
 use Rattle.pos_service.specs.declared.order.Reply.TheVariants as reply
-use Rattle.pos_service.specs.Claims.{holder_at, is_held_by_another}
+use Rattle.pos_service.specs.Claims.{holder_at, is_foreign}
 use Rattle.pos_service.specs.Controls.{Control, all_heard}
 use Rattle.pos_service.specs.Peripherals.{Performs, Rose, signs_of}
 use Rattle.pos_service.specs.Refusals.{Row, when}
@@ -18,7 +18,7 @@ use Rattle.pos_service.specs.Statuses.{status_events}
 -- what each call of the control with a number asks of its own, in order, by who holds each device
 abbrev pub drawer_rows : List (Option ℕ) → ℕ → Control → Call → List Row
 drawer_rows claims number control call.OpenDrawer =
-    when (is_held_by_another (holder_at claims control.device) number) code.Claimed
+    when (is_foreign number (holder_at claims control.device)) code.Claimed
     ∷ when (not control.enabled) code.Disabled ∷ []
 drawer_rows claims number control asked = []
 

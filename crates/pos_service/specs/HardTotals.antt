@@ -9,6 +9,7 @@ use Rattle.pos_service.specs.declared.answer.Value.TheVariants as value
 use Rattle.pos_service.specs.declared.code.Code.{Code}
 use Rattle.pos_service.specs.declared.code.Code.TheVariants as code
 use Rattle.pos_service.specs.declared.memory.NoMemory.{NoMemory}
+use Rattle.pos_service.specs.Claims.{is_own, is_foreign, is_timeout}
 use Rattle.pos_service.specs.Refusals.{Row, when, first_refusal, Decided}
 
 -- How much totals may hold, which goes by the layout of their disk: the most bytes of all files in sum (TotalsSize),
@@ -127,15 +128,6 @@ size_in_sum files = sum_by (λ file. length file.bytes) files
 -- FreeData: how many bytes are left for new files
 abbrev pub free_data : TotalsLimits → List File → ℕ
 free_data limits files = limits.bytes - size_in_sum files
-
--- a control has made a claim, or another one has
-abbrev pub is_own : ℕ → Option ℕ → Bool
-is_own control None = false
-is_own control (Some holder) = nat_eq holder control
-
-abbrev pub is_foreign : ℕ → Option ℕ → Bool
-is_foreign control None = false
-is_foreign control (Some holder) = not (nat_eq holder control)
 
 -- there is the file, and the control has claimed it, or another one has
 abbrev pub is_own_file : ℕ → Option File → Bool
@@ -461,11 +453,6 @@ abbrev pub group_by_commit : Totals → ℕ → List Change
 group_by_commit totals control =
     if is_none (first_refusal (refusals_of_commit totals control)) then changes_in (transaction_of totals control)
     else []
-
--- a timeout: at least -1
-abbrev pub is_timeout : ℤ → Bool
-is_timeout (pos n) = true
-is_timeout (negsuc n) = nat_eq n 0
 
 -- a transaction may begin: the control has a place for one, and is in none
 abbrev pub may_begin : Option (Option (List Change)) → Bool

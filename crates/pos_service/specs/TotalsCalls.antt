@@ -1,16 +1,23 @@
 -- The calls of Hard Totals, by what they ask of the files (chapter Hard Totals).
-use Rattle.std.specs.Prelude.{ℕ, not, List, [], ◌∷◌}
+use Rattle.std.specs.Prelude.{ℕ, Bool, true, false, not, ◌&&◌, List, [], ◌∷◌}
 use Rattle.pos_service.specs.declared.call.Call.{Call}
 use Rattle.pos_service.specs.declared.call.Call.TheVariants as call
 use Rattle.pos_service.specs.declared.code.Code.TheVariants as code
+use Rattle.pos_service.specs.Claims.{is_foreign}
 use Rattle.pos_service.specs.Controls.{Control}
-use Rattle.pos_service.specs.HardTotals.{Totals, Question, Find, FindByIndex, Read, Change, Create, Delete, Rename, Write, SetAll, layout_1, refusals_of_question, refusals_of_change}
+use Rattle.pos_service.specs.HardTotals.{Totals, layout_1, Question, Find, FindByIndex, Read, refusals_of_question}
+use Rattle.pos_service.specs.HardTotals.{Change, Create, Delete, Rename, Write, SetAll, refusals_of_change}
+use Rattle.pos_service.specs.HardTotals.{Arrangement, ClaimFile, ReleaseFile, BeginTrans, Rollback}
+use Rattle.pos_service.specs.HardTotals.{refusals_of_arrangement, refusals_of_commit}
 use Rattle.pos_service.specs.Refusals.{Row, when}
 
--- a call asks about the files, or asks for a change of them; a call of another category asks nothing
+-- a call asks about the files, asks for a change of them, makes an arrangement for its control, or commits what that
+-- has buffered; a call of another category asks nothing
 pub data FileCall : Type 0 where
   Asks : Question → FileCall
   Makes : Change → FileCall
+  Arranges : Arrangement → FileCall
+  Commits : FileCall
   Nothing : FileCall
 
 -- what each call asks; error detection has no effect
@@ -23,15 +30,33 @@ file_call (call.Read handle offset count) = Asks (Read handle offset count)
 file_call (call.Write handle offset bytes) = Makes (Write handle offset bytes)
 file_call (call.SetAll handle n) = Makes (SetAll handle n)
 file_call (call.Rename handle name) = Makes (Rename handle name)
+file_call (call.ClaimFile handle timeout) = Arranges (ClaimFile handle timeout)
+file_call (call.ReleaseFile handle) = Arranges (ReleaseFile handle)
+file_call call.BeginTrans = Arranges BeginTrans
+file_call call.CommitTrans = Commits
+file_call call.Rollback = Arranges Rollback
 file_call asked = Nothing
+
+-- the call asks that no other control has claimed the area
+abbrev pub asks_area : FileCall → Bool
+asks_area (Asks question) = true
+asks_area (Makes change) = true
+asks_area (Arranges arrangement) = false
+asks_area Commits = true
+asks_area Nothing = false
 
 -- what the totals refuse to the control with a number
 abbrev pub file_rows : Totals → ℕ → FileCall → List Row
 file_rows totals number (Asks question) = refusals_of_question totals number question
 file_rows totals number (Makes change) = refusals_of_change layout_1 totals number change
+file_rows totals number (Arranges arrangement) = refusals_of_arrangement totals number arrangement
+file_rows totals number Commits = refusals_of_commit totals number
 file_rows totals number Nothing = []
 
--- what each call asks of its own, in order: the device enabled, and then what the totals ask
+-- what each call asks of its own, in order: the area not claimed by another, the device enabled, and then what the
+-- totals ask
 abbrev pub totals_rows : Totals → ℕ → Control → Call → List Row
 totals_rows totals number control asked =
-    when (not control.enabled) code.Disabled ∷ file_rows totals number (file_call asked)
+    when (asks_area (file_call asked) && is_foreign number totals.area) code.Claimed
+    ∷ when (not control.enabled) code.Disabled
+    ∷ file_rows totals number (file_call asked)

@@ -16,7 +16,8 @@ use Rattle.pos_service.specs.declared.answer.Answer.TheVariants as answer
 use Rattle.pos_service.specs.declared.answer.Value.TheVariants as value
 use Rattle.pos_service.specs.declared.code.Code.TheVariants as code
 use Rattle.pos_service.specs.declared.memory.NoMemory.{NoMemory}
-use Rattle.pos_service.specs.HardTotals.{File, Mode, Off, Ready, Totals, Change, Create, Delete, Rename, Write, SetAll, is_name, is_natural, is_named, is_called, is_up_to, has_file, has_room, free_data, is_create, is_foreign, is_foreign_file, is_range_of, last_number, layout_1, change_rows, refusals_of_change, group_by_change, number_rows, files_after, next_after, after_changes, after_disk_fault, given_by, spent_by, transaction_at, without_transactions, with_transaction, cost_of, cost_of_all, is_over, Changed, DoesChange, Done}
+use Rattle.pos_service.specs.Claims.{is_foreign}
+use Rattle.pos_service.specs.HardTotals.{File, Mode, Off, Ready, Totals, Change, Create, Delete, Rename, Write, SetAll, is_name, is_natural, is_named, is_called, is_up_to, has_file, has_room, free_data, is_create, is_foreign_file, is_range_of, last_number, layout_1, change_rows, refusals_of_change, group_by_change, number_rows, files_after, next_after, after_changes, after_disk_fault, given_by, spent_by, transaction_at, without_transactions, with_transaction, cost_of, cost_of_all, is_over, Changed, DoesChange, Done}
 use Rattle.pos_service.specs.Refusals.{Row, first_refusal, Decided}
 use Rattle.pos_store.specs.Commits.{Commits, IsLast}
 use Rattle.pos_store.specs.Modes.{StoreState as State, LeavesItsFiles}

@@ -7,7 +7,8 @@ use Rattle.pos_dir.specs.declared.file.File.{File as PlainFile}
 use Rattle.pos_service.specs.declared.answer.Answer.{Answer}
 use Rattle.pos_service.specs.declared.answer.Answer.TheVariants as answer
 use Rattle.pos_service.specs.declared.answer.Value.TheVariants as value
-use Rattle.pos_service.specs.HardTotals.{File, Mode, Off, Ready, Totals, Change, Arrangement, ClaimFile, ReleaseFile, is_called, is_own, is_own_claim, is_foreign, is_foreign_claim, claimed, with_each, with_files, files_of, refusals_of_arrangement, after_arrangement, Arranges, foreign_area, without_control}
+use Rattle.pos_service.specs.Claims.{is_own, is_foreign}
+use Rattle.pos_service.specs.HardTotals.{File, Mode, Off, Ready, Totals, Change, Arrangement, ClaimFile, ReleaseFile, is_called, is_own_claim, is_foreign_claim, claimed, with_each, with_files, files_of, refusals_of_arrangement, after_arrangement, Arranges, foreign_area, without_control}
 use Rattle.pos_store.specs.Modes.{StoreState as State}
 use Rattle.pos_store.specs.Modes.{Off as StoreOff, Ready as StoreReady}
 use Rattle.pos_totals.proofs.Buffered.{holds_so, held_with, none_held}

@@ -1,6 +1,6 @@
 -- What the totals keep beside the files of the disk.
 use Rattle.std.specs.Prelude.{ℕ, List, Option, None, nat_eq, if◌then◌else◌}
-use Rattle.pos_service.specs.HardTotals.{is_own}
+use Rattle.pos_service.specs.Claims.{is_own}
 use Rattle.pos_totals.specs.declared.handles.Tag.{Tag}
 
 -- the tags of the files in index order, and the handle that the next new file gets

@@ -1,6 +1,7 @@
 //! The numbers of calls.
 ghost use Rattle.std.specs.Prelude.{◌≡◌, ◌<◌, pos, false, MatchOption};
-ghost use Rattle.pos_service.specs.HardTotals.{is_natural, is_range, is_timeout, is_up_to};
+ghost use Rattle.pos_service.specs.Claims.{is_timeout};
+ghost use Rattle.pos_service.specs.HardTotals.{is_natural, is_range, is_up_to};
 ghost use Rattle.pos_totals.specs.Checks.{IsRange};
 
 /// A number of a call, where it isn't below 0.

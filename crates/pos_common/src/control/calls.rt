@@ -1,13 +1,13 @@
 ghost use Rattle.std.specs.Prelude.{◌≡◌, ◌&&◌, ◌∷◌, [], ⊤, MatchResult, None, Some, is_none};
 ghost use Rattle.pos_service.specs.Calls.{needs_files, place_found, open_rows, close_rows, set_rows, after_set, get_rows, property_of};
-ghost use Rattle.pos_service.specs.Claims.{is_held_by, is_held_by_another, claim_rows, release_rows, after_release};
+ghost use Rattle.pos_service.specs.Claims.{is_own, is_foreign, claim_rows, release_rows, after_release};
 ghost use Rattle.pos_service.specs.Controls.{opened, closed};
 ghost use Rattle.pos_service.specs.Refusals.{Decided, first_refusal, when};
 ghost use Rattle.pos_common.specs.Held.{TurnsInto};
 ghost use Rattle.pos_common.specs.Needs.{need_rows};
 
 use super::Control;
-use crate::claims::is_held_by_another;
+use crate::claims::is_foreign;
 use crate::need::{ClaimNeed, Need};
 use pos_service::{Answer, Code, Facts, Finding, Property, Value};
 
@@ -61,7 +61,7 @@ impl Control {
     /// Refused with E_CLOSED where it is closed, E_ILLEGAL for a timeout below -1, E_TIMEOUT where another control
     /// holds the device.
     pub fn claim(&self, number: usize, holder: Option<usize>, timeout: i128) -> Answer
-        ensures { Decided (claim_rows self.now.control (is_held_by_another holder number) timeout) result ⊤
+        ensures { Decided (claim_rows self.now.control (is_foreign number holder) timeout) result ⊤
             (result ≡ Answer.Done Value.Empty) }
     {
         if self.device.is_none() {
@@ -70,7 +70,7 @@ impl Control {
         if timeout < -1 {
             return Answer::Refused(Code::Illegal, 0);
         }
-        if is_held_by_another(holder, number) {
+        if is_foreign(number, holder) {
             return Answer::Refused(Code::Timeout, 0);
         }
         Answer::Done(Value::Empty)
@@ -82,7 +82,7 @@ impl Control {
     /// Refused with E_CLOSED where it is closed, E_ILLEGAL where it doesn't hold the device.
     pub fn release(&mut self, number: usize, holder: Option<usize>) -> Answer
         ensures { let control = self.old.control in
-            TurnsInto (release_rows control (is_held_by holder number)) result self.old self.new
+            TurnsInto (release_rows control (is_own number holder)) result self.old self.new
             (after_release control.category control) }
     {
         if self.device.is_none() {
@@ -174,7 +174,7 @@ impl Control {
             (λ _. first_refusal (need_rows self.now.control number holder need) ≡ None)
             (λ code. first_refusal (need_rows self.now.control number holder need) ≡ Some (Answer.Refused code 0)) }
     {
-        if need.claim == ClaimNeed::NoOther && is_held_by_another(holder, number) {
+        if need.claim == ClaimNeed::NoOther && is_foreign(number, holder) {
             return Err(Code::Claimed);
         }
         if need.is_enabled && !self.is_enabled {
