@@ -304,7 +304,8 @@ fn disks_without_files(rt: HostRuntime) -> Result<(), Fail> {
     Ok(())
 }
 
-/// A change, by which the file A of the bytes 1, 2, 3, 4 becomes something else.
+/// A change, by which the file A of the bytes 1, 2, 3, 4 becomes something else. A commit changes the file B of two zero
+/// bytes too, which stands behind it.
 #[derive(Clone, Copy, PartialEq, Eq)]
 enum Call {
     Create,
@@ -312,14 +313,16 @@ enum Call {
     Rename,
     Write,
     SetAll,
+    Commit,
 }
 
-const CALLS: [Call; 5] = [
+const CALLS: [Call; 6] = [
     Call::Create,
     Call::Delete,
     Call::Rename,
     Call::Write,
     Call::SetAll,
+    Call::Commit,
 ];
 
 /// Calls it on the file with a handle.
@@ -334,7 +337,16 @@ fn carry_out<D: Disk>(
         Call::Rename => totals.rename(0, handle, b"C"),
         Call::Write => totals.write(0, handle, 1, &[8, 9]),
         Call::SetAll => totals.set_all(0, handle, 7),
+        Call::Commit => commit_both(totals, handle),
     }
+}
+
+/// Writes two files in one transaction, where the control has begun one already in that.
+fn commit_both<D: Disk>(totals: &mut Totals<D>, handle: i128) -> Result<Answer, NoMemory> {
+    let _ = totals.begin_trans(0);
+    totals.write(0, handle, 1, &[8, 9])?;
+    totals.set_all(0, 2, 7)?;
+    totals.commit_trans(0)
 }
 
 /// What the totals have.
@@ -359,7 +371,7 @@ fn look<D: Disk>(totals: &Totals<D>, call: Call, first: u8) -> Seen {
     let Some((_, count)) = room_and_count(totals) else {
         return Seen::Nothing;
     };
-    if count == 1 && has(totals, first, 0, b"A", &[1, 2, 3, 4]) {
+    if is_before(totals, call, first, count) {
         return Seen::Before;
     }
     let is_after = match call {
@@ -368,17 +380,43 @@ fn look<D: Disk>(totals: &Totals<D>, call: Call, first: u8) -> Seen {
         Call::Rename => count == 1 && has(totals, first, 0, b"C", &[1, 2, 3, 4]),
         Call::Write => count == 1 && has(totals, first, 0, b"A", &[1, 8, 9, 4]),
         Call::SetAll => count == 1 && has(totals, first, 0, b"A", &[7, 7, 7, 7]),
+        Call::Commit => has_both(totals, first, count, &[1, 8, 9, 4], &[7, 7]),
     };
     if is_after { Seen::After } else { Seen::Other }
 }
 
-/// A disk with the file A alone.
-fn with_a_file(alloc: Global) -> Result<MemDisk, RecoveryFault> {
+/// Whether they have what they had before a call.
+fn is_before<D: Disk>(totals: &Totals<D>, call: Call, first: u8, count: usize) -> bool {
+    if call == Call::Commit {
+        return has_both(totals, first, count, &[1, 2, 3, 4], &[0, 0]);
+    }
+    count == 1 && has(totals, first, 0, b"A", &[1, 2, 3, 4])
+}
+
+/// Whether they have the files A and B with these bytes.
+fn has_both<D: Disk>(totals: &Totals<D>, first: u8, count: usize, a: &[u8], b: &[u8]) -> bool {
+    count == 2 && has(totals, first, 0, b"A", a) && has(totals, first, 1, b"B", b)
+}
+
+/// A disk with the file A, and where a commit is to be carried out, the file B.
+fn before(alloc: Global, call: Call) -> Result<MemDisk, RecoveryFault> {
     let mut totals = formatted(alloc, 1)?;
     if totals.create(0, b"A", 4, false).is_err() || totals.write(0, 1, 0, &[1, 2, 3, 4]).is_err() {
         return Err(RecoveryFault::NoMemory);
     }
+    if call == Call::Commit && totals.create(0, b"B", 2, false).is_err() {
+        return Err(RecoveryFault::NoMemory);
+    }
     Ok(totals.into_disk())
+}
+
+/// Totals that are off, with a place for a transaction of one control.
+fn with_a_place<D: Disk>(alloc: Global, disk: D) -> Totals<D> {
+    let mut totals = Totals::new(alloc, disk, 1);
+    if totals.add_control().is_err() {
+        let _ = totals.add_control();
+    }
+    totals
 }
 
 /// What a call answered on a disk that failed once, and the totals.
@@ -394,7 +432,7 @@ fn stopped(alloc: Global, disk: &MemDisk, call: Call, pass: u64) -> Result<Attem
     let Ok(copy) = disk.crash(Fill::New) else {
         return Err(RecoveryFault::NoMemory);
     };
-    let mut totals = Totals::new(alloc, FuseDisk::new(copy, pass, 1), 1);
+    let mut totals = with_a_place(alloc, FuseDisk::new(copy, pass, 1));
     if totals.recover() == Err(RecoveryFault::Device) {
         totals.recover()?;
     }
@@ -437,7 +475,7 @@ fn is_whole(
 /// Stops a call at each disk call in turn: whether each crash leaves the files before it or after it, and how often the
 /// disk failed in it.
 fn stops(alloc: Global, call: Call) -> Result<(bool, u32), RecoveryFault> {
-    let disk = with_a_file(alloc)?;
+    let disk = before(alloc, call)?;
     let mut failures = 0u32;
     for pass in 0..20u64 {
         let Attempt { outcome, totals } = stopped(alloc, &disk, call, pass)?;
@@ -491,6 +529,13 @@ fn a_set_all_stopped_at_each_disk_call(rt: HostRuntime) -> Result<(), Fail> {
     Ok(())
 }
 
+#[test]
+fn a_commit_of_two_files_stopped_at_each_disk_call(rt: HostRuntime) -> Result<(), Fail> {
+    let (is_whole, failures) = stops(rt.alloc(), Call::Commit)?;
+    assert!(rt; is_whole && failures >= 4);
+    Ok(())
+}
+
 /// Whether a write that the disk stopped is decided by the next recovery, under new handles, and stays so.
 fn is_decided(alloc: Global, disk: &MemDisk, pass: u64) -> Result<bool, RecoveryFault> {
     let Attempt {
@@ -522,7 +567,7 @@ fn is_decided(alloc: Global, disk: &MemDisk, pass: u64) -> Result<bool, Recovery
 #[test]
 fn a_change_in_doubt_is_decided_once(rt: HostRuntime) -> Result<(), Fail> {
     let alloc = rt.alloc();
-    let disk = with_a_file(alloc)?;
+    let disk = before(alloc, Call::Write)?;
     for pass in 0..24u64 {
         assert!(rt; is_decided(alloc, &disk, pass)?, "at {pass}");
     }
@@ -532,7 +577,7 @@ fn a_change_in_doubt_is_decided_once(rt: HostRuntime) -> Result<(), Fail> {
 /// A recovery and a call, each once more where a growth was refused: whether nothing had changed then, and what the
 /// totals have at the end.
 fn with_repeats(alloc: Global, disk: MemDisk, call: Call) -> Result<(bool, Seen), RecoveryFault> {
-    let mut totals = Totals::new(alloc, disk, 1);
+    let mut totals = with_a_place(alloc, disk);
     let mut is_unchanged = true;
     if totals.recover() == Err(RecoveryFault::NoMemory) {
         is_unchanged = !totals.is_ready();
@@ -555,8 +600,199 @@ fn with_repeats(alloc: Global, disk: MemDisk, call: Call) -> Result<(bool, Seen)
 fn a_refused_growth_changes_nothing(rt: HostRuntime) -> Result<(), Fail> {
     let alloc = rt.alloc();
     for call in CALLS {
-        let (is_unchanged, seen) = with_repeats(alloc, with_a_file(alloc)?, call)?;
+        let (is_unchanged, seen) = with_repeats(alloc, before(alloc, call)?, call)?;
         assert!(rt; is_unchanged && seen == Seen::After);
     }
+    Ok(())
+}
+
+/// Ready totals with places for the transactions of two controls.
+fn shared(alloc: Global) -> Result<Totals<MemDisk>, RecoveryFault> {
+    let mut totals = formatted(alloc, 1)?;
+    if totals.add_control().is_err() || totals.add_control().is_err() {
+        return Err(RecoveryFault::NoMemory);
+    }
+    Ok(totals)
+}
+
+fn is_ok(answer: &Answer) -> bool {
+    matches!(answer, Answer::Done(Value::Empty))
+}
+
+fn says(answer: &Answer, code: Code) -> bool {
+    match answer {
+        Answer::Refused(refusal, 0) => *refusal == code,
+        _ => false,
+    }
+}
+
+/// Whether a control reads these bytes at the start of the file with the handle 1.
+fn reads<D: Disk>(totals: &Totals<D>, control: usize, wanted: &[u8]) -> bool {
+    gives_bytes(&totals.read(control, 1, 0, wanted.len() as i128), wanted)
+}
+
+#[test]
+fn a_transaction_shows_at_its_commit(rt: HostRuntime) -> Result<(), Fail> {
+    let alloc = rt.alloc();
+    let mut totals = shared(alloc)?;
+    assert!(rt; gives_number(&totals.create(0, b"A", 4, false), 1));
+    assert!(rt; is_ok(&totals.begin_trans(0)));
+    assert!(rt; is_done(&totals.write(0, 1, 0, &[0xde, 0xad, 0xbe, 0xef])));
+    assert!(rt; reads(&totals, 0, &[0, 0, 0, 0]));
+    assert!(rt; is_done(&totals.commit_trans(0)));
+    assert!(rt; reads(&totals, 0, &[0xde, 0xad, 0xbe, 0xef]));
+    assert!(rt; is_refused(&totals.commit_trans(0), Code::Illegal, 0));
+    let again = ready(alloc, totals.into_disk(), 1)?;
+    assert!(rt; finds(&again, b"A", 1, 4));
+    assert!(rt; reads(&again, 0, &[0xde, 0xad, 0xbe, 0xef]));
+    Ok(())
+}
+
+#[test]
+fn a_transaction_whose_file_is_gone(rt: HostRuntime) -> Result<(), Fail> {
+    let mut totals = shared(rt.alloc())?;
+    assert!(rt; gives_number(&totals.create(0, b"F", 1, false), 1));
+    assert!(rt; is_ok(&totals.begin_trans(0)));
+    assert!(rt; is_done(&totals.write(0, 1, 0, &[1])));
+    assert!(rt; is_done(&totals.delete(1, b"F")));
+    assert!(rt; is_refused(&totals.commit_trans(0), Code::NoExist, 0));
+    assert!(rt; totals.in_transaction(0));
+    assert!(rt; is_ok(&totals.rollback(0)));
+    assert!(rt; says(&totals.rollback(0), Code::Illegal));
+    Ok(())
+}
+
+#[test]
+fn what_a_transaction_costs(rt: HostRuntime) -> Result<(), Fail> {
+    let alloc = rt.alloc();
+    let mut totals = shared(alloc)?;
+    assert!(rt; gives_number(&totals.create(0, b"F", 8_192, false), 1));
+    let bytes = vec![in alloc; 7u8; 8_177]?;
+    assert!(rt; is_ok(&totals.begin_trans(0)));
+    assert!(rt; is_done(&totals.write(0, 1, 0, &bytes[..8_176])));
+    assert!(rt; is_refused(&totals.set_all(0, 1, 0), Code::Extended, 201));
+    assert!(rt; is_ok(&totals.rollback(0)));
+    assert!(rt; is_ok(&totals.begin_trans(0)));
+    assert!(rt; is_refused(&totals.write(0, 1, 0, &bytes), Code::Extended, 201));
+    Ok(())
+}
+
+#[test]
+fn claims_of_a_file(rt: HostRuntime) -> Result<(), Fail> {
+    let mut totals = shared(rt.alloc())?;
+    assert!(rt; gives_number(&totals.create(0, b"F", 1, false), 1));
+    assert!(rt; is_ok(&totals.claim_file(0, 1, 0)));
+    assert!(rt; is_refused(&totals.read(1, 1, 0, 1), Code::Claimed, 0));
+    assert!(rt; says(&totals.claim_file(1, 1, 0), Code::Timeout));
+    assert!(rt; totals.claim_area(1) == Err(Code::Timeout));
+    assert!(rt; is_ok(&totals.release_file(0, 1)));
+    assert!(rt; says(&totals.release_file(0, 1), Code::Illegal));
+    assert!(rt; gives_bytes(&totals.read(1, 1, 1, 0), &[]));
+    assert!(rt; is_refused(&totals.read(1, 1, 1, 1), Code::Illegal, 0));
+    Ok(())
+}
+
+#[test]
+fn claims_of_the_area(rt: HostRuntime) -> Result<(), Fail> {
+    let mut totals = shared(rt.alloc())?;
+    assert!(rt; gives_number(&totals.create(0, b"F", 1, false), 1));
+    assert!(rt; totals.claim_area(0) == Ok(()));
+    assert!(rt; totals.claim_area(0) == Ok(()));
+    assert!(rt; totals.area() == Some(0));
+    assert!(rt; is_refused(&totals.write(1, 1, 0, &[]), Code::Claimed, 0));
+    assert!(rt; says(&totals.claim_file(1, 1, 0), Code::Timeout));
+    assert!(rt; says(&totals.claim_file(0, 1, -2), Code::Illegal));
+    assert!(rt; is_ok(&totals.claim_file(0, 1, -1)));
+    assert!(rt; totals.release_area(1) == Err(Code::Illegal));
+    assert!(rt; totals.release_area(0) == Ok(()));
+    assert!(rt; totals.area().is_none());
+    assert!(rt; is_refused(&totals.delete(1, b"F"), Code::Claimed, 0));
+    totals.drop_control(0);
+    assert!(rt; is_done(&totals.delete(1, b"F")));
+    Ok(())
+}
+
+#[test]
+fn a_transaction_whose_file_another_has_claimed(rt: HostRuntime) -> Result<(), Fail> {
+    let mut totals = shared(rt.alloc())?;
+    assert!(rt; gives_number(&totals.create(0, b"F", 1, false), 1));
+    assert!(rt; is_ok(&totals.begin_trans(0)));
+    assert!(rt; is_done(&totals.set_all(0, 1, 7)));
+    assert!(rt; is_ok(&totals.claim_file(1, 1, 0)));
+    assert!(rt; is_refused(&totals.commit_trans(0), Code::Claimed, 0));
+    totals.drop_control(1);
+    assert!(rt; is_done(&totals.commit_trans(0)));
+    assert!(rt; reads(&totals, 0, &[7]));
+    assert!(rt; is_ok(&totals.begin_trans(0)));
+    totals.drop_control(0);
+    assert!(rt; !totals.in_transaction(0));
+    Ok(())
+}
+
+/// How many disk calls a recovery makes, and an empty transaction behind it.
+fn count_calls(
+    alloc: Global,
+    disk: MemDisk,
+    is_committed: bool,
+) -> Result<Option<u64>, RecoveryFault> {
+    let mut totals = with_a_place(alloc, FuseDisk::new(disk, 1_000, 0));
+    totals.recover()?;
+    if is_committed && !(is_ok(&totals.begin_trans(0)) && is_done(&totals.commit_trans(0))) {
+        return Ok(None);
+    }
+    Ok(Some(totals.into_disk().calls()))
+}
+
+#[test]
+fn an_empty_transaction_uses_no_disk(rt: HostRuntime) -> Result<(), Fail> {
+    let alloc = rt.alloc();
+    let disk = before(alloc, Call::Write)?;
+    let calls = count_calls(alloc, disk.crash(Fill::New)?, false)?;
+    assert!(rt; calls.is_some());
+    assert!(rt; count_calls(alloc, disk, true)? == calls);
+    Ok(())
+}
+
+#[test]
+fn transactions_need_a_place(rt: HostRuntime) -> Result<(), Fail> {
+    let mut totals = formatted(rt.alloc(), 1)?;
+    assert!(rt; says(&totals.begin_trans(0), Code::Illegal));
+    assert!(rt; totals.add_control().is_ok());
+    assert!(rt; is_ok(&totals.begin_trans(0)));
+    assert!(rt; says(&totals.begin_trans(0), Code::Illegal));
+    assert!(rt; is_refused(&totals.create(0, b"A", 0, false), Code::Illegal, 0));
+    assert!(rt; is_refused(&totals.delete(0, b"A"), Code::Illegal, 0));
+    Ok(())
+}
+
+/// With enough memory the largest write is done.
+#[test]
+fn the_largest_write(rt: HostRuntime) -> Result<(), Fail> {
+    let alloc = rt.alloc();
+    let mut totals = formatted(alloc, 1)?;
+    assert!(rt; gives_number(&totals.create(0, b"F", 8_192, false), 1));
+    let bytes = vec![in alloc; 7u8; 8_192]?;
+    assert!(rt; is_done(&totals.write(0, 1, 0, &bytes)));
+    assert!(rt; reads(&totals, 0, &bytes));
+    Ok(())
+}
+
+/// A buffered write, once more where a growth was refused, and a commit: whether nothing was buffered where it was
+/// refused.
+fn buffers_once(totals: &mut Totals<MemDisk>) -> Result<bool, NoMemory> {
+    if totals.write(0, 1, 0, &[1]).is_ok() {
+        return Ok(true);
+    }
+    totals.commit_trans(0)?;
+    Ok(totals.in_transaction(0) || reads(totals, 0, &[0]))
+}
+
+/// Where a growth is refused in a buffered write, nothing is buffered.
+#[test]
+fn a_refused_growth_buffers_nothing(rt: HostRuntime) -> Result<(), Fail> {
+    let mut totals = shared(rt.alloc())?;
+    assert!(rt; gives_number(&totals.create(0, b"F", 1, false), 1));
+    assert!(rt; is_ok(&totals.begin_trans(0)));
+    assert!(rt; buffers_once(&mut totals)?);
     Ok(())
 }
