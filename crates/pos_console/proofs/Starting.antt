@@ -1,6 +1,6 @@
 -- A run of the program's counter, as a run of the machine from its start.
 use Rattle.std.proofs.Common.{◌≡◌, ◌∙◌, ◌∷◌, [], ℕ, false, List, Option, inl, refl, subst, sym, ap, arith}
-use Rattle.std.specs.Prelude.{Result, Ok, Err}
+use Rattle.std.specs.Prelude.{Result, Ok, Err, None, length, replicate}
 use Rattle.pos_disk.specs.Memory.{Memory, state_of}
 use Rattle.pos_disk.specs.State.{MayLeave}
 use Rattle.pos_disk.specs.declared.device.Disk.{Ghosts as DiskGhosts}
@@ -13,7 +13,7 @@ use Rattle.pos_store.specs.Standing.{Standing, Stands, LeavesOneOf, StandsForOne
 use Rattle.pos_counter.specs.declared.counter.Counter.{Counter}
 use Rattle.pos_counter.specs.Counters.{machine, states_of, Begins, IsRun}
 use Rattle.pos_counter.specs.Machine.{Machine}
-use Rattle.pos_counter.specs.Parts.{machine_of, part_of, Leaves}
+use Rattle.pos_counter.specs.Parts.{machine_with, part_of, Leaves}
 use Rattle.pos_counter.specs.Profile.{profile}
 use Rattle.pos_counter.specs.Totals.{TotalsPart}
 use Rattle.pos_counter.specs.Steps.{Run}
@@ -93,6 +93,6 @@ module _ {D X : Type 0} {O : X → Type 0} (bound : DiskGhosts D) (boxes : Ghost
   pub begins_at_start : states_of boxes list ≡ drawer_state false false ∷ [] → (bound.state disk).failures ≡ 0 → machine boxes counter (part_of bound counter.totals (Stands [] 1 ∷ [])) ≡ start
   begins_at_start closed none =
       begins.machine (part_of bound counter.totals (Stands [] 1 ∷ []))
-      ∙ ap (λ states. machine_of [] profile states (part_of bound counter.totals (Stands [] 1 ∷ []))) closed
-      ∙ ap (λ v. machine_of [] profile (drawer_state false false ∷ []) (part_of bound v (Stands [] 1 ∷ []))) begins.totals
-      ∙ ap (λ n. let part : TotalsPart = record { totals = record { mode = Off; next = 1 }; left = Stands [] 1 ∷ []; failures = n } in machine_of [] profile (drawer_state false false ∷ []) part) none
+      ∙ ap (λ states. machine_with [] (replicate (length profile) None) profile states (part_of bound counter.totals (Stands [] 1 ∷ []))) closed
+      ∙ ap (λ v. machine_with [] (replicate (length profile) None) profile (drawer_state false false ∷ []) (part_of bound v (Stands [] 1 ∷ []))) begins.totals
+      ∙ ap (λ n. let part : TotalsPart = record { totals = record { mode = Off; next = 1; area = None; transactions = [] }; left = Stands [] 1 ∷ []; failures = n } in machine_with [] (replicate (length profile) None) profile (drawer_state false false ∷ []) part) none

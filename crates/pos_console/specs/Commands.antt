@@ -12,7 +12,7 @@ use Rattle.pos_console.specs.declared.command.Command.{Command}
 use Rattle.pos_console.specs.declared.command.Command.TheVariants as command
 use Rattle.pos_console.specs.Lines.{words_of, is_well_spelled}
 use Rattle.pos_console.specs.Arguments.{Reading, Reads, misshapen, become, from_none, from_one, from_two}
-use Rattle.pos_console.specs.Words.{is_name, category_shape, device_shape, property_shape, value_shape, error_reply_shape}
+use Rattle.pos_console.specs.Words.{is_name, category_shape, device_shape, number_shape, property_shape, value_shape, error_reply_shape}
 use Rattle.pos_console.specs.Methods.{call_of}
 
 -- what a line asks of a control or a device, by its name
@@ -51,6 +51,14 @@ open_line name words = from_one device_shape (λ device. CallLine name (call.Ope
 -- close CONTROL
 abbrev pub close_line : List ℕ → List (List ℕ) → Reading Asking
 close_line name words = from_none (CallLine name call.Close) words
+
+-- claim CONTROL TIMEOUT
+abbrev pub claim_line : List ℕ → List (List ℕ) → Reading Asking
+claim_line name words = from_one number_shape (λ timeout. CallLine name (call.Claim timeout)) words
+
+-- release CONTROL
+abbrev pub release_line : List ℕ → List (List ℕ) → Reading Asking
+release_line name words = from_none (CallLine name call.Release) words
 
 -- set CONTROL PROPERTY VALUE
 abbrev pub set_line : List ℕ → List (List ℕ) → Reading Asking
@@ -91,6 +99,12 @@ device_line verb name words =
     if bytes_eq verb (codes "input") then input_line name words
     else (if bytes_eq verb (codes "show") then show_line name words else misshapen)
 
+-- a line that claims or releases a control's device, or asks something of a device, by its verb
+abbrev pub claims_line : List ℕ → List ℕ → List (List ℕ) → Reading Asking
+claims_line verb name words =
+    if bytes_eq verb (codes "claim") then claim_line name words
+    else (if bytes_eq verb (codes "release") then release_line name words else device_line verb name words)
+
 -- a line that asks something of a control or a device, by its verb
 abbrev pub verb_line : List ℕ → List ℕ → List (List ℕ) → Reading Asking
 verb_line verb name words =
@@ -100,7 +114,7 @@ verb_line verb name words =
     else (if bytes_eq verb (codes "set") then set_line name words
     else (if bytes_eq verb (codes "get") then get_line name words
     else (if bytes_eq verb (codes "call") then call_line name words
-    else (if bytes_eq verb (codes "deliver") then deliver_line name words else device_line verb name words))))))
+    else (if bytes_eq verb (codes "deliver") then deliver_line name words else claims_line verb name words))))))
 
 -- what the words of a line ask: the second is the name of a control or a device
 abbrev pub asking_of : List (List ℕ) → Reading Asking

@@ -14,13 +14,22 @@ pub record Method : Type 0 where
 abbrev pub method : List ℕ → (List (List ℕ) → Reading Call) → Method
 method word call = record { word = word; call = call }
 
--- the methods of Hard Totals on a file by its handle
+-- the methods of Hard Totals that claim a file, or are of a transaction
+abbrev pub transaction_methods : List Method
+transaction_methods =
+    method (codes "claimFile") (from_two number_shape number_shape call.ClaimFile)
+    ∷ method (codes "releaseFile") (from_one number_shape call.ReleaseFile)
+    ∷ method (codes "beginTrans") (from_none call.BeginTrans)
+    ∷ method (codes "commitTrans") (from_none call.CommitTrans)
+    ∷ method (codes "rollback") (from_none call.Rollback) ∷ []
+
+-- the methods of Hard Totals on a file by its handle, and the others
 abbrev pub handle_methods : List Method
 handle_methods =
     method (codes "read") (from_three number_shape number_shape number_shape call.Read)
     ∷ method (codes "write") (from_three number_shape number_shape bytes_shape call.Write)
     ∷ method (codes "setAll") (from_two number_shape number_shape call.SetAll)
-    ∷ method (codes "rename") (from_two number_shape bytes_shape call.Rename) ∷ []
+    ∷ method (codes "rename") (from_two number_shape bytes_shape call.Rename) ∷ transaction_methods
 
 -- the methods of Hard Totals
 abbrev pub totals_methods : List Method

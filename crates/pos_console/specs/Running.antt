@@ -1,5 +1,5 @@
 -- What a run of a script leaves (docs/CONSOLE.md, "The program").
-use Rattle.std.specs.Prelude.{◌≡◌, ◌++◌, ◌<◌, ◌∷◌, [], ℕ, false, length, List, Option, Result, Ok, Err, IfSome}
+use Rattle.std.specs.Prelude.{◌≡◌, ◌++◌, ◌<◌, ◌∷◌, [], ℕ, false, length, replicate, List, Option, None, Result, Ok, Err, IfSome}
 use Rattle.std.specs.Io.KnownBytes.{Appends, Keeps}
 use Rattle.pos_counter.specs.Machine.{Machine}
 use Rattle.pos_sims.specs.Drawers.{drawer_state}
@@ -9,7 +9,7 @@ use Rattle.pos_image.specs.NewDisk.{no_files}
 use Rattle.pos_image.specs.Standing.{HasNewImage}
 use Rattle.pos_service.specs.HardTotals.{Off}
 use Rattle.pos_store.specs.Standing.{Stands}
-use Rattle.pos_counter.specs.Parts.{machine_of}
+use Rattle.pos_counter.specs.Parts.{machine_with}
 use Rattle.pos_counter.specs.Profile.{profile}
 use Rattle.pos_counter.specs.Steps.{Run}
 use Rattle.pos_console.specs.declared.run.RunFault.{RunFault}
@@ -69,11 +69,11 @@ pub record RunsScript {C : Type 0} (Runs : Leads C) (old : C) (left before after
   pub whole : ReadsWhole left input result
   pub run : ScriptLeaves Runs old input before after result new
 
--- the machine as the program begins: no control, the closed drawer `d1` in service, and the totals off over a disk that was
--- formatted
+-- the machine as the program begins: no control, no claim, the closed drawer `d1` in service, and the totals off over a
+-- disk that was formatted
 abbrev pub start : Machine
-start = machine_of [] profile (drawer_state false false ∷ []) (record {
-  totals = record { mode = Off; next = 1 };
+start = machine_with [] (replicate (length profile) None) profile (drawer_state false false ∷ []) (record {
+  totals = record { mode = Off; next = 1; area = None; transactions = [] };
   left = Stands [] 1 ∷ [];
   failures = 0;
 })

@@ -73,18 +73,20 @@ totals_property_named word =
     if bytes_eq word (codes "TotalsSize") then Some property.TotalsSize
     else (if bytes_eq word (codes "FreeData") then Some property.FreeData
     else (if bytes_eq word (codes "NumberOfFiles") then Some property.NumberOfFiles
+    else (if bytes_eq word (codes "TransactionInProgress") then Some property.TransactionInProgress
     else (if bytes_eq word (codes "CapTransactions") then Some property.CapTransactions
     else (if bytes_eq word (codes "CapSingleFile") then Some property.CapSingleFile
-    else (if bytes_eq word (codes "CapErrorDetection") then Some property.CapErrorDetection else None)))))
+    else (if bytes_eq word (codes "CapErrorDetection") then Some property.CapErrorDetection else None))))))
 
 -- the property of this name
 abbrev pub property_named : List ℕ → Option Property
 property_named word =
     if bytes_eq word (codes "State") then Some property.State
+    else (if bytes_eq word (codes "Claimed") then Some property.Claimed
     else (if bytes_eq word (codes "DeviceEnabled") then Some property.DeviceEnabled
     else (if bytes_eq word (codes "CapStatus") then Some property.CapStatus
     else (if bytes_eq word (codes "DrawerOpened") then Some property.DrawerOpened
-    else totals_property_named word)))
+    else totals_property_named word))))
 
 -- the reply to an ErrorEvent of this name
 abbrev pub error_reply_named : List ℕ → Option ErrorReply

@@ -1,7 +1,7 @@
 ghost use Rattle.std.specs.Prelude.{◌≡◌};
 ghost use Rattle.pos_console.specs.Lines.{words_of};
 ghost use Rattle.pos_console.specs.Arguments.{Reads};
-ghost use Rattle.pos_console.specs.Commands.{ReadsLine, asked_by, asking_of, verb_line, device_line, new_line, open_line, close_line, set_line, get_line, call_line, input_of, input_line, deliver_line, show_line};
+ghost use Rattle.pos_console.specs.Commands.{ReadsLine, asked_by, asking_of, verb_line, claims_line, device_line, new_line, open_line, close_line, claim_line, release_line, set_line, get_line, call_line, input_of, input_line, deliver_line, show_line};
 
 use crate::arguments::{DeviceName, LineFault, read_none, read_one, read_two};
 use crate::lines::{is_well_spelled_line, next_word};
@@ -44,6 +44,20 @@ fn read_close<'a>(name: &'a [u8], words: &[u8]) -> Result<Command<'a>, LineFault
     ensures { ReadsLine (close_line name.now (words_of words.now)) result }
 {
     read_none(words).map(|_| Command::Call(name, Call::Close))
+}
+
+/// `claim CONTROL TIMEOUT`
+fn read_claim<'a>(alloc: Global, name: &'a [u8], words: &[u8]) -> Result<Command<'a>, LineFault>
+    ensures { ReadsLine (claim_line name.now (words_of words.now)) result }
+{
+    read_one(alloc, words).map(|timeout| Command::Call(name, Call::Claim(timeout)))
+}
+
+/// `release CONTROL`
+fn read_release<'a>(name: &'a [u8], words: &[u8]) -> Result<Command<'a>, LineFault>
+    ensures { ReadsLine (release_line name.now (words_of words.now)) result }
+{
+    read_none(words).map(|_| Command::Call(name, Call::Release))
 }
 
 /// `set CONTROL PROPERTY VALUE`
@@ -126,6 +140,24 @@ fn read_device_line<'a>(verb: &[u8], name: &'a [u8], words: &[u8]) -> Result<Com
     Err(LineFault::WrongShape)
 }
 
+/// What a line asks that claims or releases a control's device, or that is of a device, by its verb.
+fn read_claims_line<'a>(
+    alloc: Global,
+    verb: &[u8],
+    name: &'a [u8],
+    words: &[u8],
+) -> Result<Command<'a>, LineFault>
+    ensures { ReadsLine (claims_line verb.now name.now (words_of words.now)) result }
+{
+    if is(verb, "claim") {
+        return read_claim(alloc, name, words);
+    }
+    if is(verb, "release") {
+        return read_release(name, words);
+    }
+    read_device_line(verb, name, words)
+}
+
 /// What a line asks of a control or a device, by its verb.
 fn read_verb_line<'a>(
     alloc: Global,
@@ -156,7 +188,7 @@ fn read_verb_line<'a>(
     if is(verb, "deliver") {
         return read_deliver(alloc, name, words);
     }
-    read_device_line(verb, name, words)
+    read_claims_line(alloc, verb, name, words)
 }
 
 /// What the words of a line ask.

@@ -2,7 +2,7 @@ ghost use Rattle.pos_console.specs.Lines.{words_of};
 ghost use Rattle.pos_service.specs.declared.call.Call.TheVariants as call;
 ghost use Rattle.pos_console.specs.Arguments.{Reads, from_three};
 ghost use Rattle.pos_console.specs.Words.{bytes_shape, number_shape, truth_shape};
-ghost use Rattle.pos_console.specs.Methods.{call_in, call_of, handle_methods, totals_methods};
+ghost use Rattle.pos_console.specs.Methods.{call_in, call_of, handle_methods, totals_methods, transaction_methods};
 
 use crate::arguments::{LineFault, read_none, read_one, read_three, read_two};
 use crate::words::is;
@@ -45,7 +45,7 @@ fn read_create(alloc: Global, words: &[u8]) -> Result<Call, LineFault>
     read_three(alloc, words).map(|(name, (size, detection))| Call::Create(name, size, detection))
 }
 
-/// The call of a method of Hard Totals on a file by its handle.
+/// The call of a method of Hard Totals on a file by its handle, or of another one.
 fn read_handle_call(alloc: Global, method: &[u8], words: &[u8]) -> Result<Call, LineFault>
     ensures { Reads (call_in handle_methods method.now (words_of words.now)) result }
 {
@@ -64,6 +64,28 @@ fn read_handle_call(alloc: Global, method: &[u8], words: &[u8]) -> Result<Call, 
     }
     if is(method, "rename") {
         return read_two(alloc, words).map(|(handle, name)| Call::Rename(handle, name));
+    }
+    read_transaction_call(alloc, method, words)
+}
+
+/// The call of a method of Hard Totals that claims a file, or is of a transaction.
+fn read_transaction_call(alloc: Global, method: &[u8], words: &[u8]) -> Result<Call, LineFault>
+    ensures { Reads (call_in transaction_methods method.now (words_of words.now)) result }
+{
+    if is(method, "claimFile") {
+        return read_two(alloc, words).map(|(handle, timeout)| Call::ClaimFile(handle, timeout));
+    }
+    if is(method, "releaseFile") {
+        return read_one(alloc, words).map(Call::ReleaseFile);
+    }
+    if is(method, "beginTrans") {
+        return read_none(words).map(|_| Call::BeginTrans);
+    }
+    if is(method, "commitTrans") {
+        return read_none(words).map(|_| Call::CommitTrans);
+    }
+    if is(method, "rollback") {
+        return read_none(words).map(|_| Call::Rollback);
     }
     Err(LineFault::WrongShape)
 }

@@ -177,6 +177,9 @@ pub fn property(word: &[u8]) -> Option<Property>
     if is(word, "State") {
         return Some(Property::State);
     }
+    if is(word, "Claimed") {
+        return Some(Property::Claimed);
+    }
     if is(word, "DeviceEnabled") {
         return Some(Property::DeviceEnabled);
     }
@@ -201,6 +204,9 @@ fn totals_property(word: &[u8]) -> Option<Property>
     }
     if is(word, "NumberOfFiles") {
         return Some(Property::NumberOfFiles);
+    }
+    if is(word, "TransactionInProgress") {
+        return Some(Property::TransactionInProgress);
     }
     if is(word, "CapTransactions") {
         return Some(Property::CapTransactions);

@@ -1,11 +1,12 @@
 -- Claims, releases and closes as steps of the machine.
 use Rattle.std.proofs.Common.{◌≡◌, ◌∙◌, ◌<◌, ◌≤◌, ◌∷◌, [], ℕ, ℤ, zero, suc, List, Option, Some, None, Bool, true, false, inl, inr, cond, get_or, set, length, map, ap, sym, subst, refl, arith}
-use Rattle.std.specs.Prelude.{IfSome, IsTrue, MatchOption, All, slice_get, slice_set, is_none, is_some}
+use Rattle.std.specs.Prelude.{IfSome, IsTrue, MatchOption, All, slice_get, slice_set, is_none, is_some, not, ◌||◌, ⊤}
 use Rattle.std.proofs.lemmas.List.{map-set, length-set, set-get_or}
 use Rattle.std.proofs.lemmas.List.Elements.{All-get_or, All-weaker}
 use Rattle.std.proofs.lemmas.Option.{slice_get_within, get_or_from_slice_get}
 use Rattle.pos_service.specs.declared.answer.Answer.{Answer}
 use Rattle.pos_service.specs.declared.answer.Answer.TheVariants as answer
+use Rattle.pos_service.specs.declared.answer.Value.{Value}
 use Rattle.pos_service.specs.declared.answer.Value.TheVariants as value
 use Rattle.pos_service.specs.declared.call.Call.{Call}
 use Rattle.pos_service.specs.declared.call.Call.TheVariants as call
@@ -13,8 +14,9 @@ use Rattle.pos_service.specs.declared.category.Category.{Category}
 use Rattle.pos_service.specs.declared.category.Category.TheVariants as category
 use Rattle.pos_service.specs.declared.code.Code.TheVariants as code
 use Rattle.pos_service.specs.Calls.{close_rows}
-use Rattle.pos_service.specs.Claims.{is_own, is_foreign, holder_at, claim_rows, claimed_by, release_rows, released_by, after_release}
+use Rattle.pos_service.specs.Claims.{is_own, is_foreign, is_timeout, holder_at, claim_rows, claimed_by, release_rows, released_by, after_release}
 use Rattle.pos_service.specs.Controls.{Control, closed}
+use Rattle.pos_service.specs.HardTotals.{Totals, is_area_taken, without_control}
 use Rattle.pos_service.specs.Peripherals.{PeripheralState}
 use Rattle.pos_service.specs.Refusals.{Row, Decided, first_refusal, when}
 use Rattle.pos_common.specs.Held.{Held, TurnsInto, controls_of}
@@ -84,6 +86,22 @@ close_device hs cl dl es ss part n c h g r at is there turns free =
       );
     })
 
+-- a close of a control of Hard Totals frees what it holds, and drops its transaction
+pub close_area : (hs : List Held) (cl : List (Option ℕ)) (es : List Entry) (ss : List PeripheralState) (part : TotalsPart) (n : ℕ) (c : Control) (h g : Held) (r : Answer)
+    → slice_get (controls_of hs) n ≡ Some c → c.category ≡ category.HardTotals → is_none c.device ≡ false → TurnsInto (close_rows c) r h g (closed c)
+    → Step (machine_with hs cl es ss part) (CallOf n call.Close) (Answered r) (machine_with (set hs n g) cl es ss (record part { totals = without_control part.totals n }))
+close_area hs cl es ss part n c h g r at is there turns =
+    let none : first_refusal (close_rows c) ≡ None = ap (λ b. first_refusal (when b code.Closed ∷ [])) there in
+    let done = done_by (close_rows c) r h g (closed c) none turns in
+    let m : Machine = machine_with hs cl es ss part in
+    let now : TotalsPart = record part { totals = without_control part.totals n } in
+    match_at_some _ c _ _ at (record {
+      outcome = match_at_none (first_refusal (close_rows c)) _ _ none (
+        done.0,
+        subst (λ k. machine_with (set hs n g) cl es ss now ≡ dropped k (with_control m n (closed c)) n c) (sym is) (claims_machine hs cl cl es ss n g (closed c) now done.1),
+      );
+    })
+
 -- ---- claim and release
 
 -- a claim of a device with a peripheral
@@ -112,7 +130,7 @@ pub release_device : (hs : List Held) (cl dl : List (Option ℕ)) (es : List Ent
     → Step (machine_with hs cl es ss part) (CallOf n call.Release) (Answered r) (machine_with (set hs n g) dl es ss part)
 release_device hs cl dl es ss part n c h g r at is here d =
     let m : Machine = machine_with hs cl es ss part in
-    let rows = subst (λ k. first_refusal (refusals m n c call.Release) ≡ first_refusal (release_rows c (is_own n (holder_in k cl c.device)))) is refl in
+    let rows = subst (λ k. first_refusal (refusals m n c call.Release) ≡ first_refusal (release_rows c (is_own n (holder_in k cl part.totals.area c.device)))) is refl in
     match_at_some _ c _ _ at (record {
       outcome = match_by (first_refusal (refusals m n c call.Release)) _ _ _ rows
           (match_weaker (first_refusal (release_rows c (is_own n (holder_at cl c.device)))) _ _ _ _
@@ -121,3 +139,81 @@ release_device hs cl dl es ss part n c h g r at is here d =
           (λ refusal y. (y.0, ap (λ (ks : List Held). machine_with ks dl es ss part) (ap (set hs n) (y.1 ∙ here) ∙ set-get_or hs n h) ∙ ap (λ claims. let o : Machine = record m { claims = claims } in o) y.2))
           d.outcome);
     })
+
+-- a claim of the area
+pub claim_area : (hs : List Held) (cl : List (Option ℕ)) (es : List Entry) (ss : List PeripheralState) (part : TotalsPart) (n : ℕ) (c : Control) (timeout : ℤ) (r : Answer) (totals : Totals)
+    → slice_get (controls_of hs) n ≡ Some c → c.category ≡ category.HardTotals
+    → Decided (claim_rows c (is_area_taken part.totals n) timeout) r (totals ≡ part.totals) ((r ≡ answer.Done value.Empty) × (totals ≡ record part.totals { area = Some n }))
+    → Step (machine_with hs cl es ss part) (CallOf n (call.Claim timeout)) (Answered r) (machine_with hs cl es ss (record part { totals = totals }))
+claim_area hs cl es ss part n c timeout r totals at is d =
+    let m : Machine = machine_with hs cl es ss part in
+    let rows = subst (λ k. first_refusal (refusals m n c (call.Claim timeout)) ≡ first_refusal (claim_rows c (taken k) timeout)) is refl in
+    match_at_some _ c _ _ at (record {
+      outcome = match_by (first_refusal (refusals m n c (call.Claim timeout))) _ _ _ rows
+          (match_weaker (first_refusal (claim_rows c (is_area_taken part.totals n) timeout)) _ _ _ _
+          (λ y. (y.0, subst (λ k. over_totals totals ≡ claimed k m n c) (sym is) (ap over_totals y.1)))
+          (λ refusal y. (y.0, ap over_totals y.1))
+          d.outcome);
+    })
+  where
+    taken : Category → Bool
+    taken k = is_taken k (machine_with hs cl es ss part) n c.device
+
+    over_totals : Totals → Machine
+    over_totals t = machine_with hs cl es ss (record part { totals = t })
+
+-- a release of the area
+pub release_area : (hs : List Held) (cl : List (Option ℕ)) (es : List Entry) (ss : List PeripheralState) (part : TotalsPart) (n : ℕ) (c : Control) (h g : Held) (r : Answer) (totals : Totals)
+    → slice_get (controls_of hs) n ≡ Some c → c.category ≡ category.HardTotals → h ≡ get_or hs n h
+    → Decided (release_rows c (is_own n part.totals.area)) r ((g ≡ h) × (totals ≡ part.totals)) ((r ≡ answer.Done value.Empty) × (g.control ≡ after_release c.category c) × (totals ≡ record part.totals { area = None }))
+    → Step (machine_with hs cl es ss part) (CallOf n call.Release) (Answered r) (machine_with (set hs n g) cl es ss (record part { totals = totals }))
+release_area hs cl es ss part n c h g r totals at is here d =
+    let m : Machine = machine_with hs cl es ss part in
+    let now : TotalsPart = record part { totals = totals } in
+    let rows = subst (λ k. first_refusal (refusals m n c call.Release) ≡ first_refusal (release_rows c (is_own n (holder_in k cl part.totals.area c.device)))) is refl in
+    match_at_some _ c _ _ at (record {
+      outcome = match_by (first_refusal (refusals m n c call.Release)) _ _ _ rows
+          (match_weaker (first_refusal (release_rows c (is_own n part.totals.area))) _ _ _ _
+          (λ y. (y.0, subst (λ k. machine_with (set hs n g) cl es ss now ≡ released k (with_control m n (after_release c.category c)) n c) (sym is)
+          (claims_machine hs cl cl es ss n g (after_release c.category c) now y.1
+          ∙ ap (λ (t : Totals). let o : Machine = record (with_control m n (after_release c.category c)) { totals = record part { totals = t } } in o) y.2)))
+          (λ refusal y. (y.0, ap (λ (ks : List Held). machine_with ks cl es ss now) (ap (set hs n) (y.1.0 ∙ here) ∙ set-get_or hs n h) ∙ ap (λ (t : Totals). machine_with hs cl es ss (record part { totals = t })) y.1.1))
+          d.outcome);
+    })
+
+-- ---- the answers of a control and of the totals
+
+-- what a claim lets through is done, unless the area is taken
+pub area_claims : (c : Control) (foreign taken : Bool) (timeout : ℤ) (r : Answer) (v : Value) (Same Done : Type 0) → Decided (claim_rows c foreign timeout) r ⊤ (r ≡ answer.Done value.Empty) → r ≡ answer.Done v → taken ≡ false → Done → Decided (claim_rows c taken timeout) (answer.Done v) Same ((answer.Done v ≡ answer.Done value.Empty) × Done)
+area_claims c foreign taken timeout r v Same Done d is free done = by (is_none c.device) (not (is_timeout timeout)) foreign taken d is free
+  where
+    by : (closed ill foreign taken : Bool) → Decided (when closed code.Closed ∷ when ill code.Illegal ∷ when foreign code.Timeout ∷ []) r ⊤ (r ≡ answer.Done value.Empty) → r ≡ answer.Done v → taken ≡ false
+        → Decided (when closed code.Closed ∷ when ill code.Illegal ∷ when taken code.Timeout ∷ []) (answer.Done v) Same ((answer.Done v ≡ answer.Done value.Empty) × Done)
+    by true ill foreign taken d is free = let bad = sym is ∙ d.outcome.0 in absurd cc
+    by false true foreign taken d is free = let bad = sym is ∙ d.outcome.0 in absurd cc
+    by false false true taken d is free = let bad = sym is ∙ d.outcome.0 in absurd cc
+    by false false false true d is free = absurd cc
+    by false false false false d is free = record { outcome = (sym is ∙ d.outcome, done) }
+
+-- where the area is taken it is refused
+pub area_taken : (c : Control) (foreign taken : Bool) (timeout : ℤ) (r : Answer) (v : Value) (Same Done : Type 0) → Decided (claim_rows c foreign timeout) r ⊤ (r ≡ answer.Done value.Empty) → r ≡ answer.Done v → taken ≡ true → Same → Decided (claim_rows c taken timeout) (answer.Refused code.Timeout 0) Same Done
+area_taken c foreign taken timeout r v Same Done d is full same = by (is_none c.device) (not (is_timeout timeout)) foreign taken d is full
+  where
+    by : (closed ill foreign taken : Bool) → Decided (when closed code.Closed ∷ when ill code.Illegal ∷ when foreign code.Timeout ∷ []) r ⊤ (r ≡ answer.Done value.Empty) → r ≡ answer.Done v → taken ≡ true
+        → Decided (when closed code.Closed ∷ when ill code.Illegal ∷ when taken code.Timeout ∷ []) (answer.Refused code.Timeout 0) Same Done
+    by true ill foreign taken d is full = let bad = sym is ∙ d.outcome.0 in absurd cc
+    by false true foreign taken d is full = let bad = sym is ∙ d.outcome.0 in absurd cc
+    by false false true taken d is full = let bad = sym is ∙ d.outcome.0 in absurd cc
+    by false false false false d is full = absurd cc
+    by false false false true d is full = record { outcome = (refl, same) }
+
+-- what a claim refuses by the holder of the area is refused by all claims
+pub area_refused : (c : Control) (foreign others : Bool) (timeout : ℤ) (r : Answer) (Same Done : Type 0) → Decided (claim_rows c foreign timeout) r ⊤ (r ≡ answer.Done value.Empty) → ((v : Value) → r ≡ answer.Done v → ⊥) → Same → Decided (claim_rows c (foreign || others) timeout) r Same Done
+area_refused c foreign others timeout r Same Done d never same = by (is_none c.device) (not (is_timeout timeout)) foreign d
+  where
+    by : (closed ill foreign : Bool) → Decided (when closed code.Closed ∷ when ill code.Illegal ∷ when foreign code.Timeout ∷ []) r ⊤ (r ≡ answer.Done value.Empty)
+        → Decided (when closed code.Closed ∷ when ill code.Illegal ∷ when (foreign || others) code.Timeout ∷ []) r Same Done
+    by true ill foreign d = record { outcome = (d.outcome.0, same) }
+    by false true foreign d = record { outcome = (d.outcome.0, same) }
+    by false false true d = record { outcome = (d.outcome.0, same) }
+    by false false false d = absurd (never value.Empty d.outcome)

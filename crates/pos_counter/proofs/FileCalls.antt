@@ -26,7 +26,7 @@ use Rattle.pos_totals.specs.Views.{TotalsView, TurnsOff, LeavesTheirFiles, plain
 use Rattle.pos_counter.specs.Parts.{CallsFiles, FilesStepped, IsLeft, Leaves, part_of}
 use Rattle.pos_counter.specs.Totals.{TotalsPart, TotalsDo, ChangesTotals, CommitsTotals, PutsChanges, FilesCalled, put_at_once, settled, left_after, in_doubt, is_change}
 use Rattle.pos_counter.proofs.Lifts.{match_cases, match_weaker, match_at_none, match_at_some}
-use Rattle.pos_counter.proofs.Serving.{OnlyNow, kept_disk}
+use Rattle.pos_counter.proofs.Serving.{OnlyNow, kept_disk, same_view}
 
 -- ---- what is answered to a call of the totals' own
 
@@ -103,10 +103,6 @@ number_refusal false refusal e v d = cc
 only_next : (q s : ℕ) → (s ≡ q + 1) ⊎ ⊥ → s ≡ q + 1
 only_next q s (inl e) = e
 only_next q s (inr h) = absurd h
-
--- totals on the same disk
-same_view : {D : Type 0} (old new : TotalsView D) (totals : Totals) → new.disk ≡ old.disk → new.totals ≡ totals → new ≡ record { disk = old.disk; totals = totals }
-same_view {D = D} old new totals d t = ap (λ (x : D). let v : TotalsView D = record { disk = x; totals = new.totals } in v) d ∙ ap (λ (x : Totals). let v : TotalsView D = record { disk = old.disk; totals = x } in v) t
 
 -- ---- a group
 

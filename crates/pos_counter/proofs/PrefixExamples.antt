@@ -19,10 +19,14 @@ use Rattle.pos_counter.proofs.Runs.{run_append}
 
 -- the example's machine with one control
 abbrev with_one : Control → TotalsPart → Machine
-with_one control part = record { controls = control ∷ []; devices = new_machine.devices; totals = part }
+with_one control part = record { controls = control ∷ []; devices = new_machine.devices; claims = new_machine.claims; totals = part }
 
 abbrev part_with : Mode → ℕ → List Standing → ℕ → TotalsPart
-part_with mode next left failures = record { totals = record { mode = mode; next = next }; left = left; failures = failures }
+part_with mode next left failures = record {
+  totals = record { mode = mode; next = next; area = None; transactions = None ∷ [] };
+  left = left;
+  failures = failures;
+}
 
 -- the file of the group
 abbrev a_file : PlainFile
@@ -48,10 +52,10 @@ in_doubt = with_one one_enabled (part_with Off 1 both 1)
 
 into_doubt : Run new_machine steps_into_doubt in_doubt
 into_doubt = (
-  with_one (new_control category.HardTotals) new_machine.totals,
+  with_one (new_control category.HardTotals) (part_with Off 1 (Stands [] 1 ∷ []) 0),
   (omega arith, refl, refl),
   (
-    with_one one_opened new_machine.totals,
+    with_one one_opened (part_with Off 1 (Stands [] 1 ∷ []) 0),
     record { outcome = (refl, refl) },
     (
       with_one one_enabled (part_with (Ready [] 1) 1 (Stands [] 1 ∷ []) 0),

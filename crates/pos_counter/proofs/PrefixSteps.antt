@@ -2,7 +2,7 @@
 use Rattle.std.proofs.Common.{◌≡◌, ◌∙◌, ◌+◌, ℕ, Bool, true, false, not, List, [], ◌∷◌, Option, Some, cond, inl, inr, refl, sym, ap, subst}
 use Rattle.std.specs.Bool.{MatchBool}
 use Rattle.std.specs.List.{AllByRecursion}
-use Rattle.std.specs.Prelude.{⊤, slice_get, Ok}
+use Rattle.std.specs.Prelude.{⊤, slice_get, is_some, Ok, None}
 use Rattle.std.proofs.lemmas.Bool.{and_parts}
 use Rattle.std.proofs.lemmas.Option.{same_Some}
 use Rattle.pos_dir.specs.Changes.{outcome_of_all}
@@ -17,20 +17,25 @@ use Rattle.pos_service.specs.declared.category.Category.{Category}
 use Rattle.pos_service.specs.declared.category.Category.TheVariants as category
 use Rattle.pos_service.specs.declared.code.Code.TheVariants as code
 use Rattle.pos_service.specs.declared.property.Property.{Property}
-use Rattle.pos_service.specs.Controls.{Control}
-use Rattle.pos_service.specs.HardTotals.{File, Totals, Mode, Off, Ready, Change, Create, Delete, Rename, Write, SetAll, Question, Find, FindByIndex, Read, DoesTogether, IsAmong, sequences_after, mode_after, files_after_all, files_of, is_ready, question_rows, change_rows, while_ready, layout_1, number_rows, after_disk_fault}
-use Rattle.pos_service.specs.Refusals.{Row, first_refusal}
+use Rattle.pos_service.specs.Claims.{after_release}
+use Rattle.pos_service.specs.Controls.{Control, closed}
+use Rattle.pos_service.specs.HardTotals.{File, Totals, Mode, Off, Ready, Change, Create, Delete, Rename, Write, SetAll, Question, Find, FindByIndex, Read, Done, DoesCommit, DoesTogether, IsAmong, sequences_after, mode_after, files_after_all, files_of, is_called, is_last, is_own_claim, is_ready, question_rows, change_rows, commit_rows, while_ready, with_each, with_files, with_transaction, claimed as claimed_file, changes_in, in_transaction, spent_by, transaction_of, layout_1, number_rows, after_disk_fault}
+use Rattle.pos_service.specs.HardTotals.{Arrangement, ClaimFile, ReleaseFile, BeginTrans, Rollback, after_arrangement, arrangement_rows}
+use Rattle.pos_service.specs.Refusals.{Row, Decided, first_refusal, when}
 use Rattle.pos_service.specs.Stations.{Effect}
-use Rattle.pos_service.specs.TotalsCalls.{FileCall, Asks, Makes, Nothing, file_call, file_rows}
+use Rattle.pos_service.specs.TotalsCalls.{FileCall, Arranges, Asks, Commits, Makes, Nothing, file_call, file_rows}
+use Rattle.pos_disk.specs.State.{Rises}
+use Rattle.pos_store.specs.Modes.{Ready as StoreReady}
 use Rattle.pos_store.specs.Standing.{Stands, IsOneOf}
 use Rattle.pos_totals.specs.Changes.{IsOneGroup}
 use Rattle.pos_totals.specs.Groups.{group_of}
 use Rattle.pos_totals.specs.Recoveries.{numbered}
-use Rattle.pos_totals.specs.Views.{plain}
+use Rattle.pos_totals.specs.Views.{plain, stored}
 use Rattle.pos_counter.specs.History.{NothingDone, changes_asked, event_between, event_of}
-use Rattle.pos_counter.specs.Machine.{Machine}
-use Rattle.pos_counter.specs.Steps.{Request, NewControl, CallOf, InputTo, Deliver, Snapshot, Response, Made, Full, Answered, TakenIn, NoDevice, WrongInput, Delivered, Shown, OutOfMemory, OnStation, Step, Called, Does, CategoryDoes, Stays, Sets, SetsByRecovery, refusals, category_rows}
-use Rattle.pos_counter.specs.Totals.{TotalsPart, ChangesTotals, TotalsDo, Recovered, Rests, asks_recovery, in_doubt, left_after, recovers, settled}
+use Rattle.pos_counter.specs.Machine.{Machine, with_control}
+use Rattle.pos_counter.specs.Steps.{Request, NewControl, CallOf, InputTo, Deliver, Snapshot, Response, Made, Full, Answered, TakenIn, NoDevice, WrongInput, Delivered, Shown, OutOfMemory, OnStation, Step, Called, Does, CategoryDoes, Stays, Sets, SetsByRecovery, refusals, category_rows, claimed, dropped, released}
+use Rattle.pos_counter.specs.Totals.{TotalsPart, ChangesTotals, CommitsTotals, TotalsDo, Recovered, Rests, asks_recovery, in_doubt, left_after, put_at_once, recovers, settled}
+use Rattle.pos_counter.proofs.FileCalls.{kept_left, plain_claimed}
 use Rattle.pos_counter.proofs.Lifts.{match_cases}
 use Rattle.pos_counter.proofs.Prefixes.{Happens}
 
@@ -51,30 +56,44 @@ abbrev IsUndone : Response → Type 0
 IsUndone (Answered (answer.Done given)) = ⊥
 IsUndone other = ⊤
 
-unasked : (mode : Mode) (response : Response) → event_between [] mode response mode ≡ NothingDone
-unasked (Ready files sequence) response = refl
-unasked Off response = refl
+unasked : (early late : Mode) (response : Response) → stored late ≡ stored early → event_between [] early response late ≡ NothingDone
+unasked (Ready files sequence) (Ready others next) response same = refl
+unasked Off Off response same = refl
+unasked Off (Ready files sequence) response same = absurd cc
+unasked (Ready files sequence) Off response same = absurd cc
 
-undone : (changes : List Change) (mode : Mode) (response : Response) → IsUndone response → event_between changes mode response mode ≡ NothingDone
-undone [] mode response is = unasked mode response
-undone (change ∷ changes) (Ready files sequence) (Answered (answer.Done given)) is = absurd is
-undone (change ∷ changes) (Ready files sequence) response is = refl
-undone (change ∷ changes) Off response is = refl
+undone : (changes : List Change) (early late : Mode) (response : Response) → IsUndone response → stored late ≡ stored early → event_between changes early response late ≡ NothingDone
+undone [] early late response is same = unasked early late response same
+undone (change ∷ changes) (Ready files sequence) (Ready others next) (Answered (answer.Done given)) is same = absurd is
+undone (change ∷ changes) (Ready files sequence) (Ready others next) response is same = refl
+undone (change ∷ changes) Off Off response is same = refl
+undone (change ∷ changes) Off (Ready files sequence) response is same = absurd cc
+undone (change ∷ changes) (Ready files sequence) Off response is same = absurd cc
 
 -- totals that rest
-rest : (changes : List Change) (old new : TotalsPart) (response : Response) → event_between changes old.totals.mode response old.totals.mode ≡ NothingDone → new.totals.mode ≡ old.totals.mode → new.left ≡ old.left → Told changes old response new
-rest changes old new response nothing mode left =
-    subst (λ e. Happens old e new) (sym (ap (λ m. event_between changes old.totals.mode response m) mode ∙ nothing)) (record { mode = mode; left = left })
+rest : (changes : List Change) (old new : TotalsPart) (response : Response) → event_between changes old.totals.mode response new.totals.mode ≡ NothingDone → stored new.totals.mode ≡ stored old.totals.mode → new.left ≡ old.left → Told changes old response new
+rest changes old new response nothing mode left = subst (λ e. Happens old e new) (sym nothing) (record { mode = mode; left = left })
+
+-- where no change is asked: the files are what they were
+rest_beside : (old new : TotalsPart) (response : Response) → stored new.totals.mode ≡ stored old.totals.mode → new.left ≡ old.left → Told [] old response new
+rest_beside old new response mode left = rest [] old new response (unasked old.totals.mode new.totals.mode response mode) mode left
 
 rest_unasked : (old new : TotalsPart) (response : Response) → new ≡ old → Told [] old response new
-rest_unasked old new response same = rest [] old new response (unasked old.totals.mode response) (ap (λ (t : TotalsPart). t.totals.mode) same) (ap (λ (t : TotalsPart). t.left) same)
+rest_unasked old new response same = rest_beside old new response (ap (λ (t : TotalsPart). stored t.totals.mode) same) (ap (λ (t : TotalsPart). t.left) same)
 
 rest_undone : (changes : List Change) (old new : TotalsPart) (response : Response) → IsUndone response → new ≡ old → Told changes old response new
-rest_undone changes old new response is same = rest changes old new response (undone changes old.totals.mode response is) (ap (λ (t : TotalsPart). t.totals.mode) same) (ap (λ (t : TotalsPart). t.left) same)
+rest_undone changes old new response is same =
+    let mode = ap (λ (t : TotalsPart). stored t.totals.mode) same in
+    rest changes old new response (undone changes old.totals.mode new.totals.mode response is mode) mode (ap (λ (t : TotalsPart). t.left) same)
 
 -- the count of failures is no matter
 rest_still : (old new : TotalsPart) (response : Response) → Rests old new → Told [] old response new
-rest_still old new response h = rest [] old new response (unasked old.totals.mode response) (ap (λ (t : Totals). t.mode) h.totals) h.left
+rest_still old new response h = rest_beside old new response (ap (λ (t : Totals). stored t.mode) h.totals) h.left
+
+-- files with other claims are stored as they were
+stored_claimed : (test : File → Bool) (claim : Option ℕ) (mode : Mode) → stored (with_files (with_each test (claimed_file claim)) mode) ≡ stored mode
+stored_claimed test claim Off = refl
+stored_claimed test claim (Ready files sequence) = ap (λ fs. StoreReady fs sequence) (plain_claimed test claim files)
 
 -- ---- tables of refusals
 
@@ -99,110 +118,164 @@ refusal_of (row ∷ rows) refusal all is = by row.applies is (refusal_of rows re
     by true same rest = subst IsRefusal (same_Some row.answer refusal same) all.0
     by false same rest = rest same
 
-changes_refuse : (files : List File) (change : Change) → AllRefuse (change_rows layout_1 files change)
-changes_refuse files (Create name size) = (tt, (tt, (tt, tt)))
-changes_refuse files (Delete name) = (tt, tt)
-changes_refuse files (Rename handle name) = (tt, (tt, tt))
-changes_refuse files (Write handle offset bytes) = (tt, tt)
-changes_refuse files (SetAll handle n) = (tt, tt)
+changes_refuse : (files : List File) (number : ℕ) (spent : Option ℕ) (change : Change) → AllRefuse (change_rows layout_1 files number spent change)
+changes_refuse files number spent (Create name size) = (tt, (tt, (tt, tt)))
+changes_refuse files number spent (Delete name) = (tt, (tt, (tt, tt)))
+changes_refuse files number spent (Rename handle name) = (tt, (tt, (tt, tt)))
+changes_refuse files number spent (Write handle offset bytes) = (tt, (tt, (tt, tt)))
+changes_refuse files number spent (SetAll handle n) = (tt, (tt, (tt, tt)))
 
-questions_refuse : (files : List File) (question : Question) → AllRefuse (question_rows files question)
-questions_refuse files (Find name) = (tt, tt)
-questions_refuse files (FindByIndex index) = (tt, tt)
-questions_refuse files (Read handle offset count) = (tt, tt)
+questions_refuse : (files : List File) (number : ℕ) (question : Question) → AllRefuse (question_rows files number question)
+questions_refuse files number (Find name) = (tt, tt)
+questions_refuse files number (FindByIndex index) = (tt, tt)
+questions_refuse files number (Read handle offset count) = (tt, (tt, tt))
+
+arrangements_refuse : (area : Option ℕ) (place : Option (Option (List Change))) (files : List File) (number : ℕ) (arrangement : Arrangement) → AllRefuse (arrangement_rows area place files number arrangement)
+arrangements_refuse area place files number (ClaimFile handle timeout) = (tt, (tt, tt))
+arrangements_refuse area place files number (ReleaseFile handle) = (tt, tt)
+arrangements_refuse area place files number BeginTrans = (tt, tt)
+arrangements_refuse area place files number Rollback = (tt, tt)
+
+commits_refuse : (files : List File) (number : ℕ) (transaction : Option (List Change)) → AllRefuse (commit_rows files number transaction)
+commits_refuse files number None = (tt, tt)
+commits_refuse files number (Some buffer) = (tt, (tt, tt))
 
 ready_refuse : (mode : Mode) (rows : List File → List Row) → ((files : List File) → AllRefuse (rows files)) → AllRefuse (while_ready mode rows)
 ready_refuse Off rows all = (tt, tt)
 ready_refuse (Ready files sequence) rows all = all files
 
 files_refuse : (totals : Totals) (number : ℕ) (asked : FileCall) → AllRefuse (file_rows totals number asked)
-files_refuse totals number (Asks question) = ready_refuse totals.mode (λ files. question_rows files question) (λ files. questions_refuse files question)
-files_refuse totals number (Makes change) = ready_refuse totals.mode (λ files. change_rows layout_1 files change) (λ files. changes_refuse files change)
+files_refuse totals number (Asks question) = (tt, ready_refuse totals.mode (λ files. question_rows files number question) (λ files. questions_refuse files number question))
+files_refuse totals number (Makes change) = (tt, ready_refuse totals.mode (λ files. change_rows layout_1 files number (spent_by totals number) change) (λ files. changes_refuse files number (spent_by totals number) change))
+files_refuse totals number (Arranges arrangement) =
+    ready_refuse totals.mode (λ files. arrangement_rows totals.area (slice_get totals.transactions number) files number arrangement) (λ files. arrangements_refuse totals.area (slice_get totals.transactions number) files number arrangement)
+files_refuse totals number Commits = (tt, ready_refuse totals.mode (λ files. commit_rows files number (transaction_of totals number)) (λ files. commits_refuse files number (transaction_of totals number)))
 files_refuse totals number Nothing = tt
 
 category_refuse : (k : Category) (m : Machine) (n : ℕ) (c : Control) (own : Call) → AllRefuse (category_rows k m n c own)
-category_refuse category.CashDrawer m n c call.OpenDrawer = (tt, tt)
+category_refuse category.CashDrawer m n c call.OpenDrawer = (tt, (tt, tt))
 category_refuse category.CashDrawer m n c own = tt
-category_refuse category.HardTotals m n c own = (tt, files_refuse m.totals.totals n (file_call own))
+category_refuse category.HardTotals m n c own = (tt, (tt, files_refuse m.totals.totals n (file_call own)))
 
 all_refuse : (m : Machine) (n : ℕ) (c : Control) (asked : Call) → AllRefuse (refusals m n c asked)
 all_refuse m n c (call.Open name) = (tt, (tt, (tt, tt)))
 all_refuse m n c call.Close = (tt, tt)
+all_refuse m n c (call.Claim timeout) = (tt, (tt, (tt, tt)))
+all_refuse m n c call.Release = (tt, (tt, tt))
 all_refuse m n c (call.Set p v) = (tt, (tt, (tt, tt)))
 all_refuse m n c (call.Get p) = (tt, (tt, (tt, (tt, tt))))
 all_refuse m n c own = (tt, (tt, category_refuse c.category m n c own))
 
 -- ---- changes
 
--- a group that was done
-done_told : (change : Change) (old new : TotalsPart) (given : Value) → IsOneGroup old.totals (change ∷ []) → new.left ≡ left_after old (change ∷ []) new.totals.mode → DoesTogether old.totals (change ∷ []) new.totals → Told (change ∷ []) old (Answered (answer.Done given)) new
-done_told change old new given group left h = by old.totals.mode refl
-  where
-    by : (m : Mode) → old.totals.mode ≡ m → Told (change ∷ []) old (Answered (answer.Done given)) new
-    by Off off = absurd (subst (λ (m : Mode). IsAmong h.sequence (sequences_after m)) off h.follows)
-    by (Ready files sequence) ready =
-        let now = files_after_all old.totals.next files (change ∷ []) in
-        let still : new.totals.mode ≡ Ready now h.sequence = ap (λ (t : Totals). t.mode) h.totals ∙ ap (λ m. mode_after old.totals.next m (change ∷ []) h.sequence) ready in
-        told_at (change ∷ []) old new (Ready files sequence) (Ready now h.sequence) (Answered (answer.Done given)) (Answered (answer.Done given)) ready still refl
-        (record {
-          before = files;
-          sequence = sequence;
-          now = now;
-          next = h.sequence;
-          ready = ready;
-          made = subst (λ m. outcome_of_all LAYOUT_1 (plain (files_of m)) (group_of (files_of m) (change ∷ [])) ≡ Ok (plain (files_after_all old.totals.next (files_of m) (change ∷ [])))) ready group;
-          still = still;
-          left = left ∙ ap (left_after old (change ∷ [])) still;
-        })
+module _ (old new : TotalsPart) (result : Answer) (is : old.left ≡ settled old.totals.mode old.left) (ended : Totals) (mode : ended.mode ≡ old.totals.mode) (next : ended.next ≡ old.totals.next) (change : Change) (changes : List Change) (group : IsOneGroup old.totals (change ∷ changes)) (left : new.left ≡ left_after old (change ∷ changes) new.totals.mode) where
+  abbrev all : List Change
+  all = change ∷ changes
 
--- a group in which the disk failed
-failed_told : (change : Change) (old new : TotalsPart) (result : Answer) → IsOneGroup old.totals (change ∷ []) → new.left ≡ left_after old (change ∷ []) new.totals.mode → result ≡ answer.Refused code.Failure 0 → new.totals ≡ after_disk_fault old.totals → Told (change ∷ []) old (Answered result) new
-failed_told change old new result group left failed same = by old.totals.mode refl
-  where
-    off : new.totals.mode ≡ Off
-    off = ap (λ (t : Totals). t.mode) same
+  -- what a group makes of the files
+  made_at : (files : List File) (sequence : ℕ) → old.totals.mode ≡ Ready files sequence → outcome_of_all LAYOUT_1 (plain files) (group_of files all) ≡ Ok (plain (files_after_all old.totals.next files all))
+  made_at files sequence ready = subst (λ m. outcome_of_all LAYOUT_1 (plain (files_of m)) (group_of (files_of m) all) ≡ Ok (plain (files_after_all old.totals.next (files_of m) all))) ready group
 
-    by : (m : Mode) → old.totals.mode ≡ m → Told (change ∷ []) old (Answered result) new
-    by Off was =
-        told_at (change ∷ []) old new Off Off (Answered result) (Answered result) was off refl
-        (record { mode = off ∙ sym was; left = left ∙ ap (left_after old (change ∷ [])) off ∙ ap (in_doubt old (change ∷ [])) was })
-    by (Ready files sequence) ready =
-        told_at (change ∷ []) old new (Ready files sequence) Off (Answered result) (Answered (answer.Refused code.Failure 0)) ready off (ap (λ a. Answered a) failed)
-        (record {
-          before = files;
-          sequence = sequence;
-          files = plain (files_after_all old.totals.next files (change ∷ []));
-          ready = ready;
-          made = subst (λ m. outcome_of_all LAYOUT_1 (plain (files_of m)) (group_of (files_of m) (change ∷ [])) ≡ Ok (plain (files_after_all old.totals.next (files_of m) (change ∷ [])))) ready group;
-          off = off;
-          left = left ∙ ap (left_after old (change ∷ [])) off ∙ ap (in_doubt old (change ∷ [])) ready;
-        })
+  -- a group that was done
+  done_told : (given : Value) → DoesTogether ended all new.totals → Told all old (Answered (answer.Done given)) new
+  done_told given h = by old.totals.mode refl
+    where
+      by : (m : Mode) → old.totals.mode ≡ m → Told all old (Answered (answer.Done given)) new
+      by Off off = absurd (subst (λ (m : Mode). IsAmong h.sequence (sequences_after m)) (mode ∙ off) h.follows)
+      by (Ready files sequence) ready =
+          let now = files_after_all old.totals.next files all in
+          let still : new.totals.mode ≡ Ready now h.sequence = ap (λ (t : Totals). t.mode) h.totals ∙ ap (λ m. mode_after ended.next m all h.sequence) (mode ∙ ready) ∙ ap (λ k. Ready (files_after_all k files all) h.sequence) next in
+          told_at all old new (Ready files sequence) (Ready now h.sequence) (Answered (answer.Done given)) (Answered (answer.Done given)) ready still refl
+          (record {
+            before = files;
+            sequence = sequence;
+            now = now;
+            next = h.sequence;
+            ready = ready;
+            made = made_at files sequence ready;
+            still = still;
+            left = left ∙ ap (left_after old all) still;
+          })
 
--- a change that a number refuses leaves what it was
-kept_left : (changes : List Change) (old : TotalsPart) → old.left ≡ settled old.totals.mode old.left → left_after old changes old.totals.mode ≡ old.left
-kept_left changes old is = by old.totals.mode refl is
-  where
-    by : (m : Mode) → old.totals.mode ≡ m → old.left ≡ settled m old.left → settled m (in_doubt old changes old.totals.mode) ≡ old.left
-    by Off off is = ap (in_doubt old changes) off
-    by (Ready files sequence) ready is = sym is
+  -- a group in which the disk failed
+  failed_told : result ≡ answer.Refused code.Failure 0 → new.totals ≡ after_disk_fault ended → Told all old (Answered result) new
+  failed_told failed same = by old.totals.mode refl
+    where
+      off : new.totals.mode ≡ Off
+      off = ap (λ (t : Totals). t.mode) same
 
-changed_told : (change : Change) (old new : TotalsPart) (number : ℕ) (result : Answer) → old.left ≡ settled old.totals.mode old.left → ChangesTotals old number change result new → Told (change ∷ []) old (Answered result) new
-changed_told change old new number result is h =
-    elim (match_cases (first_refusal (number_rows old.totals change)) _ _ h.does.outcome) [
-      | inl x ↦ elim x.1 [
-        | inl done ↦ subst (λ a. Told (change ∷ []) old (Answered a) new) (sym done.0) (done_told change old new _ h.group h.left done.1)
-        | inr failed ↦ failed_told change old new result h.group h.left failed.0 failed.2
+      by : (m : Mode) → old.totals.mode ≡ m → Told all old (Answered result) new
+      by Off was =
+          told_at all old new Off Off (Answered result) (Answered result) was off refl
+          (record { mode = ap stored (off ∙ sym was); left = left ∙ ap (left_after old all) off ∙ ap (in_doubt old all) was })
+      by (Ready files sequence) ready =
+          told_at all old new (Ready files sequence) Off (Answered result) (Answered (answer.Refused code.Failure 0)) ready off (ap (λ a. Answered a) failed)
+          (record {
+            before = files;
+            sequence = sequence;
+            files = plain (files_after_all old.totals.next files all);
+            ready = ready;
+            made = made_at files sequence ready;
+            off = off;
+            left = left ∙ ap (left_after old all) off ∙ ap (in_doubt old all) ready;
+          })
+
+  -- a group that a number refuses, that is done, or in which the disk fails
+  group_told : (failed : Type 0) (rows : List Row) (given : Value) → AllRefuse rows → Decided rows result (new.totals ≡ old.totals) (Done failed ended all given result new.totals) → Told all old (Answered result) new
+  group_told failed rows given refuse h =
+      elim (match_cases (first_refusal rows) _ _ h.outcome) [
+        | inl x ↦ elim x.1 [
+          | inl done ↦ subst (λ a. Told all old (Answered a) new) (sym done.0) (done_told given done.1)
+          | inr fault ↦ failed_told fault.0 fault.2
+        ]
+        | inr x ↦
+            let same = ap (λ (t : Totals). t.mode) x.2.1 in
+            rest all old new (Answered result)
+            (undone all old.totals.mode new.totals.mode (Answered result) (refusal_undone result (subst IsRefusal (sym x.2.0) (refusal_of rows x.0 refuse x.1))) (ap stored same))
+            (ap stored same) (left ∙ ap (left_after old all) same ∙ kept_left all old is)
       ]
+
+-- totals whose files are as they were, and in which nothing is put on the disk
+still_told : (old new : TotalsPart) (response : Response) → old.left ≡ settled old.totals.mode old.left → new.left ≡ left_after old [] new.totals.mode → new.totals.mode ≡ old.totals.mode → Told [] old response new
+still_told old new response is left mode = rest_beside old new response (ap stored mode) (left ∙ ap (left_after old []) mode ∙ kept_left [] old is)
+
+changed_told : (change : Change) (old new : TotalsPart) (number : ℕ) (result : Answer) → old.left ≡ settled old.totals.mode old.left → ChangesTotals old number change result new → Told (put_at_once (in_transaction old.totals number) change) old (Answered result) new
+changed_told change old new number result is h =
+    elim (match_cases (transaction_of old.totals number) _ _ h.does) [
+      | inl x ↦
+          let out : put_at_once (in_transaction old.totals number) change ≡ change ∷ [] = ap (λ (o : Option (List Change)). put_at_once (is_some o) change) x.0 in
+          subst (λ changes. Told changes old (Answered result) new) (sym out)
+          (group_told old new result is old.totals refl refl change [] (subst (λ changes. IsOneGroup old.totals changes) out h.group) (h.left ∙ ap (λ changes. left_after old changes new.totals.mode) out)
+          _ (number_rows old.totals change) _ (tt, tt) x.1)
       | inr x ↦
-          let mode = ap (λ (t : Totals). t.mode) x.2.1 in
-          rest (change ∷ []) old new (Answered result)
-          (undone (change ∷ []) old.totals.mode (Answered result) (refusal_undone result (subst IsRefusal (sym x.2.0) (refusal_of (number_rows old.totals change) x.0 (tt, tt) x.1))))
-          mode (h.left ∙ ap (left_after old (change ∷ [])) mode ∙ kept_left (change ∷ []) old is)
+          let kept : put_at_once (in_transaction old.totals number) change ≡ [] = ap (λ (o : Option (List Change)). put_at_once (is_some o) change) x.1 in
+          subst (λ changes. Told changes old (Answered result) new) (sym kept)
+          (still_told old new (Answered result) is (h.left ∙ ap (λ changes. left_after old changes new.totals.mode) kept) (ap (λ (t : Totals). t.mode) x.2.1))
     ]
 
-files_told : (asked : FileCall) (old new : TotalsPart) (number : ℕ) (result : Answer) → old.left ≡ settled old.totals.mode old.left → TotalsDo asked old number result new → Told (changes_asked asked) old (Answered result) new
+commit_told : (old new : TotalsPart) (number : ℕ) (result : Answer) → old.left ≡ settled old.totals.mode old.left → CommitsTotals old number result new → Told (changes_in (transaction_of old.totals number)) old (Answered result) new
+commit_told old new number result is h = by (changes_in (transaction_of old.totals number)) h.group h.left h.does
+  where
+    ended : Totals
+    ended = with_transaction old.totals number None
+
+    by : (changes : List Change) → IsOneGroup old.totals changes → new.left ≡ left_after old changes new.totals.mode → DoesCommit (Rises old.failures new.failures) old.totals ended changes result new.totals → Told changes old (Answered result) new
+    by [] group left does = still_told old new (Answered result) is left (ap (λ (t : Totals). t.mode) does.1)
+    by (change ∷ changes) group left does = group_told old new result is ended refl refl change changes group left _ (when (is_last old.totals.mode) code.Failure ∷ []) _ (tt, tt) does
+
+-- an arrangement leaves the files as they are, but for their claims
+stored_arranged : (old : Totals) (number : ℕ) (arrangement : Arrangement) → stored (after_arrangement old number arrangement).mode ≡ stored old.mode
+stored_arranged old number (ClaimFile handle timeout) = stored_claimed (is_called handle) (Some number) old.mode
+stored_arranged old number (ReleaseFile handle) = stored_claimed (is_called handle) None old.mode
+stored_arranged old number BeginTrans = refl
+stored_arranged old number Rollback = refl
+
+files_told : (asked : FileCall) (old new : TotalsPart) (number : ℕ) (result : Answer) → old.left ≡ settled old.totals.mode old.left → TotalsDo asked old number result new → Told (changes_asked old.totals number asked) old (Answered result) new
 files_told (Asks question) old new number result is h = rest_unasked old new (Answered result) h.1
 files_told (Makes change) old new number result is h = changed_told change old new number result is h
+files_told (Arranges arrangement) old new number result is h =
+    rest_beside old new (Answered result) (ap (λ (t : TotalsPart). stored t.totals.mode) h.1 ∙ stored_arranged old.totals number arrangement) (ap (λ (t : TotalsPart). t.left) h.1)
+files_told Commits old new number result is h = commit_told old new number result is h
 files_told Nothing old new number result is h = absurd h
 
 -- ---- recoveries
@@ -249,31 +322,47 @@ set_told old new n c p v result true e (inr (h, is)) = elim h [
 station_same : (old new : Machine) (at : Option ℕ) (Does : ℕ → Effect) → OnStation old at Does new → new.totals ≡ old.totals
 station_same old new at Does o = ap (λ (m : Machine). m.totals) o.machine
 
-category_told : (k : Category) (old new : Machine) (n : ℕ) (c : Control) (own : Call) (result : Answer) → old.totals.left ≡ settled old.totals.totals.mode old.totals.left → CategoryDoes k old n c own result new → Told (changes_asked (file_call own)) old.totals (Answered result) new.totals
+category_told : (k : Category) (old new : Machine) (n : ℕ) (c : Control) (own : Call) (result : Answer) → old.totals.left ≡ settled old.totals.totals.mode old.totals.left → CategoryDoes k old n c own result new → Told (changes_asked old.totals.totals n (file_call own)) old.totals (Answered result) new.totals
 category_told category.CashDrawer old new n c call.OpenDrawer result is h = rest_unasked old.totals new.totals (Answered result) (station_same old new c.device _ h)
 category_told category.CashDrawer old new n c own result is h = absurd h.does
 category_told category.HardTotals old new n c own result is h = files_told (file_call own) old.totals new.totals n result is h.0
 
-does_told : (old new : Machine) (n : ℕ) (c : Control) (asked : Call) (result : Answer) → old.totals.left ≡ settled old.totals.totals.mode old.totals.left → Does old n c asked result new → Told (changes_asked (file_call asked)) old.totals (Answered result) new.totals
+-- what a control's claim, its release and its end leave of the files
+claimed_told : (k : Category) (old new : Machine) (n : ℕ) (c : Control) (response : Response) → new ≡ claimed k old n c → Told [] old.totals response new.totals
+claimed_told category.CashDrawer old new n c response h = rest_unasked old.totals new.totals response (ap (λ (m : Machine). m.totals) h)
+claimed_told category.HardTotals old new n c response h = rest_beside old.totals new.totals response (ap (λ (m : Machine). stored m.totals.totals.mode) h) (ap (λ (m : Machine). m.totals.left) h)
+
+released_told : (k : Category) (old new : Machine) (n : ℕ) (c : Control) (response : Response) → new ≡ released k (with_control old n (after_release k c)) n c → Told [] old.totals response new.totals
+released_told category.CashDrawer old new n c response h = rest_unasked old.totals new.totals response (ap (λ (m : Machine). m.totals) h)
+released_told category.HardTotals old new n c response h = rest_beside old.totals new.totals response (ap (λ (m : Machine). stored m.totals.totals.mode) h) (ap (λ (m : Machine). m.totals.left) h)
+
+dropped_told : (k : Category) (old new : Machine) (n : ℕ) (c : Control) (response : Response) → new ≡ dropped k (with_control old n (closed c)) n c → Told [] old.totals response new.totals
+dropped_told category.CashDrawer old new n c response h = rest_unasked old.totals new.totals response (ap (λ (m : Machine). m.totals) h)
+dropped_told category.HardTotals old new n c response h =
+    rest_beside old.totals new.totals response (ap (λ (m : Machine). stored m.totals.totals.mode) h ∙ stored_claimed (is_own_claim n) None old.totals.totals.mode) (ap (λ (m : Machine). m.totals.left) h)
+
+does_told : (old new : Machine) (n : ℕ) (c : Control) (asked : Call) (result : Answer) → old.totals.left ≡ settled old.totals.totals.mode old.totals.left → Does old n c asked result new → Told (changes_asked old.totals.totals n (file_call asked)) old.totals (Answered result) new.totals
 does_told old new n c (call.Open name) result is h = rest_unasked old.totals new.totals (Answered result) (ap (λ (m : Machine). m.totals) h.1)
-does_told old new n c call.Close result is h = rest_unasked old.totals new.totals (Answered result) (ap (λ (m : Machine). m.totals) h.1)
+does_told old new n c call.Close result is h = dropped_told c.category old new n c (Answered result) h.1
+does_told old new n c (call.Claim timeout) result is h = claimed_told c.category old new n c (Answered result) h.1
+does_told old new n c call.Release result is h = released_told c.category old new n c (Answered result) h.1
 does_told old new n c (call.Set p v) result is h = set_told old new n c p v result (recovers old.totals c p v) refl h
 does_told old new n c (call.Get p) result is h = rest_unasked old.totals new.totals (Answered result) (ap (λ (m : Machine). m.totals) h.1)
 does_told old new n c own result is h = category_told c.category old new n c own result is h
 
-called_told : (old new : Machine) (n : ℕ) (c : Control) (asked : Call) (result : Answer) → old.totals.left ≡ settled old.totals.totals.mode old.totals.left → Called old n c asked result new → Told (changes_asked (file_call asked)) old.totals (Answered result) new.totals
+called_told : (old new : Machine) (n : ℕ) (c : Control) (asked : Call) (result : Answer) → old.totals.left ≡ settled old.totals.totals.mode old.totals.left → Called old n c asked result new → Told (changes_asked old.totals.totals n (file_call asked)) old.totals (Answered result) new.totals
 called_told old new n c asked result is h =
     elim (match_cases (first_refusal (refusals old n c asked)) _ _ h.outcome) [
       | inl x ↦ does_told old new n c asked result is x.1
-      | inr x ↦ rest_undone (changes_asked (file_call asked)) old.totals new.totals (Answered result)
+      | inr x ↦ rest_undone (changes_asked old.totals.totals n (file_call asked)) old.totals new.totals (Answered result)
           (refusal_undone result (subst IsRefusal (sym x.2.0) (refusal_of (refusals old n c asked) x.0 (all_refuse old n c asked) x.1)))
           (ap (λ (m : Machine). m.totals) x.2.1)
     ]
 
 -- want of memory
-stays_told : (old new : Machine) (c : Control) (asked : Call) → Stays old c asked new → Told (changes_asked (file_call asked)) old.totals OutOfMemory new.totals
-stays_told old new c (call.Set p v) h = rest_still old.totals new.totals OutOfMemory h.0
-stays_told old new c asked h = rest_undone (changes_asked (file_call asked)) old.totals new.totals OutOfMemory tt (ap (λ (m : Machine). m.totals) h)
+stays_told : (old new : Machine) (n : ℕ) (c : Control) (asked : Call) → Stays old c asked new → Told (changes_asked old.totals.totals n (file_call asked)) old.totals OutOfMemory new.totals
+stays_told old new n c (call.Set p v) h = rest_still old.totals new.totals OutOfMemory h.0
+stays_told old new n c asked h = rest_undone (changes_asked old.totals.totals n (file_call asked)) old.totals new.totals OutOfMemory tt (ap (λ (m : Machine). m.totals) h)
 
 -- ---- steps
 
@@ -282,18 +371,18 @@ same_machine old new then response is same = rest_unasked old.totals new.totals 
 
 -- Each step of the machine is what its event says.
 pub step_told : (old : Machine) (q : Request) (r : Response) (new : Machine) → old.totals.left ≡ settled old.totals.totals.mode old.totals.left → Step old q r new → Happens old.totals (event_of old q r new) new.totals
-step_told old (NewControl k) (Made number) new is h = same_machine old new _ (Made number) h.2 refl
+step_told old (NewControl k) (Made number) new is h = rest_beside old.totals new.totals (Made number) (ap (λ (m : Machine). stored m.totals.totals.mode) h.2) (ap (λ (m : Machine). m.totals.left) h.2)
 step_told old (NewControl k) Full new is h = same_machine old new old Full h.1 refl
 step_told old (NewControl k) OutOfMemory new is h = same_machine old new old OutOfMemory h.1 refl
 step_told old (CallOf n asked) (Answered result) new is h =
     elim (match_cases (slice_get old.controls n) _ _ h) [
-      | inl x ↦ rest_undone (changes_asked (file_call asked)) old.totals new.totals (Answered result) (refusal_undone result (subst IsRefusal (sym x.1.0) tt)) (ap (λ (m : Machine). m.totals) x.1.1)
+      | inl x ↦ rest_undone (changes_asked old.totals.totals n (file_call asked)) old.totals new.totals (Answered result) (refusal_undone result (subst IsRefusal (sym x.1.0) tt)) (ap (λ (m : Machine). m.totals) x.1.1)
       | inr x ↦ called_told old new n x.0 asked result is x.2
     ]
 step_told old (CallOf n asked) OutOfMemory new is h =
     elim (match_cases (slice_get old.controls n) _ _ h) [
       | inl x ↦ absurd x.1
-      | inr x ↦ stays_told old new x.0 asked x.2.2
+      | inr x ↦ stays_told old new n x.0 asked x.2.2
     ]
 step_told old (InputTo name input) TakenIn new is h = rest_unasked old.totals new.totals TakenIn (station_same old new _ _ h)
 step_told old (InputTo name input) NoDevice new is h = same_machine old new old NoDevice h.1 refl

@@ -12,7 +12,8 @@ use Rattle.pos_dir.specs.declared.file.File.{File as PlainFile}
 use Rattle.pos_dir.specs.declared.limits.TheConstants.{LAYOUT_1}
 use Rattle.pos_service.specs.HardTotals.{File, Mode, Off, Ready, next_sequences}
 use Rattle.pos_store.specs.Standing.{Standing, Stands, IsOneOf}
-use Rattle.pos_totals.specs.Views.{plain}
+use Rattle.pos_store.specs.Modes.{Ready as StoreReady}
+use Rattle.pos_totals.specs.Views.{plain, stored}
 use Rattle.pos_counter.specs.History.{Group, History, FilesEvent, GroupAccepted, GroupInDoubt, FilesFound, NothingDone, begun, listed, with_settled, without_doubt, after_groups, is_same, has_made, decided, told}
 use Rattle.pos_counter.specs.Prefixes.{BeginsWith, IsFiles, IsPrefix, LeavesPrefix, LeavesPrefixInside, StartsWith}
 use Rattle.pos_counter.specs.Totals.{TotalsPart, settled}
@@ -91,9 +92,9 @@ pub record Finds (found : List PlainFile) (old new : TotalsPart) : Type 0 where
   pub files : plain now ≡ found
   pub left : new.left ≡ Stands found sequence ∷ []
 
--- The files are what they were.
+-- The files are what they were, their handles and claims aside.
 pub record Rest (old new : TotalsPart) : Type 0 where
-  pub mode : new.totals.mode ≡ old.totals.mode
+  pub mode : stored new.totals.mode ≡ stored old.totals.mode
   pub left : new.left ≡ old.left
 
 -- this is what happens from the old totals to the new ones
@@ -226,6 +227,22 @@ prefix_files history held left is = subst IsFiles (sym is.stands) tt
 
 -- ---- steps
 
+same_stored : (files others : List PlainFile) (m n : ℕ) → StoreReady files m ≡ StoreReady others n → (files ≡ others) × (m ≡ n)
+same_stored files others m n same = (cc, cc)
+
+-- a history that fits totals fits those of the same files
+fits_rest : (history : History) (early late : Mode) (left : List Standing) → stored late ≡ stored early → FitsIn history early left → FitsIn history late left
+fits_rest history Off Off left same fits = fits
+fits_rest history Off (Ready files sequence) left same fits = absurd cc
+fits_rest history (Ready files sequence) Off left same fits = absurd cc
+fits_rest history (Ready files sequence) (Ready others next) left same fits =
+    let equal = same_stored (plain others) (plain files) next sequence same in
+    (
+      fits.0 ∙ ap (λ (fs : List PlainFile). Ok fs) (sym equal.0),
+      fits.1,
+      fits.2 ∙ ap (λ fs. Stands fs sequence ∷ []) (sym equal.0) ∙ ap (λ n. Stands (plain others) n ∷ []) (sym equal.1),
+    )
+
 -- what happens keeps the history fitting
 pub fits_next : (history : History) (old : TotalsPart) (event : FilesEvent) (new : TotalsPart) → Fits history old → Happens old event new → Fits (told history event) new
 fits_next history old (GroupAccepted group) new fits h =
@@ -240,7 +257,8 @@ fits_next history old (FilesFound found) new fits h =
     let was = fits_from history old Off h.off fits in
     fits_at (decided history history.doubt found) new (Ready h.now h.sequence) (Stands found h.sequence ∷ []) h.ready h.left
     (decided_fits history history.doubt was.0 found h.now h.sequence refl was.1 h.files (was.2 (Stands found h.sequence) h.candidate))
-fits_next history old NothingDone new fits h = fits_at history new old.totals.mode old.left h.mode h.left fits
+fits_next history old NothingDone new fits h =
+    subst (λ (left : List Standing). FitsIn history new.totals.mode left) (sym h.left) (fits_rest history old.totals.mode new.totals.mode old.left h.mode fits)
 
 -- the history at the start fits
 pub fits_begun : (start : List PlainFile) (sequence : ℕ) (totals : TotalsPart) → StartsWith start sequence totals → Fits (begun start) totals

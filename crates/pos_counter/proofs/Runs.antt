@@ -1,5 +1,5 @@
 -- A run goes on by one more step.
-use Rattle.std.proofs.Common.{inl, inr, sym, ◌≡◌, ℕ, ◌+◌, ◌<◌, ◌∷◌, ◌++◌, [], List, zero, suc, length, take, get_or, ap, ◌∙◌, subst, refl, arith}
+use Rattle.std.proofs.Common.{inl, inr, sym, ◌≡◌, ℕ, ◌+◌, ◌<◌, ◌∷◌, ◌++◌, [], List, zero, suc, Option, Result, length, take, get_or, ap, ◌∙◌, subst, refl, arith}
 use Rattle.pos_counter.specs.Machine.{Machine}
 use Rattle.pos_counter.specs.Steps as machine
 use Rattle.pos_disk.specs.State.{MayLeave}
@@ -11,13 +11,17 @@ use Rattle.pos_store.specs.Standing.{Standing, StandsForOneOf}
 use Rattle.pos_disk.specs.Keeps.{KeepsDisk}
 use Rattle.pos_totals.specs.Views.{TotalsView}
 use Rattle.pos_counter.specs.declared.counter.Counter.{Counter}
-use Rattle.pos_counter.specs.Counters.{machine as machine_of_counter, IsLeftDuring, IsRun, IsStep, IsStepBeside, RunsFrom}
-use Rattle.pos_counter.specs.Parts.{part_of, IsLeft, Leaves, Stepped}
+use Rattle.pos_counter.specs.Counters.{machine as machine_of_counter, states_of, IsLeftDuring, IsRun, IsStep, IsStepBeside, RunsFrom}
+use Rattle.pos_counter.specs.Parts.{devices_of, machine_with, part_of, IsLeft, Leaves, MakesControl, Stepped}
 use Rattle.pos_counter.specs.Steps.{Step, Run}
 use Rattle.pos_counter.specs.declared.request.Request.{Request}
 use Rattle.pos_counter.specs.declared.request.Response.{Response}
-use Rattle.pos_counter.specs.Responses.{request_of, response_of, steps_of}
-use Rattle.pos_counter.proofs.Serving.{kept_disk, rests_stepped}
+use Rattle.pos_counter.specs.Responses.{made, request_of, response_of, steps_of}
+use Rattle.pos_service.specs.declared.category.Category.{Category}
+use Rattle.pos_counter.specs.declared.entry.Entry.{Entry}
+use Rattle.pos_counter.specs.declared.faults.ControlFault.{ControlFault}
+use Rattle.pos_counter.specs.Totals.{TotalsPart, settled}
+use Rattle.pos_counter.proofs.Serving.{arranges_stepped, kept_disk, rests_stepped, same_view}
 
 -- the steps with one more request and its response
 steps_suc : (qs : List Request) (rs : List Response) (i : ℕ) (d : Request) (r : Response) → i < length qs → length rs ≡ i → steps_of (take (suc i) qs) (rs ++ r ∷ []) ≡ steps_of (take i qs) rs ++ (request_of (get_or qs i d), response_of r) ∷ []
@@ -62,6 +66,27 @@ module _ {D X : Type 0} {O : X → Type 0} (bound : DiskGhosts D) (boxes : Ghost
   pub beside_step_as : (old new : Counter D X O) (q : machine.Request) (r : machine.Response) (asked : machine.Request) (answered : machine.Response) → ((bytes : List ℕ) → bound.honest old.totals.disk → (bound.state old.totals.disk).left_since (bound.state old.totals.disk).moment bytes → MayLeave (bound.state old.totals.disk) bytes) → asked ≡ q → answered ≡ r → IsStepBeside boxes old q r new → IsStep bound boxes old asked answered new
   beside_step_as old new q r asked answered only is gives beside =
       subst (λ s. IsStep bound boxes old asked s new) (sym gives) (subst (λ p. IsStep bound boxes old p r new) (sym is) (beside_is_step old new q r only beside))
+
+  -- a new control is a step for all that the disk may leave
+  pub control_is_step : (old new : Counter D X O) (k : Category) (outcome : Result ℕ ControlFault) → ((bytes : List ℕ) → bound.honest old.totals.disk → (bound.state old.totals.disk).left_since (bound.state old.totals.disk).moment bytes → MayLeave (bound.state old.totals.disk) bytes)
+      → MakesControl old.desk old.totals k outcome new.desk new.totals → new.claims ≡ old.claims → new.entries.items ≡ old.entries.items → new.boxes.items ≡ old.boxes.items → IsStep bound boxes old (machine.NewControl k) (made outcome) new
+  control_is_step old new k outcome only makes claims entries peripherals = record {
+    steps = λ left leaves. subst (λ (v : TotalsView D). Stepped bound left (machine_of_counter boxes old) old.totals (machine.NewControl k) (made outcome) (machine_of_counter boxes new) v) (sym (same_view old.totals new.totals new.totals.totals makes.disk refl))
+        (arranges_stepped bound old.totals new.totals.totals (machine_of_counter boxes old) (machine_of_counter boxes new) (machine.NewControl k) (made outcome) left only (ap (λ mode. settled mode left) makes.mode) leaves
+        (subst (λ (claims : List (Option ℕ)). Step _ (machine.NewControl k) (made outcome) (machine_with new.desk claims new.entries.items (states_of boxes new.boxes.items) (now left))) (sym claims)
+        (subst (λ (entries : List Entry). Step _ (machine.NewControl k) (made outcome) (machine_with new.desk old.claims entries (states_of boxes new.boxes.items) (now left))) (sym entries)
+        (subst (λ (ps : List (PeripheralBox X O)). Step _ (machine.NewControl k) (made outcome) (machine_with new.desk old.claims old.entries.items (states_of boxes ps) (now left))) (sym peripherals)
+        (makes.step (devices_of old.entries.items (states_of boxes old.boxes.items)) old.claims left (bound.state old.totals.disk).failures)))));
+    alone = λ spares. makes.disk;
+    kept = subst (λ (d : D). KeepsDisk bound old.totals.disk d) (sym makes.disk) (kept_disk bound old.totals.disk);
+  }
+    where
+      now : List Standing → TotalsPart
+      now left = record { totals = new.totals.totals; left = left; failures = (bound.state old.totals.disk).failures }
+
+  -- a step by another name of the request and of the response
+  pub step_as : (old new : Counter D X O) (q : machine.Request) (r : machine.Response) (asked : machine.Request) (answered : machine.Response) → asked ≡ q → answered ≡ r → IsStep bound boxes old q r new → IsStep bound boxes old asked answered new
+  step_as old new q r asked answered is gives step = subst (λ s. IsStep bound boxes old asked s new) (sym gives) (subst (λ p. IsStep bound boxes old p r new) (sym is) step)
 
   -- a run with one step more
   pub runs_more : (a b c : Counter D X O) (steps : List (machine.Request × machine.Response)) (q : machine.Request) (r : machine.Response) → IsRun bound boxes a steps b → IsStep bound boxes b q r c → IsRun bound boxes a (steps ++ (q, r) ∷ []) c

@@ -1,5 +1,5 @@
 -- A step from sound parts of a counter leads to sound ones.
-use Rattle.std.proofs.Common.{◌≡◌, ◌≤◌, ◌∙◌, ℕ, List, Option, false, inl, set, map, length, sym, subst, refl, arith}
+use Rattle.std.proofs.Common.{◌≡◌, ◌≤◌, ◌∙◌, ℕ, List, [], Option, false, inl, set, map, length, ap, sym, subst, refl, arith}
 use Rattle.std.proofs.lemmas.List.{length-map, length-set}
 use Rattle.pos_disk.specs.State.{MayLeave, LeavesOnly}
 use Rattle.pos_disk.specs.declared.device.Disk.{Ghosts}
@@ -75,6 +75,33 @@ arranges_stepped bound view totals old new q r left only same leaves step = reco
 pub rests_stepped : {D : Type 0} (bound : Ghosts D) (view : TotalsView D) (old new : TotalsPart → Machine) (q : Request) (r : Response) (left : List Standing) → OnlyNow bound view.disk
     → Leaves bound view left → Step (old (part_of bound view left)) q r (new (part_of bound view left)) → Stepped bound left old view q r new view
 rests_stepped bound view old new q r left only leaves step = arranges_stepped bound view view.totals old new q r left only refl leaves step
+
+-- totals on the same disk
+pub same_view : {D : Type 0} (old new : TotalsView D) (totals : Totals) → new.disk ≡ old.disk → new.totals ≡ totals → new ≡ record { disk = old.disk; totals = totals }
+same_view {D = D} old new totals d t = ap (λ (x : D). let v : TotalsView D = record { disk = x; totals = new.totals } in v) d ∙ ap (λ (x : Totals). let v : TotalsView D = record { disk = old.disk; totals = x } in v) t
+
+-- parts are sound after a step in which the peripherals stay
+pub stepped_sound : (hs gs : List Held) (es : List Entry) (ss : List PeripheralState) (one other : Shared) (q : Request) (r : Response) → ArePartsSound hs es ss → Step (machine_of hs es ss one) q r (machine_of gs es ss other) → ArePartsSound gs es ss
+stepped_sound hs gs es ss one other q r sound step = record {
+  machine = λ shared. any_shared gs es ss other shared (step_sound (machine_of hs es ss one) (machine_of gs es ss other) q r step (sound.machine one));
+  unparked = sound.unparked;
+  attached = sound.attached;
+}
+
+-- parts that serve a request in which the disk has no part, over totals that know the same files
+pub arranges_serve : {D : Type 0} (bound : Ghosts D) (view new : TotalsView D) (totals : Totals) (hs gs : List Held) (cl dl : List (Option ℕ)) (es : List Entry) (ss : List PeripheralState) (q : Request) (r : Response) → OnlyNow bound view.disk
+    → new.disk ≡ view.disk → new.totals ≡ totals → ((left : List Standing) → settled totals.mode left ≡ settled view.totals.mode left) → ArePartsSound hs es ss → length dl ≡ length cl
+    → ((left : List Standing) → Step (machine_with hs cl es ss (part_of bound view left)) q r (machine_with gs dl es ss (part_of bound (record { disk = view.disk; totals = totals }) left)))
+    → Serves bound hs cl es ss view q r gs dl ss new
+arranges_serve {D = D} bound view new totals hs gs cl dl es ss q r only disk is same sound covers step =
+    let after : TotalsView D = record { disk = view.disk; totals = totals } in
+    subst (λ (v : TotalsView D). Serves bound hs cl es ss view q r gs dl ss v) (sym (same_view view new totals disk is)) (record {
+      steps = λ left leaves. arranges_stepped bound view totals (machine_with hs cl es ss) (machine_with gs dl es ss) q r left only (same left) leaves (step left);
+      sound = stepped_sound hs gs es ss (record { claims = cl; totals = part_of bound view [] }) (record { claims = dl; totals = part_of bound after [] }) q r sound (step []);
+      covers = covers;
+      alone = λ spares. refl;
+      kept = kept_disk bound view.disk;
+    })
 
 -- parts that serve a request, whatever the totals, serve it for all that the disk may leave
 pub parts_serve : {D : Type 0} (bound : Ghosts D) (view : TotalsView D) (hs gs : List Held) (cl dl : List (Option ℕ)) (es : List Entry) (ss ts : List PeripheralState) (q : Request) (r : Response) → OnlyNow bound view.disk

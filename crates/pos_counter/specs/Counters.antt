@@ -30,7 +30,8 @@ pub record Begins {D X : Type 0} {O : X → Type 0} (boxes : Ghosts (PeripheralB
     (list : List (PeripheralBox X O)) (disk : D) (counter : Counter D X O) : Type 0 where
   pub machine : (part : TotalsPart) → machine boxes counter part
       ≡ machine_with [] (replicate (length profile) None) profile (states_of boxes list) part
-  pub totals : counter.totals ≡ record { disk = disk; totals = record { mode = Off; next = 1 } }
+  pub totals : counter.totals
+      ≡ record { disk = disk; totals = record { mode = Off; next = 1; area = None; transactions = [] } }
 
 -- From an old counter to a new one, a step in which the totals have no part: the request gets this response.
 pub record IsStepBeside {D X : Type 0} {O : X → Type 0} (boxes : Ghosts (PeripheralBox X O)) (old : Counter D X O)

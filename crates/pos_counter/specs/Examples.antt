@@ -1,5 +1,5 @@
 -- An example of a run, and of its history: the disk fails in a group.
-use Rattle.std.specs.Prelude.{◌≡◌, pos, Bool, false, true, List, [], ◌∷◌, ◌++◌}
+use Rattle.std.specs.Prelude.{◌≡◌, pos, Bool, false, true, List, [], ◌∷◌, ◌++◌, None, length, replicate}
 use Rattle.pos_dir.specs.declared.change.Change.TheVariants as file
 use Rattle.pos_dir.specs.declared.file.File.{File as PlainFile}
 use Rattle.pos_service.specs.declared.answer.Answer.TheVariants as answer
@@ -12,7 +12,7 @@ use Rattle.pos_service.specs.HardTotals.{Off}
 use Rattle.pos_store.specs.Standing.{Stands}
 use Rattle.pos_counter.specs.History.{Group, History, history_of}
 use Rattle.pos_counter.specs.Machine.{Machine}
-use Rattle.pos_counter.specs.Parts.{machine_of}
+use Rattle.pos_counter.specs.Parts.{machine_with}
 use Rattle.pos_counter.specs.Profile.{profile}
 use Rattle.pos_counter.specs.Steps.{Request, NewControl, CallOf, Response, Made, Answered, Run}
 
@@ -25,8 +25,8 @@ pub record MayHave (first : Machine) (start : List PlainFile) (steps : List (Req
 
 -- a machine as it begins, over a disk that stands for no files
 abbrev pub new_machine : Machine
-new_machine = machine_of [] profile [] (record {
-  totals = record { mode = Off; next = 1 };
+new_machine = machine_with [] (replicate (length profile) None) profile [] (record {
+  totals = record { mode = Off; next = 1; area = None; transactions = [] };
   left = Stands [] 1 ∷ [];
   failures = 0;
 })

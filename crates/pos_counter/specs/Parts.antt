@@ -15,8 +15,11 @@ use Rattle.pos_disk.specs.declared.device.Disk.{Ghosts}
 use Rattle.pos_store.specs.Standing.{Standing, LeavesOneOf, StandsForOneOf}
 use Rattle.pos_disk.specs.Keeps.{KeepsDisk}
 use Rattle.pos_totals.specs.Views.{TotalsView}
+use Rattle.pos_service.specs.declared.category.Category.{Category}
 use Rattle.pos_counter.specs.Machine.{Device, Machine, Shared}
-use Rattle.pos_counter.specs.Steps.{Request, CallOf, Response, Step, IsSound}
+use Rattle.pos_counter.specs.Responses.{made}
+use Rattle.pos_counter.specs.declared.faults.ControlFault.{ControlFault}
+use Rattle.pos_counter.specs.Steps.{Request, NewControl, CallOf, Response, Step, IsSound}
 use Rattle.pos_service.specs.declared.answer.Value.{Value}
 use Rattle.pos_service.specs.declared.property.Property.{Property}
 use Rattle.pos_counter.specs.Totals.{TotalsPart, settled, file_facts, FilesCalled, asks_recovery, is_change, uses_disk}
@@ -130,6 +133,18 @@ pub record Serves {D : Type 0} (bound : Ghosts D) (helds : List Held) (claims : 
   pub covers : length new_claims ≡ length claims
   pub alone : SparesDisk helds request → now.disk ≡ before.disk
   pub kept : KeepsDisk bound before.disk now.disk
+
+-- A new control is made, which gets a place for its transaction, whatever the devices, the claims and what the disk may
+-- leave, which have no part in it.
+pub record MakesControl {D : Type 0} (helds : List Held) (before : TotalsView D) (category : Category)
+    (outcome : Result ℕ ControlFault) (new_helds : List Held) (now : TotalsView D) : Type 0 where
+  pub step : (devices : List Device) (claims : List (Option ℕ)) (left : List Standing) (failures : ℕ) →
+      let old = record { totals = before.totals; left = left; failures = failures } in
+      let new = record { totals = now.totals; left = left; failures = failures } in
+      Step (over helds devices (record { claims = claims; totals = old })) (NewControl category) (made outcome)
+      (over new_helds devices (record { claims = claims; totals = new }))
+  pub mode : now.totals.mode ≡ before.totals.mode
+  pub disk : now.disk ≡ before.disk
 
 -- A call of the totals' own on an enabled control, by what the disk may leave before it.
 pub record FilesStepped {D : Type 0} (bound : Ghosts D) (left : List Standing) (before : TotalsView D) (number : ℕ)

@@ -1,7 +1,8 @@
 //! The calls that every category has.
-ghost use Rattle.std.specs.Prelude.{◌≡◌, ◌<◌, List, IfSome, length, map};
+ghost use Rattle.std.specs.Prelude.{◌≡◌, ◌<◌, List, Some, None, IfSome, length, map};
 ghost use Rattle.pos_service.specs.declared.call.Call.TheVariants as call;
 ghost use Rattle.pos_service.specs.Claims.{holder_at, is_own, is_foreign, claim_rows, claimed_by, release_rows, released_by, after_release};
+ghost use Rattle.pos_service.specs.HardTotals.{is_area_taken};
 ghost use Rattle.pos_service.specs.Peripherals.{PeripheralState};
 ghost use Rattle.pos_service.specs.Refusals.{Decided};
 ghost use Rattle.pos_counter.specs.declared.entry.Entry.{Entry as OneEntry};
@@ -55,7 +56,10 @@ pub(crate) fn close<D: Disk>(
             claims.release(device, number);
             controls[number].close()
         }
-        Category::HardTotals => controls[number].close(),
+        Category::HardTotals => {
+            totals.drop_control(number);
+            controls[number].close()
+        }
     }
 }
 
@@ -76,7 +80,7 @@ pub(crate) fn claim<D: Disk>(
     let control = &controls[number];
     match control.category() {
         Category::CashDrawer => claim_device(control, claims, number, timeout),
-        Category::HardTotals => control.claim(number, None, timeout),
+        Category::HardTotals => claim_area(control, totals, number, timeout),
     }
 }
 
@@ -100,6 +104,27 @@ fn claim_device(control: &Control, claims: &mut Claims, number: usize, timeout: 
     }
 }
 
+/// `claim` of Hard Totals: of the area, which is taken where another control holds it or a file.
+fn claim_area<D: Disk>(
+    control: &Control,
+    totals: &mut Totals<D>,
+    number: usize,
+    timeout: i128,
+) -> Answer
+    ensures answer { Decided (claim_rows control.now.control (is_area_taken totals.old.totals number) timeout) result
+        (totals.new.totals ≡ totals.old.totals)
+        ((result ≡ Answer.Done Value.Empty) × (totals.new.totals ≡ record totals.old.totals { area = Some number })) }
+    ensures disk { totals.new.disk ≡ totals.old.disk }
+{
+    match control.claim(number, totals.area(), timeout) {
+        Answer::Done(value) => match totals.claim_area(number) {
+            Ok(()) => Answer::Done(value),
+            Err(code) => Answer::Refused(code, 0),
+        },
+        refusal => refusal,
+    }
+}
+
 /// `release` (common chapter).
 pub(crate) fn release<D: Disk>(
     controls: &mut [Control],
@@ -115,7 +140,7 @@ pub(crate) fn release<D: Disk>(
     let control = &mut controls[number];
     match control.category() {
         Category::CashDrawer => release_device(control, claims, number),
-        Category::HardTotals => control.release(number, None),
+        Category::HardTotals => release_area(control, totals, number),
     }
 }
 
@@ -132,4 +157,22 @@ fn release_device(control: &mut Control, claims: &mut Claims, number: usize) -> 
     let answer = control.release(number, claims.holder(device));
     claims.release(device, number);
     answer
+}
+
+/// `release` of Hard Totals: of the area. Files that the control holds stay so.
+fn release_area<D: Disk>(control: &mut Control, totals: &mut Totals<D>, number: usize) -> Answer
+    ensures answer { Decided (release_rows control.old.control (is_own number totals.old.totals.area)) result
+        ((control.new ≡ control.old) × (totals.new.totals ≡ totals.old.totals))
+        ((result ≡ Answer.Done Value.Empty)
+        × (control.new.control ≡ after_release control.old.control.category control.old.control)
+        × (totals.new.totals ≡ record totals.old.totals { area = None })) }
+    ensures disk { totals.new.disk ≡ totals.old.disk }
+{
+    match control.release(number, totals.area()) {
+        Answer::Done(value) => match totals.release_area(number) {
+            Ok(()) => Answer::Done(value),
+            Err(code) => Answer::Refused(code, 0),
+        },
+        refusal => refusal,
+    }
 }

@@ -82,11 +82,11 @@ impl<D: Disk> Counter<D> {
     /// Refused with Full where there are 4,096 controls, closed ones included. Want of memory changes nothing.
     pub fn control(&mut self, category: Category) -> Result<usize, ControlFault>
         requires sound { IsCounterSound ⟦<PeripheralBox as HasState>⟧ self.old }
-        ensures step { IsStepBeside ⟦<PeripheralBox as HasState>⟧ self.old
+        ensures step { IsStep D.Disk ⟦<PeripheralBox as HasState>⟧ self.old
             (NewControl category) (made result) self.new }
         ensures sound { IsCounterSound ⟦<PeripheralBox as HasState>⟧ self.new }
     {
-        self.desk.control(category)
+        self.desk.control(&mut self.totals, category)
     }
 
     /// A call of an application on its control.

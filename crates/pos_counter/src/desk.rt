@@ -1,12 +1,13 @@
 ghost use Rattle.std.specs.Prelude.{◌≡◌, [], List};
 ghost use Rattle.pos_counter.specs.Machine.{Device, Shared};
-ghost use Rattle.pos_counter.specs.Steps.{Step, NewControl, Deliver, Delivered};
-ghost use Rattle.pos_counter.specs.Parts.{over};
-ghost use Rattle.pos_counter.specs.Responses.{made};
+ghost use Rattle.pos_counter.specs.Steps.{Step, Deliver, Delivered};
+ghost use Rattle.pos_counter.specs.Parts.{over, MakesControl};
 
 use crate::faults::ControlFault;
 use pos_common::Control;
-use pos_service::{Category, ErrorReply, Event};
+use pos_disk::Disk;
+use pos_service::{Category, ErrorReply, Event, NoMemory};
+use pos_totals::Totals;
 use std::alloc::Global;
 use std::marker::Model;
 
@@ -46,6 +47,8 @@ impl Desk {
     }
 
     /// A new control of a category, which gets a place for its transaction of the totals: its number.
+    ///
+    /// Refused with Full where there are as many controls as there may be. Want of memory changes nothing.
     pub(crate) fn control<D: Disk>(
         &mut self,
         totals: &mut Totals<D>,

@@ -1,6 +1,8 @@
 //! The controls of all applications and the devices that they share: each request is a step of the device machine.
 #![tactic(auto)]
 
+#[cfg(test)]
+mod claims_tests;
 mod control_calls;
 mod counter;
 mod desk;
@@ -11,6 +13,8 @@ mod faults;
 pub mod laws;
 mod properties;
 mod request;
+#[cfg(test)]
+mod steps;
 #[cfg(test)]
 mod support;
 #[cfg(test)]

@@ -56,21 +56,21 @@ fn find_facts<P: HasState, D: Disk>(
         result ≡ facts_of machine number control.now.control }
 {
     Facts {
-        is_claimed: find_holder(control, claims) == Some(number),
-        in_transaction: false,
+        is_claimed: find_holder(control, claims, totals.area()) == Some(number),
+        in_transaction: totals.in_transaction(number),
         signs: signs_at(peripherals, control.device()),
         totals_size: totals.size(),
         files: find_file_facts(totals),
     }
 }
 
-/// The control that holds a control's device.
-fn find_holder(control: &Control, claims: &Claims) -> Option<usize>
-    ensures { result ≡ holder_in control.now.control.category claims.now control.now.control.device }
+/// The control that holds a control's device, by who holds the area.
+fn find_holder(control: &Control, claims: &Claims, area: Option<usize>) -> Option<usize>
+    ensures { result ≡ holder_in control.now.control.category claims.now area control.now.control.device }
 {
     match control.category() {
         Category::CashDrawer => claims.holder(control.device()),
-        Category::HardTotals => None,
+        Category::HardTotals => area,
     }
 }
 

@@ -2,7 +2,7 @@ use Rattle.std.proofs.Common.{◌∙◌, ◌++◌, ◌∷◌, [], Some, None, sy
 use Rattle.std.specs.Prelude.{is_some}
 use Rattle.pos_counter.specs.Steps.{NewControl, Made, Full, OutOfMemory}
 use Rattle.pos_counter.specs.Counters.{IsRun, boxes_of}
-use Rattle.pos_counter.proofs.Runs.{one_beside}
+use Rattle.pos_counter.proofs.Runs.{one_step}
 use Rattle.pos_console.specs.Commands.{NewLine}
 use Rattle.pos_console.specs.Names.{names_of}
 use Rattle.pos_console.proofs.Sessions.{asks_none, asks_request, asks_unkept, renamed}
@@ -16,7 +16,7 @@ returns-in-Ok-control-clause-asks g c =
     let unknown = sym (ap is_some c.find.ensures) ∙ (sym c.is_some.ensures ∙ c.if-is_some.false) in
     let named = c.add.ensures ∙ ap (λ ns. ns ++ (c.in-Ok.copy.items, c.in-Ok-control.number) ∷ []) c.in-Ok.ensures.names ∙ ap (λ name. names ++ (name, c.in-Ok-control.number) ∷ []) c.in-Ok.ensures.copy in
     renamed (IsRun g.D.Disk boxes) _ _ _ _ _ _ named
-    (asks_request (IsRun g.D.Disk boxes) old names (NewLine c.args.name.now c.args.category) (NewControl c.args.category) (Made c.in-Ok-control.number) c.control.new.self (ap (λ b. cond b None (Some (NewControl c.args.category))) unknown) (one_beside g.D.Disk boxes old c.control.new.self (NewControl c.args.category) (Made c.in-Ok-control.number) (λ bytes honest since. g.met.D.Disk.only_now c.args.counter.now.totals.disk bytes honest since) c.in-Ok-control.ensures.step))
+    (asks_request (IsRun g.D.Disk boxes) old names (NewLine c.args.name.now c.args.category) (NewControl c.args.category) (Made c.in-Ok-control.number) c.control.new.self (ap (λ b. cond b None (Some (NewControl c.args.category))) unknown) (one_step g.D.Disk boxes old c.control.new.self (NewControl c.args.category) (Made c.in-Ok-control.number) c.in-Ok-control.ensures.step))
 
 pub returns-in-Err-Full-clause-asks : goal.returns-in-Err-Full-clause-asks
 returns-in-Err-Full-clause-asks g c =
@@ -25,7 +25,7 @@ returns-in-Err-Full-clause-asks g c =
     let names = names_of c.args.names.now in
     let unknown = sym (ap is_some c.find.ensures) ∙ (sym c.is_some.ensures ∙ c.if-is_some.false) in
     renamed (IsRun g.D.Disk boxes) _ _ _ _ _ _ c.in-Ok.ensures.names
-    (asks_request (IsRun g.D.Disk boxes) old names (NewLine c.args.name.now c.args.category) (NewControl c.args.category) Full c.control.new.self (ap (λ b. cond b None (Some (NewControl c.args.category))) unknown) (one_beside g.D.Disk boxes old c.control.new.self (NewControl c.args.category) Full (λ bytes honest since. g.met.D.Disk.only_now c.args.counter.now.totals.disk bytes honest since) (rw c.in-Err-Full.field-0-is at c.in-Err-Full.ensures.step)))
+    (asks_request (IsRun g.D.Disk boxes) old names (NewLine c.args.name.now c.args.category) (NewControl c.args.category) Full c.control.new.self (ap (λ b. cond b None (Some (NewControl c.args.category))) unknown) (one_step g.D.Disk boxes old c.control.new.self (NewControl c.args.category) Full (rw c.in-Err-Full.field-0-is at c.in-Err-Full.ensures.step)))
 
 pub returns-then-is_some-clause-asks : goal.returns-then-is_some-clause-asks
 returns-then-is_some-clause-asks g c =
@@ -48,4 +48,4 @@ returns-clause-asks g c =
     let old = c.args.counter.now in
     let unknown = sym (ap is_some c.find.ensures) ∙ (sym c.is_some.ensures ∙ c.if-is_some.false) in
     renamed (IsRun g.D.Disk boxes) _ _ _ _ _ _ c.in-Ok.ensures.names
-    (asks_request (IsRun g.D.Disk boxes) old (names_of c.args.names.now) (NewLine c.args.name.now c.args.category) (NewControl c.args.category) OutOfMemory c.control.new.self (ap (λ b. cond b None (Some (NewControl c.args.category))) unknown) (one_beside g.D.Disk boxes old c.control.new.self (NewControl c.args.category) OutOfMemory (λ bytes honest since. g.met.D.Disk.only_now old.totals.disk bytes honest since) (rw c.in-Err-NoMemory.field-0-is at c.in-Err-NoMemory.ensures.step)))
+    (asks_request (IsRun g.D.Disk boxes) old (names_of c.args.names.now) (NewLine c.args.name.now c.args.category) (NewControl c.args.category) OutOfMemory c.control.new.self (ap (λ b. cond b None (Some (NewControl c.args.category))) unknown) (one_step g.D.Disk boxes old c.control.new.self (NewControl c.args.category) OutOfMemory (rw c.in-Err-NoMemory.field-0-is at c.in-Err-NoMemory.ensures.step)))

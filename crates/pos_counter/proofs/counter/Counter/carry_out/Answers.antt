@@ -2,13 +2,13 @@ use Rattle.std.proofs.Common.{ap, subst, sym, refl, ◌∙◌}
 use Rattle.pos_counter.specs.Counters.{IsStep, boxes_of}
 use Rattle.pos_counter.specs.Responses.{made, taken_in, shown, request_of, response_of}
 use Rattle.pos_counter.specs.Steps.{NewControl, InputTo, Deliver, Delivered, Snapshot}
-use Rattle.pos_counter.proofs.Runs.{beside_step_as}
+use Rattle.pos_counter.proofs.Runs.{beside_step_as, step_as}
 use Rattle.pos_counter.proofs.counter.Counter.carry_out.Goals as goal
 
 pub returns-in-NewControl-clause-step : goal.returns-in-NewControl-clause-step
 returns-in-NewControl-clause-step g c =
     let old = c.args.self.now in
-    beside_step_as g.D.Disk (boxes_of c.requires.sound) old c.control.new.self (NewControl c.in-NewControl.category) (made c.control.result) _ _ (λ bytes honest since. g.met.D.Disk.only_now old.totals.disk bytes honest since) (ap request_of c.in-NewControl.is) (c.of_control.ensures) c.control.ensures.step
+    step_as g.D.Disk (boxes_of c.requires.sound) old c.control.new.self (NewControl c.in-NewControl.category) (made c.control.result) _ _ (ap request_of c.in-NewControl.is) (c.of_control.ensures) c.control.ensures.step
 
 pub returns-in-InputTo-clause-step : goal.returns-in-InputTo-clause-step
 returns-in-InputTo-clause-step g c =
