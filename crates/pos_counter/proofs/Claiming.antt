@@ -1,12 +1,11 @@
 -- Claims, releases and closes as steps of the machine.
 use Rattle.std.proofs.Common.{◌≡◌, ◌∙◌, ◌<◌, ◌≤◌, ◌∷◌, [], ℕ, ℤ, zero, suc, List, Option, Some, None, Bool, true, false, inl, inr, cond, get_or, set, length, map, ap, sym, subst, refl, arith}
-use Rattle.std.specs.Prelude.{IfSome, IsTrue, MatchOption, All, slice_get, slice_set, is_none, is_some, not, ◌||◌, ⊤}
+use Rattle.std.specs.Prelude.{IfSome, IsTrue, MatchOption, All, slice_get, slice_set, is_none, is_some, not}
 use Rattle.std.proofs.lemmas.List.{map-set, length-set, set-get_or}
 use Rattle.std.proofs.lemmas.List.Elements.{All-get_or, All-weaker}
 use Rattle.std.proofs.lemmas.Option.{slice_get_within, get_or_from_slice_get}
 use Rattle.pos_service.specs.declared.answer.Answer.{Answer}
 use Rattle.pos_service.specs.declared.answer.Answer.TheVariants as answer
-use Rattle.pos_service.specs.declared.answer.Value.{Value}
 use Rattle.pos_service.specs.declared.answer.Value.TheVariants as value
 use Rattle.pos_service.specs.declared.call.Call.{Call}
 use Rattle.pos_service.specs.declared.call.Call.TheVariants as call
@@ -14,7 +13,7 @@ use Rattle.pos_service.specs.declared.category.Category.{Category}
 use Rattle.pos_service.specs.declared.category.Category.TheVariants as category
 use Rattle.pos_service.specs.declared.code.Code.TheVariants as code
 use Rattle.pos_service.specs.Calls.{close_rows}
-use Rattle.pos_service.specs.Claims.{is_own, is_foreign, is_timeout, holder_at, claim_rows, claimed_by, release_rows, released_by, after_release}
+use Rattle.pos_service.specs.Claims.{is_own, is_foreign, holder_at, claim_rows, claimed_by, release_rows, released_by, after_release}
 use Rattle.pos_service.specs.Controls.{Control, closed}
 use Rattle.pos_service.specs.HardTotals.{Totals, is_area_taken, without_control}
 use Rattle.pos_service.specs.Peripherals.{PeripheralState}
@@ -57,7 +56,36 @@ pub claims_machine : (hs : List Held) (cl dl : List (Option ℕ)) (es : List Ent
 claims_machine hs cl dl es ss n g c part e =
     ap (λ (cs : List Control). let m : Machine = record { controls = cs; devices = devices_of es ss; claims = dl; totals = part } in m) (map-set (λ (h : Held). h.control) hs n g ∙ ap (set (controls_of hs) n) e)
 
+-- there is a claim for each device still
+pub length_released : (cl : List (Option ℕ)) (o : Option ℕ) (n : ℕ) → length (released_by cl o n) ≡ length cl
+length_released cl None n = refl
+length_released cl (Some place) n = by (is_own n (get_or cl place None))
+  where
+    by : (b : Bool) → length (cond b (set cl place None) cl) ≡ length cl
+    by true = length-set cl place None
+    by false = refl
+
+pub length_claimed : (cl : List (Option ℕ)) (o : Option ℕ) (n : ℕ) → length (claimed_by cl o n) ≡ length cl
+length_claimed cl None n = refl
+length_claimed cl (Some place) n = length-set cl place (Some n)
+
 -- ---- close
+
+-- an option that equals another is none where the other's test says so
+pub is_none_as : (o u : Option ℕ) (b test : Bool) → o ≡ u → is_some u ≡ not b → b ≡ test → is_none o ≡ test
+is_none_as o u b test same tested is = ap is_none same ∙ by u tested ∙ is
+  where
+    by : (u : Option ℕ) → is_some u ≡ not b → is_none u ≡ b
+    by None e = flip b e
+      where
+        flip : (b : Bool) → false ≡ not b → true ≡ b
+        flip true e = refl
+        flip false e = cc
+    by (Some place) e = flip b e
+      where
+        flip : (b : Bool) → true ≡ not b → false ≡ b
+        flip true e = cc
+        flip false e = refl
 
 -- a close of a closed control is refused
 pub close_refused : (m : Machine) (n : ℕ) (c : Control) → slice_get m.controls n ≡ Some c → is_none c.device ≡ true → Step m (CallOf n call.Close) (Answered (answer.Refused code.Closed 0)) m
@@ -136,7 +164,7 @@ release_device hs cl dl es ss part n c h g r at is here d =
           (match_weaker (first_refusal (release_rows c (is_own n (holder_at cl c.device)))) _ _ _ _
           (λ y. (y.0, subst (λ k. machine_with (set hs n g) dl es ss part ≡ released k (with_control m n (after_release c.category c)) n c) (sym is)
           (claims_machine hs cl dl es ss n g (after_release c.category c) part y.1 ∙ ap (λ claims. let o : Machine = record (with_control m n (after_release c.category c)) { claims = claims } in o) y.2)))
-          (λ refusal y. (y.0, ap (λ (ks : List Held). machine_with ks dl es ss part) (ap (set hs n) (y.1 ∙ here) ∙ set-get_or hs n h) ∙ ap (λ claims. let o : Machine = record m { claims = claims } in o) y.2))
+          (λ refusal y. (y.0, ap (λ (ks : List Held). machine_with ks dl es ss part) (ap (set hs n) (y.1.0 ∙ here) ∙ set-get_or hs n h) ∙ ap (λ claims. let o : Machine = record m { claims = claims } in o) y.1.1))
           d.outcome);
     })
 
@@ -180,40 +208,3 @@ release_area hs cl es ss part n c h g r totals at is here d =
           (λ refusal y. (y.0, ap (λ (ks : List Held). machine_with ks cl es ss now) (ap (set hs n) (y.1.0 ∙ here) ∙ set-get_or hs n h) ∙ ap (λ (t : Totals). machine_with hs cl es ss (record part { totals = t })) y.1.1))
           d.outcome);
     })
-
--- ---- the answers of a control and of the totals
-
--- what a claim lets through is done, unless the area is taken
-pub area_claims : (c : Control) (foreign taken : Bool) (timeout : ℤ) (r : Answer) (v : Value) (Same Done : Type 0) → Decided (claim_rows c foreign timeout) r ⊤ (r ≡ answer.Done value.Empty) → r ≡ answer.Done v → taken ≡ false → Done → Decided (claim_rows c taken timeout) (answer.Done v) Same ((answer.Done v ≡ answer.Done value.Empty) × Done)
-area_claims c foreign taken timeout r v Same Done d is free done = by (is_none c.device) (not (is_timeout timeout)) foreign taken d is free
-  where
-    by : (closed ill foreign taken : Bool) → Decided (when closed code.Closed ∷ when ill code.Illegal ∷ when foreign code.Timeout ∷ []) r ⊤ (r ≡ answer.Done value.Empty) → r ≡ answer.Done v → taken ≡ false
-        → Decided (when closed code.Closed ∷ when ill code.Illegal ∷ when taken code.Timeout ∷ []) (answer.Done v) Same ((answer.Done v ≡ answer.Done value.Empty) × Done)
-    by true ill foreign taken d is free = let bad = sym is ∙ d.outcome.0 in absurd cc
-    by false true foreign taken d is free = let bad = sym is ∙ d.outcome.0 in absurd cc
-    by false false true taken d is free = let bad = sym is ∙ d.outcome.0 in absurd cc
-    by false false false true d is free = absurd cc
-    by false false false false d is free = record { outcome = (sym is ∙ d.outcome, done) }
-
--- where the area is taken it is refused
-pub area_taken : (c : Control) (foreign taken : Bool) (timeout : ℤ) (r : Answer) (v : Value) (Same Done : Type 0) → Decided (claim_rows c foreign timeout) r ⊤ (r ≡ answer.Done value.Empty) → r ≡ answer.Done v → taken ≡ true → Same → Decided (claim_rows c taken timeout) (answer.Refused code.Timeout 0) Same Done
-area_taken c foreign taken timeout r v Same Done d is full same = by (is_none c.device) (not (is_timeout timeout)) foreign taken d is full
-  where
-    by : (closed ill foreign taken : Bool) → Decided (when closed code.Closed ∷ when ill code.Illegal ∷ when foreign code.Timeout ∷ []) r ⊤ (r ≡ answer.Done value.Empty) → r ≡ answer.Done v → taken ≡ true
-        → Decided (when closed code.Closed ∷ when ill code.Illegal ∷ when taken code.Timeout ∷ []) (answer.Refused code.Timeout 0) Same Done
-    by true ill foreign taken d is full = let bad = sym is ∙ d.outcome.0 in absurd cc
-    by false true foreign taken d is full = let bad = sym is ∙ d.outcome.0 in absurd cc
-    by false false true taken d is full = let bad = sym is ∙ d.outcome.0 in absurd cc
-    by false false false false d is full = absurd cc
-    by false false false true d is full = record { outcome = (refl, same) }
-
--- what a claim refuses by the holder of the area is refused by all claims
-pub area_refused : (c : Control) (foreign others : Bool) (timeout : ℤ) (r : Answer) (Same Done : Type 0) → Decided (claim_rows c foreign timeout) r ⊤ (r ≡ answer.Done value.Empty) → ((v : Value) → r ≡ answer.Done v → ⊥) → Same → Decided (claim_rows c (foreign || others) timeout) r Same Done
-area_refused c foreign others timeout r Same Done d never same = by (is_none c.device) (not (is_timeout timeout)) foreign d
-  where
-    by : (closed ill foreign : Bool) → Decided (when closed code.Closed ∷ when ill code.Illegal ∷ when foreign code.Timeout ∷ []) r ⊤ (r ≡ answer.Done value.Empty)
-        → Decided (when closed code.Closed ∷ when ill code.Illegal ∷ when (foreign || others) code.Timeout ∷ []) r Same Done
-    by true ill foreign d = record { outcome = (d.outcome.0, same) }
-    by false true foreign d = record { outcome = (d.outcome.0, same) }
-    by false false true d = record { outcome = (d.outcome.0, same) }
-    by false false false d = absurd (never value.Empty d.outcome)

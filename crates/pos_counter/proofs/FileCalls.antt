@@ -73,11 +73,11 @@ kept_left changes old is = by old.totals.mode refl is
 -- files with other claims are the same files
 pub plain_claimed : (test : File → Bool) (claim : Option ℕ) (files : List File) → plain (with_each test (claimed claim) files) ≡ plain files
 plain_claimed test claim [] = refl
-plain_claimed test claim (file ∷ files) = by (test file)
+plain_claimed test claim (file ∷ files) = by (test file) (plain_claimed test claim files)
   where
-    by : (b : Bool) → plain_file (cond b (claimed claim file) file) ∷ plain (with_each test (claimed claim) files) ≡ plain_file file ∷ plain files
-    by true = ap (λ fs. plain_file file ∷ fs) (plain_claimed test claim files)
-    by false = ap (λ fs. plain_file file ∷ fs) (plain_claimed test claim files)
+    by : (b : Bool) → plain (with_each test (claimed claim) files) ≡ plain files → plain_file (cond b (claimed claim file) file) ∷ plain (with_each test (claimed claim) files) ≡ plain_file file ∷ plain files
+    by true same = ap (λ fs. plain_file file ∷ fs) same
+    by false same = ap (λ fs. plain_file file ∷ fs) same
 
 pub settled_claimed : (test : File → Bool) (claim : Option ℕ) (mode : Mode) (left : List Standing) → settled (with_files (with_each test (claimed claim)) mode) left ≡ settled mode left
 settled_claimed test claim Off left = refl
@@ -205,7 +205,7 @@ module _ {D : Type 0} (bound : Ghosts D) (old new : TotalsView D) (only : OnlyNo
   rows = refusals_of_change layout_1 old.totals n change
 
   -- the group of a change that nothing refuses
-  group_of_change : Bool → List Change
+  abbrev group_of_change : Bool → List Change
   group_of_change transacting = cond (true && not transacting) (change ∷ []) []
 
   -- a change that is refused, or finds no memory, leaves all as it is
@@ -224,7 +224,7 @@ module _ {D : Type 0} (bound : Ghosts D) (old new : TotalsView D) (only : OnlyNo
       (beside bound old totals left n asked (Ok result) only leaves refl
       (called_ok n (Makes change) asked part after result is has (record {
         outcome = match_at_none (first_refusal rows) _ _ none (record {
-          does = subst (λ o. MatchOption o _ _) (sym transacting) (done.0, refl);
+          does = match_at_some (transaction_of old.totals n) buffer _ _ transacting (done.0, refl);
           group = subst (λ b. IsOneGroup old.totals (put_at_once b change)) (sym (ap is_some transacting)) puts.group;
           left = sym (subst (λ b. left_after part (put_at_once b change) old.totals.mode ≡ left) (sym (ap is_some transacting)) (kept_left [] part leaves.is_settled));
           later = omega arith;
@@ -239,7 +239,7 @@ module _ {D : Type 0} (bound : Ghosts D) (old new : TotalsView D) (only : OnlyNo
       change_rests (Ok result) (rested bound old new only left leaves undone same)
       (called_ok n (Makes change) asked part part result is has (record {
         outcome = match_at_none (first_refusal rows) _ _ none (record {
-          does = subst (λ o. MatchOption o _ _) (sym free) (record { outcome = match_at_some (first_refusal (number_rows old.totals change)) refusal _ _ e (s, refl) });
+          does = match_at_none (transaction_of old.totals n) _ _ free (record { outcome = match_at_some (first_refusal (number_rows old.totals change)) refusal _ _ e (s, refl) });
           group = subst (λ b. IsOneGroup old.totals (put_at_once b change)) (sym (ap is_some free)) puts.group;
           left = sym (kept_left (put_at_once (in_transaction old.totals n) change) part leaves.is_settled);
           later = omega arith;
@@ -261,7 +261,7 @@ module _ {D : Type 0} (bound : Ghosts D) (old new : TotalsView D) (only : OnlyNo
       moved bound old new only left leaves files q ready change [] (Ok result) puts n (Makes change) asked result old.totals (given_by old.totals.next change) refl ready refl done
       (λ after at. called_ok n (Makes change) asked part (part_of bound new after) result is has (record {
         outcome = match_at_none (first_refusal rows) _ _ none (record {
-          does = subst (λ o. MatchOption o _ _) (sym free) (record { outcome = match_at_none (first_refusal (number_rows old.totals change)) _ _ numbers (caused bound old new only left leaves old.totals (change ∷ []) result (given_by old.totals.next change) done) });
+          does = match_at_none (transaction_of old.totals n) _ _ free (record { outcome = match_at_none (first_refusal (number_rows old.totals change)) _ _ numbers (caused bound old new only left leaves old.totals (change ∷ []) result (given_by old.totals.next change) done) });
           group = subst (λ b. IsOneGroup old.totals (put_at_once b change)) (sym (ap is_some free)) puts.group;
           left = subst (λ b. after ≡ left_after part (put_at_once b change) new.totals.mode) (sym (ap is_some free)) at;
           later = puts.kept.later leaves.honest;

@@ -20,9 +20,10 @@ use Rattle.pos_service.specs.Calls.{serves, place_found, after_set, close_rows, 
 use Rattle.pos_service.specs.Claims.{after_release}
 use Rattle.pos_service.specs.Stations.{Station, Effect, TakesIn}
 use Rattle.pos_service.specs.DrawerCalls.{DrawerOpens, DrawerDoes}
-use Rattle.pos_counter.specs.Machine.{Device, Machine, device_at, place_of, found_at, with_control}
+use Rattle.pos_service.specs.HardTotals.{with_control as with_place}
+use Rattle.pos_counter.specs.Machine.{Device, Machine, device_at, place_of, found_at, with_control, with_totals}
 use Rattle.pos_counter.specs.Steps.{Request, NewControl, CallOf, InputTo, Deliver, Snapshot, Response, Made, Full, Answered, TakenIn, NoDevice, WrongInput, Delivered, Shown, OutOfMemory, OnStation, Step, Called, Stays, Sets, SetsByRecovery, CategoryDoes, claimed, released, dropped, facts_of, refusals, IsSound, IsServed, HasItsKind, HasItsDevice}
-use Rattle.pos_counter.specs.Totals.{recovers}
+use Rattle.pos_counter.specs.Totals.{TotalsPart, recovers}
 use Rattle.pos_counter.proofs.Lifts.{match_cases}
 
 -- the device is there, and the category serves it
@@ -168,17 +169,20 @@ set_sound m m' n c p v r true e (inr h) s = other_totals m m' h.1 s
 other_claims : (m : Machine) (claims : List (Option ℕ)) → IsSound m → IsSound (record m { claims = claims })
 other_claims m claims s = record { kinds = s.kinds; places = s.places }
 
+other_part : (m : Machine) (part : TotalsPart) → IsSound m → IsSound (record m { totals = part })
+other_part m part s = record { kinds = s.kinds; places = s.places }
+
 claimed_sound : (k : Category) (m : Machine) (n : ℕ) (c : Control) → IsSound m → IsSound (claimed k m n c)
 claimed_sound category.CashDrawer m n c s = other_claims m _ s
-claimed_sound category.HardTotals m n c s = s
+claimed_sound category.HardTotals m n c s = other_part m _ s
 
 released_sound : (k : Category) (m : Machine) (n : ℕ) (c : Control) → IsSound m → IsSound (released k m n c)
 released_sound category.CashDrawer m n c s = other_claims m _ s
-released_sound category.HardTotals m n c s = s
+released_sound category.HardTotals m n c s = other_part m _ s
 
 dropped_sound : (k : Category) (m : Machine) (n : ℕ) (c : Control) → IsSound m → IsSound (dropped k m n c)
 dropped_sound category.CashDrawer m n c s = other_claims m _ s
-dropped_sound category.HardTotals m n c s = s
+dropped_sound category.HardTotals m n c s = other_part m _ s
 
 -- a control that has released its device still has it open
 released_seat : (ds : List Device) (k : Category) (c : Control) → HasItsDevice ds c → HasItsDevice ds (after_release k c)
@@ -222,7 +226,7 @@ stays_sound m m' c other h s = same_machine m m' h s
 -- every step from a sound machine leads to a sound one
 pub step_sound : (m m' : Machine) (q : Request) (r : Response) → Step m q r m' → IsSound m → IsSound m'
 step_sound m m' (NewControl category) (Made number) h s =
-    same_machine (record m { controls = m.controls ++ new_control category ∷ [] }) m' h.2 (record {
+    same_machine (record (with_totals m (with_place m.totals.totals)) { controls = m.controls ++ new_control category ∷ [] }) m' h.2 (record {
       kinds = s.kinds;
       places = All-push (HasItsDevice m.devices) m.controls (new_control category) s.places tt;
     })

@@ -1,5 +1,5 @@
 -- A call of the totals' own as a step of the machine.
-use Rattle.std.proofs.Common.{◌≡◌, ◌<◌, ℕ, List, [], ◌∷◌, length, get_or, arith, Option, Some, None, Result, Ok, Err, Bool, true, false, cond, not, ◌&&◌, refl, sym, ap, ◌∙◌, subst}
+use Rattle.std.proofs.Common.{◌≡◌, ◌<◌, inl, inr, ℕ, List, [], ◌∷◌, length, get_or, arith, Option, Some, None, Result, Ok, Err, Bool, true, false, cond, not, ◌&&◌, refl, sym, ap, ◌∙◌, subst}
 use Rattle.std.specs.Prelude.{MatchOption, MatchResult, IsTrue, is_none, is_some, slice_get, ⊤}
 use Rattle.std.proofs.lemmas.List.{length-map}
 use Rattle.std.proofs.lemmas.Option.{slice_get_within}
@@ -29,7 +29,7 @@ use Rattle.pos_counter.specs.Parts.{machine_with, part_of, ArePartsSound, CallsF
 use Rattle.pos_counter.specs.Responses.{answered}
 use Rattle.pos_counter.specs.Steps.{CallOf, Answered, Step, CategoryDoes, refusals}
 use Rattle.pos_counter.specs.Totals.{TotalsPart, FilesCalled, is_change, uses_disk}
-use Rattle.pos_counter.proofs.Lifts.{control_at, match_at_some, match_by, match_weaker}
+use Rattle.pos_counter.proofs.Lifts.{control_at, match_at_some, match_by, match_cases, match_weaker}
 use Rattle.pos_counter.proofs.Stations.{own_does, own_takes, own_stays, open_refusals}
 
 -- a call that is refused is a step
@@ -48,6 +48,15 @@ totals_refusals m n c asked has foreign enabled own is device theirs taken able 
     ∙ ap (λ b. first_refusal (when (not b) code.Illegal ∷ when (asks_area (file_call asked) && is_foreign n m.totals.totals.area) code.Claimed ∷ when (not c.enabled) code.Disabled ∷ rows)) theirs
     ∙ ap (λ b. first_refusal (when (not has) code.Illegal ∷ when b code.Claimed ∷ when (not c.enabled) code.Disabled ∷ rows)) taken
     ∙ ap (λ b. first_refusal (when (not has) code.Illegal ∷ when foreign code.Claimed ∷ when (not b) code.Disabled ∷ rows)) able
+
+-- a call that totals don't have is refused to their control
+pub foreign_step : (m : Machine) (n : ℕ) (asked : Call) → IsOpen category.HardTotals m.controls n → is_common asked ≡ false → has_call category.HardTotals asked ≡ false → Step m (CallOf n asked) (Answered (answer.Refused code.Illegal 0)) m
+foreign_step m n asked there own has =
+    elim (match_cases (slice_get m.controls n) _ _ there) [
+      | inl x ↦ absurd x.1
+      | inr x ↦ refused_step m n x.0 asked (answer.Refused code.Illegal 0) x.1
+          (totals_refusals m n x.0 asked false (asks_area (file_call asked) && is_foreign n m.totals.totals.area) x.0.enabled own x.2.0 x.2.1 has refl refl)
+    ]
 
 -- what the totals do with a call on an enabled control is a step
 called_step : (m : Machine) (part : TotalsPart) (n : ℕ) (c : Control) (asked : Call) (outcome : Result Answer NoMemory) → is_common asked ≡ false → slice_get m.controls n ≡ Some c → c.category ≡ category.HardTotals → IsTrue (is_some c.device) → (asks_area (file_call asked) && is_foreign n m.totals.totals.area) ≡ false → c.enabled ≡ true

@@ -139,8 +139,8 @@ pub record Serves {D : Type 0} (bound : Ghosts D) (helds : List Held) (claims : 
 pub record MakesControl {D : Type 0} (helds : List Held) (before : TotalsView D) (category : Category)
     (outcome : Result ℕ ControlFault) (new_helds : List Held) (now : TotalsView D) : Type 0 where
   pub step : (devices : List Device) (claims : List (Option ℕ)) (left : List Standing) (failures : ℕ) →
-      let old = record { totals = before.totals; left = left; failures = failures } in
-      let new = record { totals = now.totals; left = left; failures = failures } in
+      let old : TotalsPart = record { totals = before.totals; left = left; failures = failures } in
+      let new : TotalsPart = record { totals = now.totals; left = left; failures = failures } in
       Step (over helds devices (record { claims = claims; totals = old })) (NewControl category) (made outcome)
       (over new_helds devices (record { claims = claims; totals = new }))
   pub mode : now.totals.mode ≡ before.totals.mode

@@ -1,6 +1,7 @@
 //! The properties of a control, by what is known of its device (common chapter, and those of the categories).
 ghost use Rattle.std.specs.Prelude.{◌≡◌, ◌<◌, ◌≤◌, ◌&&◌, [], ℕ, List, Option, length, map, not};
 ghost use Rattle.pos_service.specs.declared.call.Call.TheVariants as call;
+ghost use Rattle.pos_service.specs.Claims.{is_own};
 ghost use Rattle.pos_service.specs.Peripherals.{PeripheralState};
 ghost use Rattle.pos_store.specs.Standing.{Standing};
 ghost use Rattle.pos_counter.specs.declared.entry.Entry.{Entry as OneEntry};
@@ -56,11 +57,22 @@ fn find_facts<P: HasState, D: Disk>(
         result ≡ facts_of machine number control.now.control }
 {
     Facts {
-        is_claimed: find_holder(control, claims, totals.area()) == Some(number),
+        is_claimed: is_holder(control, claims, totals.area(), number),
         in_transaction: totals.in_transaction(number),
         signs: signs_at(peripherals, control.device()),
         totals_size: totals.size(),
         files: find_file_facts(totals),
+    }
+}
+
+/// Whether the control with a number holds its device, by who holds the area.
+fn is_holder(control: &Control, claims: &Claims, area: Option<usize>, number: usize) -> bool
+    ensures { let control = control.now.control in
+        result ≡ is_own number (holder_in control.category claims.now area control.device) }
+{
+    match find_holder(control, claims, area) {
+        Some(holder) => holder == number,
+        None => false,
     }
 }
 

@@ -21,7 +21,7 @@ returns g c = λ left.
     let held = c.index-controls-number.result in
     let at = control_at hs n held c.requires.in_range ∙ ap (λ (h : Held). Some h.control) (sym c.index-controls-number.is) in
     let m = machine_with hs c.args.claims.now es ss (part_of g.D.Disk c.args.totals.now left) in
-    let facts : c.find_facts.result ≡ facts_of m n held.control = c.find_facts.ensures left in
+    let facts : c.find_facts-facts.result ≡ facts_of m n held.control = c.find_facts-facts.ensures left in
     let asked = call.Get c.args.property in
     match_at_some (slice_get (controls_of hs) n) held.control ((c.get.result ≡ answer.Refused code.Illegal 0) × (m ≡ m)) (λ control. Called m n control asked c.get.result m) at (record {
       outcome = match_weaker (first_refusal (get_rows held.control (facts_of m n held.control) c.args.property)) (c.get.result ≡ answer.Done (property_of held.control (facts_of m n held.control) c.args.property))
@@ -29,5 +29,5 @@ returns g c = λ left.
           (λ y. (y, refl)) (λ refusal y. (y.0, refl)) (decided (facts_of m n held.control) facts).outcome;
     })
   where
-    decided : (f : Facts) → c.find_facts.result ≡ f → Decided (get_rows c.index-controls-number.result.control f c.args.property) c.get.result (Unit {0}) (c.get.result ≡ answer.Done (property_of c.index-controls-number.result.control f c.args.property))
+    decided : (f : Facts) → c.find_facts-facts.result ≡ f → Decided (get_rows c.index-controls-number.result.control f c.args.property) c.get.result (Unit {0}) (c.get.result ≡ answer.Done (property_of c.index-controls-number.result.control f c.args.property))
     decided f e = subst (λ f. Decided (get_rows c.index-controls-number.result.control f c.args.property) c.get.result (Unit {0}) (c.get.result ≡ answer.Done (property_of c.index-controls-number.result.control f c.args.property))) e c.get.ensures

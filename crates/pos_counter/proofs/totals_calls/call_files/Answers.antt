@@ -1,12 +1,12 @@
 use mir.Syntax.{w128}
 use mir.Val.{SFits}
-use Rattle.std.proofs.Common.{refl, sym, subst, inl, rules}
+use Rattle.std.proofs.Common.{refl, sym, subst, inl, rules, Ok}
 use Rattle.std.proofs.lemmas.Int.{to_z-of_z}
 use Rattle.pos_service.specs.declared.call.Call.TheVariants as call
-use Rattle.pos_service.specs.HardTotals.{Create, Delete, Rename, Write}
+use Rattle.pos_service.specs.HardTotals.{Create, Delete, Rename, Write, BeginTrans, ClaimFile, ReleaseFile, Rollback}
 use Rattle.pos_totals.specs.Changes.{Changes}
 use Rattle.pos_counter.specs.Parts.{CallsFiles}
-use Rattle.pos_counter.proofs.FileCalls.{change_calls, question_calls}
+use Rattle.pos_counter.proofs.FileCalls.{arrangement_calls, change_calls, commit_calls, question_calls}
 use Rattle.pos_counter.proofs.totals_calls.call_files.Goals as goal
 
 pub returns-in-Create : goal.returns-in-Create
@@ -64,3 +64,38 @@ returns-in-Read g c =
     let fits_count : SFits w128 c.in-Read.count = search rules in
     subst (λ q. CallsFiles g.D.Disk view c.args.number q c.read.result view) (sym c.in-Read.is)
     (question_calls g.D.Disk view c.args.number _ asked c.read.result (λ bytes h since. g.met.D.Disk.only_now view.disk bytes h since) refl refl (inl refl) (simp to_z-of_z at c.read.ensures))
+
+pub returns-in-ClaimFile : goal.returns-in-ClaimFile
+returns-in-ClaimFile g c =
+    let view = c.args.totals.now in
+    let asked = call.ClaimFile c.in-ClaimFile.handle c.in-ClaimFile.timeout in
+    let fits_handle : SFits w128 c.in-ClaimFile.handle = search rules in
+    let fits_timeout : SFits w128 c.in-ClaimFile.timeout = search rules in
+    subst (λ q. CallsFiles g.D.Disk view c.args.number q (Ok c.claim_file.result) c.claim_file.new.self) (sym c.in-ClaimFile.is)
+    (arrangement_calls g.D.Disk view c.claim_file.new.self c.args.number (ClaimFile c.in-ClaimFile.handle c.in-ClaimFile.timeout) asked c.claim_file.result (λ bytes h since. g.met.D.Disk.only_now view.disk bytes h since) refl refl (simp to_z-of_z at c.claim_file.ensures))
+
+pub returns-in-ReleaseFile : goal.returns-in-ReleaseFile
+returns-in-ReleaseFile g c =
+    let view = c.args.totals.now in
+    let asked = call.ReleaseFile c.in-ReleaseFile.handle in
+    let fits_handle : SFits w128 c.in-ReleaseFile.handle = search rules in
+    subst (λ q. CallsFiles g.D.Disk view c.args.number q (Ok c.release_file.result) c.release_file.new.self) (sym c.in-ReleaseFile.is)
+    (arrangement_calls g.D.Disk view c.release_file.new.self c.args.number (ReleaseFile c.in-ReleaseFile.handle) asked c.release_file.result (λ bytes h since. g.met.D.Disk.only_now view.disk bytes h since) refl refl (simp to_z-of_z at c.release_file.ensures))
+
+pub returns-in-BeginTrans : goal.returns-in-BeginTrans
+returns-in-BeginTrans g c =
+    let view = c.args.totals.now in
+    subst (λ q. CallsFiles g.D.Disk view c.args.number q (Ok c.begin_trans.result) c.begin_trans.new.self) (sym c.in-BeginTrans.is)
+    (arrangement_calls g.D.Disk view c.begin_trans.new.self c.args.number BeginTrans call.BeginTrans c.begin_trans.result (λ bytes h since. g.met.D.Disk.only_now view.disk bytes h since) refl refl c.begin_trans.ensures)
+
+pub returns-in-Rollback : goal.returns-in-Rollback
+returns-in-Rollback g c =
+    let view = c.args.totals.now in
+    subst (λ q. CallsFiles g.D.Disk view c.args.number q (Ok c.rollback.result) c.rollback.new.self) (sym c.in-Rollback.is)
+    (arrangement_calls g.D.Disk view c.rollback.new.self c.args.number Rollback call.Rollback c.rollback.result (λ bytes h since. g.met.D.Disk.only_now view.disk bytes h since) refl refl c.rollback.ensures)
+
+pub returns-in-CommitTrans : goal.returns-in-CommitTrans
+returns-in-CommitTrans g c =
+    let view = c.args.totals.now in
+    subst (λ q. CallsFiles g.D.Disk view c.args.number q c.commit_trans.result c.commit_trans.new.self) (sym c.in-CommitTrans.is)
+    (commit_calls g.D.Disk view c.commit_trans.new.self c.args.number call.CommitTrans c.commit_trans.result (λ bytes h since. g.met.D.Disk.only_now view.disk bytes h since) refl refl refl c.commit_trans.ensures)

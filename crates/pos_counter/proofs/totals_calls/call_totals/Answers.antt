@@ -8,11 +8,17 @@ use Rattle.pos_service.specs.TotalsCalls.{asks_area, file_call, file_rows}
 use Rattle.pos_counter.specs.Parts.{machine_with, part_of}
 use Rattle.pos_counter.specs.Steps.{CallOf, Answered}
 use Rattle.pos_counter.proofs.Serving.{looks_serve}
-use Rattle.pos_counter.proofs.TotalsSteps.{files_serve, opened_here, refused_step, totals_refusals, was_let, was_refused}
+use Rattle.pos_counter.proofs.TotalsSteps.{files_serve, foreign_step, opened_here, refused_step, totals_refusals, was_let, was_refused}
 use Rattle.pos_counter.proofs.totals_calls.call_totals.Goals as goal
 
 pub returns-then-not-has_call : goal.returns-then-not-has_call
-returns-then-not-has_call g c = λ entries states sound. ?
+returns-then-not-has_call g c = λ entries states sound.
+    let hs = c.args.controls.now in
+    let n = c.args.number in
+    let view = c.args.totals.now in
+    let q = c.args.call.now in
+    looks_serve g.D.Disk view hs c.args.claims.now entries states (CallOf n q) (Answered (answer.Refused code.Illegal 0)) (λ bytes honest since. g.met.D.Disk.only_now view.disk bytes honest since) sound
+    (λ left. foreign_step (machine_with hs c.args.claims.now entries states (part_of g.D.Disk view left)) n q c.requires.open c.requires.own (sym c.has_call.ensures ∙ c.if-not-has_call.true))
 
 pub returns-in-Ok : goal.returns-in-Ok
 returns-in-Ok g c = λ entries states sound.
@@ -28,4 +34,21 @@ returns-in-Ok g c = λ entries states sound.
     (ap (λ o. asks_area (file_call c.args.call.now) && is_foreign n o) (sym c.area.ensures) ∙ free.0) free.1 c.call_files.ensures sound
 
 pub returns-in-Err : goal.returns-in-Err
-returns-in-Err g c = λ entries states sound. ?
+returns-in-Err g c = λ entries states sound.
+    let hs = c.args.controls.now in
+    let n = c.args.number in
+    let held = c.index-controls-number.result in
+    let view = c.args.totals.now in
+    let q = c.args.call.now in
+    let there = opened_here hs n held c.index-controls-number.is c.requires.open in
+    let foreign = asks_area (file_call q) && is_foreign n view.totals.area in
+    let refused : first_refusal (when foreign code.Claimed ∷ when (not held.control.enabled) code.Disabled ∷ []) ≡ Some (answer.Refused c.in-Err.code 0) =
+    ap (λ o. first_refusal (when (asks_area (file_call q) && is_foreign n o) code.Claimed ∷ when (not held.control.enabled) code.Disabled ∷ [])) (sym c.area.ensures)
+    ∙ ap (λ b. first_refusal (when (b && is_foreign n c.area.result) code.Claimed ∷ when (not held.control.enabled) code.Disabled ∷ [])) (sym c.need_of.ensures)
+    ∙ c.in-Err.ensures in
+    looks_serve g.D.Disk view hs c.args.claims.now entries states (CallOf n q) (Answered (answer.Refused c.in-Err.code 0)) (λ bytes honest since. g.met.D.Disk.only_now view.disk bytes honest since) sound
+    (λ left.
+        let m = machine_with hs c.args.claims.now entries states (part_of g.D.Disk view left) in
+        refused_step m n held.control q (answer.Refused c.in-Err.code 0) there.0
+        (totals_refusals m n held.control q true foreign held.control.enabled c.requires.own there.1 there.2 (sym c.has_call.ensures ∙ c.if-not-has_call.false) refl refl
+        ∙ was_refused foreign held.control.enabled c.in-Err.code (file_rows view.totals n (file_call q)) refused))

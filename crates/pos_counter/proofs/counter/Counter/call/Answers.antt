@@ -2,8 +2,14 @@ use Rattle.std.proofs.Common.{subst, sym}
 use Rattle.pos_counter.specs.Counters.{IsCounterSound, boxes_of}
 use Rattle.pos_counter.proofs.counter.Counter.call.Goals as goal
 
-pub call-requires : goal.call-requires
-call-requires g c =
+pub call-requires-clause-sound : goal.call-requires-clause-sound
+call-requires-clause-sound g c =
     let boxes = boxes_of c.requires.sound in
     let sound = subst (IsCounterSound boxes) (sym c.self.view_is) c.requires.sound in
     rw (c.deref_mut.ensures.value, c.deref.ensures.value, c.deref_mut-2.ensures.value) sound.parts
+
+pub call-requires-clause-covers : goal.call-requires-clause-covers
+call-requires-clause-covers g c =
+    let boxes = boxes_of c.requires.sound in
+    let sound = subst (IsCounterSound boxes) (sym c.self.view_is) c.requires.sound in
+    rw (c.deref.ensures.value) sound.covers

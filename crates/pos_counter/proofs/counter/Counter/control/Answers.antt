@@ -1,14 +1,28 @@
+use Rattle.std.proofs.Common.{[], refl}
 use Rattle.pos_counter.specs.Steps.{NewControl}
 use Rattle.pos_counter.specs.Responses.{made}
 use Rattle.pos_counter.specs.Counters.{states_of, boxes_of}
+use Rattle.pos_counter.specs.Machine.{Shared}
 use Rattle.pos_counter.specs.Parts.{devices_of}
-use Rattle.pos_counter.proofs.Serving.{controls_serve}
+use Rattle.pos_counter.proofs.Runs.{control_is_step}
+use Rattle.pos_counter.proofs.Serving.{stepped_sound}
 use Rattle.pos_counter.proofs.counter.Counter.control.Goals as goal
+
+pub returns-clause-step : goal.returns-clause-step
+returns-clause-step g c =
+    let boxes = boxes_of c.requires.sound in
+    let old = c.args.self.now in
+    control_is_step g.D.Disk boxes old _ c.args.category c.control.result (λ bytes honest since. g.met.D.Disk.only_now old.totals.disk bytes honest since) c.control.ensures refl refl refl
 
 pub returns-clause-sound : goal.returns-clause-sound
 returns-clause-sound g c =
     let boxes = boxes_of c.requires.sound in
-    let es = c.args.self.now.entries.items in
-    let ss = states_of boxes c.args.self.now.boxes.items in
-    let served = controls_serve c.args.self.now.desk c.control.new.self es ss (NewControl c.args.category) (made c.control.result) c.requires.sound.parts (c.control.ensures (devices_of es ss)) in
-    record { parts = served.sound; covers = c.requires.sound.covers }
+    let old = c.args.self.now in
+    let es = old.entries.items in
+    let ss = states_of boxes old.boxes.items in
+    let before : Shared = record { claims = old.claims; totals = record { totals = old.totals.totals; left = []; failures = 0 } } in
+    let after : Shared = record { claims = old.claims; totals = record { totals = c.control.new.totals.totals; left = []; failures = 0 } } in
+    record {
+      parts = stepped_sound old.desk c.control.new.self es ss before after (NewControl c.args.category) (made c.control.result) c.requires.sound.parts (c.control.ensures.step (devices_of es ss) old.claims [] 0);
+      covers = c.requires.sound.covers;
+    }

@@ -1,8 +1,18 @@
+use Rattle.std.proofs.Common.{refl}
 use Rattle.pos_counter.specs.Steps.{Deliver, Delivered}
 use Rattle.pos_counter.specs.Counters.{states_of, boxes_of}
 use Rattle.pos_counter.specs.Parts.{devices_of}
 use Rattle.pos_counter.proofs.Serving.{controls_serve}
 use Rattle.pos_counter.proofs.counter.Counter.deliver.Goals as goal
+
+pub returns-clause-step : goal.returns-clause-step
+returns-clause-step g c =
+    let boxes = boxes_of c.requires.sound in
+    let old = c.args.self.now in
+    record {
+      step = λ part. c.deliver.ensures (devices_of old.entries.items (states_of boxes old.boxes.items)) (record { claims = old.claims; totals = part });
+      totals = refl;
+    }
 
 pub returns-clause-sound : goal.returns-clause-sound
 returns-clause-sound g c =
