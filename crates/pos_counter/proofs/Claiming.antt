@@ -69,6 +69,38 @@ pub length_claimed : (cl : List (Option ℕ)) (o : Option ℕ) (n : ℕ) → len
 length_claimed cl None n = refl
 length_claimed cl (Some place) n = length-set cl place (Some n)
 
+-- a claim or a release that is decided on leaves a claim for each device
+pub claimed_covers : (rows : List Row) (r : Answer) (cl dl : List (Option ℕ)) (o : Option ℕ) (n : ℕ) → Decided rows r (dl ≡ cl) ((r ≡ answer.Done value.Empty) × (dl ≡ claimed_by cl o n)) → length dl ≡ length cl
+claimed_covers rows r cl dl o n d = elim (match_cases (first_refusal rows) _ _ d.outcome) [
+  | inl x ↦ ap length x.1.1 ∙ length_claimed cl o n
+  | inr x ↦ ap length x.2.1
+]
+
+pub released_covers : (rows : List Row) (r : Answer) (cl dl : List (Option ℕ)) (o : Option ℕ) (n : ℕ) (Same Turns : Type 0) → Decided rows r (Same × (dl ≡ cl)) ((r ≡ answer.Done value.Empty) × Turns × (dl ≡ released_by cl o n)) → length dl ≡ length cl
+released_covers rows r cl dl o n Same Turns d = elim (match_cases (first_refusal rows) _ _ d.outcome) [
+  | inl x ↦ ap length x.1.2 ∙ length_released cl o n
+  | inr x ↦ ap length x.2.1.1
+]
+
+-- a claim of the area or its release leaves the mode
+pub area_claim_mode : (rows : List Row) (r : Answer) (old new : Totals) (area : Option ℕ) → Decided rows r (new ≡ old) ((r ≡ answer.Done value.Empty) × (new ≡ record old { area = area })) → new.mode ≡ old.mode
+area_claim_mode rows r old new area d = elim (match_cases (first_refusal rows) _ _ d.outcome) [
+  | inl x ↦ ap (λ (t : Totals). t.mode) x.1.1
+  | inr x ↦ ap (λ (t : Totals). t.mode) x.2.1
+]
+
+pub area_release_mode : (rows : List Row) (r : Answer) (old new : Totals) (area : Option ℕ) (Same Turns : Type 0) → Decided rows r (Same × (new ≡ old)) ((r ≡ answer.Done value.Empty) × Turns × (new ≡ record old { area = area })) → new.mode ≡ old.mode
+area_release_mode rows r old new area Same Turns d = elim (match_cases (first_refusal rows) _ _ d.outcome) [
+  | inl x ↦ ap (λ (t : Totals). t.mode) x.1.2
+  | inr x ↦ ap (λ (t : Totals). t.mode) x.2.1.1
+]
+
+-- the device of a control that is open has a claim
+pub covered_at : (hs : List Held) (cl : List (Option ℕ)) (n : ℕ) (c : Control) → slice_get (controls_of hs) n ≡ Some c → AreCovered hs cl → IfSome c.device (λ place. place < length cl)
+covered_at hs cl n c at all =
+    let Covered : Control → Type 0 = λ control. IfSome control.device (λ place. place < length cl) in
+    subst Covered (get_or_from_slice_get (controls_of hs) n c c at) (All-get_or Covered (controls_of hs) n c (slice_get_within (controls_of hs) n c at) all)
+
 -- ---- close
 
 -- an option that equals another is none where the other's test says so

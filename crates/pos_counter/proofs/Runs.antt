@@ -18,7 +18,6 @@ use Rattle.pos_counter.specs.declared.request.Request.{Request}
 use Rattle.pos_counter.specs.declared.request.Response.{Response}
 use Rattle.pos_counter.specs.Responses.{made, request_of, response_of, steps_of}
 use Rattle.pos_service.specs.declared.category.Category.{Category}
-use Rattle.pos_counter.specs.declared.entry.Entry.{Entry}
 use Rattle.pos_counter.specs.declared.faults.ControlFault.{ControlFault}
 use Rattle.pos_counter.specs.Totals.{TotalsPart, settled}
 use Rattle.pos_counter.proofs.Serving.{arranges_stepped, kept_disk, rests_stepped, same_view}
@@ -69,14 +68,12 @@ module _ {D X : Type 0} {O : X → Type 0} (bound : DiskGhosts D) (boxes : Ghost
 
   -- a new control is a step for all that the disk may leave
   pub control_is_step : (old new : Counter D X O) (k : Category) (outcome : Result ℕ ControlFault) → ((bytes : List ℕ) → bound.honest old.totals.disk → (bound.state old.totals.disk).left_since (bound.state old.totals.disk).moment bytes → MayLeave (bound.state old.totals.disk) bytes)
-      → MakesControl old.desk old.totals k outcome new.desk new.totals → new.claims ≡ old.claims → new.entries.items ≡ old.entries.items → new.boxes.items ≡ old.boxes.items → IsStep bound boxes old (machine.NewControl k) (made outcome) new
-  control_is_step old new k outcome only makes claims entries peripherals = record {
+      → MakesControl old.desk old.totals k outcome new.desk new.totals → ((part : TotalsPart) → machine_of_counter boxes new part ≡ machine_with new.desk old.claims old.entries.items (states_of boxes old.boxes.items) part) → IsStep bound boxes old (machine.NewControl k) (made outcome) new
+  control_is_step old new k outcome only makes same = record {
     steps = λ left leaves. subst (λ (v : TotalsView D). Stepped bound left (machine_of_counter boxes old) old.totals (machine.NewControl k) (made outcome) (machine_of_counter boxes new) v) (sym (same_view old.totals new.totals new.totals.totals makes.disk refl))
         (arranges_stepped bound old.totals new.totals.totals (machine_of_counter boxes old) (machine_of_counter boxes new) (machine.NewControl k) (made outcome) left only (ap (λ mode. settled mode left) makes.mode) leaves
-        (subst (λ (claims : List (Option ℕ)). Step _ (machine.NewControl k) (made outcome) (machine_with new.desk claims new.entries.items (states_of boxes new.boxes.items) (now left))) (sym claims)
-        (subst (λ (entries : List Entry). Step _ (machine.NewControl k) (made outcome) (machine_with new.desk old.claims entries (states_of boxes new.boxes.items) (now left))) (sym entries)
-        (subst (λ (ps : List (PeripheralBox X O)). Step _ (machine.NewControl k) (made outcome) (machine_with new.desk old.claims old.entries.items (states_of boxes ps) (now left))) (sym peripherals)
-        (makes.step (devices_of old.entries.items (states_of boxes old.boxes.items)) old.claims left (bound.state old.totals.disk).failures)))));
+        (subst (λ m. Step (machine_of_counter boxes old (part_of bound old.totals left)) (machine.NewControl k) (made outcome) m) (sym (same (now left)))
+        (makes.step (devices_of old.entries.items (states_of boxes old.boxes.items)) old.claims left (bound.state old.totals.disk).failures)));
     alone = λ spares. makes.disk;
     kept = subst (λ (d : D). KeepsDisk bound old.totals.disk d) (sym makes.disk) (kept_disk bound old.totals.disk);
   }

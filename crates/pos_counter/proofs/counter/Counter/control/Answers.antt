@@ -12,7 +12,7 @@ pub returns-clause-step : goal.returns-clause-step
 returns-clause-step g c =
     let boxes = boxes_of c.requires.sound in
     let old = c.args.self.now in
-    control_is_step g.D.Disk boxes old _ c.args.category c.control.result (λ bytes honest since. g.met.D.Disk.only_now old.totals.disk bytes honest since) c.control.ensures refl refl refl
+    control_is_step g.D.Disk boxes old _ c.args.category c.control.result (λ bytes honest since. g.met.D.Disk.only_now old.totals.disk bytes honest since) c.control.ensures (λ part. refl)
 
 pub returns-clause-sound : goal.returns-clause-sound
 returns-clause-sound g c =
