@@ -142,7 +142,7 @@ close_device hs cl dl es ss part n c h g r at is there turns free =
       outcome = match_at_none (first_refusal (close_rows c)) _ _ none (
         done.0,
         subst (λ k. machine_with (set hs n g) dl es ss part ≡ dropped k (with_control m n (closed c)) n c) (sym is)
-        (claims_machine hs cl dl es ss n g (closed c) part done.1 ∙ ap (λ claims. let o : Machine = record (with_control m n (closed c)) { claims = claims } in o) free),
+            (claims_machine hs cl dl es ss n g (closed c) part done.1 ∙ ap (λ claims. let o : Machine = record (with_control m n (closed c)) { claims = claims } in o) free),
       );
     })
 
@@ -194,8 +194,11 @@ release_device hs cl dl es ss part n c h g r at is here d =
     match_at_some _ c _ _ at (record {
       outcome = match_by (first_refusal (refusals m n c call.Release)) _ _ _ rows
           (match_weaker (first_refusal (release_rows c (is_own n (holder_at cl c.device)))) _ _ _ _
-          (λ y. (y.0, subst (λ k. machine_with (set hs n g) dl es ss part ≡ released k (with_control m n (after_release c.category c)) n c) (sym is)
-          (claims_machine hs cl dl es ss n g (after_release c.category c) part y.1 ∙ ap (λ claims. let o : Machine = record (with_control m n (after_release c.category c)) { claims = claims } in o) y.2)))
+          (λ y. (
+            y.0,
+            subst (λ k. machine_with (set hs n g) dl es ss part ≡ released k (with_control m n (after_release c.category c)) n c) (sym is)
+                (claims_machine hs cl dl es ss n g (after_release c.category c) part y.1 ∙ ap (λ claims. let o : Machine = record (with_control m n (after_release c.category c)) { claims = claims } in o) y.2),
+          ))
           (λ refusal y. (y.0, ap (λ (ks : List Held). machine_with ks dl es ss part) (ap (set hs n) (y.1.0 ∙ here) ∙ set-get_or hs n h) ∙ ap (λ claims. let o : Machine = record m { claims = claims } in o) y.1.1))
           d.outcome);
     })
@@ -234,9 +237,12 @@ release_area hs cl es ss part n c h g r totals at is here d =
     match_at_some _ c _ _ at (record {
       outcome = match_by (first_refusal (refusals m n c call.Release)) _ _ _ rows
           (match_weaker (first_refusal (release_rows c (is_own n part.totals.area))) _ _ _ _
-          (λ y. (y.0, subst (λ k. machine_with (set hs n g) cl es ss now ≡ released k (with_control m n (after_release c.category c)) n c) (sym is)
-          (claims_machine hs cl cl es ss n g (after_release c.category c) now y.1
-          ∙ ap (λ (t : Totals). let o : Machine = record (with_control m n (after_release c.category c)) { totals = record part { totals = t } } in o) y.2)))
+          (λ y. (
+            y.0,
+            subst (λ k. machine_with (set hs n g) cl es ss now ≡ released k (with_control m n (after_release c.category c)) n c) (sym is)
+                (claims_machine hs cl cl es ss n g (after_release c.category c) now y.1
+                ∙ ap (λ (t : Totals). let o : Machine = record (with_control m n (after_release c.category c)) { totals = record part { totals = t } } in o) y.2),
+          ))
           (λ refusal y. (y.0, ap (λ (ks : List Held). machine_with ks cl es ss now) (ap (set hs n) (y.1.0 ∙ here) ∙ set-get_or hs n h) ∙ ap (λ (t : Totals). machine_with hs cl es ss (record part { totals = t })) y.1.1))
           d.outcome);
     })

@@ -236,8 +236,7 @@ fits_rest history Off Off left same fits = fits
 fits_rest history Off (Ready files sequence) left same fits = absurd cc
 fits_rest history (Ready files sequence) Off left same fits = absurd cc
 fits_rest history (Ready files sequence) (Ready others next) left same fits =
-    let equal = same_stored (plain others) (plain files) next sequence same in
-    (
+    let equal = same_stored (plain others) (plain files) next sequence same in (
       fits.0 ∙ ap (λ (fs : List PlainFile). Ok fs) (sym equal.0),
       fits.1,
       fits.2 ∙ ap (λ fs. Stands fs sequence ∷ []) (sym equal.0) ∙ ap (λ n. Stands (plain others) n ∷ []) (sym equal.1),

@@ -21,7 +21,7 @@ use Rattle.pos_counter.proofs.Stations.{unparked_set}
 -- where the controls alone have changed
 pub controls_serve : (hs gs : List Held) (es : List Entry) (ss : List PeripheralState) (q : Request) (r : Response) → ArePartsSound hs es ss → ((shared : Shared) → Step (machine_of hs es ss shared) q r (machine_of gs es ss shared)) → ServesBeside hs es ss q r gs ss
 controls_serve hs gs es ss q r sound step = record {
-  step = step;
+  step = λ claims part. step (record { claims = claims; totals = part });
   sound = record {
     machine = λ shared. step_sound (machine_of hs es ss shared) (machine_of gs es ss shared) q r (step shared) (sound.machine shared);
     unparked = sound.unparked;
@@ -44,7 +44,7 @@ station_sound state hs gs es ps place p shared q r sound unparked step = record 
 -- where a peripheral that stays in service has changed too
 pub station_serves : {P : Type 0} (state : P → PeripheralState) (hs gs : List Held) (es : List Entry) (ps : List P) (place : ℕ) (p : P) (q : Request) (r : Response) → ArePartsSound hs es (map state ps) → (state p).is_parked ≡ false → ((shared : Shared) → Step (machine_of hs es (map state ps) shared) q r (machine_of gs es (map state (set ps place p)) shared)) → ServesBeside hs es (map state ps) q r gs (map state (set ps place p))
 station_serves state hs gs es ps place p q r sound unparked step = record {
-  step = step;
+  step = λ claims part. step (record { claims = claims; totals = part });
   sound = record {
     machine = λ shared. (station_sound state hs gs es ps place p shared q r sound unparked (step shared)).machine shared;
     unparked = unparked_set state ps place p unparked sound.unparked;
@@ -119,7 +119,7 @@ parts_serve bound view hs gs cl dl es ss ts q r only sound covers step = record 
 pub beside_serves : {D : Type 0} (bound : Ghosts D) (view : TotalsView D) (hs gs : List Held) (cl : List (Option ℕ)) (es : List Entry) (ss ts : List PeripheralState) (q : Request) (r : Response) → OnlyNow bound view.disk
     → ServesBeside hs es ss q r gs ts → Serves bound hs cl es ss view q r gs cl ts view
 beside_serves bound view hs gs cl es ss ts q r only serves =
-    parts_serve bound view hs gs cl cl es ss ts q r only serves.sound refl (λ left. serves.step (record { claims = cl; totals = part_of bound view left }))
+    parts_serve bound view hs gs cl cl es ss ts q r only serves.sound refl (λ left. serves.step cl (part_of bound view left))
 
 -- the same where nothing changes
 pub looks_serve : {D : Type 0} (bound : Ghosts D) (view : TotalsView D) (hs : List Held) (cl : List (Option ℕ)) (es : List Entry) (ss : List PeripheralState) (q : Request) (r : Response) → OnlyNow bound view.disk

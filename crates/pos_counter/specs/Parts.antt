@@ -85,8 +85,9 @@ pub record ArePartsSound (helds : List Held) (entries : List Entry) (states : Li
 -- no part in it. The parts are sound again.
 pub record ServesBeside (helds : List Held) (entries : List Entry) (states : List PeripheralState) (request : Request)
     (response : Response) (new_helds : List Held) (new_states : List PeripheralState) : Type 0 where
-  pub step : (shared : Shared) →
-      Step (machine_of helds entries states shared) request response (machine_of new_helds entries new_states shared)
+  pub step : (claims : List (Option ℕ)) (part : TotalsPart) →
+      Step (machine_with helds claims entries states part) request response
+      (machine_with new_helds claims entries new_states part)
   pub sound : ArePartsSound new_helds entries new_states
 
 -- what totals and their disk are to the machine, where a crash may leave bytes that stand for these

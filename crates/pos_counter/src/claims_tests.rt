@@ -91,8 +91,16 @@ fn a_commit_over_a_file_that_is_gone(rt: HostRuntime) -> Result<(), Fail> {
         (0, Step::Write(1, 0, &[1]), NOTHING),
         (1, Step::Delete(b"F"), NOTHING),
         (0, Step::Commit, NO_EXIST),
-        (0, Step::Get(Property::TransactionInProgress), Wanted::Truth(true)),
-        (1, Step::Get(Property::TransactionInProgress), Wanted::Truth(false)),
+        (
+            0,
+            Step::Get(Property::TransactionInProgress),
+            Wanted::Truth(true),
+        ),
+        (
+            1,
+            Step::Get(Property::TransactionInProgress),
+            Wanted::Truth(false),
+        ),
         (0, Step::Rollback, NOTHING),
         (0, Step::Rollback, ILLEGAL),
     ];
@@ -186,7 +194,11 @@ fn a_close_frees_files_and_drops_a_transaction(rt: HostRuntime) -> Result<(), Fa
         (0, Step::Begin, NOTHING),
         (0, Step::Close, NOTHING),
         (0, Step::Open(b"t1"), NOTHING),
-        (0, Step::Get(Property::TransactionInProgress), Wanted::Truth(false)),
+        (
+            0,
+            Step::Get(Property::TransactionInProgress),
+            Wanted::Truth(false),
+        ),
     ];
     let (wrong, _) = play(alloc, formatted(alloc)?, &lines)?;
     assert_eq!(rt; wrong, None);

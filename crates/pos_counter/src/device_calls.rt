@@ -45,9 +45,7 @@ pub(crate) fn call<D: Disk>(
         Call::Claim(timeout) => Ok(claim(controls, claims, totals, number, *timeout)),
         Call::Release => Ok(release(controls, claims, totals, number)),
         Call::Set(property, value) => set(controls, totals, number, *property, value),
-        Call::Get(property) => Ok(get(
-            controls, claims, entries, boxes, totals, number, *property,
-        )),
+        Call::Get(property) => Ok(get(controls, claims, entries, boxes, totals, number, *property)),
         _ => call_category(controls, claims, entries, boxes, totals, number, call),
     }
 }

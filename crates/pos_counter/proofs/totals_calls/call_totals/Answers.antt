@@ -48,7 +48,7 @@ returns-in-Err g c = λ entries states sound.
     ∙ c.in-Err.ensures in
     looks_serve g.D.Disk view hs c.args.claims.now entries states (CallOf n q) (Answered (answer.Refused c.in-Err.code 0)) (λ bytes honest since. g.met.D.Disk.only_now view.disk bytes honest since) sound
     (λ left.
-        let m = machine_with hs c.args.claims.now entries states (part_of g.D.Disk view left) in
-        refused_step m n held.control q (answer.Refused c.in-Err.code 0) there.0
-        (totals_refusals m n held.control q true foreign held.control.enabled c.requires.own there.1 there.2 (sym c.has_call.ensures ∙ c.if-not-has_call.false) refl refl
-        ∙ was_refused foreign held.control.enabled c.in-Err.code (file_rows view.totals n (file_call q)) refused))
+    let m = machine_with hs c.args.claims.now entries states (part_of g.D.Disk view left) in
+    refused_step m n held.control q (answer.Refused c.in-Err.code 0) there.0
+    (totals_refusals m n held.control q true foreign held.control.enabled c.requires.own there.1 there.2 (sym c.has_call.ensures ∙ c.if-not-has_call.false) refl refl
+    ∙ was_refused foreign held.control.enabled c.in-Err.code (file_rows view.totals n (file_call q)) refused))
