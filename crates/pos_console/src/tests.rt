@@ -140,18 +140,49 @@ const TOTALS_TEXT: &[u8] =
     err 106\n\
     ok ffff\nok 8192\nok 8176\nok 1\nok\nok 42\nerr 106\nerr 106\nok\nerr 109\nbad device\nbad device\n";
 
+/// A drawer that one of two controls has claimed.
+const CLAIMS: &[u8] =
+    b"new a CashDrawer\nopen a d1\nset a DeviceEnabled true\nnew b CashDrawer\nopen b d1\nset b DeviceEnabled true\n\
+    claim a 0\nclaim b -1\nclaim a -2\nget a Claimed\nget b Claimed\ncall b openDrawer\ncall a openDrawer\n\
+    deliver a\ndeliver b\nshow d1\nrelease a\nget a DeviceEnabled\nrelease a\nget a Claimed\nclose b\nclaim b 0\n\
+    release b\n";
+
+const CLAIMS_TEXT: &[u8] =
+    b"ok\nok\nok\nok\nok\nok\nok\nerr 112\nerr 106\nok true\nok false\nerr 102\nok\n\
+    event StatusUpdateEvent 1\nevent StatusUpdateEvent 1\nok open\nok\nok true\nerr 106\nok false\nok\nerr 101\n\
+    err 101\n";
+
+/// Transactions of Hard Totals, with files that are gone, and that another control has claimed.
+const TRANSACTIONS: &[u8] =
+    b"new a HardTotals\nopen a t1\nset a DeviceEnabled true\ncall a create 41 4 false\ncall a beginTrans\n\
+    call a beginTrans\ncall a write 1 0 deadbeef\ncall a read 1 0 4\ncall a commitTrans\ncall a read 1 0 4\n\
+    call a commitTrans\nnew b HardTotals\nopen b t1\nset b DeviceEnabled true\ncall a create 46 1 false\n\
+    call a beginTrans\ncall a write 2 0 01\ncall b delete 46\ncall a commitTrans\nget a TransactionInProgress\n\
+    call a rollback\ncall a rollback\ncall a create 46 1 false\ncall a claimFile 3 0\ncall b read 3 0 1\n\
+    call b claimFile 3 0\nclaim b 0\ncall a releaseFile 3\ncall a releaseFile 3\ncall b read 3 1 0\ncall b read 3 1 1\n\
+    call a beginTrans\ncall a setAll 3 7\ncall b claimFile 3 0\ncall a commitTrans\nclose b\ncall a commitTrans\n\
+    call a read 3 0 1\ncall a beginTrans\ncall a commitTrans\ncall a beginTrans\nclose a\nopen a t1\n\
+    get a TransactionInProgress\nclaim a 0\nget a Claimed\nrelease a\n";
+
+const TRANSACTIONS_TEXT: &[u8] =
+    b"ok\nok\nok\nok 1\nok\nerr 106\nok\nok 00000000\nok\nok deadbeef\nerr 106\nok\nok\nok\nok 2\nok\nok\nok\n\
+    err 109\nok true\nok\nerr 106\nok 3\nok\nerr 102\nerr 112\nerr 112\nok\nerr 106\nok -\nerr 106\nok\nok\nok\n\
+    err 102\nok\nok\nok 07\nok\nok\nok\nok\nok\nok false\nok\nok true\nok\n";
+
 /// Blanks, comments, and wrong shapes.
 const SHAPES: &[u8] =
     b"# \xff a comment\r\n\n   \n  new   - CashDrawer  \r\n show d1\r\r\n #x\nfrob\nnew a Drawer\n\
     new a\nnew abcdefghijklmnopq CashDrawer\nnew abcdefghijklmnop CashDrawer\nget - Claimed\nget - State x\nget\n\
     set - DeviceEnabled tru\nset - DeviceEnabled 1234567890123456789\nset - DeviceEnabled -\nset - DeviceEnabled +1\n\
     set - Foo true\ncall - open d1\ncall z openDrawer\ndeliver z\nclose z\ninput d9 open\ninput d9 shut\nshow d9\n\
-    show d!\ndeliver - now\nget\t- State\nopen - d1\r\nGET - State\nclaim - 0\nshow d1\r";
+    show d!\ndeliver - now\nget\t- State\nopen - d1\r\nGET - State\nclaim - 0\n\
+    call - claim 0\ncall - release\nclaim - x\nclaim -\nrelease - 0\nrelease -\nshow d1\r";
 
 const SHAPES_TEXT: &[u8] =
-    b"ok\nbad line\nbad line\nbad line\nbad line\nbad line\nbad line\nok\nbad line\nbad line\n\
+    b"ok\nbad line\nbad line\nbad line\nbad line\nbad line\nbad line\nok\nerr 101\nbad line\n\
     bad line\nbad line\nbad line\nbad line\nbad line\nbad line\nbad line\nbad control\nbad control\nbad control\n\
-    bad device\nbad line\nbad device\nbad line\nbad line\nbad line\nok\nbad line\nbad line\nbad line\n";
+    bad device\nbad line\nbad device\nbad line\nbad line\nbad line\nok\nbad line\nok\n\
+    bad line\nbad line\nbad line\nbad line\nbad line\nok\nbad line\n";
 
 #[test]
 fn scripts_print_their_answers(rt: HostRuntime) -> Result<(), Fail> {
@@ -160,6 +191,8 @@ fn scripts_print_their_answers(rt: HostRuntime) -> Result<(), Fail> {
         (STATES, STATES_TEXT),
         (SHARED, SHARED_TEXT),
         (TOTALS, TOTALS_TEXT),
+        (CLAIMS, CLAIMS_TEXT),
+        (TRANSACTIONS, TRANSACTIONS_TEXT),
         (SHAPES, SHAPES_TEXT),
         (b"".as_slice(), b"".as_slice()),
     ];
@@ -167,6 +200,40 @@ fn scripts_print_their_answers(rt: HostRuntime) -> Result<(), Fail> {
         let text = text_of(rt.alloc(), script)?;
         assert_eq!(rt; text.as_slice(), want);
     }
+    Ok(())
+}
+
+/// A line of `write` with so many bytes, behind others.
+fn with_write(
+    alloc: Global,
+    lines: &[u8],
+    count: usize,
+    end: &[u8],
+) -> Result<Vec<u8>, AllocError> {
+    let mut script = Vec::from_slice(alloc, lines)?;
+    script.extend_from_slice(b"call a write 1 0 ")?;
+    for _ in 0..count {
+        script.extend_from_slice(b"01")?;
+    }
+    script.extend_from_slice(end)?;
+    Ok(script)
+}
+
+#[test]
+fn a_transaction_costs_at_most_so_much(rt: HostRuntime) -> Result<(), Fail> {
+    let start =
+        b"new a HardTotals\nopen a t1\nset a DeviceEnabled true\ncall a create 46 8192 false\n\
+        call a beginTrans\n";
+    let most = with_write(
+        rt.alloc(),
+        start,
+        8_176,
+        b"\ncall a setAll 1 0\ncall a rollback\ncall a beginTrans\n",
+    )?;
+    let script = with_write(rt.alloc(), &most, 8_177, b"\n")?;
+    let text = text_of(rt.alloc(), &script)?;
+    let want = b"ok\nok\nok\nok 1\nok\nok\nerr 114 201\nok\nok\nerr 114 201\n".as_slice();
+    assert_eq!(rt; text.as_slice(), want);
     Ok(())
 }
 
