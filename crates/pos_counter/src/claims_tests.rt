@@ -11,6 +11,11 @@ use std::test::Fail;
 /// What is written over the zero bytes of the file A.
 const BEEF: [u8; 4] = [0xde, 0xad, 0xbe, 0xef];
 
+/// As many bytes as one write in a transaction may have, and one more.
+const MOST: [u8; 8_176] = [1; 8_176];
+
+const MORE: [u8; 8_177] = [1; 8_177];
+
 #[test]
 fn a_claimed_drawer_opens_for_its_holder(rt: HostRuntime) -> Result<(), Fail> {
     let alloc = rt.alloc();
@@ -112,19 +117,17 @@ fn a_commit_over_a_file_that_is_gone(rt: HostRuntime) -> Result<(), Fail> {
 #[test]
 fn a_transaction_costs_at_most_so_much(rt: HostRuntime) -> Result<(), Fail> {
     let alloc = rt.alloc();
-    let most = vec![in alloc; 1u8; 8_176]?;
-    let more = vec![in alloc; 1u8; 8_177]?;
     let lines = [
         (0, Step::Make(Category::HardTotals), Wanted::Made(0)),
         (0, Step::Open(b"t1"), NOTHING),
         (0, Step::Enable(true), NOTHING),
         (0, Step::Create(b"F", 8_192), Wanted::Number(1)),
         (0, Step::Begin, NOTHING),
-        (0, Step::Write(1, 0, &most), NOTHING),
+        (0, Step::Write(1, 0, &MOST), NOTHING),
         (0, Step::SetAll(1, 0), NO_ROOM),
         (0, Step::Rollback, NOTHING),
         (0, Step::Begin, NOTHING),
-        (0, Step::Write(1, 0, &more), NO_ROOM),
+        (0, Step::Write(1, 0, &MORE), NO_ROOM),
         (0, Step::Commit, NOTHING),
         (0, Step::Read(1, 0, 1), Wanted::Bytes(&[0])),
     ];
