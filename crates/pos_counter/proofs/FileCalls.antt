@@ -1,7 +1,7 @@
 -- What the totals do with a call, for all that their disk may leave before it.
-use Rattle.std.proofs.Common.{◌≡◌, ◌≤◌, ◌⊎◌, inl, inr, ℕ, ◌+◌, List, [], ◌∷◌, Option, Some, None, Result, Ok, Err, Bool, true, false, cond, not, refl, sym, ap, ◌∙◌, subst, arith}
+use Rattle.std.proofs.Common.{◌≡◌, ◌⊎◌, inl, inr, ℕ, ◌+◌, List, [], ◌∷◌, Option, Some, None, Result, Ok, Err, Bool, true, false, cond, not, refl, sym, ap, ◌∙◌, subst, arith}
 use Rattle.std.specs.Prelude.{MatchOption, MatchResult, IsTrue, is_none}
-use Rattle.pos_disk.specs.State.{DiskState, MayLeave, LeavesOnly, Rises}
+use Rattle.pos_disk.specs.State.{MayLeave, LeavesOnly, Rises}
 use Rattle.pos_disk.specs.declared.device.Disk.{Ghosts}
 use Rattle.pos_disk.proofs.Moments.{started, weaker}
 use Rattle.pos_service.specs.declared.answer.Answer.{Answer}
@@ -12,12 +12,11 @@ use Rattle.pos_service.specs.declared.category.Category.TheVariants as category
 use Rattle.pos_service.specs.declared.code.Code.TheVariants as code
 use Rattle.pos_service.specs.declared.memory.NoMemory.{NoMemory}
 use Rattle.pos_service.specs.Calls.{has_call, takes_memory}
-use Rattle.pos_service.specs.HardTotals.{File, Mode, Off, Ready, Totals, Change, Question, layout_1, files_of, files_after_all, next_sequences, refusals_of_change, refusals_of_question, number_rows, after_changes, after_disk_fault, given_by, Done, DoesChange, Changed, Tells, MayTell, group_by_change}
+use Rattle.pos_service.specs.HardTotals.{File, Mode, Off, Ready, Totals, Change, Question, layout_1, files_after_all, refusals_of_change, refusals_of_question, number_rows, given_by, Done, DoesChange, MayTell}
 use Rattle.pos_service.specs.Refusals.{Row, Decided, first_refusal, when}
 use Rattle.pos_service.specs.TotalsCalls.{Asks, Makes, file_call, file_rows}
-use Rattle.pos_store.specs.Standing.{Standing, Stands, LeavesOneOf, StandsForOneOf}
+use Rattle.pos_store.specs.Standing.{Standing, Stands, StandsForOneOf}
 use Rattle.pos_totals.specs.Changes.{Changes, PutsGroup, HasFailed, IsDone, IsOneGroup, IsBeforeOrAfter, before_or_after}
-use Rattle.pos_disk.specs.Keeps.{KeepsDisk}
 use Rattle.pos_totals.specs.Views.{TotalsView, TurnsOff, LeavesTheirFiles, plain}
 use Rattle.pos_counter.specs.Parts.{CallsFiles, FilesStepped, IsLeft, Leaves, part_of}
 use Rattle.pos_counter.specs.Totals.{TotalsPart, TotalsDo, ChangesTotals, FilesCalled, settled, left_after, is_change}

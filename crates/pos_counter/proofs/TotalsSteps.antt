@@ -1,6 +1,6 @@
 -- A call of the totals' own as a step of the machine.
-use Rattle.std.proofs.Common.{◌≡◌, ◌<◌, ℕ, List, [], ◌∷◌, length, get_or, arith, Option, Some, None, Result, Ok, Err, Bool, true, false, cond, not, refl, sym, ap, ◌∙◌, subst}
-use Rattle.std.specs.Prelude.{MatchOption, MatchResult, IsTrue, is_none, is_some, slice_get, ⊤}
+use Rattle.std.proofs.Common.{◌≡◌, ◌<◌, ℕ, List, [], ◌∷◌, length, get_or, arith, Option, Some, None, Result, Ok, Err, Bool, true, false, not, refl, sym, ap, ◌∙◌, subst}
+use Rattle.std.specs.Prelude.{MatchOption, IsTrue, is_some, slice_get, ⊤}
 use Rattle.std.proofs.lemmas.List.{length-map}
 use Rattle.std.proofs.lemmas.Option.{slice_get_within}
 use Rattle.pos_disk.specs.declared.device.Disk.{Ghosts}
@@ -8,7 +8,6 @@ use Rattle.pos_service.specs.declared.answer.Answer.{Answer}
 use Rattle.pos_service.specs.declared.answer.Answer.TheVariants as answer
 use Rattle.pos_service.specs.declared.call.Call.{Call}
 use Rattle.pos_service.specs.declared.call.Call.TheVariants as call
-use Rattle.pos_service.specs.declared.category.Category.{Category}
 use Rattle.pos_service.specs.declared.category.Category.TheVariants as category
 use Rattle.pos_service.specs.declared.code.Code.{Code}
 use Rattle.pos_service.specs.declared.code.Code.TheVariants as code
@@ -20,11 +19,10 @@ use Rattle.pos_service.specs.Refusals.{first_refusal, when}
 use Rattle.pos_service.specs.Stations.{IsOpen}
 use Rattle.pos_service.specs.TotalsCalls.{file_call, file_rows}
 use Rattle.pos_common.specs.Held.{Held, controls_of}
-use Rattle.pos_store.specs.Standing.{Standing}
 use Rattle.pos_totals.specs.Views.{TotalsView}
 use Rattle.pos_counter.specs.declared.entry.Entry.{Entry}
 use Rattle.pos_counter.specs.Machine.{Machine}
-use Rattle.pos_counter.specs.Parts.{machine_of, part_of, ArePartsSound, CallsFiles, Leaves, Serves, Stepped}
+use Rattle.pos_counter.specs.Parts.{machine_of, part_of, ArePartsSound, CallsFiles, Serves}
 use Rattle.pos_counter.specs.Responses.{answered}
 use Rattle.pos_counter.specs.Steps.{CallOf, Answered, Step, CategoryDoes, refusals}
 use Rattle.pos_counter.specs.Totals.{TotalsPart, FilesCalled, is_change, uses_disk}

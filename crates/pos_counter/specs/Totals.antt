@@ -11,12 +11,11 @@ use Rattle.pos_service.specs.declared.memory.NoMemory.{NoMemory}
 use Rattle.pos_service.specs.declared.category.Category.{Category}
 use Rattle.pos_service.specs.declared.category.Category.TheVariants as category
 use Rattle.pos_service.specs.declared.code.Code.TheVariants as code
-use Rattle.pos_service.specs.declared.facts.Facts.{Facts}
 use Rattle.pos_service.specs.declared.facts.FileFacts.{FileFacts}
 use Rattle.pos_service.specs.declared.property.Property.{Property}
 use Rattle.pos_service.specs.declared.property.Property.TheVariants as property
 use Rattle.pos_service.specs.Controls.{Control}
-use Rattle.pos_service.specs.HardTotals.{Totals, Mode, Off, Ready, Change, Question, layout_1, free_data, files_of, is_ready, told_of, DoesChange}
+use Rattle.pos_service.specs.HardTotals.{Totals, Mode, Off, Ready, Change, layout_1, free_data, files_of, is_ready, told_of, DoesChange}
 use Rattle.pos_service.specs.Calls.{has_call, takes_memory}
 use Rattle.pos_service.specs.Refusals.{Decided, first_refusal, when}
 use Rattle.pos_service.specs.TotalsCalls.{FileCall, Asks, Makes, Nothing, file_call, file_rows}

@@ -1,5 +1,5 @@
 use Rattle.std.proofs.Common.{◌≡◌, ◌∙◌, ◌<◌, length, get_or, map, ap, sym, subst, rules, refl}
-use Rattle.std.specs.Prelude.{Some, None, false, []}
+use Rattle.std.specs.Prelude.{None, false, []}
 use Rattle.std.proofs.lemmas.List.{get_or_default}
 use Rattle.std.proofs.lemmas.Option.{slice_get-get_or}
 use Rattle.pos_service.specs.declared.category.Category.{Category}
@@ -12,7 +12,7 @@ use Rattle.pos_counter.specs.Steps.{CallOf}
 use Rattle.pos_counter.specs.Totals.{TotalsPart}
 use Rattle.pos_counter.proofs.Lifts.{control_at}
 use Rattle.pos_counter.proofs.Serving.{beside_serves, station_serves}
-use Rattle.pos_counter.proofs.Stations.{ServedAt, drawer_kind, drawer_step, is_open_there, served_there, unparked_at}
+use Rattle.pos_counter.proofs.Stations.{drawer_kind, drawer_step, is_open_there, served_there, unparked_at}
 use Rattle.pos_counter.proofs.device_calls.call_category.Goals as goal
 
 -- no device without a kind is a drawer's

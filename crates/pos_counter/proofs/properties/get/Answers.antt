@@ -9,8 +9,7 @@ use Rattle.pos_service.specs.Calls.{property_of, get_rows}
 use Rattle.pos_service.specs.Refusals.{Decided, first_refusal}
 use Rattle.pos_service.specs.Stations.{signs_in}
 use Rattle.pos_common.specs.Held.{Held, controls_of}
-use Rattle.pos_counter.specs.Machine.{station_in, device_at}
-use Rattle.pos_counter.specs.Parts.{devices_of, machine_of, part_of, standing_at, facts_at}
+use Rattle.pos_counter.specs.Parts.{machine_of, part_of, facts_at}
 use Rattle.pos_counter.specs.Steps.{Called, facts_of}
 use Rattle.pos_counter.specs.Totals.{file_facts}
 use Rattle.pos_counter.proofs.Lifts.{match_at_some, match_weaker, control_at}

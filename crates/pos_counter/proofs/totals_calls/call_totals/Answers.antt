@@ -1,9 +1,7 @@
-use Rattle.std.proofs.Common.{◌≡◌, ◌∙◌, ◌<◌, get_or, length, map, refl, sym, subst, ap, true, false}
-use Rattle.std.specs.Prelude.{Some, slice_get}
+use Rattle.std.proofs.Common.{◌∙◌, sym, ap, true, false}
+use Rattle.std.specs.Prelude.{Some}
 use Rattle.pos_service.specs.declared.answer.Answer.TheVariants as answer
-use Rattle.pos_service.specs.declared.code.Code.TheVariants as code
-use Rattle.pos_counter.specs.Parts.{Serves, machine_of, part_of}
-use Rattle.pos_counter.specs.Responses.{answered}
+use Rattle.pos_counter.specs.Parts.{machine_of, part_of}
 use Rattle.pos_counter.specs.Steps.{CallOf, Answered}
 use Rattle.pos_counter.proofs.Serving.{looks_serve}
 use Rattle.pos_counter.proofs.TotalsSteps.{files_serve, opened_here, refused_step, totals_refusals, was_disabled, was_enabled}
