@@ -69,8 +69,8 @@ pub record RunsScript {C : Type 0} (Runs : Leads C) (old : C) (left before after
   pub whole : ReadsWhole left input result
   pub run : ScriptLeaves Runs old input before after result new
 
--- the machine as the program begins: no control, the closed drawer `d1` in service, and the totals off over a disk that was
--- formatted
+-- the machine as the program begins: no control, the closed drawer `d1` in service, and the totals off over a disk
+-- that was formatted
 abbrev pub start : Machine
 start = machine_of [] profile (drawer_state false false ∷ []) (record {
   totals = record { mode = Off; next = 1 };

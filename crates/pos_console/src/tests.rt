@@ -132,7 +132,8 @@ const TOTALS: &[u8] =
     call t create 41 1 true\ncall t create 4142434445464748494a4b 1 true\ncall t create 42 8177 true\ncall t find 41\n\
     call t write 1 0 0102\ncall t write 1 15 0102\ncall t read 1 0 4\ncall t setAll 1 255\ncall t setAll 1 256\n\
     call t read 1 14 2\nget t TotalsSize\nget t FreeData\nget t NumberOfFiles\ncall t rename 1 42\n\
-    call t findByIndex 0\ncall t findByIndex -1\ncall t openDrawer\ncall t delete 42\ncall t find 42\ninput t1 open\nshow t1\n";
+    call t findByIndex 0\ncall t findByIndex -1\ncall t openDrawer\ncall t delete 42\ncall t find 42\n\
+    input t1 open\nshow t1\n";
 
 const TOTALS_TEXT: &[u8] =
     b"ok\nerr 109\nok\nerr 105\nok\nok 1\nerr 110\nerr 106\nerr 114 201\nok 1 16\nok\nerr 106\nok 01020000\nok\n\
