@@ -50,8 +50,8 @@ fn closed_drawer(device: Box<dyn Peripheral>) -> PeripheralBox
     PeripheralBox::new(device)
 }
 
-/// Runs a script over a counter of one simulated cash drawer, the device `d1`, and of Hard Totals, the device `t1`, on a
-/// disk in memory.
+/// Runs a script over a counter of one simulated cash drawer, the device `d1`, and of Hard Totals, the device `t1`,
+/// on a disk in memory.
 fn run_over_devices<R: Read, W: Write>(
     alloc: Global,
     reader: &mut R,

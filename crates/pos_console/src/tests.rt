@@ -132,13 +132,29 @@ const TOTALS: &[u8] =
     call t create 41 1 true\ncall t create 4142434445464748494a4b 1 true\ncall t create 42 8177 true\ncall t find 41\n\
     call t write 1 0 0102\ncall t write 1 15 0102\ncall t read 1 0 4\ncall t setAll 1 255\ncall t setAll 1 256\n\
     call t read 1 14 2\nget t TotalsSize\nget t FreeData\nget t NumberOfFiles\ncall t rename 1 42\n\
-    call t findByIndex 0\n\
-    call t findByIndex -1\ncall t openDrawer\ncall t delete 42\ncall t find 42\ninput t1 open\nshow t1\n";
+    call t findByIndex 0\ncall t findByIndex -1\ncall t openDrawer\ncall t delete 42\ncall t find 42\n\
+    input t1 open\nshow t1\n";
 
 const TOTALS_TEXT: &[u8] =
     b"ok\nerr 109\nok\nerr 105\nok\nok 1\nerr 110\nerr 106\nerr 114 201\nok 1 16\nok\nerr 106\nok 01020000\nok\n\
-    err 106\n\
-    ok ffff\nok 8192\nok 8176\nok 1\nok\nok 42\nerr 106\nerr 106\nok\nerr 109\nbad device\nbad device\n";
+    err 106\nok ffff\nok 8192\nok 8176\nok 1\nok\nok 42\nerr 106\nerr 106\nok\nerr 109\nbad device\nbad device\n";
+
+/// A file is made, read, counted and found.
+const ONE_FILE: &[u8] =
+    b"new a HardTotals\nopen a t1\nset a DeviceEnabled true\ncall a create 41 4 false\ncall a read 1 0 4\n\
+    get a FreeData\nget a NumberOfFiles\ncall a findByIndex 0\ncall a findByIndex 1\n";
+
+const ONE_FILE_TEXT: &[u8] = b"ok\nok\nok\nok 1\nok 00000000\nok 8188\nok 1\nok 41\nerr 106\n";
+
+/// Names of ten bytes, of eleven and of none; files for which there is room, or not.
+const NAMES: &[u8] =
+    b"new a HardTotals\nopen a t1\nset a DeviceEnabled true\ncall a create 30313233343536373839 0 false\n\
+    call a create 3031323334353637383930 0 false\ncall a create - 0 false\ncall a create 42 8192 false\n\
+    call a create 43 1 false\ncall a create 43 0 false\ncall a create 42 0 false\ncall a rename 3 44\n\
+    call a create 45 0 true\n";
+
+const NAMES_TEXT: &[u8] =
+    b"ok\nok\nok\nok 1\nerr 106\nerr 106\nok 2\nerr 114 201\nok 3\nerr 110\nok\nok 4\n";
 
 /// A drawer that one of two controls has claimed.
 const CLAIMS: &[u8] =
@@ -191,6 +207,8 @@ fn scripts_print_their_answers(rt: HostRuntime) -> Result<(), Fail> {
         (STATES, STATES_TEXT),
         (SHARED, SHARED_TEXT),
         (TOTALS, TOTALS_TEXT),
+        (ONE_FILE, ONE_FILE_TEXT),
+        (NAMES, NAMES_TEXT),
         (CLAIMS, CLAIMS_TEXT),
         (TRANSACTIONS, TRANSACTIONS_TEXT),
         (SHAPES, SHAPES_TEXT),

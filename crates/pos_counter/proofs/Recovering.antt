@@ -1,10 +1,8 @@
 -- Setting a property as a step of the machine, where it recovers the totals and where it doesn't.
-use Rattle.std.proofs.Common.{◌≡◌, ◌⊎◌, inl, inr, ℕ, List, [], ◌∷◌, Option, Some, None, Result, Ok, Err, Bool, true, false, not, ◌&&◌, set, get_or, length, ◌<◌, arith, refl, sym, ap, ◌∙◌, subst}
+use Rattle.std.proofs.Common.{◌≡◌, inl, inr, ℕ, List, [], ◌∷◌, Option, Some, None, Result, Ok, Err, Bool, true, false, not, ◌&&◌, set, get_or, length, ◌<◌, refl, sym, ap, ◌∙◌, subst}
 use Rattle.std.specs.Bool.{MatchBool}
-use Rattle.std.specs.Result.{result_ok}
-use Rattle.std.specs.Prelude.{MatchOption, IsTrue, is_some, is_none, slice_get, ⊤}
-use Rattle.std.proofs.lemmas.List.{length-map, map-set, set-get_or}
-use Rattle.std.proofs.lemmas.Option.{slice_get_within}
+use Rattle.std.specs.Prelude.{MatchOption, is_some, is_none, slice_get, ⊤}
+use Rattle.std.proofs.lemmas.List.{map-set, set-get_or}
 use Rattle.pos_disk.specs.State.{LeavesOnly}
 use Rattle.pos_disk.specs.declared.device.Disk.{Ghosts}
 use Rattle.pos_disk.proofs.Moments.{weaker}
@@ -17,14 +15,13 @@ use Rattle.pos_service.specs.declared.category.Category.{Category}
 use Rattle.pos_service.specs.declared.category.Category.TheVariants as category
 use Rattle.pos_service.specs.declared.code.Code.{Code}
 use Rattle.pos_service.specs.declared.code.Code.TheVariants as code
-use Rattle.pos_service.specs.declared.memory.NoMemory.{NoMemory}
 use Rattle.pos_service.specs.declared.property.Property.{Property}
 use Rattle.pos_service.specs.declared.property.Property.TheVariants as property
 use Rattle.pos_service.specs.Calls.{set_rows, after_set, has_property}
 use Rattle.pos_service.specs.Controls.{Control}
 use Rattle.pos_service.specs.HardTotals.{Mode, Off, Ready, Totals, is_ready}
 use Rattle.pos_service.specs.Peripherals.{PeripheralState}
-use Rattle.pos_service.specs.Refusals.{Decided, first_refusal, when}
+use Rattle.pos_service.specs.Refusals.{first_refusal, when}
 use Rattle.pos_common.specs.Held.{Held, TurnsInto, controls_of}
 use Rattle.pos_store.specs.Standing.{Standing, LeavesOneOf, StandsForOneOf}
 use Rattle.pos_totals.specs.declared.fault.RecoveryFault.{RecoveryFault}
@@ -36,7 +33,7 @@ use Rattle.pos_counter.specs.Machine.{Machine, with_control}
 use Rattle.pos_counter.specs.Parts.{machine_of, machine_with, devices_of, over, part_of, ArePartsSound, IsRecovering, IsLeft, Leaves, Serves, SparesDisk, Stepped}
 use Rattle.pos_counter.specs.Responses.{answered}
 use Rattle.pos_counter.specs.Steps.{CallOf, Answered, IsSound, Step, Sets, SetsByRecovery}
-use Rattle.pos_counter.specs.Totals.{TotalsPart, Recovered, Recovers, Rests, asks_recovery, recovers, is_enabling, is_totals, settled}
+use Rattle.pos_counter.specs.Totals.{TotalsPart, Recovers, asks_recovery, recovers, is_enabling, is_totals, settled}
 use Rattle.pos_counter.proofs.Lifts.{control_at, decided_at, match_at_none, match_at_some, match_cases, match_weaker}
 use Rattle.pos_counter.proofs.Sound.{seated, with_control_sound}
 

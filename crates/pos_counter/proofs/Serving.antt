@@ -1,7 +1,7 @@
 -- A step from sound parts of a counter leads to sound ones.
 use Rattle.std.proofs.Common.{◌≡◌, ◌≤◌, ◌∙◌, ℕ, List, [], Option, false, inl, set, map, length, ap, sym, subst, refl, arith}
 use Rattle.std.proofs.lemmas.List.{length-map, length-set}
-use Rattle.pos_disk.specs.State.{MayLeave, LeavesOnly}
+use Rattle.pos_disk.specs.State.{MayLeave}
 use Rattle.pos_disk.specs.declared.device.Disk.{Ghosts}
 use Rattle.pos_disk.proofs.Moments.{started}
 use Rattle.pos_service.specs.Peripherals.{PeripheralState}

@@ -1,7 +1,7 @@
 -- Every step keeps the machine sound.
 use Rattle.std.proofs.Common.{◌≡◌, ℕ, ◌∷◌, inl, inr, zero, suc, List, [], Option, Some, None, Bool, true, false, cond, set, ap, sym, ◌∙◌, subst, refl}
 use Rattle.std.specs.Bool.{MatchBool}
-use Rattle.std.specs.Prelude.{MatchOption, IfSome, IsTrue, All, ◌++◌, ◌||◌, slice_get, is_some, is_none}
+use Rattle.std.specs.Prelude.{MatchOption, IfSome, All, ◌++◌, ◌||◌, slice_get, is_some, is_none}
 use Rattle.std.proofs.lemmas.List.Elements.{All-push, All-set, All-weaker, All-map, All-get_or}
 use Rattle.std.proofs.lemmas.Option.{slice_get_within, get_or_from_slice_get}
 use Rattle.pos_service.specs.declared.category.Category.{Category}

@@ -1,7 +1,7 @@
 -- What stands at a device: by a counter's parts, where a peripheral has changed.
-use Rattle.std.proofs.Common.{◌≡◌, ℕ, ◌<◌, ◌≤◌, ◌⊎◌, inl, inr, [], ◌∷◌, zero, suc, List, Option, Some, None, Result, Ok, Err, Bool, true, false, get_or, set, map, length, ap, sym, ◌∙◌, subst, refl, arith}
-use Rattle.std.specs.Prelude.{slice_get, option_map, is_some, is_none, ◌||◌, IfSome, IsTrue, MatchOption, MatchResult}
-use Rattle.std.proofs.lemmas.List.{map-set, length-map}
+use Rattle.std.proofs.Common.{◌≡◌, ℕ, ◌<◌, ◌≤◌, inl, inr, [], ◌∷◌, zero, suc, List, Option, Some, None, Result, Ok, Err, Bool, true, false, get_or, set, map, length, ap, sym, ◌∙◌, subst, refl, arith}
+use Rattle.std.specs.Prelude.{slice_get, option_map, is_some, is_none, ◌||◌, IfSome, IsTrue, MatchOption}
+use Rattle.std.proofs.lemmas.List.{map-set}
 use Rattle.std.proofs.lemmas.List.Elements.{All-get_or, All-set}
 use Rattle.std.proofs.lemmas.Option.{slice_get-map, slice_get_within, get_or_from_slice_get}
 use Rattle.pos_service.specs.declared.answer.Answer.{Answer}
@@ -19,7 +19,7 @@ use Rattle.pos_service.specs.Calls.{serves, is_common, own_rows, takes_memory as
 use Rattle.pos_service.specs.Controls.{Control}
 use Rattle.pos_service.specs.DrawerCalls.{drawer_rows, DrawerDoes}
 use Rattle.pos_service.specs.Peripherals.{PeripheralState, input_fits}
-use Rattle.pos_service.specs.Refusals.{Row, Decided, first_refusal, when}
+use Rattle.pos_service.specs.Refusals.{first_refusal, when}
 use Rattle.pos_service.specs.Stations.{Station, Effect, station_of, CalledAt, CalledBy, IsOpen}
 use Rattle.pos_common.specs.Held.{Held, controls_of}
 use Rattle.pos_counter.specs.declared.entry.Entry.{Entry}

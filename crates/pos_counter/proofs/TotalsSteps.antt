@@ -8,7 +8,6 @@ use Rattle.pos_service.specs.declared.answer.Answer.{Answer}
 use Rattle.pos_service.specs.declared.answer.Answer.TheVariants as answer
 use Rattle.pos_service.specs.declared.call.Call.{Call}
 use Rattle.pos_service.specs.declared.call.Call.TheVariants as call
-use Rattle.pos_service.specs.declared.category.Category.{Category}
 use Rattle.pos_service.specs.declared.category.Category.TheVariants as category
 use Rattle.pos_service.specs.declared.code.Code.{Code}
 use Rattle.pos_service.specs.declared.code.Code.TheVariants as code
@@ -21,7 +20,6 @@ use Rattle.pos_service.specs.Stations.{IsOpen}
 use Rattle.pos_service.specs.Claims.{is_foreign}
 use Rattle.pos_service.specs.TotalsCalls.{asks_area, file_call, file_rows}
 use Rattle.pos_common.specs.Held.{Held, controls_of}
-use Rattle.pos_store.specs.Standing.{Standing}
 use Rattle.pos_totals.specs.Views.{TotalsView}
 use Rattle.pos_counter.specs.declared.entry.Entry.{Entry}
 use Rattle.pos_counter.specs.Machine.{Machine}

@@ -58,8 +58,8 @@ pub record HasBegun {D X : Type 0} {O : X → Type 0} (bound : DiskGhosts D) (bo
   pub history : history_until past ≡ begun start
 
 -- What a crash leaves in one more request, whose step the history goes on by. At any moment of it: the files after a
--- prefix of the history before it or after it, which holds each group that was settled before it. After it: those after a
--- prefix that holds each settled group.
+-- prefix of the history before it or after it, which holds each group that was settled before it. After it: those
+-- after a prefix that holds each settled group.
 pub record KeepsPrefix {D X : Type 0} {O : X → Type 0} (bound : DiskGhosts D) (boxes : Ghosts (PeripheralBox X O))
     (start : List PlainFile) (sequence : ℕ) (steps : List (Request × Response)) (old : Counter D X O)
     (past : HasRun bound boxes start sequence steps old) (request : Request) (response : Response) (new : Counter D X O)

@@ -1,5 +1,5 @@
 -- The state of the device machine: the controls of all applications, and the devices of the profile.
-use Rattle.std.specs.Prelude.{ℕ, ◌+◌, Bool, ◌||◌, List, [], ◌∷◌, Option, Some, None, is_none, is_some, slice_get, slice_set, bytes_eq, if◌then◌else◌}
+use Rattle.std.specs.Prelude.{ℕ, ◌+◌, ◌||◌, List, [], ◌∷◌, Option, Some, None, is_none, is_some, slice_get, slice_set, bytes_eq, if◌then◌else◌}
 use Rattle.pos_service.specs.declared.category.Category.{Category}
 use Rattle.pos_service.specs.declared.category.Category.TheVariants as category
 use Rattle.pos_service.specs.declared.finding.Finding.{Finding}

@@ -1,5 +1,5 @@
 -- What a change of the images means for the files.
-use Rattle.std.proofs.Common.{◌≡◌, ◌≤◌, ◌+◌, ◌↔◌, inl, inr, ⊎_elim, ℕ, List, Result, Ok, Err, MatchResult, length, refl, sym, ap, subst, ◌∙◌}
+use Rattle.std.proofs.Common.{◌≡◌, ◌+◌, inl, inr, ⊎_elim, ℕ, List, Result, Ok, Err, MatchResult, refl, sym, ap, subst, ◌∙◌}
 use Rattle.std.specs.Prelude.{Some}
 use Rattle.std.specs.Result.{result_err}
 use Rattle.pos_dir.proofs.Applied.{never_memory}

@@ -1,4 +1,4 @@
-use Rattle.std.proofs.Common.{◌∙◌, get_or, map, set}
+use Rattle.std.proofs.Common.{get_or, map, set}
 use Rattle.std.proofs.lemmas.List.{get_or_default}
 use Rattle.pos_service.specs.declared.call.Call.TheVariants as call
 use Rattle.pos_counter.specs.Parts.{devices_of}

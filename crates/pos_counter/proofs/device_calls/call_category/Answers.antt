@@ -1,5 +1,5 @@
 use Rattle.std.proofs.Common.{◌≡◌, ◌∙◌, ◌<◌, length, get_or, map, ap, sym, subst, rules, refl}
-use Rattle.std.specs.Prelude.{Some, None, false, []}
+use Rattle.std.specs.Prelude.{None, false, []}
 use Rattle.std.proofs.lemmas.List.{get_or_default}
 use Rattle.std.proofs.lemmas.Option.{slice_get-get_or}
 use Rattle.pos_service.specs.declared.category.Category.{Category}

@@ -1,4 +1,4 @@
-use Rattle.std.proofs.Common.{◌≡◌, ◌∙◌, ◌&&◌, not, ap, get_or, set, subst, sym, true, false, refl}
+use Rattle.std.proofs.Common.{◌≡◌, ◌∙◌, ◌&&◌, not, ap, get_or, set, subst, sym, false, refl}
 use Rattle.pos_service.specs.HardTotals.{is_ready}
 use Rattle.pos_common.specs.Held.{Held}
 use Rattle.pos_counter.specs.Totals.{asks_recovery}

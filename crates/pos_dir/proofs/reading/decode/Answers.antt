@@ -11,13 +11,6 @@ use Rattle.pos_dir.proofs.Directories.{layout_1_writable, directory_takes, no_bo
 use Rattle.pos_dir.proofs.reading.decode.Goals.{In_ok-files}
 use Rattle.pos_dir.proofs.reading.decode.Goals as goal
 
--- the files that were copied are those that the bytes spell
-copied : (c : In_ok-files) → IsBytes c.args.bytes.now → IsDirectory LAYOUT_1 c.in_ok-files.files.items × (c.args.bytes.now ≡ spelling c.in_ok-files.files.items)
-copied c fits =
-    let found = c.in-Some.ensures in
-    let same = same_items (items_at file_at c.in-Some.count c.in-Some.rest.now) c.in_ok-files.files.items found.0 [] c.in_ok-files.ensures found.2 in
-    subst (λ (files : List File). IsDirectory LAYOUT_1 files × (c.args.bytes.now ≡ spelling files)) (sym same) (directory_takes LAYOUT_1 c.args.bytes.now found.0 fits found.1)
-
 pub returns-in_default : goal.returns-in_default
 returns-in_default c = λ body. no_body LAYOUT_1 c.args.bytes.now body.0 layout_1_writable c.in_default.ensures body.1 body.2
 
@@ -27,6 +20,13 @@ returns-in_err-files c =
     let takes = directory_takes LAYOUT_1 c.args.bytes.now found.0 (λ i. omega (arith, c.type_inv.bytes i)) found.1 in
     let p = err_from_is_err_and c.from_residual.result c.from_residual.ensures.1 in
     rw (p.1, p.2, c.in_err-files.ensures) (found.0, takes.0, takes.1)
+
+-- the files that were copied are those that the bytes spell
+copied : (c : In_ok-files) → IsBytes c.args.bytes.now → IsDirectory LAYOUT_1 c.in_ok-files.files.items × (c.args.bytes.now ≡ spelling c.in_ok-files.files.items)
+copied c fits =
+    let found = c.in-Some.ensures in
+    let same = same_items (items_at file_at c.in-Some.count c.in-Some.rest.now) c.in_ok-files.files.items found.0 [] c.in_ok-files.ensures found.2 in
+    subst (λ (files : List File). IsDirectory LAYOUT_1 files × (c.args.bytes.now ≡ spelling files)) (sym same) (directory_takes LAYOUT_1 c.args.bytes.now found.0 fits found.1)
 
 pub invariant_of-result : goal.invariant_of-result
 invariant_of-result c = (copied (goal.at.invariant_of-result c).In_ok-files (λ i. omega (arith, c.type_inv.bytes i))).0

@@ -1,6 +1,6 @@
-use Rattle.std.proofs.Common.{ap, subst, sym, refl, ◌∙◌}
-use Rattle.pos_counter.specs.Counters.{IsStep, boxes_of}
-use Rattle.pos_counter.specs.Responses.{made, taken_in, shown, request_of, response_of}
+use Rattle.std.proofs.Common.{ap, sym, refl, ◌∙◌}
+use Rattle.pos_counter.specs.Counters.{boxes_of}
+use Rattle.pos_counter.specs.Responses.{made, taken_in, shown, request_of}
 use Rattle.pos_counter.specs.Steps.{NewControl, InputTo, Deliver, Delivered, Snapshot}
 use Rattle.pos_counter.proofs.Runs.{beside_step_as, step_as}
 use Rattle.pos_counter.proofs.counter.Counter.carry_out.Goals as goal
