@@ -120,7 +120,7 @@ module _ {D : Type 0} (bound : Ghosts D) (disk : D) (only : bound.honest disk â†
           (subst (Î» (t : Option (List Change)). DoesCommit (HasFailed bound disk disk) totals (with_transaction totals control None) (changes_in t) (answer.Done value.Empty) (with_transaction totals control None)) (sym none) (refl, refl));
       disk = rw (whole_group totals control [] passes none) (idles bound disk only totals (with_transaction totals control None) [] _ refl refl (Î» refused. absurd (refused tt)) their);
     },
-    record { handles = sound.handles; buffers = held_with (mode_of ledger.handles.given state) ledger.handles.next ledger.transactions control None sound.buffers (none_held (mode_of ledger.handles.given state) ledger.handles.next) },
+    record { handles = sound.handles; buffers = held_with (mode_of ledger.handles.given state) ledger.handles.next ledger.transactions control None sound.buffers (none_held (mode_of ledger.handles.given state) ledger.handles.next); apart = sound.apart },
   )
 
 -- the group of a commit that is let through is one
@@ -213,6 +213,7 @@ module _ {D : Type 0} (bound : Ghosts D) (disk : D) (only : bound.honest disk â†
             distinct = sound.handles.distinct;
             below = sound.handles.below;
           };
+          apart = sound.apart;
           buffers = rw mode (
               held_with (Ready after (sequence + 1)) next ledger.transactions control None
               (holds_so there after sequence (sequence + 1) next next ledger.transactions (Î» change is. same_buffered there after next change (sym same) is) sound.buffers)
@@ -252,7 +253,7 @@ module _ {D : Type 0} (bound : Ghosts D) (disk : D) (only : bound.honest disk â†
           answer = answered (HasFailed bound disk new.disk) _ _ number (inr (refl, Î» h. commits.device h refl, totals));
           disk = rw (whole_group ready control (first âˆ· others) passes some) (doubt_group bound disk files sequence ledger first others sound.handles one new (after_disk_fault ready) _ commits refl);
         },
-        record { handles = tt; buffers = none_hold Off next ledger.transactions },
+        record { handles = tt; buffers = none_hold Off next ledger.transactions; apart = tt },
       )
 
 -- ---- the same for a store in any state, by the plan

@@ -52,14 +52,14 @@ value_is files (SetAll handle n) next = refl
 
 -- ---- facts of all handles
 
-all_with : (P : ℕ → Type 0) (handles : List ℕ) (handle : ℕ) → AllByRecursion P handles → P handle → AllByRecursion P (handles ++ handle ∷ [])
-all_with P [] handle all one = (one, tt)
-all_with P (first ∷ handles) handle all one = (all.0, all_with P handles handle all.1 one)
+pub all_with : {X : Type 0} (P : X → Type 0) (xs : List X) (x : X) → AllByRecursion P xs → P x → AllByRecursion P (xs ++ x ∷ [])
+all_with P [] x all one = (one, tt)
+all_with P (first ∷ xs) x all one = (all.0, all_with P xs x all.1 one)
 
-all_without : (P : ℕ → Type 0) (handles : List ℕ) (i : ℕ) → AllByRecursion P handles → AllByRecursion P (remove handles i)
+pub all_without : {X : Type 0} (P : X → Type 0) (xs : List X) (i : ℕ) → AllByRecursion P xs → AllByRecursion P (remove xs i)
 all_without P [] i all = simp (take-nil, drop-nil) tt
-all_without P (first ∷ handles) zero all = all.1
-all_without P (first ∷ handles) (suc i) all = (all.0, all_without P handles i all.1)
+all_without P (first ∷ xs) zero all = all.1
+all_without P (first ∷ xs) (suc i) all = (all.0, all_without P xs i all.1)
 
 pub all_so : {X : Type 0} (P Q : X → Type 0) (xs : List X) → ((x : X) → P x → Q x) → AllByRecursion P xs → AllByRecursion Q xs
 all_so P Q [] so all = tt

@@ -1,7 +1,8 @@
 //! Claims: of the area, which is the whole device, and of files.
 ghost use Rattle.std.specs.Prelude.{◌≡◌};
 ghost use Rattle.std.specs.List.{list_any};
-ghost use Rattle.pos_service.specs.HardTotals.{is_area_taken, is_foreign, is_own, Arranges, ClaimFile, ReleaseFile, ClaimsArea, ReleasesArea};
+ghost use Rattle.pos_service.specs.HardTotals.{is_area_taken, is_foreign, is_own, Arranges, ClaimFile};
+ghost use Rattle.pos_service.specs.HardTotals.{ReleaseFile, ClaimsArea, ReleasesArea};
 ghost use Rattle.pos_totals.specs.Checks.{files_in, AreFiles, LetsThrough, LetsThroughAt};
 ghost use Rattle.pos_totals.specs.Views.{IsSound, totals_of};
 
