@@ -16,8 +16,8 @@ use Rattle.pos_service.specs.declared.answer.Answer.TheVariants as answer
 use Rattle.pos_service.specs.declared.answer.Value.TheVariants as value
 use Rattle.pos_service.specs.declared.code.Code.TheVariants as code
 use Rattle.pos_service.specs.declared.memory.NoMemory.{NoMemory}
-use Rattle.pos_service.specs.HardTotals.{File, Mode, Off, Ready, Totals, Change, Create, Delete, Rename, Write, SetAll, is_name, is_natural, is_named, is_called, is_up_to, has_file, has_room, free_data, is_create, is_foreign, is_foreign_file, is_foreign_claim, is_range_of, last_number, layout_1, change_rows, refusals_of_change, group_by_change, number_rows, files_after, next_after, after_changes, after_disk_fault, given_by, spent_by, transaction_at, without_transactions, with_transaction, cost_of, cost_of_all, is_over, Changed, DoesChange, Done}
-use Rattle.pos_service.specs.Refusals.{Row, first_refusal, Decided}
+use Rattle.pos_service.specs.HardTotals.{File, Off, Ready, Totals, Change, Create, Delete, Rename, Write, SetAll, is_name, is_natural, is_named, is_called, is_up_to, has_file, has_room, free_data, is_create, is_foreign, is_foreign_file, is_foreign_claim, is_range_of, last_number, layout_1, change_rows, refusals_of_change, group_by_change, number_rows, files_after, next_after, after_changes, after_disk_fault, given_by, spent_by, transaction_at, with_transaction, cost_of, cost_of_all, is_over, Changed, DoesChange, Done}
+use Rattle.pos_service.specs.Refusals.{first_refusal, Decided}
 use Rattle.pos_store.specs.Commits.{Commits, IsLast}
 use Rattle.pos_store.specs.Modes.{StoreState as State, LeavesItsFiles}
 use Rattle.pos_store.specs.Modes.{Off as StoreOff, Ready as StoreReady, StoreView}
@@ -25,19 +25,18 @@ use Rattle.pos_store.specs.declared.fault.StoreFault.{StoreFault}
 use Rattle.pos_store.specs.declared.fault.StoreFault.TheVariants as fault
 use Rattle.pos_totals.proofs.Apart.{apart_after, files_apart}
 use Rattle.pos_totals.proofs.Buffered.{all_fit, buffered_after, holds_so, held_with, held_at, none_hold}
-use Rattle.pos_totals.proofs.Grouped.{not_refused, neither, deleted, makes_group, range_fits, value_fits, ranged}
+use Rattle.pos_totals.proofs.Grouped.{not_refused, deleted, makes_group, range_fits, value_fits, ranged}
 use Rattle.pos_totals.proofs.Handled.{all_with, given_is, next_is, value_is, are_after}
 use Rattle.pos_totals.proofs.Pairs.{plain_of, tags_in, numbers_in, called_again}
 use Rattle.pos_totals.proofs.Outlined.{found_has}
 use Rattle.pos_totals.proofs.Places.{found_inside}
 use Rattle.pos_totals.proofs.Putting.{open_table, closed_table, their_files, sound_files, idles, rests, put_down, put_group, doubt_group}
-use Rattle.pos_totals.specs.Buffers.{IsGiven, IsBuffered, IsAsked, is_bufferable, cost_of_checked, HasLeft, MayBuffer, Adds, Buffers, HaveBuffers, transactions_after, with_buffered}
+use Rattle.pos_totals.specs.Buffers.{IsGiven, IsBuffered, IsAsked, is_bufferable, cost_of_checked, HasLeft, MayBuffer, Buffers, HaveBuffers, transactions_after, with_buffered}
 use Rattle.pos_totals.specs.Changes.{Changes, HasFailed, IsOneGroup}
-use Rattle.pos_totals.specs.Checks.{ChecksAt, PassesIn, Passes, file_change_of, answer_of}
+use Rattle.pos_totals.specs.Checks.{ChecksAt, Passes, file_change_of, answer_of}
 use Rattle.pos_totals.specs.Groups.{file_change, group_of}
 use Rattle.pos_totals.specs.Numbering.{lacks, HasPlace, given_after, following, value_after}
-use Rattle.pos_totals.specs.Tables.{HandleTable}
-use Rattle.pos_totals.specs.Views.{TotalsView, plain, tag_of, tags_of, handles_of, numbers_of, mode_of, totals_of, view_of, with_tags, AreDistinct, AreHandles, HasHandles, HasDirectory, HasItsFiles, IsSound}
+use Rattle.pos_totals.specs.Views.{TotalsView, plain, tag_of, tags_of, handles_of, totals_of, view_of, with_tags, AreDistinct, AreHandles, HasDirectory, HasItsFiles, IsSound}
 use Rattle.pos_totals.specs.declared.handles.Tag.{Tag}
 use Rattle.pos_totals.specs.declared.ledger.Ledger.{Ledger}
 use Rattle.pos_totals.specs.declared.request.Checked.{Checked}

@@ -1,25 +1,24 @@
 -- Claims: the tags with other claims are those of the files with other claims.
-use Rattle.std.proofs.Common.{◌≡◌, ◌∙◌, ℕ, ◌<◌, ℤ, pos, Bool, true, false, not, ◌&&◌, ◌||◌, cond, List, [], ◌∷◌, ◌++◌, length, map, Option, Some, None, Ok, Err, refl, sym, ap, subst, arith}
+use Rattle.std.proofs.Common.{◌≡◌, ◌∙◌, ℕ, ◌<◌, ℤ, pos, Bool, true, false, not, ◌&&◌, ◌||◌, cond, List, [], ◌∷◌, ◌++◌, length, map, Option, Some, None, Ok, refl, sym, ap, subst, arith}
 use Rattle.std.specs.Prelude.{nat_eq, slice_set}
 use Rattle.std.specs.List.{find, list_any, AllByRecursion}
 use Rattle.std.proofs.lemmas.List.{length-map}
 use Rattle.pos_dir.specs.declared.file.File.{File as PlainFile}
-use Rattle.pos_service.specs.declared.answer.Answer.{Answer}
 use Rattle.pos_service.specs.declared.answer.Answer.TheVariants as answer
 use Rattle.pos_service.specs.declared.answer.Value.TheVariants as value
-use Rattle.pos_service.specs.HardTotals.{File, Mode, Off, Ready, Totals, Change, Arrangement, ClaimFile, ReleaseFile, is_called, is_own, is_own_claim, is_foreign, is_foreign_claim, claimed, with_each, with_files, files_of, refusals_of_arrangement, after_arrangement, Arranges, foreign_area, without_control, has_file, is_timeout, is_foreign_file}
+use Rattle.pos_service.specs.HardTotals.{File, Mode, Off, Ready, Change, ClaimFile, ReleaseFile, is_called, is_own, is_own_claim, is_foreign, is_foreign_claim, claimed, with_each, with_files, files_of, refusals_of_arrangement, after_arrangement, Arranges, foreign_area, without_control, has_file, is_timeout, is_foreign_file}
 use Rattle.pos_service.specs.Refusals.{first_refusal}
 use Rattle.pos_store.specs.Modes.{StoreState as State}
 use Rattle.pos_store.specs.Modes.{Off as StoreOff, Ready as StoreReady}
 use Rattle.pos_totals.proofs.Apart.{apart_claimed, apart_dropped, apart_released, apart_so}
 use Rattle.pos_totals.proofs.Buffered.{holds_so, held_with, none_held}
 use Rattle.pos_totals.proofs.Grouped.{neither, not_refused}
-use Rattle.pos_totals.proofs.Outlined.{outline, outlines, same_buffered}
+use Rattle.pos_totals.proofs.Outlined.{outlines, same_buffered}
 use Rattle.pos_totals.proofs.Putting.{open_table}
 use Rattle.pos_totals.specs.Buffers.{HaveBuffers}
 use Rattle.pos_totals.specs.Checks.{files_in, IsSeen, LetsThroughAt}
 use Rattle.pos_totals.specs.Tables.{HandleTable, tag_claimed, tag_released}
-use Rattle.pos_totals.specs.Views.{called, with_tags, numbers_of, mode_of, totals_of, AreDistinct, AreApart, AreHandles, HasHandles, IsSound}
+use Rattle.pos_totals.specs.Views.{called, with_tags, numbers_of, mode_of, totals_of, AreDistinct, AreApart, HasHandles, IsSound}
 use Rattle.pos_totals.specs.declared.files.Files.{Files}
 use Rattle.pos_totals.specs.declared.handles.Tag.{Tag}
 use Rattle.pos_totals.specs.declared.ledger.Ledger.{Ledger}

@@ -9,7 +9,6 @@ use Rattle.pos_service.specs.HardTotals.{File, Mode, Off, Ready, Totals, files_o
 use Rattle.pos_store.specs.Modes.{StoreState as State, LeavesItsFiles}
 use Rattle.pos_store.specs.Modes.{Off as StoreOff, Ready as StoreReady, StoreView}
 use Rattle.pos_totals.specs.Buffers.{HaveBuffers}
-use Rattle.pos_totals.specs.Tables.{HandleTable}
 use Rattle.pos_totals.specs.declared.handles.Tag.{Tag}
 use Rattle.pos_totals.specs.declared.ledger.Ledger.{Ledger}
 
