@@ -104,13 +104,15 @@ with_buffered transactions control change =
     slice_set transactions control (option_map (λ buffer. buffer ++ change ∷ []) (transaction_at transactions control))
 
 -- A change was added to those that a control has buffered.
-pub record Adds (old : List (Option (List Change))) (control : ℕ) (made : Checked) (new : List (Option (List Change))) : Type 0 where
+pub record Adds (old : List (Option (List Change))) (control : ℕ) (made : Checked)
+    (new : List (Option (List Change))) : Type 0 where
   pub change : Change
   pub asked : IsAsked change made
   pub added : new ≡ with_buffered old control change
 
 -- what a call does that buffers a change; want of memory changes nothing
-abbrev pub Buffers : List (Option (List Change)) → ℕ → Checked → Result Answer NoMemory → List (Option (List Change)) → Type 0
+abbrev pub Buffers : List (Option (List Change)) → ℕ → Checked → Result Answer NoMemory
+    → List (Option (List Change)) → Type 0
 Buffers old control made (Ok result) new = (result ≡ answer.Done value.Empty) × Adds old control made new
 Buffers old control made (Err want) new = new ≡ old
 

@@ -142,7 +142,7 @@ impl Buffer {
     }
 }
 
-/// What each control has buffered, by the controls' numbers: None outside a transaction. Contracts see the list of these.
+/// What each control has buffered, by the controls' numbers: None outside a transaction. Contracts see the list.
 #[derive(Drop)]
 pub struct Transactions {
     places: Vec<Option<Buffer>>,
