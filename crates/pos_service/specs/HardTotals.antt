@@ -445,7 +445,8 @@ abbrev pub Committed : Type 0 → Totals → ℕ → Result Answer NoMemory → 
 Committed DiskFailed old control outcome new = MatchResult outcome
     (λ result.
     Decided (refusals_of_commit old control) result (new ≡ old)
-    (DoesCommit DiskFailed old (with_transaction old control None) (changes_in (transaction_of old control)) result new))
+    (DoesCommit DiskFailed old (with_transaction old control None) (changes_in (transaction_of old control))
+    result new))
     (λ want. (first_refusal (refusals_of_commit old control) ≡ None) × (new ≡ old))
 
 -- the group of changes that a commit puts on the disk: none where it is refused
@@ -459,8 +460,8 @@ abbrev pub may_begin : Option (Option (List Change)) → Bool
 may_begin None = false
 may_begin (Some transaction) = is_none transaction
 
--- The refusals of each arrangement, in their order: by the claim of the area, the control's place for a transaction, and
--- the files.
+-- The refusals of each arrangement, in their order: by the claim of the area, the control's place for a transaction,
+-- and the files.
 abbrev pub arrangement_rows : Option ℕ → Option (Option (List Change)) → List File → ℕ → Arrangement → List Row
 arrangement_rows area place files control (ClaimFile handle timeout) =
     when (not (has_file (is_called handle) files && is_timeout timeout)) code.Illegal

@@ -1,21 +1,19 @@
 -- Changes that are buffered: they stay so whatever changes the files, and all of them make one group.
-use Rattle.std.proofs.Common.{◌≡◌, ◌∙◌, ℕ, zero, suc, ◌+◌, ◌≤◌, ◌<◌, ℤ, pos, negsuc, nat_abs, Bool, true, false, not, ◌||◌, cond, List, [], ◌∷◌, ◌++◌, length, map, replicate, Option, Some, None, Result, Ok, IfSome, refl, sym, ap, subst, arith}
-use Rattle.std.specs.Prelude.{is_none, is_some, nat_eq, slice_set}
+use Rattle.std.proofs.Common.{◌≡◌, ◌∙◌, ℕ, zero, suc, ◌+◌, ◌≤◌, ℤ, pos, negsuc, nat_abs, true, false, not, List, [], ◌∷◌, length, replicate, Option, Some, None, Ok, refl, sym, ap, subst, arith}
+use Rattle.std.specs.Prelude.{is_none, is_some, slice_set}
 use Rattle.std.specs.List.{find, list_any, AllByRecursion}
 use Rattle.std.proofs.lemmas.Bool.{eqb-true}
 use Rattle.std.proofs.Math.ListN.{length-replicate}
 use Rattle.pos_dir.specs.Changes.{outcome_of_all, and_then}
-use Rattle.pos_dir.specs.declared.fault.DirectoryFault.{DirectoryFault}
-use Rattle.pos_dir.specs.declared.file.File.{File as PlainFile}
 use Rattle.pos_dir.specs.declared.change.Change.{Change as FileChange}
 use Rattle.pos_dir.specs.declared.limits.TheConstants.{LAYOUT_1}
-use Rattle.pos_service.specs.HardTotals.{File, Mode, Off, Ready, Change, Create, Delete, Rename, Write, SetAll, is_called, is_named, is_range, is_range_of, has_file, with_each, overwritten, layout_1, change_rows, files_after, files_after_all, next_after, next_after_all, is_of_none, transaction_at, without_transactions}
+use Rattle.pos_service.specs.HardTotals.{File, Mode, Off, Ready, Change, Create, Delete, Rename, Write, SetAll, is_called, is_named, is_range, is_range_of, with_each, overwritten, layout_1, change_rows, files_after, files_after_all, next_after, next_after_all, is_of_none, transaction_at, without_transactions}
 use Rattle.pos_service.specs.Refusals.{first_refusal}
 use Rattle.pos_totals.proofs.Grouped.{Makes, made_write, made_set_all, neither, some_file, ranged, range_fits, only_called}
 use Rattle.pos_totals.proofs.Handled.{all_so, same_tags}
 use Rattle.pos_totals.proofs.Outlined.{outline, outlines, same_buffered, same_group, same_gone, same_distinct, outlines_kept, all_files, write_keeps, one_meets, found_has, all_left, all_more}
 use Rattle.pos_totals.specs.Buffers.{IsGiven, IsBuffered, MayHold, HaveBuffers}
-use Rattle.pos_totals.specs.Groups.{file_change, group_of}
+use Rattle.pos_totals.specs.Groups.{group_of}
 use Rattle.pos_totals.specs.Views.{plain, handles_of, tags_of, AreDistinct}
 
 -- ---- whatever changes the files

@@ -1,5 +1,5 @@
 -- What a change of the totals did, by what its table says and by what the store did.
-use Rattle.std.proofs.Common.{◌≡◌, ◌∙◌, inl, inr, ⊎_elim, ℕ, ◌+◌, ℤ, pos, negsuc, ◌^◌, ◌<◌, ◌≤◌, Bool, true, false, not, ◌&&◌, ◌||◌, cond, List, [], ◌∷◌, ◌++◌, length, Option, Some, None, Result, Ok, Err, MatchOption, refl, sym, ap, subst, arith}
+use Rattle.std.proofs.Common.{◌≡◌, ◌∙◌, inl, inr, ⊎_elim, ℕ, ◌+◌, ℤ, pos, negsuc, ◌^◌, ◌<◌, ◌≤◌, Bool, true, false, not, ◌&&◌, ◌||◌, cond, List, [], ◌∷◌, ◌++◌, length, Option, Some, None, Result, Ok, Err, MatchOption, IfSome, refl, sym, ap, subst, arith}
 use Rattle.std.specs.Prelude.{slice_set, nat_eq, nat_lt, nat_le, is_none, is_some}
 use Rattle.std.specs.List.{find, AllByRecursion}
 use Rattle.std.specs.Option.{option_map}
@@ -17,27 +17,27 @@ use Rattle.pos_service.specs.declared.answer.Value.TheVariants as value
 use Rattle.pos_service.specs.declared.code.Code.TheVariants as code
 use Rattle.pos_service.specs.declared.memory.NoMemory.{NoMemory}
 use Rattle.pos_service.specs.Claims.{is_foreign}
-use Rattle.pos_service.specs.HardTotals.{File, Mode, Off, Ready, Totals, Change, Create, Delete, Rename, Write, SetAll, is_name, is_natural, is_named, is_called, is_up_to, has_file, has_room, free_data, is_create, is_foreign_file, is_range_of, last_number, layout_1, change_rows, refusals_of_change, group_by_change, number_rows, files_after, next_after, after_changes, after_disk_fault, given_by, spent_by, transaction_at, without_transactions, with_transaction, cost_of, cost_of_all, is_over, Changed, DoesChange, Done}
-use Rattle.pos_service.specs.Refusals.{Row, first_refusal, Decided}
+use Rattle.pos_service.specs.HardTotals.{File, Off, Ready, Totals, Change, Create, Delete, Rename, Write, SetAll, is_name, is_natural, is_named, is_called, is_up_to, has_file, has_room, free_data, is_create, is_foreign_file, is_foreign_claim, is_range_of, last_number, layout_1, change_rows, refusals_of_change, group_by_change, number_rows, files_after, next_after, after_changes, after_disk_fault, given_by, spent_by, transaction_at, with_transaction, cost_of, cost_of_all, is_over, Changed, DoesChange, Done}
+use Rattle.pos_service.specs.Refusals.{first_refusal, Decided}
 use Rattle.pos_store.specs.Commits.{Commits, IsLast}
 use Rattle.pos_store.specs.Modes.{StoreState as State, LeavesItsFiles}
 use Rattle.pos_store.specs.Modes.{Off as StoreOff, Ready as StoreReady, StoreView}
 use Rattle.pos_store.specs.declared.fault.StoreFault.{StoreFault}
 use Rattle.pos_store.specs.declared.fault.StoreFault.TheVariants as fault
+use Rattle.pos_totals.proofs.Apart.{apart_after, files_apart}
 use Rattle.pos_totals.proofs.Buffered.{all_fit, buffered_after, holds_so, held_with, held_at, none_hold}
-use Rattle.pos_totals.proofs.Grouped.{not_refused, neither, deleted, makes_group, range_fits, value_fits, ranged}
-use Rattle.pos_totals.proofs.Handled.{given_is, next_is, value_is, are_after}
+use Rattle.pos_totals.proofs.Grouped.{not_refused, deleted, makes_group, range_fits, value_fits, ranged}
+use Rattle.pos_totals.proofs.Handled.{all_with, given_is, next_is, value_is, are_after}
 use Rattle.pos_totals.proofs.Pairs.{plain_of, tags_in, numbers_in, called_again}
 use Rattle.pos_totals.proofs.Outlined.{found_has}
 use Rattle.pos_totals.proofs.Places.{found_inside}
 use Rattle.pos_totals.proofs.Putting.{open_table, closed_table, their_files, sound_files, idles, rests, put_down, put_group, doubt_group}
-use Rattle.pos_totals.specs.Buffers.{IsGiven, IsBuffered, IsAsked, is_bufferable, cost_of_checked, HasLeft, MayBuffer, Adds, Buffers, HaveBuffers, transactions_after, with_buffered}
+use Rattle.pos_totals.specs.Buffers.{IsGiven, IsBuffered, IsAsked, is_bufferable, cost_of_checked, HasLeft, MayBuffer, Buffers, HaveBuffers, transactions_after, with_buffered}
 use Rattle.pos_totals.specs.Changes.{Changes, HasFailed, IsOneGroup}
-use Rattle.pos_totals.specs.Checks.{ChecksAt, PassesIn, Passes, file_change_of, answer_of}
+use Rattle.pos_totals.specs.Checks.{ChecksAt, Passes, file_change_of, answer_of}
 use Rattle.pos_totals.specs.Groups.{file_change, group_of}
 use Rattle.pos_totals.specs.Numbering.{lacks, HasPlace, given_after, following, value_after}
-use Rattle.pos_totals.specs.Tables.{HandleTable}
-use Rattle.pos_totals.specs.Views.{TotalsView, plain, tag_of, tags_of, handles_of, numbers_of, mode_of, totals_of, view_of, with_tags, AreDistinct, AreHandles, HasHandles, HasDirectory, HasItsFiles, IsSound}
+use Rattle.pos_totals.specs.Views.{TotalsView, plain, tag_of, tags_of, handles_of, totals_of, view_of, with_tags, AreDistinct, AreHandles, HasDirectory, HasItsFiles, IsSound}
 use Rattle.pos_totals.specs.declared.handles.Tag.{Tag}
 use Rattle.pos_totals.specs.declared.ledger.Ledger.{Ledger}
 use Rattle.pos_totals.specs.declared.request.Checked.{Checked}
@@ -194,10 +194,6 @@ inside_some : (transaction : Option (List Change)) → is_some transaction ≡ t
 inside_some None some = absurd cc
 inside_some (Some buffer) some = (buffer, refl)
 
-all_one_more : (P : Change → Type 0) (changes : List Change) (change : Change) → AllByRecursion P changes → P change → AllByRecursion P (changes ++ change ∷ [])
-all_one_more P [] change all one = (one, tt)
-all_one_more P (first ∷ changes) change all one = (all.0, all_one_more P changes change all.1 one)
-
 -- the handle of a file that was found was given
 given_below : (handle : ℤ) (files : List File) (next : ℕ) → AllByRecursion (λ h. h < next) (handles_of files) → AllByRecursion (λ file. is_called handle file ≡ true → IsGiven next handle) files
 given_below handle [] next below = tt
@@ -246,8 +242,9 @@ module _ {D : Type 0} (bound : Ghosts D) (disk : D) (only : bound.honest disk �
         },
         record {
           handles = sound.handles;
+          apart = sound.apart;
           buffers = held_with (Ready xs sequence) ledger.handles.next ledger.transactions control (Some (buffer ++ change ∷ [])) sound.buffers
-              (all_one_more (IsBuffered xs ledger.handles.next) buffer change (held_at (Ready xs sequence) ledger.handles.next ledger.transactions control buffer sound.buffers some)
+              (all_with (IsBuffered xs ledger.handles.next) buffer change (held_at (Ready xs sequence) ledger.handles.next ledger.transactions control buffer sound.buffers some)
               (is_buffered xs control (spent_by before control) change ledger.handles.next both.1 (subst (AllByRecursion (λ h. h < ledger.handles.next)) (sym (numbers_in ledger.handles.given files sound.handles.count)) sound.handles.below) checks.1.unrefused
               (ap (λ (t : Option (List Change)). is_some (option_map cost_of_all t)) some)));
         },
@@ -416,6 +413,7 @@ module _ {D : Type 0} (bound : Ghosts D) (disk : D) (only : bound.honest disk �
         handles = subst (λ (tags : List Tag). AreHandles (given_after tags next as_made) (plain after) (following next as_made)) (tags_in ledger.handles.given files sound.handles.count)
             (are_after there control spent change next both.0.distinct old checks.1.unrefused);
         buffers = rw (given, called_again after, next_is there change next) buffers;
+        apart = apart_after ledger.area ledger.handles.given next as_made sound.apart;
       })
 
   -- a change in which the store met a fault
@@ -444,7 +442,7 @@ module _ {D : Type 0} (bound : Ghosts D) (disk : D) (only : bound.honest disk �
           answer = answered (HasFailed bound disk new.disk) _ _ (numbers_left sequence next change down.0 left) (inr (refl, λ h. commits.device h refl, refl));
           disk = rw is_ungrouped (doubt_group bound disk files sequence ledger change [] sound.handles one new (after_disk_fault ready) _ commits refl);
         },
-        record { handles = tt; buffers = none_hold Off next ledger.transactions },
+        record { handles = tt; buffers = none_hold Off next ledger.transactions; apart = tt },
       )
 
 -- ---- the same for a store in any state, by what the checks found
@@ -482,9 +480,13 @@ module _ {D : Type 0} (bound : Ghosts D) (disk : D) (only : bound.honest disk �
       failed bound disk only files sequence ledger control change made checks free directory sound leaves new cause (lacks_so (with_tags ledger.handles.given files) change ledger.handles.next made false checks.1.made left)
       (subst (λ (file : FileChange). Commits bound (record { disk = disk; state = StoreReady files sequence }) (file ∷ []) (Err cause) new) (sym checks.1.made) commits)
 
--- the files of a store that is ready have handles of their own, and what is buffered fits them
+-- the files of a store that is ready have handles of their own, what is buffered fits them, and claims are apart
 pub theirs : (state : State) (ledger : Ledger) → HasDirectory state → IsSound state ledger → HasItsFiles (totals_of state ledger)
-theirs StoreOff ledger directory sound = record { files = tt; buffers = sound.buffers }
+theirs StoreOff ledger directory sound = record { files = tt; buffers = sound.buffers; apart = none_apart ledger.area }
+  where
+    none_apart : (area : Option ℕ) → IfSome area (λ holder. AllByRecursion (λ file. is_foreign_claim holder file ≡ false) [])
+    none_apart None = tt
+    none_apart (Some holder) = tt
 theirs (StoreReady files sequence) ledger directory sound =
     let both = sound_files ledger.handles.given files ledger.handles.next directory sound.handles in record {
       files = record {
@@ -493,4 +495,5 @@ theirs (StoreReady files sequence) ledger directory sound =
         directory = both.0;
       };
       buffers = sound.buffers;
+      apart = files_apart ledger.area ledger.handles.given files sound.apart;
     }

@@ -1,23 +1,25 @@
 -- Claims: the tags with other claims are those of the files with other claims.
-use Rattle.std.proofs.Common.{◌≡◌, ◌∙◌, ℕ, ◌<◌, ℤ, pos, Bool, true, false, ◌||◌, cond, List, [], ◌∷◌, ◌++◌, length, map, Option, Some, None, Ok, Err, refl, sym, ap, subst, arith}
+use Rattle.std.proofs.Common.{◌≡◌, ◌∙◌, ℕ, ◌<◌, ℤ, pos, Bool, true, false, not, ◌&&◌, ◌||◌, cond, List, [], ◌∷◌, ◌++◌, length, map, Option, Some, None, Ok, refl, sym, ap, subst, arith}
 use Rattle.std.specs.Prelude.{nat_eq, slice_set}
-use Rattle.std.specs.List.{list_any, AllByRecursion}
+use Rattle.std.specs.List.{find, list_any, AllByRecursion}
 use Rattle.std.proofs.lemmas.List.{length-map}
 use Rattle.pos_dir.specs.declared.file.File.{File as PlainFile}
-use Rattle.pos_service.specs.declared.answer.Answer.{Answer}
 use Rattle.pos_service.specs.declared.answer.Answer.TheVariants as answer
 use Rattle.pos_service.specs.declared.answer.Value.TheVariants as value
-use Rattle.pos_service.specs.Claims.{is_own, is_foreign}
-use Rattle.pos_service.specs.HardTotals.{File, Mode, Off, Ready, Totals, Change, Arrangement, ClaimFile, ReleaseFile, is_called, is_own_claim, is_foreign_claim, claimed, with_each, with_files, files_of, refusals_of_arrangement, after_arrangement, Arranges, foreign_area, without_control}
+use Rattle.pos_service.specs.Claims.{is_foreign, is_own, is_timeout}
+use Rattle.pos_service.specs.HardTotals.{File, Mode, Off, Ready, Change, ClaimFile, ReleaseFile, is_called, is_own_claim, is_foreign_claim, claimed, with_each, with_files, files_of, refusals_of_arrangement, after_arrangement, Arranges, foreign_area, without_control, has_file, is_foreign_file}
+use Rattle.pos_service.specs.Refusals.{first_refusal}
 use Rattle.pos_store.specs.Modes.{StoreState as State}
 use Rattle.pos_store.specs.Modes.{Off as StoreOff, Ready as StoreReady}
+use Rattle.pos_totals.proofs.Apart.{apart_claimed, apart_dropped, apart_released, apart_so}
 use Rattle.pos_totals.proofs.Buffered.{holds_so, held_with, none_held}
-use Rattle.pos_totals.proofs.Outlined.{outline, outlines, same_buffered}
+use Rattle.pos_totals.proofs.Grouped.{neither, not_refused}
+use Rattle.pos_totals.proofs.Outlined.{outlines, same_buffered}
 use Rattle.pos_totals.proofs.Putting.{open_table}
 use Rattle.pos_totals.specs.Buffers.{HaveBuffers}
 use Rattle.pos_totals.specs.Checks.{files_in, IsSeen, LetsThroughAt}
 use Rattle.pos_totals.specs.Tables.{HandleTable, tag_claimed, tag_released}
-use Rattle.pos_totals.specs.Views.{called, with_tags, numbers_of, mode_of, totals_of, AreDistinct, AreHandles, HasHandles, IsSound}
+use Rattle.pos_totals.specs.Views.{called, with_tags, numbers_of, mode_of, totals_of, AreDistinct, AreApart, HasHandles, IsSound}
 use Rattle.pos_totals.specs.declared.files.Files.{Files}
 use Rattle.pos_totals.specs.declared.handles.Tag.{Tag}
 use Rattle.pos_totals.specs.declared.ledger.Ledger.{Ledger}
@@ -82,38 +84,46 @@ same_outlines (x ∷ xs) (y ∷ ys) (file ∷ files) same =
     let others : numbers_of xs ≡ numbers_of ys = cc in
     ap (λ n. (n, length file.bytes) ∷ outlines (with_tags xs files)) first ∙ ap (λ os. (y.handle, length file.bytes) ∷ os) (same_outlines xs ys files others)
 
--- the ledger with other tags
-abbrev pub retagged : Ledger → List Tag → Ledger
-retagged ledger tags = record ledger { handles = record { given = tags; next = ledger.handles.next } }
-
 -- tags of the same handles are as sound
-pub sound_retagged : (state : State) (ledger : Ledger) (tags : List Tag) → numbers_of tags ≡ numbers_of ledger.handles.given → IsSound state ledger → IsSound state (retagged ledger tags)
-sound_retagged StoreOff ledger tags same sound = record { handles = tt; buffers = sound.buffers }
-sound_retagged (StoreReady files sequence) ledger tags same sound = record {
-  handles = record {
+pub sound_retagged : (state : State) (ledger : Ledger) (tags : List Tag) → numbers_of tags ≡ numbers_of ledger.handles.given → IsSound state ledger
+    → HasHandles state tags ledger.handles.next × HaveBuffers (mode_of tags state) ledger.handles.next ledger.transactions
+sound_retagged StoreOff ledger tags same sound = (tt, sound.buffers)
+sound_retagged (StoreReady files sequence) ledger tags same sound = (
+  record {
     count = sym (length-map tags (λ tag. tag.handle)) ∙ ap length same ∙ length-map ledger.handles.given (λ tag. tag.handle) ∙ sound.handles.count;
     distinct = subst AreDistinct (sym same) sound.handles.distinct;
     below = subst (AllByRecursion (λ handle. handle < ledger.handles.next)) (sym same) sound.handles.below;
-  };
-  buffers = holds_so (with_tags ledger.handles.given files) (with_tags tags files) sequence sequence ledger.handles.next ledger.handles.next ledger.transactions
-      (λ change is. same_buffered (with_tags ledger.handles.given files) (with_tags tags files) ledger.handles.next change (sym (same_outlines tags ledger.handles.given files same)) is) sound.buffers;
-}
+  },
+  holds_so (with_tags ledger.handles.given files) (with_tags tags files) sequence sequence ledger.handles.next ledger.handles.next ledger.transactions
+      (λ change is. same_buffered (with_tags ledger.handles.given files) (with_tags tags files) ledger.handles.next change (sym (same_outlines tags ledger.handles.given files same)) is) sound.buffers,
+)
 
 -- ---- claims of a file
 
 -- the file is claimed, or no longer
-with_claim : (state : State) (ledger : Ledger) (table : HandleTable) (number : ℕ) (claim : Option ℕ) → table.given ≡ map (tag_claimed number claim) ledger.handles.given → table.next ≡ ledger.handles.next → IsSound state ledger
+with_claim : (state : State) (ledger : Ledger) (table : HandleTable) (number : ℕ) (claim : Option ℕ) → table.given ≡ map (tag_claimed number claim) ledger.handles.given → table.next ≡ ledger.handles.next → IsSound state ledger → AreApart state ledger.area (map (tag_claimed number claim) ledger.handles.given)
     → (totals_of state (record ledger { handles = table }) ≡ record (totals_of state ledger) { mode = with_files (with_each (is_called (pos number)) (claimed claim)) (mode_of ledger.handles.given state) }) × IsSound state (record ledger { handles = table })
-with_claim state ledger table number claim given next sound = rw (given, next) (
+with_claim state ledger table number claim given next sound apart = rw (given, next) (
   ap (λ (m : Mode). record (totals_of state ledger) { mode = m }) (claimed_mode number claim ledger.handles.given state),
-  sound_retagged state ledger (map (tag_claimed number claim) ledger.handles.given) (claimed_numbers number claim ledger.handles.given) sound,
+  let still = sound_retagged state ledger (map (tag_claimed number claim) ledger.handles.given) (claimed_numbers number claim ledger.handles.given) sound in
+      record { handles = still.0; buffers = still.1; apart = apart },
 )
+
+-- who claims a file doesn't find the area claimed by another
+still_apart : (state : State) (ledger : Ledger) (control : ℕ) (handle timeout : ℤ) (number : ℕ) → first_refusal (refusals_of_arrangement (totals_of state ledger) control (ClaimFile handle timeout)) ≡ None → AreApart state ledger.area ledger.handles.given
+    → AreApart state ledger.area (map (tag_claimed number (Some control)) ledger.handles.given)
+still_apart StoreOff ledger control handle timeout number passes apart = tt
+still_apart (StoreReady files sequence) ledger control handle timeout number passes apart =
+    let xs = with_tags ledger.handles.given files in
+    let good = not_refused (not (has_file (is_called handle) xs && is_timeout timeout)) _ _ passes in
+    let own = not_refused (is_foreign control ledger.area || is_foreign_file control (find (is_called handle) xs)) _ _ good.1 in
+    apart_claimed ledger.area control number ledger.handles.given (neither (is_foreign control ledger.area) _ own.0).0 apart
 
 pub file_claimed : (state : State) (ledger : Ledger) (control : ℕ) (handle timeout : ℤ) (number : ℕ) (table : HandleTable) → LetsThroughAt (totals_of state ledger) control (ClaimFile handle timeout) handle (Ok number)
     → table.given ≡ map (tag_claimed number (Some control)) ledger.handles.given → table.next ≡ ledger.handles.next → IsSound state ledger
     → Arranges (totals_of state ledger) control (ClaimFile handle timeout) (answer.Done value.Empty) (totals_of state (record ledger { handles = table })) × IsSound state (record ledger { handles = table })
 file_claimed state ledger control handle timeout number table through given next sound =
-    let both = with_claim state ledger table number (Some control) given next sound in
+    let both = with_claim state ledger table number (Some control) given next sound (still_apart state ledger control handle timeout number through.0 sound.apart) in
     let is : handle ≡ pos number = through.1 in (
       open_table (refusals_of_arrangement (totals_of state ledger) control (ClaimFile handle timeout)) _ _ _ through.0
           (refl, both.0 ∙ ap (λ (h : ℤ). after_arrangement (totals_of state ledger) control (ClaimFile h timeout)) (sym is)),
@@ -124,7 +134,8 @@ pub file_released : (state : State) (ledger : Ledger) (control : ℕ) (handle : 
     → table.given ≡ map (tag_claimed number None) ledger.handles.given → table.next ≡ ledger.handles.next → IsSound state ledger
     → Arranges (totals_of state ledger) control (ReleaseFile handle) (answer.Done value.Empty) (totals_of state (record ledger { handles = table })) × IsSound state (record ledger { handles = table })
 file_released state ledger control handle number table through given next sound =
-    let both = with_claim state ledger table number None given next sound in
+    let both = with_claim state ledger table number None given next sound
+    (apart_so state ledger.area ledger.area ledger.handles.given _ (apart_released ledger.area number ledger.handles.given) sound.apart) in
     let is : handle ≡ pos number = through.1 in (
       open_table (refusals_of_arrangement (totals_of state ledger) control (ReleaseFile handle)) _ _ _ through.0
           (refl, both.0 ∙ ap (λ (h : ℤ). after_arrangement (totals_of state ledger) control (ReleaseFile h)) (sym is)),
@@ -160,5 +171,9 @@ control_dropped state ledger control table given next sound =
     let still = sound_retagged state ledger tags (released_numbers control ledger.handles.given) sound in
     rw (given, next) (
       ap (λ (m : Mode). record (without_control (totals_of state ledger) control) { mode = m }) (released_mode control ledger.handles.given state),
-      record { handles = still.handles; buffers = held_with (mode_of tags state) ledger.handles.next ledger.transactions control None still.buffers (none_held (mode_of tags state) ledger.handles.next) },
+      record {
+        handles = still.0;
+        buffers = held_with (mode_of tags state) ledger.handles.next ledger.transactions control None still.1 (none_held (mode_of tags state) ledger.handles.next);
+        apart = apart_so state ledger.area (foreign_area control ledger.area) ledger.handles.given tags (apart_dropped ledger.area control ledger.handles.given) sound.apart;
+      },
     )

@@ -1,6 +1,6 @@
 -- What a commit did, by what its table says and by what the store did.
-use Rattle.std.proofs.Common.{◌≡◌, ◌∙◌, inl, inr, ⊎_elim, ℕ, zero, suc, ◌+◌, Bool, true, false, not, ◌||◌, cond, List, [], ◌∷◌, length, Option, Some, None, Result, Ok, Err, refl, sym, ap, subst, arith}
-use Rattle.std.specs.Prelude.{nat_eq, is_none, is_some, slice_set}
+use Rattle.std.proofs.Common.{◌≡◌, ◌∙◌, inl, inr, ⊎_elim, ℕ, zero, suc, ◌+◌, true, false, cond, List, [], ◌∷◌, length, Option, Some, None, Ok, Err, refl, sym, ap, subst, arith}
+use Rattle.std.specs.Prelude.{nat_eq, is_none, slice_set}
 use Rattle.std.specs.List.{list_any, AllByRecursion}
 use Rattle.std.proofs.lemmas.Bool.{eq-eqb, ne_eqb}
 use Rattle.std.proofs.lemmas.List.{length-map}
@@ -16,9 +16,9 @@ use Rattle.pos_service.specs.declared.answer.Value.TheVariants as value
 use Rattle.pos_service.specs.declared.code.Code.TheVariants as code
 use Rattle.pos_service.specs.declared.memory.NoMemory.{NoMemory}
 use Rattle.pos_service.specs.Claims.{is_foreign}
-use Rattle.pos_service.specs.HardTotals.{while_ready, files_of, File, Mode, Off, Ready, Totals, Change, is_of_none, is_of_foreign, last_number, commit_rows, refusals_of_commit, group_by_commit, changes_in, transaction_at, transaction_of, with_transaction, without_transactions, after_changes, after_disk_fault, files_after_all, next_after_all, DoesCommit, Committed, Done}
-use Rattle.pos_service.specs.Refusals.{first_refusal, Decided, when}
-use Rattle.pos_store.specs.Commits.{Commits, IsLast}
+use Rattle.pos_service.specs.HardTotals.{while_ready, files_of, File, Mode, Off, Ready, Totals, Change, is_of_none, is_of_foreign, last_number, commit_rows, refusals_of_commit, group_by_commit, changes_in, transaction_at, transaction_of, with_transaction, without_transactions, after_changes, after_disk_fault, files_after_all, DoesCommit, Committed, Done}
+use Rattle.pos_service.specs.Refusals.{first_refusal, when}
+use Rattle.pos_store.specs.Commits.{Commits}
 use Rattle.pos_store.specs.Modes.{StoreState as State, LeavesItsFiles}
 use Rattle.pos_store.specs.Modes.{Off as StoreOff, Ready as StoreReady, StoreView}
 use Rattle.pos_store.specs.declared.fault.StoreFault.{StoreFault}
@@ -27,13 +27,13 @@ use Rattle.pos_totals.proofs.Buffered.{makes_all, outlines_after, tags_after, ne
 use Rattle.pos_totals.proofs.Changed.{refused_ledger}
 use Rattle.pos_totals.proofs.Grouped.{not_refused}
 use Rattle.pos_totals.proofs.Outlined.{same_buffered}
-use Rattle.pos_totals.proofs.Pairs.{tags_in, numbers_in, called_again}
+use Rattle.pos_totals.proofs.Pairs.{tags_in, called_again}
 use Rattle.pos_totals.proofs.Putting.{open_table, closed_table, their_files, sound_files, idles, rests, put_down, put_group, doubt_group}
-use Rattle.pos_totals.specs.Buffers.{IsBuffered, HaveBuffers}
+use Rattle.pos_totals.specs.Buffers.{IsBuffered}
 use Rattle.pos_totals.specs.Changes.{CommitsBuffer, HasFailed, IsOneGroup}
 use Rattle.pos_totals.specs.Checks.{answer_of, Gathers}
 use Rattle.pos_totals.specs.Groups.{group_of}
-use Rattle.pos_totals.specs.Views.{TotalsView, plain, plain_file, tag_of, tags_of, handles_of, numbers_of, mode_of, totals_of, view_of, with_tags, AreDistinct, AreHandles, HasDirectory, IsSound, LeavesTheirFiles}
+use Rattle.pos_totals.specs.Views.{TotalsView, plain, plain_file, tag_of, tags_of, mode_of, totals_of, view_of, with_tags, HasDirectory, IsSound, LeavesTheirFiles}
 use Rattle.pos_totals.specs.declared.handles.Tag.{Tag}
 use Rattle.pos_totals.specs.declared.ledger.Ledger.{Ledger}
 
@@ -121,7 +121,7 @@ module _ {D : Type 0} (bound : Ghosts D) (disk : D) (only : bound.honest disk �
           (subst (λ (t : Option (List Change)). DoesCommit (HasFailed bound disk disk) totals (with_transaction totals control None) (changes_in t) (answer.Done value.Empty) (with_transaction totals control None)) (sym none) (refl, refl));
       disk = rw (whole_group totals control [] passes none) (idles bound disk only totals (with_transaction totals control None) [] _ refl refl (λ refused. absurd (refused tt)) their);
     },
-    record { handles = sound.handles; buffers = held_with (mode_of ledger.handles.given state) ledger.handles.next ledger.transactions control None sound.buffers (none_held (mode_of ledger.handles.given state) ledger.handles.next) },
+    record { handles = sound.handles; buffers = held_with (mode_of ledger.handles.given state) ledger.handles.next ledger.transactions control None sound.buffers (none_held (mode_of ledger.handles.given state) ledger.handles.next); apart = sound.apart },
   )
 
 -- the group of a commit that is let through is one
@@ -214,6 +214,7 @@ module _ {D : Type 0} (bound : Ghosts D) (disk : D) (only : bound.honest disk �
             distinct = sound.handles.distinct;
             below = sound.handles.below;
           };
+          apart = sound.apart;
           buffers = rw mode (
               held_with (Ready after (sequence + 1)) next ledger.transactions control None
               (holds_so there after sequence (sequence + 1) next next ledger.transactions (λ change is. same_buffered there after next change (sym same) is) sound.buffers)
@@ -253,7 +254,7 @@ module _ {D : Type 0} (bound : Ghosts D) (disk : D) (only : bound.honest disk �
           answer = answered (HasFailed bound disk new.disk) _ _ number (inr (refl, λ h. commits.device h refl, totals));
           disk = rw (whole_group ready control (first ∷ others) passes some) (doubt_group bound disk files sequence ledger first others sound.handles one new (after_disk_fault ready) _ commits refl);
         },
-        record { handles = tt; buffers = none_hold Off next ledger.transactions },
+        record { handles = tt; buffers = none_hold Off next ledger.transactions; apart = tt },
       )
 
 -- ---- the same for a store in any state, by the plan

@@ -11,7 +11,6 @@ use Rattle.std.proofs.lemmas.Slice.Eq.{bytes_eq-Decides}
 use Rattle.pos_dir.specs.Changes.{splice, with_file, outcome, outcome_of_all, and_then}
 use Rattle.pos_dir.specs.Files.{IsDirectory, has_name, are_distinct, total_size}
 use Rattle.pos_dir.specs.declared.change.Change.{Change as FileChange}
-use Rattle.pos_dir.specs.declared.change.Change.TheVariants as file
 use Rattle.pos_dir.specs.declared.fault.DirectoryFault.{DirectoryFault}
 use Rattle.pos_dir.specs.declared.fault.DirectoryFault.TheVariants as fault
 use Rattle.pos_dir.specs.declared.file.File.{File as PlainFile}

@@ -1,11 +1,11 @@
 -- The tags after a change are those of the files after it, their handles distinct and below the next one.
-use Rattle.std.proofs.Common.{◌≡◌, ◌∙◌, ℕ, zero, suc, ◌+◌, ◌<◌, nat_abs, Bool, true, false, not, cond, List, [], ◌∷◌, ◌++◌, length, replicate, Option, None, refl, sym, ap, subst, arith}
+use Rattle.std.proofs.Common.{◌≡◌, ◌∙◌, ℕ, zero, suc, ◌+◌, ◌<◌, nat_abs, Bool, true, false, cond, List, [], ◌∷◌, ◌++◌, length, replicate, Option, None, refl, sym, ap, subst, arith}
 use Rattle.std.specs.Prelude.{remove}
 use Rattle.std.specs.List.{AllByRecursion}
 use Rattle.std.proofs.lemmas.List.{map-append, length-map}
 use Rattle.std.proofs.Math.Seq.{take-nil, drop-nil}
 use Rattle.pos_dir.specs.Files.{are_distinct}
-use Rattle.pos_service.specs.HardTotals.{File, Change, Create, Delete, Rename, Write, SetAll, is_named, is_called, has_file, with_each, overwritten, layout_1, change_rows, files_after, next_after, given_by}
+use Rattle.pos_service.specs.HardTotals.{File, Change, Create, Delete, Rename, Write, SetAll, is_named, is_called, with_each, overwritten, layout_1, change_rows, files_after, next_after, given_by}
 use Rattle.pos_service.specs.Refusals.{first_refusal}
 use Rattle.pos_totals.proofs.Grouped.{deleted, only_named, map-remove}
 use Rattle.pos_totals.proofs.Places.{one_gone}
@@ -52,14 +52,14 @@ value_is files (SetAll handle n) next = refl
 
 -- ---- facts of all handles
 
-all_with : (P : ℕ → Type 0) (handles : List ℕ) (handle : ℕ) → AllByRecursion P handles → P handle → AllByRecursion P (handles ++ handle ∷ [])
-all_with P [] handle all one = (one, tt)
-all_with P (first ∷ handles) handle all one = (all.0, all_with P handles handle all.1 one)
+pub all_with : {X : Type 0} (P : X → Type 0) (xs : List X) (x : X) → AllByRecursion P xs → P x → AllByRecursion P (xs ++ x ∷ [])
+all_with P [] x all one = (one, tt)
+all_with P (first ∷ xs) x all one = (all.0, all_with P xs x all.1 one)
 
-all_without : (P : ℕ → Type 0) (handles : List ℕ) (i : ℕ) → AllByRecursion P handles → AllByRecursion P (remove handles i)
+pub all_without : {X : Type 0} (P : X → Type 0) (xs : List X) (i : ℕ) → AllByRecursion P xs → AllByRecursion P (remove xs i)
 all_without P [] i all = simp (take-nil, drop-nil) tt
-all_without P (first ∷ handles) zero all = all.1
-all_without P (first ∷ handles) (suc i) all = (all.0, all_without P handles i all.1)
+all_without P (first ∷ xs) zero all = all.1
+all_without P (first ∷ xs) (suc i) all = (all.0, all_without P xs i all.1)
 
 pub all_so : {X : Type 0} (P Q : X → Type 0) (xs : List X) → ((x : X) → P x → Q x) → AllByRecursion P xs → AllByRecursion Q xs
 all_so P Q [] so all = tt

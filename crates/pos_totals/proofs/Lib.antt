@@ -1,3 +1,4 @@
+mod Apart
 mod Buffered
 mod Changed
 mod Claimed

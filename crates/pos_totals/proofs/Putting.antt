@@ -1,6 +1,5 @@
 -- A group that is put on the disk: what the store did, and what it says of the totals.
-use Rattle.std.proofs.Common.{◌≡◌, ◌∙◌, inl, inr, ⊎_elim, ℕ, ◌+◌, List, [], ◌∷◌, length, Option, Some, None, Result, Ok, Err, MatchOption, MatchResult, refl, sym, ap, subst, arith}
-use Rattle.std.specs.List.{AllByRecursion}
+use Rattle.std.proofs.Common.{◌≡◌, ◌∙◌, inl, inr, ⊎_elim, ℕ, ◌+◌, List, [], ◌∷◌, Option, Some, None, Result, Ok, Err, MatchOption, MatchResult, refl, sym, ap, subst, arith}
 use Rattle.pos_dir.specs.Changes.{outcome_of_all}
 use Rattle.pos_dir.specs.Files.{IsDirectory}
 use Rattle.pos_dir.specs.declared.change.Change.{Change as FileChange}
@@ -27,7 +26,7 @@ use Rattle.pos_store.specs.declared.fault.StoreFault.TheVariants as fault
 use Rattle.pos_totals.proofs.Pairs.{plain_of, numbers_in}
 use Rattle.pos_totals.specs.Changes.{PutsGroup, IsBeforeOrAfter, IsOneGroup, IsDone, before_or_after}
 use Rattle.pos_totals.specs.Groups.{group_of}
-use Rattle.pos_totals.specs.Views.{TotalsView, plain, stored, handles_of, numbers_of, mode_of, totals_of, view_of, with_tags, AreDistinct, AreHandles, HasHandles, TurnsOff, LeavesTheirFiles}
+use Rattle.pos_totals.specs.Views.{plain, stored, handles_of, mode_of, totals_of, view_of, with_tags, AreDistinct, AreHandles, HasHandles, TurnsOff, LeavesTheirFiles}
 use Rattle.pos_totals.specs.declared.handles.Tag.{Tag}
 use Rattle.pos_totals.specs.declared.ledger.Ledger.{Ledger}
 

@@ -4,7 +4,7 @@ use Rattle.std.specs.Prelude.{is_some}
 use Rattle.std.proofs.lemmas.Option.{same_Some}
 use Rattle.pos_dir.specs.declared.file.File.{File as PlainFile}
 use Rattle.pos_disk.specs.declared.device.Disk.{Ghosts}
-use Rattle.pos_service.specs.HardTotals.{Off, Ready, last_number}
+use Rattle.pos_service.specs.HardTotals.{Ready, last_number}
 use Rattle.pos_store.specs.Modes.{StoreState as State, LeavesItsFiles}
 use Rattle.pos_store.specs.Modes.{Off as StoreOff, Ready as StoreReady, StoreView, mode_of as store_mode_of, files_of as store_files_of}
 use Rattle.pos_store.specs.Recoveries as store
@@ -12,6 +12,7 @@ use Rattle.pos_store.specs.Standing.{Standing, Stands, StandsFor}
 use Rattle.pos_store.specs.declared.mode.Mode.TheVariants as mode
 use Rattle.pos_store.specs.declared.fault.StoreFault.{StoreFault}
 use Rattle.pos_store.specs.declared.fault.StoreFault.TheVariants as cause
+use Rattle.pos_totals.proofs.Apart.{apart_new}
 use Rattle.pos_totals.proofs.Buffered.{off_holds}
 use Rattle.pos_totals.proofs.Numbered.{with_numbers, are_numbers}
 use Rattle.pos_totals.proofs.Putting.{their_files, keeps}
@@ -161,7 +162,7 @@ files_numbered bound disk after (StoreReady found sequence) ledger count table s
           (λ P finds. numbered_finds P ledger found sequence finds (let left = numbers.0 in omega (arith, left, same)))
           (λ h is. absurd cc)
           (λ h. their_files (tags_from next (length found)) (StoreReady found sequence) (next + length found) (bound.state after) handles (recovers.now h)),
-      record { handles = handles; buffers = off_holds (with_tags (tags_from next (length found)) found) sequence next (next + length found) ledger.transactions sound.buffers },
+      record { handles = handles; buffers = off_holds (with_tags (tags_from next (length found)) found) sequence next (next + length found) ledger.transactions sound.buffers; apart = apart_new ledger.area next (length found) },
     )
 
 pub store_found : {D : Type 0} (bound : Ghosts D) (disk : D) (state : State) (ledger : Ledger) (count : ℕ) (mid : StoreView D) (table : HandleTable) → store_mode_of state ≡ mode.Off → IsSound state ledger
@@ -191,4 +192,4 @@ pub store_found_more : {D : Type 0} (bound : Ghosts D) (disk : D) (state : State
 store_found_more {D = D} bound disk (StoreReady others sequence) ledger count mid new table off sound recovers files is counted numbers turned = absurd cc
 store_found_more {D = D} bound disk StoreOff ledger count mid new table off sound recovers files is counted numbers turned =
     subst (λ (n : StoreView D). Recovers bound (view_of (record { disk = disk; state = StoreOff }) ledger) (Err fault.Handles) (view_of n (with_table ledger table)) × IsSound n.state (with_table ledger table)) (sym turned)
-    (rw numbers.2 (files_left bound disk mid.disk mid.state ledger count recovers files is counted numbers.0, record { handles = tt; buffers = sound.buffers }))
+    (rw numbers.2 (files_left bound disk mid.disk mid.state ledger count recovers files is counted numbers.0, record { handles = tt; buffers = sound.buffers; apart = tt }))

@@ -42,13 +42,17 @@ abbrev pub IsGiven : ℕ → ℤ → Type 0
 IsGiven next (pos handle) = handle < next
 IsGiven next (negsuc n) = ⊥
 
+-- bytes in this number fit into each file with a handle, from an offset on
+abbrev pub FitEach : List File → ℤ → ℤ → ℕ → Type 0
+FitEach files handle offset count = AllByRecursion
+    (λ file. is_called handle file ≡ true → is_range (length file.bytes) offset (pos count) ≡ true) files
+
 -- what is buffered is a Write of bytes that fit each file with its handle, or a SetAll to the value of a byte
 abbrev pub IsBuffered : List File → ℕ → Change → Type 0
 IsBuffered files next (Create name size) = ⊥
 IsBuffered files next (Delete name) = ⊥
 IsBuffered files next (Rename handle name) = ⊥
-IsBuffered files next (Write handle offset bytes) = IsGiven next handle
-    × AllByRecursion (λ file. is_called handle file ≡ true → is_range (length file.bytes) offset (pos (length bytes)) ≡ true) files
+IsBuffered files next (Write handle offset bytes) = IsGiven next handle × FitEach files handle offset (length bytes)
 IsBuffered files next (SetAll handle n) = is_up_to 255 n ≡ true
 
 -- what a control may have buffered, by the mode of the totals
@@ -100,13 +104,15 @@ with_buffered transactions control change =
     slice_set transactions control (option_map (λ buffer. buffer ++ change ∷ []) (transaction_at transactions control))
 
 -- A change was added to those that a control has buffered.
-pub record Adds (old : List (Option (List Change))) (control : ℕ) (made : Checked) (new : List (Option (List Change))) : Type 0 where
+pub record Adds (old : List (Option (List Change))) (control : ℕ) (made : Checked)
+    (new : List (Option (List Change))) : Type 0 where
   pub change : Change
   pub asked : IsAsked change made
   pub added : new ≡ with_buffered old control change
 
 -- what a call does that buffers a change; want of memory changes nothing
-abbrev pub Buffers : List (Option (List Change)) → ℕ → Checked → Result Answer NoMemory → List (Option (List Change)) → Type 0
+abbrev pub Buffers : List (Option (List Change)) → ℕ → Checked → Result Answer NoMemory
+    → List (Option (List Change)) → Type 0
 Buffers old control made (Ok result) new = (result ≡ answer.Done value.Empty) × Adds old control made new
 Buffers old control made (Err want) new = new ≡ old
 

@@ -88,7 +88,8 @@ MayTellIn files control question outcome =
     (λ want. first_refusal (question_rows files control question) ≡ None)
 
 -- Nothing refuses the change, and a group takes it.
-pub record Passes (files : List File) (control : ℕ) (spent : Option ℕ) (change : Change) (checked : Checked) : Type 0 where
+pub record Passes (files : List File) (control : ℕ) (spent : Option ℕ) (change : Change)
+    (checked : Checked) : Type 0 where
   pub unrefused : first_refusal (change_rows layout_1 files control spent change) ≡ None
   pub made : file_change files change ≡ file_change_of checked
   pub flawless : flaw_of (file_change_of checked) ≡ None
@@ -113,7 +114,8 @@ ChecksAt totals control change (Err refusal) =
     first_refusal (refusals_of_change layout_1 totals control change) ≡ Some refusal
 
 -- what a check of an arrangement of a file by its table finds: the handle, where nothing refuses it
-abbrev pub LetsThrough : Option ℕ → Option (Option (List Change)) → List File → ℕ → Arrangement → ℤ → Result ℕ Answer → Type 0
+abbrev pub LetsThrough : Option ℕ → Option (Option (List Change)) → List File → ℕ → Arrangement → ℤ
+    → Result ℕ Answer → Type 0
 LetsThrough area place files control arrangement handle (Ok number) =
     (first_refusal (arrangement_rows area place files control arrangement) ≡ None) × (handle ≡ pos number)
 LetsThrough area place files control arrangement handle (Err refusal) =

@@ -1,15 +1,15 @@
 -- What contracts see of the totals.
-use Rattle.std.specs.Prelude.{◌≡◌, ℕ, ◌<◌, List, [], ◌∷◌, length, map, ⊤}
+use Rattle.std.specs.Prelude.{◌≡◌, ℕ, ◌<◌, false, List, [], ◌∷◌, length, map, Option, IfSome, ⊤}
 use Rattle.std.specs.List.{AllByRecursion}
 use Rattle.pos_disk.specs.State.{DiskState}
 use Rattle.pos_dir.specs.Files.{IsDirectory}
 use Rattle.pos_dir.specs.declared.file.File.{File as PlainFile}
 use Rattle.pos_dir.specs.declared.limits.TheConstants.{LAYOUT_1}
-use Rattle.pos_service.specs.HardTotals.{File, Mode, Off, Ready, Totals, files_of}
+use Rattle.pos_service.specs.Claims.{is_foreign}
+use Rattle.pos_service.specs.HardTotals.{File, Mode, Off, Ready, Totals, files_of, is_foreign_claim}
 use Rattle.pos_store.specs.Modes.{StoreState as State, LeavesItsFiles}
 use Rattle.pos_store.specs.Modes.{Off as StoreOff, Ready as StoreReady, StoreView}
 use Rattle.pos_totals.specs.Buffers.{HaveBuffers}
-use Rattle.pos_totals.specs.Tables.{HandleTable}
 use Rattle.pos_totals.specs.declared.handles.Tag.{Tag}
 use Rattle.pos_totals.specs.declared.ledger.Ledger.{Ledger}
 
@@ -113,11 +113,18 @@ abbrev pub HasHandles : State → List Tag → ℕ → Type 0
 HasHandles StoreOff tags next = ⊤
 HasHandles (StoreReady files sequence) tags next = AreHandles tags files next
 
--- Where a store is ready, its files have their handles, and buffered changes fit their files; where it is off, nothing
--- is buffered.
+-- where a store is ready, and a control has claimed the area, no other has claimed a file
+abbrev pub AreApart : State → Option ℕ → List Tag → Type 0
+AreApart StoreOff area tags = ⊤
+AreApart (StoreReady files sequence) area tags =
+    IfSome area (λ holder. AllByRecursion (λ tag. is_foreign holder tag.claim ≡ false) tags)
+
+-- Where a store is ready, its files have their handles, buffered changes fit their files, and where a control has
+-- claimed the area, no other has claimed a file; where it is off, nothing is buffered.
 pub record IsSound (state : State) (ledger : Ledger) : Type 0 where
   pub handles : HasHandles state ledger.handles.given ledger.handles.next
   pub buffers : HaveBuffers (mode_of ledger.handles.given state) ledger.handles.next ledger.transactions
+  pub apart : AreApart state ledger.area ledger.handles.given
 
 -- where a store is ready, its files are those of a directory
 abbrev pub HasDirectory : State → Type 0
@@ -131,7 +138,9 @@ pub record AreTheirFiles (files : List File) (next : ℕ) : Type 0 where
   pub directory : IsDirectory LAYOUT_1 (plain files)
 
 -- Where the totals are ready, so are their files, and what is buffered fits them; where they are off, nothing is
--- buffered.
+-- buffered. Where a control has claimed the area, no other has claimed a file.
 pub record HasItsFiles (totals : Totals) : Type 0 where
   pub files : WhenReady totals.mode (AreTheirFiles (files_of totals.mode) totals.next)
   pub buffers : HaveBuffers totals.mode totals.next totals.transactions
+  pub apart : IfSome totals.area
+      (λ holder. AllByRecursion (λ file. is_foreign_claim holder file ≡ false) (files_of totals.mode))

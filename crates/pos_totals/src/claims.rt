@@ -2,7 +2,8 @@
 ghost use Rattle.std.specs.Prelude.{◌≡◌};
 ghost use Rattle.std.specs.List.{list_any};
 ghost use Rattle.pos_service.specs.Claims.{is_foreign, is_own};
-ghost use Rattle.pos_service.specs.HardTotals.{is_area_taken, Arranges, ClaimFile, ReleaseFile, ClaimsArea, ReleasesArea};
+ghost use Rattle.pos_service.specs.HardTotals.{is_area_taken, Arranges, ClaimFile};
+ghost use Rattle.pos_service.specs.HardTotals.{ReleaseFile, ClaimsArea, ReleasesArea};
 ghost use Rattle.pos_totals.specs.Checks.{files_in, AreFiles, LetsThrough, LetsThroughAt};
 ghost use Rattle.pos_totals.specs.Views.{IsSound, totals_of};
 

@@ -304,8 +304,8 @@ fn disks_without_files(rt: HostRuntime) -> Result<(), Fail> {
     Ok(())
 }
 
-/// A change, by which the file A of the bytes 1, 2, 3, 4 becomes something else. A commit changes the file B of two zero
-/// bytes too, which stands behind it.
+/// A change, by which the file A of the bytes 1, 2, 3, 4 becomes something else. A commit changes the file B of two
+/// zero bytes too, which stands behind it.
 #[derive(Clone, Copy, PartialEq, Eq)]
 enum Call {
     Create,

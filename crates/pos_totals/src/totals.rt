@@ -19,13 +19,18 @@ use std::alloc::Global;
 use std::marker::Model;
 
 /// The totals: files of a fixed size on a disk, each with a handle (chapter Hard Totals). A handle is given once, and
-/// a recovery gives its files new ones. Contracts see the disk, the files with their handles, or Off, and the next
-/// handle.
+/// a recovery gives its files new ones. A control may claim a file, or the area, which is the whole device. Contracts
+/// see the disk, the files with their handles and claims, or Off, the next handle, the control that has claimed the
+/// area, and what each control has buffered in a transaction.
 ///
-/// The calls answer E_FAILURE while the totals are off, then by their tables of refusals, and want of memory behind
-/// those. A refused call changes nothing and doesn't touch the disk. Where the disk fails in a change, the answer is
-/// E_FAILURE, the totals are off, and the next recovery finds the files before the change or those after the whole of
-/// it.
+/// Changes, questions and `commit_trans` answer E_CLAIMED where another control has claimed the area; these, the claims
+/// of files, `begin_trans` and `rollback` then answer E_FAILURE while the totals are off, then by their tables of
+/// refusals, and want of memory behind those. A refused call changes nothing and doesn't touch the disk. Where the disk
+/// fails in a change, the answer is E_FAILURE, the totals are off, and the next recovery finds the files before the
+/// change or those after the whole of it; all transactions end, and no file is claimed any more.
+///
+/// Between `begin_trans` and `commit_trans` a control's `write` and `set_all` are buffered: the disk and the files stay
+/// as they are, for `read` too.
 #[derive(Drop)]
 pub struct Totals<D: Disk> {
     alloc: Global,
@@ -45,7 +50,10 @@ impl<D: Disk> Model for Totals<D> {
 
 impl<D: Disk> Totals<D> {
     ghost use Rattle.pos_disk.specs.State.{IsAtRest};
-    ghost use Rattle.pos_service.specs.HardTotals.{Off, Create, Delete, Rename, Write, SetAll, Find, FindByIndex, Read, Tells, MayTell, ClaimFile, ReleaseFile, BeginTrans, Rollback, ClaimsArea, ReleasesArea, in_transaction, with_control, without_control, is_ready, files_of, free_data, layout_1};
+    ghost use Rattle.pos_service.specs.HardTotals.{Off, Create, Delete, Rename, Write, SetAll, Find, FindByIndex, Read};
+    ghost use Rattle.pos_service.specs.HardTotals.{ClaimFile, ReleaseFile, BeginTrans, Rollback, ClaimsArea};
+    ghost use Rattle.pos_service.specs.HardTotals.{ReleasesArea, Tells, MayTell, in_transaction, with_control};
+    ghost use Rattle.pos_service.specs.HardTotals.{without_control, is_ready, files_of, free_data, layout_1};
     ghost use Rattle.pos_totals.specs.Changes.{Arranged, Changes, CommitsBuffer};
     ghost use Rattle.pos_totals.specs.Checks.{change_of};
     ghost use Rattle.pos_totals.specs.Recoveries.{Recovers};
@@ -91,9 +99,9 @@ impl<D: Disk> Totals<D> {
 
     /// `create`: adds a file of zero bytes behind the others, and gives its handle. Error detection changes nothing.
     ///
-    /// Refused with E_ILLEGAL for a bad name or a size below 0, E_EXISTS where a file has the name, E_EXTENDED 201
-    /// where the size is above FreeData or there are 64 files, E_FAILURE where no handle or no sequence is left or
-    /// the disk fails.
+    /// Refused with E_ILLEGAL in a transaction of the control, for a bad name or a size below 0, E_EXISTS where a file
+    /// has the name, E_EXTENDED 201 where the size is above FreeData or there are 64 files, E_FAILURE where no handle
+    /// or no sequence is left or the disk fails.
     pub fn create(
         &mut self,
         control: usize,
@@ -106,9 +114,10 @@ impl<D: Disk> Totals<D> {
         self.change(control, Request::Create { name, size })
     }
 
-    /// `delete`: removes a file; those behind it close up.
+    /// `delete`: removes a file with its claim; those behind it close up.
     ///
-    /// Refused with E_NOEXIST where no file has the name, E_FAILURE where no sequence is left or the disk fails.
+    /// Refused with E_ILLEGAL in a transaction of the control, E_NOEXIST where no file has the name, E_CLAIMED where
+    /// another control has claimed the file, E_FAILURE where no sequence is left or the disk fails.
     pub fn delete(&mut self, control: usize, name: &[u8]) -> Result<Answer, NoMemory>
         ensures { Changes D.Disk self.old control (Delete name.now) result self.new }
     {
@@ -117,8 +126,9 @@ impl<D: Disk> Totals<D> {
 
     /// `rename`: gives a file another name.
     ///
-    /// Refused with E_ILLEGAL where no file has the handle or for a bad name, E_EXISTS where a file has the name,
-    /// this one too, E_FAILURE where no sequence is left or the disk fails.
+    /// Refused with E_ILLEGAL in a transaction of the control, where no file has the handle or for a bad name, E_EXISTS
+    /// where a file has the name, this one too, E_CLAIMED where another control has claimed the file, E_FAILURE where
+    /// no sequence is left or the disk fails.
     pub fn rename(&mut self, control: usize, handle: i128, name: &[u8]) -> Result<Answer, NoMemory>
         ensures { Changes D.Disk self.old control (Rename handle name.now) result self.new }
     {
@@ -127,8 +137,10 @@ impl<D: Disk> Totals<D> {
 
     /// `write`: puts bytes in the place of those of a file from an offset on.
     ///
-    /// Refused with E_ILLEGAL where no file has the handle, or the bytes don't lie within the file, E_FAILURE where no
-    /// sequence is left or the disk fails.
+    /// Refused with E_ILLEGAL where no file has the handle, or the bytes don't lie within the file, E_CLAIMED where
+    /// another control has claimed the file; in a transaction of the control E_EXTENDED 201 where it costs more than is
+    /// left (the number of bytes and 16, at most 8,192 in sum); else E_FAILURE where no sequence is left or the disk
+    /// fails.
     pub fn write(
         &mut self,
         control: usize,
@@ -150,8 +162,9 @@ impl<D: Disk> Totals<D> {
 
     /// `setAll`: makes each byte of a file the same.
     ///
-    /// Refused with E_ILLEGAL where no file has the handle, or the value isn't 0 to 255, E_FAILURE where no sequence is
-    /// left or the disk fails.
+    /// Refused with E_ILLEGAL where no file has the handle, or the value isn't 0 to 255, E_CLAIMED where another
+    /// control has claimed the file; in a transaction of the control E_EXTENDED 201 where less than 16 is left of its
+    /// cost; else E_FAILURE where no sequence is left or the disk fails.
     pub fn set_all(&mut self, control: usize, handle: i128, value: i128) -> Result<Answer, NoMemory>
         ensures { Changes D.Disk self.old control (SetAll handle value) result self.new }
     {
@@ -191,7 +204,8 @@ impl<D: Disk> Totals<D> {
 
     /// `read`: so many bytes of a file from an offset on.
     ///
-    /// Refused with E_ILLEGAL where no file has the handle, or the range doesn't lie within the file.
+    /// Refused with E_ILLEGAL where no file has the handle, or the range doesn't lie within the file, E_CLAIMED where
+    /// another control has claimed the file.
     pub fn read(
         &self,
         control: usize,
@@ -257,8 +271,8 @@ impl<D: Disk> Totals<D> {
         release_file(&self.store, &mut self.ledger, control, handle)
     }
 
-    /// `beginTrans`: begins a transaction of a control, whose `write` and `set_all` are buffered until it ends. It takes
-    /// no memory: the control's place was made by `add_control`.
+    /// `beginTrans`: begins a transaction of a control, whose `write` and `set_all` are buffered until it ends. It
+    /// takes no memory: the control's place was made by `add_control`.
     ///
     /// Refused with E_ILLEGAL where the control is in a transaction, or has no place for one.
     pub fn begin_trans(&mut self, control: usize) -> Answer
@@ -270,9 +284,9 @@ impl<D: Disk> Totals<D> {
     /// `commitTrans`: does all that a control has buffered together, in its order, and ends the transaction. Where
     /// nothing is buffered the disk isn't used.
     ///
-    /// Refused with E_ILLEGAL where the control is in no transaction, E_NOEXIST where a file of what is buffered is gone,
-    /// E_CLAIMED where another control has claimed one, E_FAILURE where no sequence is left: the transaction goes on.
-    /// Where the disk fails, with E_FAILURE, all transactions end.
+    /// Refused with E_ILLEGAL where the control is in no transaction, E_NOEXIST where a file of what is buffered is
+    /// gone, E_CLAIMED where another control has claimed one, E_FAILURE where no sequence is left: the transaction goes
+    /// on. Where the disk fails, with E_FAILURE, all transactions end.
     pub fn commit_trans(&mut self, control: usize) -> Result<Answer, NoMemory>
         ensures { CommitsBuffer D.Disk self.old control result self.new }
     {

@@ -1,5 +1,6 @@
 //! Transactions: the changes that each control has buffered.
-ghost use Rattle.std.specs.Prelude.{◌≡◌, ◌≤◌, ◌+◌, ◌++◌, ◌∷◌, [], Some, None, IfOk, OnOk, OnErr, is_some, slice_get, slice_set};
+ghost use Rattle.std.specs.Prelude.{◌≡◌, ◌≤◌, ◌+◌, ◌++◌, ◌∷◌, [], Some, None, IfOk, OnOk, OnErr, is_some, slice_get};
+ghost use Rattle.std.specs.Prelude.{slice_set};
 ghost use Rattle.std.specs.Option.{option_copied, option_map};
 ghost use Rattle.pos_service.specs.HardTotals.{cost_of, cost_of_all, may_begin, transaction_at, without_transactions};
 ghost use Rattle.pos_totals.specs.Buffers.{buffered_change, placed_change, with_buffered, HasLeft, IsOf};
@@ -141,7 +142,7 @@ impl Buffer {
     }
 }
 
-/// What each control has buffered, by the controls' numbers: None outside a transaction. Contracts see the list of these.
+/// What each control has buffered, by the controls' numbers: None outside a transaction. Contracts see the list.
 #[derive(Drop)]
 pub struct Transactions {
     places: Vec<Option<Buffer>>,

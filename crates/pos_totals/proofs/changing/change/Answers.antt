@@ -1,7 +1,7 @@
 use Rattle.std.proofs.Common.{◌∙◌, List, Ok, Err, sym, subst, arith}
 use Rattle.pos_dir.specs.declared.change.Change.{Change}
 use Rattle.pos_store.specs.Commits.{Commits}
-use Rattle.pos_totals.proofs.Changed.{stays, refused, wants, may_buffer, lacking, place, store_buffers, store_done, store_refused}
+use Rattle.pos_totals.proofs.Changed.{stays, refused, wants, lacking, place, store_buffers, store_done, store_refused}
 use Rattle.pos_totals.specs.Checks.{change_of}
 use Rattle.pos_totals.specs.Views.{totals_of}
 use Rattle.pos_totals.proofs.changing.change.Goals as goal

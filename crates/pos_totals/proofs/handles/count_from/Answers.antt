@@ -1,4 +1,4 @@
-use Rattle.std.proofs.Common.{◌∙◌, ◌<◌, ◌+◌, List, ℕ, ◌++◌, ◌∷◌, [], length, ap, arith, lit<}
+use Rattle.std.proofs.Common.{◌∙◌, ◌<◌, ◌+◌, List, ◌++◌, ◌∷◌, [], length, ap, arith, lit<}
 use Rattle.pos_totals.proofs.Numbered.{length-tags, tags_more}
 use Rattle.pos_totals.specs.Tables.{new_tag}
 use Rattle.pos_totals.specs.declared.handles.Tag.{Tag}

@@ -1,4 +1,4 @@
-use Rattle.std.proofs.Common.{◌≡◌, ◌∙◌, ◌∷◌, ◌++◌, [], List, Some, OnOk, OnErr, Result, Ok, Err, sym, ap}
+use Rattle.std.proofs.Common.{sym}
 use Rattle.pos_totals.proofs.Ended.{put_back, put_more}
 use Rattle.pos_totals.proofs.transactions.Transactions.push.Goals as goal
 
