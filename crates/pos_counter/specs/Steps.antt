@@ -156,12 +156,14 @@ Does old number control (call.Open name) result new =
     (result ≡ answer.Done value.Empty)
     × (new ≡ with_control old number (opened control (place_found (found_under old control.category name))))
 Does old number control call.Close result new =
-    (result ≡ answer.Done value.Empty) × (new ≡ dropped control.category (with_control old number (closed control)) number control)
+    (result ≡ answer.Done value.Empty)
+    × (new ≡ dropped control.category (with_control old number (closed control)) number control)
 Does old number control (call.Claim timeout) result new =
     (result ≡ answer.Done value.Empty) × (new ≡ claimed control.category old number control)
 Does old number control call.Release result new =
     (result ≡ answer.Done value.Empty)
-    × (new ≡ released control.category (with_control old number (after_release control.category control)) number control)
+    × (new ≡ released control.category
+    (with_control old number (after_release control.category control)) number control)
 Does old number control (call.Set property v) result new =
     MatchBool (recovers old.totals control property v) (SetsByRecovery old number control property v result new)
     (Sets old number control property v result new)
@@ -195,7 +197,9 @@ pub record FindsFit (station : Option Station) (input : Input) (fits : Bool) : T
 abbrev pub Step : Machine → Request → Response → Machine → Type 0
 Step old (NewControl category) (Made number) new =
     (length old.controls < most_controls) × (number ≡ length old.controls)
-    × (new ≡ record (with_totals old (with_place old.totals.totals)) { controls = old.controls ++ new_control category ∷ [] })
+    × (new ≡ record (with_totals old (with_place old.totals.totals)) {
+      controls = old.controls ++ new_control category ∷ [];
+    })
 Step old (NewControl category) Full new = (most_controls ≤ length old.controls) × (new ≡ old)
 Step old (NewControl category) OutOfMemory new = (length old.controls < most_controls) × (new ≡ old)
 -- a call on a control that isn't there is illegal

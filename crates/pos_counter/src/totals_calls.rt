@@ -47,8 +47,8 @@ pub(crate) fn call_totals<D: Disk>(
     }
 }
 
-/// What a call asks of the claim of the area: that no other control has it, or nothing where it makes an arrangement for
-/// its own control.
+/// What a call asks of the claim of the area: that no other control has it, or nothing where it makes an arrangement
+/// for its own control.
 fn need_of(call: &Call) -> ClaimNeed
     ensures { needs_no_other result ≡ asks_area (file_call call.now) }
 {
