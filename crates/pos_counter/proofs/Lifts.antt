@@ -57,7 +57,7 @@ decided_at hs ds shared n g h rows r Done c e x = record {
 }
 
 -- a delivery to a control is a step
-pub deliver_step : (hs : List Held) (ds : List Device) (shared : Shared) (n : ℕ) (reply : ErrorReply) (event : Option Event) (g h : Held) → n < length hs → h ≡ get_or hs n h → event ≡ deliverable h.control → g.control ≡ delivered h.control → Step (over hs ds shared) (Deliver n reply) (Delivered event) (over (set hs n g) ds shared)
+pub deliver_step : (hs : List Held) (ds : List Device) (shared : Shared) (n : ℕ) (reply : ErrorReply) (event : Option Event) (g h : Held) → n < length hs → h ≡ get_or hs n h → event ≡ deliverable h.control → g.control ≡ delivered reply h.control → Step (over hs ds shared) (Deliver n reply) (Delivered event) (over (set hs n g) ds shared)
 deliver_step hs ds shared n reply event g h lt is first rest =
     match_at_some _ h.control _ _ (control_at hs n h lt ∙ ap (λ (k : Held). Some k.control) (sym is))
     (first, over_same _ _ ds shared (map-set (λ (k : Held). k.control) hs n g ∙ ap (set (controls_of hs) n) rest))

@@ -18,9 +18,10 @@ use Rattle.pos_service.specs.Controls.{Control, new_control, opened, closed, del
 use Rattle.pos_service.specs.Claims.{is_own, is_foreign, holder_at, claimed_by, released_by, claim_rows, release_rows, after_release}
 use Rattle.pos_service.specs.Refusals.{Row, Decided, first_refusal, when}
 use Rattle.pos_service.specs.Calls.{takes_memory as own_takes_memory}
-use Rattle.pos_service.specs.Calls.{serves, own_rows, place_found, open_rows, close_rows, set_rows, after_set, get_rows, property_of}
+use Rattle.pos_service.specs.Calls.{serves, own_rows, place_found, open_rows, close_rows, set_rows, after_set, get_rows, is_of_bytes, property_of}
 use Rattle.pos_service.specs.Stations.{Station, Effect, TakesIn, signs_in}
 use Rattle.pos_service.specs.DrawerCalls.{drawer_rows, DrawerDoes}
+use Rattle.pos_service.specs.ScannerCalls.{scanner_rows, ScannerDoes}
 use Rattle.pos_service.specs.declared.property.Property.{Property}
 use Rattle.pos_service.specs.declared.answer.Value.{Value}
 use Rattle.pos_service.specs.declared.facts.Facts.{Facts}
@@ -83,46 +84,49 @@ takes_memory machine control call.Close = false
 takes_memory machine control (call.Claim timeout) = false
 takes_memory machine control call.Release = false
 takes_memory machine control (call.Set property v) = recovers machine.totals control property v
-takes_memory machine control (call.Get property) = false
+takes_memory machine control (call.Get property) = is_of_bytes property
 takes_memory machine control own = own_takes_memory own
 
 -- what each call of a category's own asks, in order
 abbrev pub category_rows : Category → Machine → ℕ → Control → Call → List Row
 category_rows category.CashDrawer machine number control own = drawer_rows machine.claims number control own
+category_rows category.Scanner machine number control own = scanner_rows machine.claims number control own
 category_rows category.HardTotals machine number control own = totals_rows machine.totals.totals number control own
 
 -- what each call of a category's own does, where nothing refuses it: at its device's station, or with the totals
 abbrev pub CategoryDoes : Category → Machine → ℕ → Control → Call → Answer → Machine → Type 0
 CategoryDoes category.CashDrawer old number control own result new =
-    OnStation old control.device (λ place. DrawerDoes own place result) new
+    OnStation old control.device (λ place. DrawerDoes own number place result) new
+CategoryDoes category.Scanner old number control own result new =
+    OnStation old control.device (λ place. ScannerDoes own number place result) new
 CategoryDoes category.HardTotals old number control own result new =
     TotalsDo (file_call own) old.totals number result new.totals × (new ≡ record old { totals = new.totals })
 
 -- another control keeps a device of a category from the control with a number
 abbrev pub is_taken : Category → Machine → ℕ → Option ℕ → Bool
-is_taken category.CashDrawer machine number device = is_foreign number (holder_at machine.claims device)
 is_taken category.HardTotals machine number device = is_area_taken machine.totals.totals number
+is_taken c machine number device = is_foreign number (holder_at machine.claims device)
 
 -- the machine, once the control with a number holds its device
 abbrev pub claimed : Category → Machine → ℕ → Control → Machine
-claimed category.CashDrawer machine number control =
-    record machine { claims = claimed_by machine.claims control.device number }
 claimed category.HardTotals machine number control =
     with_totals machine (record machine.totals.totals { area = Some number })
+claimed c machine number control =
+    record machine { claims = claimed_by machine.claims control.device number }
 
 -- the machine, once the control with a number has released its device
 abbrev pub released : Category → Machine → ℕ → Control → Machine
-released category.CashDrawer machine number control =
-    record machine { claims = released_by machine.claims control.device number }
 released category.HardTotals machine number control =
     with_totals machine (record machine.totals.totals { area = None })
+released c machine number control =
+    record machine { claims = released_by machine.claims control.device number }
 
 -- the machine, once the control with a number has nothing any more
 abbrev pub dropped : Category → Machine → ℕ → Control → Machine
-dropped category.CashDrawer machine number control =
-    record machine { claims = released_by machine.claims control.device number }
 dropped category.HardTotals machine number control =
     with_totals machine (without_control machine.totals.totals number)
+dropped c machine number control =
+    record machine { claims = released_by machine.claims control.device number }
 
 -- The refusals of the call of the control with a number, in their order.
 abbrev pub refusals : Machine → ℕ → Control → Call → List Row
@@ -132,7 +136,8 @@ refusals machine number control (call.Claim timeout) =
     claim_rows control (is_taken control.category machine number control.device) timeout
 refusals machine number control call.Release =
     release_rows control (is_own number (holder_of machine control))
-refusals machine number control (call.Set property v) = set_rows control property v
+refusals machine number control (call.Set property v) =
+    set_rows number (holder_of machine control) control property v
 refusals machine number control (call.Get property) = get_rows control (facts_of machine number control) property
 refusals machine number control own =
     when (is_none control.device) code.Closed
@@ -212,10 +217,9 @@ Step old (InputTo name input) TakenIn new = OnStation old (place_of old.devices 
 Step old (InputTo name input) NoDevice new = (station_named old name ≡ None) × (new ≡ old)
 Step old (InputTo name input) WrongInput new = FindsFit (station_named old name) input false × (new ≡ old)
 Step old (InputTo name input) OutOfMemory new = FindsFit (station_named old name) input true × (new ≡ old)
--- no event but an error looks at the reply
 Step old (Deliver number reply) (Delivered event) new =
     MatchOption (slice_get old.controls number) ((event ≡ None) × (new ≡ old))
-    (λ control. (event ≡ deliverable control) × (new ≡ with_control old number (delivered control)))
+    (λ control. (event ≡ deliverable control) × (new ≡ with_control old number (delivered reply control)))
 Step old (Snapshot name) (Shown plant) new =
     IfSome (station_named old name) (λ station. station.plant ≡ plant)
     × (is_some (station_named old name) ≡ true) × (new ≡ old)

@@ -130,8 +130,8 @@ is_enabling property.DeviceEnabled (value.Truth is_enabled) = is_enabled
 is_enabling p v = false
 
 abbrev pub is_totals : Category → Bool
-is_totals category.CashDrawer = false
 is_totals category.HardTotals = true
+is_totals c = false
 
 -- an open control of Hard Totals, which is disabled, is to be enabled
 abbrev pub asks_recovery : Control → Property → Value → Bool

@@ -51,16 +51,12 @@ pub(crate) fn close<D: Disk>(
     if device.is_none() {
         return Answer::Refused(Code::Closed, 0);
     }
-    match controls[number].category() {
-        Category::CashDrawer => {
-            claims.release(device, number);
-            controls[number].close()
-        }
-        Category::HardTotals => {
-            totals.drop_control(number);
-            controls[number].close()
-        }
+    if controls[number].category() == Category::HardTotals {
+        totals.drop_control(number);
+        return controls[number].close();
     }
+    claims.release(device, number);
+    controls[number].close()
 }
 
 /// `claim` (common chapter).
@@ -78,10 +74,10 @@ pub(crate) fn claim<D: Disk>(
         (CallOf number (call.Claim timeout)) (Answered result) controls.now claims.new states totals.new }
 {
     let control = &controls[number];
-    match control.category() {
-        Category::CashDrawer => claim_device(control, claims, number, timeout),
-        Category::HardTotals => claim_area(control, totals, number, timeout),
+    if control.category() == Category::HardTotals {
+        return claim_area(control, totals, number, timeout);
     }
+    claim_device(control, claims, number, timeout)
 }
 
 /// `claim` of a peripheral.
@@ -138,10 +134,10 @@ pub(crate) fn release<D: Disk>(
         (CallOf number call.Release) (Answered result) controls.new claims.new states totals.new }
 {
     let control = &mut controls[number];
-    match control.category() {
-        Category::CashDrawer => release_device(control, claims, number),
-        Category::HardTotals => release_area(control, totals, number),
+    if control.category() == Category::HardTotals {
+        return release_area(control, totals, number);
     }
+    release_device(control, claims, number)
 }
 
 /// `release` of a peripheral.

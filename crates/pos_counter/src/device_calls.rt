@@ -44,8 +44,8 @@ pub(crate) fn call<D: Disk>(
         Call::Close => Ok(close(controls, claims, totals, number)),
         Call::Claim(timeout) => Ok(claim(controls, claims, totals, number, *timeout)),
         Call::Release => Ok(release(controls, claims, totals, number)),
-        Call::Set(property, value) => set(controls, totals, number, *property, value),
-        Call::Get(property) => Ok(get(controls, claims, entries, boxes, totals, number, *property)),
+        Call::Set(property, value) => set(controls, claims, totals, number, *property, value),
+        Call::Get(property) => get(controls, claims, entries, boxes, totals, number, *property),
         _ => call_category(controls, claims, entries, boxes, totals, number, call),
     }
 }
@@ -72,6 +72,7 @@ fn call_category<D: Disk>(
     };
     match controls[number].category() {
         Category::CashDrawer => pos_drawer::call(controls, number, claims, &mut boxes[place], call),
+        Category::Scanner => pos_scanner::call(controls, number, claims, &mut boxes[place], call),
         Category::HardTotals => call_totals(controls, claims, totals, number, call),
     }
 }
@@ -98,9 +99,9 @@ pub(crate) fn input(
     if !input.fits(boxes[place].kind()) {
         return Err(InputFault::WrongInput);
     }
-    match pos_drawer::take_input(controls, place, &mut boxes[place], input) {
+    match take_in(controls, place, &mut boxes[place], input) {
         Ok(()) => Ok(()),
-        Err(_) => Err(InputFault::NoMemory),
+        Err(NoMemory) => Err(InputFault::NoMemory),
     }
 }
 
