@@ -15,7 +15,9 @@ use Rattle.pos_service.specs.declared.call.Call.TheVariants as call
 use Rattle.pos_service.specs.declared.code.Code.TheVariants as code
 use Rattle.pos_service.specs.declared.finding.Finding.{Finding}
 use Rattle.pos_service.specs.declared.finding.Finding.TheVariants as finding
-use Rattle.pos_service.specs.Controls.{Control, state_of}
+use Rattle.pos_service.specs.Claims.{is_exclusive, is_foreign}
+use Rattle.pos_service.specs.Controls.{Control, Reader, state_of}
+use Rattle.pos_service.specs.Events.{data_count}
 use Rattle.pos_service.specs.Refusals.{Row, when}
 
 -- controls of a category may open devices of its kind
@@ -25,6 +27,11 @@ serves category.CashDrawer (Some kind.Drawer) = true
 serves category.CashDrawer (Some kind.Scanner) = false
 serves category.CashDrawer (Some (kind.Display rows columns)) = false
 serves category.CashDrawer (Some (kind.Printer chars near)) = false
+serves category.Scanner None = false
+serves category.Scanner (Some kind.Drawer) = false
+serves category.Scanner (Some kind.Scanner) = true
+serves category.Scanner (Some (kind.Display rows columns)) = false
+serves category.Scanner (Some (kind.Printer chars near)) = false
 serves category.HardTotals None = true
 serves category.HardTotals (Some k) = false
 
@@ -41,6 +48,8 @@ is_common asked = false
 -- the call is one of the category's own, besides those that every category has
 abbrev pub has_call : Category → Call → Bool
 has_call category.CashDrawer call.OpenDrawer = true
+has_call category.Scanner call.ClearInput = true
+has_call category.Scanner call.ClearInputProperties = true
 has_call category.HardTotals (call.Create name size detection) = true
 has_call category.HardTotals (call.Delete name) = true
 has_call category.HardTotals (call.Find name) = true
@@ -74,8 +83,16 @@ abbrev pub has_property : Category → Property → Bool
 has_property c property.State = true
 has_property c property.Claimed = true
 has_property c property.DeviceEnabled = true
+has_property c property.FreezeEvents = true
 has_property category.CashDrawer property.CapStatus = true
 has_property category.CashDrawer property.DrawerOpened = true
+has_property category.Scanner property.DataEventEnabled = true
+has_property category.Scanner property.AutoDisable = true
+has_property category.Scanner property.DataCount = true
+has_property category.Scanner property.DecodeData = true
+has_property category.Scanner property.ScanData = true
+has_property category.Scanner property.ScanDataLabel = true
+has_property category.Scanner property.ScanDataType = true
 has_property category.HardTotals property.TotalsSize = true
 has_property category.HardTotals property.FreeData = true
 has_property category.HardTotals property.NumberOfFiles = true
@@ -120,18 +137,34 @@ close_rows control = when (is_none control.device) code.Closed ∷ []
 -- the property may be set to some values
 abbrev pub is_settable : Property → Bool
 is_settable property.DeviceEnabled = true
+is_settable property.FreezeEvents = true
+is_settable property.DataEventEnabled = true
+is_settable property.AutoDisable = true
+is_settable property.DecodeData = true
 is_settable p = false
 
 -- the property may be set to this value, by its type and range
 abbrev pub takes : Property → Value → Bool
-takes property.DeviceEnabled (value.Truth is_enabled) = true
+takes property.DeviceEnabled (value.Truth is_true) = true
+takes property.FreezeEvents (value.Truth is_true) = true
+takes property.DataEventEnabled (value.Truth is_true) = true
+takes property.AutoDisable (value.Truth is_true) = true
+takes property.DecodeData (value.Truth is_true) = true
 takes p v = false
 
--- a property of another category can't be set either
-abbrev pub set_rows : Control → Property → Value → List Row
-set_rows control p v =
+-- the property may be set by the control alone that holds its device
+abbrev pub needs_claim : Category → Property → Bool
+needs_claim category property.DeviceEnabled = is_exclusive category
+needs_claim category p = false
+
+-- A property is set by the control with a number, whose device has this holder: a property of another category can't be
+-- set either.
+abbrev pub set_rows : ℕ → Option ℕ → Control → Property → Value → List Row
+set_rows number holder control p v =
     when (is_none control.device) code.Closed
     ∷ when (not (has_property control.category p && is_settable p)) code.Illegal
+    ∷ when (needs_claim control.category p && is_foreign number holder) code.Claimed
+    ∷ when (needs_claim control.category p && is_none holder) code.NotClaimed
     ∷ when (not (takes p v)) code.Illegal ∷ []
 
 -- DeviceEnabled, once the property is set
@@ -139,9 +172,25 @@ abbrev pub enabled_after : Bool → Property → Value → Bool
 enabled_after was property.DeviceEnabled (value.Truth is_enabled) = is_enabled
 enabled_after was p v = was
 
+-- FreezeEvents, once the property is set
+abbrev pub frozen_after : Bool → Property → Value → Bool
+frozen_after was property.FreezeEvents (value.Truth is_frozen) = is_frozen
+frozen_after was p v = was
+
+-- what is kept of input, once the property is set
+abbrev pub reader_after : Reader → Property → Value → Reader
+reader_after was property.DataEventEnabled (value.Truth is_true) = record was { data_enabled = is_true }
+reader_after was property.AutoDisable (value.Truth is_true) = record was { auto_disable = is_true }
+reader_after was property.DecodeData (value.Truth is_true) = record was { decode = is_true }
+reader_after was p v = was
+
 -- the control with the property set
 abbrev pub after_set : Control → Property → Value → Control
-after_set control p v = record control { enabled = enabled_after control.enabled p v }
+after_set control p v = record control {
+  enabled = enabled_after control.enabled p v;
+  frozen = frozen_after control.frozen p v;
+  reader = reader_after control.reader p v;
+}
 
 -- the property can be read of an open control alone
 abbrev pub needs_open : Property → Bool
@@ -161,6 +210,12 @@ needs_files property.FreeData = true
 needs_files property.NumberOfFiles = true
 needs_files p = false
 
+-- the value of the property is a copy of bytes, for which memory may be wanted
+abbrev pub is_of_bytes : Property → Bool
+is_of_bytes property.ScanData = true
+is_of_bytes property.ScanDataLabel = true
+is_of_bytes p = false
+
 abbrev pub get_rows : Control → Facts → Property → List Row
 get_rows control facts p =
     when (needs_open p && is_none control.device) code.Closed
@@ -178,6 +233,14 @@ abbrev pub property_of : Control → Facts → Property → Value
 property_of control facts property.State = value.Number (pos (state_of control))
 property_of control facts property.Claimed = value.Truth facts.is_claimed
 property_of control facts property.DeviceEnabled = value.Truth control.enabled
+property_of control facts property.FreezeEvents = value.Truth control.frozen
+property_of control facts property.DataEventEnabled = value.Truth control.reader.data_enabled
+property_of control facts property.AutoDisable = value.Truth control.reader.auto_disable
+property_of control facts property.DataCount = value.Number (pos (data_count control.list))
+property_of control facts property.DecodeData = value.Truth control.reader.decode
+property_of control facts property.ScanData = value.Bytes control.reader.shown.bytes
+property_of control facts property.ScanDataLabel = value.Bytes control.reader.shown.label
+property_of control facts property.ScanDataType = value.Number (pos control.reader.shown.kind)
 property_of control facts property.CapStatus = value.Truth true
 property_of control facts property.DrawerOpened = value.Truth facts.signs.drawer_open
 property_of control facts property.TotalsSize = value.Number (pos facts.totals_size)

@@ -11,5 +11,6 @@ pub mod Calls
 pub mod Claims
 pub mod Stations
 pub mod DrawerCalls
+pub mod ScannerCalls
 pub mod HardTotals
 pub mod TotalsCalls

@@ -1,5 +1,5 @@
 -- What contracts see of a peripheral, and what its calls do.
-use Rattle.std.specs.Prelude.{◌≡◌, ℕ, ◌-◌, ◌^◌, ◌<◌, ◌≤◌, ◌⊎◌, Bool, true, false, ⊤, Result, MatchResult}
+use Rattle.std.specs.Prelude.{◌≡◌, ℕ, ◌-◌, ◌^◌, ◌<◌, ◌≤◌, ◌⊎◌, nat_le, Bool, true, false, ⊤, Result, MatchResult}
 use Rattle.pos_service.specs.declared.kind.Kind.{Kind}
 use Rattle.pos_service.specs.declared.kind.Kind.TheVariants as kind
 use Rattle.pos_service.specs.declared.plant.Plant.{Plant}
@@ -33,13 +33,13 @@ IsInRange (kind.Printer chars near) = (1 ≤ chars) × (chars ≤ 255) × (near 
 -- a kind's plant
 abbrev pub IsPlantOf : Kind → Plant → Type 0
 IsPlantOf kind.Drawer (plant.Drawer is_open) = ⊤
-IsPlantOf kind.Scanner (plant.Drawer is_open) = ⊥
-IsPlantOf (kind.Display rows columns) (plant.Drawer is_open) = ⊥
-IsPlantOf (kind.Printer chars near) (plant.Drawer is_open) = ⊥
+IsPlantOf kind.Scanner plant.Scanner = ⊤
+IsPlantOf is of_another = ⊥
 
 -- what a peripheral of this kind shows of its plant
 abbrev pub signs_of : Kind → Plant → Signs
 signs_of is (plant.Drawer is_open) = record { drawer_open = is_open; cover_open = false; paper = paper.Good }
+signs_of is plant.Scanner = record { drawer_open = false; cover_open = false; paper = paper.Good }
 
 -- a peripheral of this kind takes the order
 abbrev pub order_fits : Kind → Order → Bool
@@ -48,31 +48,38 @@ order_fits kind.Scanner order.OpenDrawer = false
 order_fits (kind.Display rows columns) order.OpenDrawer = false
 order_fits (kind.Printer chars near) order.OpenDrawer = false
 
--- the input can happen at a peripheral of this kind
+-- the input can happen at a peripheral of this kind: a drawer is moved, a scanner reads a bar code of the types 0 to 999,
+-- or fails to read
 abbrev pub input_fits : Kind → Input → Bool
 input_fits kind.Drawer (input.DrawerMoved is_open) = true
-input_fits kind.Scanner (input.DrawerMoved is_open) = false
-input_fits (kind.Display rows columns) (input.DrawerMoved is_open) = false
-input_fits (kind.Printer chars near) (input.DrawerMoved is_open) = false
+input_fits kind.Scanner (input.Scan number bytes label) = nat_le number 999
+input_fits kind.Scanner input.ScanFault = true
+input_fits is of_another = false
 
 -- the count rose, or it stays at its last value
 abbrev pub Rose : ℕ → ℕ → Type 0
 Rose old new = (old < new) ⊎ ((old ≡ 2 ^ 64 - 1) × (new ≡ 2 ^ 64 - 1))
 
+-- a drawer is open then
+abbrev pub Opens : Plant → Plant → Type 0
+Opens (plant.Drawer was_open) new = new ≡ plant.Drawer true
+Opens plant.Scanner new = ⊥
+
 -- Of a kind, from the old plant, an order that reaches the peripheral may get this reply and leave the new plant: a
 -- drawer opens.
 abbrev pub Performs : Kind → Order → Plant → Reply → Plant → Type 0
-Performs is order.OpenDrawer (plant.Drawer was_open) reply.Done new = new ≡ plant.Drawer true
-Performs is order.OpenDrawer (plant.Drawer was_open) reply.CoverOpen new = ⊥
-Performs is order.OpenDrawer (plant.Drawer was_open) reply.PaperEnd new = ⊥
-Performs is order.OpenDrawer (plant.Drawer was_open) reply.LineFault new = ⊥
+Performs is order.OpenDrawer old reply.Done new = Opens old new
+Performs is order.OpenDrawer old reply.CoverOpen new = ⊥
+Performs is order.OpenDrawer old reply.PaperEnd new = ⊥
+Performs is order.OpenDrawer old reply.LineFault new = ⊥
 
 -- Of a kind, from the old plant, an input may be taken so and leave the new plant: a drawer is open or closed as it was
--- moved.
+-- moved, and nothing of a scanner changes.
 abbrev pub Takes : Kind → Input → Plant → Taken → Plant → Type 0
 Takes is (input.DrawerMoved is_open) (plant.Drawer was_open) taken.Quiet new = new ≡ plant.Drawer is_open
-Takes is (input.DrawerMoved is_open) (plant.Drawer was_open) taken.Scan new = ⊥
-Takes is (input.DrawerMoved is_open) (plant.Drawer was_open) taken.Fault new = ⊥
+Takes is (input.Scan number bytes label) plant.Scanner taken.Scan new = new ≡ plant.Scanner
+Takes is input.ScanFault plant.Scanner taken.Fault new = new ≡ plant.Scanner
+Takes is other old taken new = ⊥
 
 -- A line fault changes nothing but the count of failures; with every other reply the line has not failed.
 abbrev pub Replies : PeripheralState → Order → Reply → PeripheralState → Type 0

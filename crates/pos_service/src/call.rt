@@ -20,6 +20,11 @@ pub enum Call {
     Get(Property),
     /// `openDrawer` (chapter Cash Drawer).
     OpenDrawer,
+    /// `clearInput`: the input that is held is deleted (common chapter, chapter Scanner).
+    ClearInput,
+    /// `clearInputProperties`: the properties of the last input have their defaults again (common chapter, chapter
+    /// Scanner).
+    ClearInputProperties,
     /// `create` with the new file's name, its size in bytes, and whether errors are to be detected, which has no effect
     /// (chapter Hard Totals, as the calls below).
     Create(Bytes, i128, bool),

@@ -1,7 +1,7 @@
 ghost use Rattle.std.specs.Prelude.{◌≡◌};
-ghost use Rattle.pos_service.specs.Calls.{needs_open, needs_enabled};
+ghost use Rattle.pos_service.specs.Calls.{is_settable, needs_open, needs_enabled};
 
-/// A property of a control (common chapter, and chapters Cash Drawer and Hard Totals).
+/// A property of a control (common chapter, and chapters Cash Drawer, Scanner and Hard Totals).
 #[derive(Clone, Copy, Debug, PartialEq, Eq)]
 pub enum Property {
     /// What the control is at: closed 1, idle 2, busy 3, in error 4.
@@ -10,6 +10,22 @@ pub enum Property {
     Claimed,
     /// Whether the device is in operation for this control.
     DeviceEnabled,
+    /// Whether no event is delivered.
+    FreezeEvents,
+    /// Whether DataEvents and errors of input are delivered.
+    DataEventEnabled,
+    /// Whether the control is disabled by the next input that comes.
+    AutoDisable,
+    /// How many DataEvents are enqueued.
+    DataCount,
+    /// Whether the label and the type of what is scanned are told.
+    DecodeData,
+    /// All that was scanned, of the last DataEvent that was delivered.
+    ScanData,
+    /// The label in it.
+    ScanDataLabel,
+    /// The type of its bar code, as a number of 0 to 999.
+    ScanDataType,
     /// Whether the drawer can tell if it is open.
     CapStatus,
     /// Whether the drawer is open.
@@ -31,6 +47,20 @@ pub enum Property {
 }
 
 impl Property {
+    /// Whether it can be set at all.
+    pub fn is_settable(self) -> bool
+        ensures { result ≡ is_settable self }
+    {
+        matches!(
+            self,
+            Property::DeviceEnabled
+                | Property::FreezeEvents
+                | Property::DataEventEnabled
+                | Property::AutoDisable
+                | Property::DecodeData
+        )
+    }
+
     /// Whether it can be read of an open control alone.
     pub fn needs_open(self) -> bool
         ensures { result ≡ needs_open self }
