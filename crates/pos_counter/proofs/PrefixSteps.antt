@@ -33,7 +33,7 @@ use Rattle.pos_totals.specs.Recoveries.{numbered}
 use Rattle.pos_totals.specs.Views.{plain, stored}
 use Rattle.pos_counter.specs.History.{NothingDone, changes_asked, event_between, event_of}
 use Rattle.pos_counter.specs.Machine.{Machine, with_control}
-use Rattle.pos_counter.specs.Steps.{Request, NewControl, CallOf, InputTo, Deliver, Snapshot, Response, Made, Full, Answered, TakenIn, NoDevice, WrongInput, Delivered, Shown, OutOfMemory, OnStation, Step, Called, Does, CategoryDoes, Stays, Sets, SetsByRecovery, refusals, category_rows, claimed, dropped, released}
+use Rattle.pos_counter.specs.Steps.{Request, NewControl, CallOf, InputTo, Deliver, Snapshot, Response, Made, Full, Answered, TakenIn, NoDevice, WrongInput, Delivered, Shown, OutOfMemory, OnStation, Step, Called, Does, CategoryDoes, Stays, Sets, SetsByRecovery, refusals, category_rows, device_rows, claimed, dropped, released}
 use Rattle.pos_counter.specs.Totals.{TotalsPart, ChangesTotals, CommitsTotals, TotalsDo, Recovered, Rests, asks_recovery, in_doubt, left_after, put_at_once, recovers, settled}
 use Rattle.pos_counter.proofs.FileCalls.{kept_left, plain_claimed}
 use Rattle.pos_counter.proofs.Lifts.{match_cases}
@@ -152,13 +152,17 @@ files_refuse totals number (Arranges arrangement) =
 files_refuse totals number Commits = (tt, ready_refuse totals.mode (λ files. commit_rows files number (transaction_of totals number)) (λ files. commits_refuse files number (transaction_of totals number)))
 files_refuse totals number Nothing = tt
 
+device_refuse : (k : Category) (claims : List (Option ℕ)) (n : ℕ) (c : Control) (own : Call) → AllRefuse (device_rows k claims n c own)
+device_refuse category.CashDrawer claims n c call.OpenDrawer = (tt, (tt, tt))
+device_refuse category.CashDrawer claims n c own = tt
+device_refuse category.Scanner claims n c call.ClearInput = (tt, (tt, tt))
+device_refuse category.Scanner claims n c call.ClearInputProperties = (tt, (tt, tt))
+device_refuse category.Scanner claims n c own = tt
+device_refuse category.HardTotals claims n c own = tt
+
 category_refuse : (k : Category) (m : Machine) (n : ℕ) (c : Control) (own : Call) → AllRefuse (category_rows k m n c own)
-category_refuse category.CashDrawer m n c call.OpenDrawer = (tt, (tt, tt))
-category_refuse category.CashDrawer m n c own = tt
-category_refuse category.Scanner m n c call.ClearInput = (tt, (tt, tt))
-category_refuse category.Scanner m n c call.ClearInputProperties = (tt, (tt, tt))
-category_refuse category.Scanner m n c own = tt
 category_refuse category.HardTotals m n c own = (tt, (tt, files_refuse m.totals.totals n (file_call own)))
+category_refuse k m n c own = device_refuse k m.claims n c own
 
 all_refuse : (m : Machine) (n : ℕ) (c : Control) (asked : Call) → AllRefuse (refusals m n c asked)
 all_refuse m n c (call.Open name) = (tt, (tt, (tt, tt)))

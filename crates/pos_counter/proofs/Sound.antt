@@ -27,7 +27,7 @@ use Rattle.pos_service.specs.Stations.{Station, Effect, TakesIn, reaction}
 use Rattle.pos_service.specs.DrawerCalls.{DrawerOpens, DrawerDoes}
 use Rattle.pos_service.specs.HardTotals.{with_control as with_place}
 use Rattle.pos_counter.specs.Machine.{Device, Machine, device_at, place_of, found_at, with_control, with_totals}
-use Rattle.pos_counter.specs.Steps.{Request, NewControl, CallOf, InputTo, Deliver, Snapshot, Response, Made, Full, Answered, TakenIn, NoDevice, WrongInput, Delivered, Shown, OutOfMemory, OnStation, Step, Called, Stays, Sets, SetsByRecovery, CategoryDoes, claimed, released, dropped, facts_of, refusals, IsSound, IsServed, HasItsKind, HasItsDevice}
+use Rattle.pos_counter.specs.Steps.{Request, NewControl, CallOf, InputTo, Deliver, Snapshot, Response, Made, Full, Answered, TakenIn, NoDevice, WrongInput, Delivered, Shown, OutOfMemory, OnStation, Step, Called, Stays, Sets, SetsByRecovery, CategoryDoes, DeviceDoes, claimed, released, dropped, facts_of, refusals, IsSound, IsServed, HasItsKind, HasItsDevice}
 use Rattle.pos_counter.specs.Totals.{TotalsPart, recovers}
 use Rattle.pos_counter.proofs.Lifts.{match_cases}
 
@@ -193,15 +193,19 @@ scanner_keeps call.ClearInput r number place old before new after h = itself_kee
 scanner_keeps call.ClearInputProperties r number place old before new after h = itself_keeps without_scan number r old before new after (record { category = λ c. refl; device = λ c. refl }) h
 scanner_keeps asked r number place old before new after h = absurd h
 
+device_keeps : (k : Category) (asked : Call) (r : Answer) (number place : ℕ) (old : List Control) (before : Station) (new : List Control) (after : Station) → DeviceDoes k asked number place r old before new after → Keeps before old after new
+device_keeps category.CashDrawer asked r number place old before new after h = drawer_keeps asked r number place old before new after h
+device_keeps category.Scanner asked r number place old before new after h = scanner_keeps asked r number place old before new after h
+device_keeps category.HardTotals asked r number place old before new after h = absurd h
+
 -- totals that have changed leave all else as it was
 other_totals : (m m' : Machine) → m' ≡ record m { totals = m'.totals } → IsSound m → IsSound m'
 other_totals m m' e s = subst IsSound (sym e) (record { kinds = s.kinds; places = s.places })
 
 -- what a category's call does keeps the machine sound
 category_sound : (k : Category) (m m' : Machine) (n : ℕ) (c : Control) (own : Call) (r : Answer) → CategoryDoes k m n c own r m' → IsSound m → IsSound m'
-category_sound category.CashDrawer m m' n c own r h s = on_station_sound m m' c.device _ (λ place. drawer_keeps own r n place) h s
-category_sound category.Scanner m m' n c own r h s = on_station_sound m m' c.device _ (λ place. scanner_keeps own r n place) h s
 category_sound category.HardTotals m m' n c own r h s = other_totals m m' h.1 s
+category_sound k m m' n c own r h s = on_station_sound m m' c.device _ (λ place. device_keeps k own r n place) h s
 
 -- a control with a property set has its device
 set_sound : (m m' : Machine) (n : ℕ) (c : Control) (p : Property) (v : Value) (r : Answer) (b : Bool) → slice_get m.controls n ≡ Some c → MatchBool b (SetsByRecovery m n c p v r m') (Sets m n c p v r m') → IsSound m → IsSound m'

@@ -87,20 +87,31 @@ takes_memory machine control (call.Set property v) = recovers machine.totals con
 takes_memory machine control (call.Get property) = is_of_bytes property
 takes_memory machine control own = own_takes_memory own
 
+-- what each call at a device with a peripheral asks, in order, by who holds each device
+abbrev pub device_rows : Category → List (Option ℕ) → ℕ → Control → Call → List Row
+device_rows category.CashDrawer claims number control own = drawer_rows claims number control own
+device_rows category.Scanner claims number control own = scanner_rows claims number control own
+device_rows category.HardTotals claims number control own = []
+
+-- what it does at the device's station, where nothing refuses it
+abbrev pub DeviceDoes : Category → Call → ℕ → ℕ → Answer → Effect
+DeviceDoes category.CashDrawer own number place result old before new after =
+    DrawerDoes own number place result old before new after
+DeviceDoes category.Scanner own number place result old before new after =
+    ScannerDoes own number place result old before new after
+DeviceDoes category.HardTotals own number place result old before new after = ⊥
+
 -- what each call of a category's own asks, in order
 abbrev pub category_rows : Category → Machine → ℕ → Control → Call → List Row
-category_rows category.CashDrawer machine number control own = drawer_rows machine.claims number control own
-category_rows category.Scanner machine number control own = scanner_rows machine.claims number control own
 category_rows category.HardTotals machine number control own = totals_rows machine.totals.totals number control own
+category_rows c machine number control own = device_rows c machine.claims number control own
 
--- what each call of a category's own does, where nothing refuses it: at its device's station, or with the totals
+-- what each call of a category's own does, where nothing refuses it: with the totals, or at its device's station
 abbrev pub CategoryDoes : Category → Machine → ℕ → Control → Call → Answer → Machine → Type 0
-CategoryDoes category.CashDrawer old number control own result new =
-    OnStation old control.device (λ place. DrawerDoes own number place result) new
-CategoryDoes category.Scanner old number control own result new =
-    OnStation old control.device (λ place. ScannerDoes own number place result) new
 CategoryDoes category.HardTotals old number control own result new =
     TotalsDo (file_call own) old.totals number result new.totals × (new ≡ record old { totals = new.totals })
+CategoryDoes c old number control own result new =
+    OnStation old control.device (λ place. DeviceDoes c own number place result) new
 
 -- another control keeps a device of a category from the control with a number
 abbrev pub is_taken : Category → Machine → ℕ → Option ℕ → Bool
