@@ -3,11 +3,13 @@ ghost use Rattle.pos_service.specs.Controls.{new_control};
 
 mod calls;
 mod events;
+mod properties;
 
-pub(crate) use events::MOST_STATUSES;
-use pos_service::{Category, Event};
+use crate::reader::Reader;
+pub use events::{FAULT_EVENTS, SCAN_EVENTS, SIGN_EVENTS};
+use pos_events::EventQueue;
+use pos_service::Category;
 use std::alloc::Global;
-use std::collections::VecDeque;
 use std::marker::Model;
 
 /// A control: an application's hold of a device (common chapter). Contracts see the machine's control, and how many
@@ -17,19 +19,26 @@ pub struct Control {
     category: Category,
     device: Option<usize>,
     is_enabled: bool,
-    events: VecDeque<Event>,
+    is_frozen: bool,
+    reader: Reader,
+    events: EventQueue,
 }
 
 impl Model for Control {
-    ghost use Rattle.std.specs.Prelude.{◌-◌};
-    ghost use Rattle.std.specs.VecDeque.{deque_len, deque_capacity};
     ghost use Rattle.pos_common.specs.Held.{Held};
 
     ghost Value = { Held };
 
     ghost view = { λ a. record {
-      control = record { category = a.category; device = a.device; enabled = a.is_enabled; events = a.events.items };
-      spare = deque_capacity a.events - deque_len a.events;
+      control = record {
+        category = a.category;
+        device = a.device;
+        enabled = a.is_enabled;
+        frozen = a.is_frozen;
+        reader = a.reader;
+        list = a.events.list;
+      };
+      spare = a.events.spare;
     } };
 }
 
@@ -42,7 +51,9 @@ impl Control {
             category,
             device: None,
             is_enabled: false,
-            events: VecDeque::new(alloc),
+            is_frozen: false,
+            reader: Reader::new(alloc),
+            events: EventQueue::new(alloc),
         }
     }
 
