@@ -1,5 +1,5 @@
 -- The calls of a scanner (chapter Scanner, and common chapter).
-use Rattle.std.specs.Prelude.{◌≡◌, ℕ, List, [], Option, IfSome, slice_get, slice_set}
+use Rattle.std.specs.Prelude.{◌≡◌, ℕ, List, [], Option, MatchOption, slice_get, slice_set}
 use Rattle.pos_service.specs.declared.answer.Answer.{Answer}
 use Rattle.pos_service.specs.declared.answer.Answer.TheVariants as answer
 use Rattle.pos_service.specs.declared.answer.Value.TheVariants as value
@@ -29,7 +29,7 @@ without_scan control = record control { reader = record control.reader { shown =
 pub record ChangesItself (change : Control → Control) (number : ℕ) (result : Answer)
     (old : List Control) (before : Station) (new : List Control) (after : Station) : Type 0 where
   pub done : result ≡ answer.Done value.Empty
-  pub controls : IfSome (slice_get old number) (λ control. new ≡ slice_set old number (change control))
+  pub controls : MatchOption (slice_get old number) ⊥ (λ control. new ≡ slice_set old number (change control))
   pub station : after ≡ before
 
 -- what each call of the control with a number does, where nothing refuses it
