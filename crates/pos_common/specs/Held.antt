@@ -1,5 +1,5 @@
 -- A control as the code holds it.
-use Rattle.std.specs.Prelude.{◌≡◌, ℕ, ◌≤◌, List, None, Result, MatchResult, IsTrue, ⊤, count_by, length, map, All}
+use Rattle.std.specs.Prelude.{◌≡◌, ℕ, ◌≤◌, ◌+◌, List, [], ◌∷◌, None, Result, MatchResult, IsTrue, ⊤, count_by, length, map, All}
 use Rattle.pos_service.specs.declared.answer.Answer.{Answer}
 use Rattle.pos_service.specs.declared.answer.Answer.TheVariants as answer
 use Rattle.pos_service.specs.declared.answer.Value.{Value}
@@ -8,7 +8,7 @@ use Rattle.pos_service.specs.declared.memory.NoMemory.{NoMemory}
 use Rattle.pos_service.specs.declared.property.Property.{Property}
 use Rattle.pos_service.specs.declared.scan.Scan.{Scan}
 use Rattle.pos_service.specs.Calls.{is_of_bytes}
-use Rattle.pos_service.specs.Controls.{Control, listens}
+use Rattle.pos_service.specs.Controls.{Control, listens, if_listening, read as read_by}
 use Rattle.pos_service.specs.Refusals.{Row, Decided, first_refusal}
 
 -- the machine's control, and how many events there is room for
@@ -40,6 +40,13 @@ HasRoom place count held = IsTrue (listens place held.control) → count ≤ hel
 pub record AreCopies (scan : Scan) (place : ℕ) (controls : List Control) (copies : List Scan) : Type 0 where
   pub enough : count_by (listens place) controls ≤ length copies
   pub each : All (λ copy. copy ≡ scan) copies
+
+-- A control has read one of the copies of a scan, where it has the device at a place open and enabled; the others are
+-- left.
+pub record ReadsCopy (scan : Scan) (place : ℕ) (old new : Held) (copies left : List Scan) : Type 0 where
+  pub read : new.control ≡ if_listening place (read_by scan) old.control
+  pub each : All (λ copy. copy ≡ scan) left
+  pub most : length copies ≤ length left + count_by (listens place) (old.control ∷ [])
 
 -- A call on a control is answered by its table, which changes nothing; where nothing refuses it, it succeeds, and the
 -- control is this one.

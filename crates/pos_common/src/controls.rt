@@ -1,8 +1,8 @@
-ghost use Rattle.std.specs.Prelude.{◌≡◌, ◌≤◌, ◌+◌, [], ◌∷◌, length, count_by, All, OnOk, OnErr, IfOk};
+ghost use Rattle.std.specs.Prelude.{◌≡◌, [], ◌∷◌, All, OnOk, OnErr, IfOk};
 ghost use Rattle.pos_service.specs.declared.scan.Scan.{Scan};
-ghost use Rattle.pos_service.specs.Controls.{listens, if_listening, all_listening, heard, read, failed};
+ghost use Rattle.pos_service.specs.Controls.{all_listening, heard, read, failed};
 ghost use Rattle.pos_service.specs.Statuses.{status_events};
-ghost use Rattle.pos_common.specs.Held.{HasRoom, AreCopies, controls_of, sign_events, scan_events, fault_events};
+ghost use Rattle.pos_common.specs.Held.{HasRoom, AreCopies, ReadsCopy, controls_of, sign_events, scan_events, fault_events};
 
 use crate::control::Control;
 use pos_service::{Bytes, NoMemory, Scan, Signs};
@@ -70,10 +70,9 @@ fn copy_of(alloc: Global, kind: u32, bytes: &Bytes, label: &Bytes) -> Result<Sca
 /// the copies in a DataEvent, and is disabled under AutoDisable; in the input error state the scan is ignored (common
 /// chapter, data events).
 pub fn read_all(controls: &mut [Control], place: usize, copies: Vec<Scan>)
-    ghost scan: { Scan }
-    requires room { All (HasRoom place scan_events) controls.old }
-    requires copies { AreCopies scan place (controls_of controls.old) copies.items }
-    ensures { controls_of controls.new ≡ all_listening place (read scan) (controls_of controls.old) }
+    requires { All (HasRoom place scan_events) controls.old }
+    ensures { (scan : Scan) → AreCopies scan place (controls_of controls.old) copies.items →
+        controls_of controls.new ≡ all_listening place (read scan) (controls_of controls.old) }
 {
     let mut copies = copies;
     for control in controls.iter_mut() {
@@ -83,19 +82,15 @@ pub fn read_all(controls: &mut [Control], place: usize, copies: Vec<Scan>)
 
 /// A scan has come to a control, if it has the device at a place open and enabled: it takes one of the copies.
 fn read_copy(control: &mut Control, place: usize, copies: &mut Vec<Scan>)
-    ghost scan: { Scan }
-    requires room { HasRoom place scan_events control.old }
-    requires copies { AreCopies scan place (control.old.control ∷ []) copies.old.items }
-    ensures read { control.new.control ≡ if_listening place (read scan) control.old.control }
-    ensures copies { All (λ copy. copy ≡ scan) copies.new.items }
-    ensures left { length copies.old.items ≤ length copies.new.items + count_by (listens place) (control.old.control ∷ []) }
+    requires { HasRoom place scan_events control.old }
+    ensures { (scan : Scan) → AreCopies scan place (control.old.control ∷ []) copies.old.items →
+        ReadsCopy scan place control.old control.new copies.old.items copies.new.items }
 {
     if !control.listens(place) {
         return;
     }
-    match copies.pop() {
-        Some(copy) => control.read(place, copy),
-        None => unreachable!(),
+    if let Some(copy) = copies.pop() {
+        control.read(place, copy);
     }
 }
 

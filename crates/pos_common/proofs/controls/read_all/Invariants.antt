@@ -1,18 +1,16 @@
 use Rattle.std.proofs.Common.{◌≡◌, ◌++◌, All, map, take, drop}
+use Rattle.pos_service.specs.declared.scan.Scan.{Scan}
 use Rattle.pos_service.specs.Controls.{read, if_listening}
 use Rattle.pos_common.specs.Held.{HasRoom, AreCopies, controls_of, scan_events}
 use Rattle.pos_common.proofs.controls.read_all.Given as goal
 
--- the scan that each control reads
-abbrev pub ghost-read_copy : goal.ghost-read_copy
-ghost-read_copy g a = g.scan
-
 -- the controls before the place have read, and for the others there are room and copies
 abbrev pub invariant-loop-control : goal.invariant-loop-control
-invariant-loop-control g l =
+invariant-loop-control l =
     let before = controls_of l.fn.controls in
     record {
-      read : controls_of l.controls ≡ map (if_listening l.place (read g.scan)) (take l.control-index before) ++ drop l.control-index before;
       room : All (HasRoom l.place scan_events) (drop l.control-index l.controls);
-      copies : AreCopies g.scan l.place (drop l.control-index (controls_of l.controls)) l.copies.items;
+      read : (scan : Scan) → AreCopies scan l.place before l.fn.copies.items →
+          (controls_of l.controls ≡ map (if_listening l.place (read scan)) (take l.control-index before) ++ drop l.control-index before)
+          × AreCopies scan l.place (drop l.control-index (controls_of l.controls)) l.copies.items;
     }
