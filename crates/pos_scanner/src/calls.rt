@@ -1,4 +1,4 @@
-ghost use Rattle.std.specs.Prelude.{◌≡◌, ◌<◌, false, Some, None, IfSome, MatchResult, length, slice_get, slice_set};
+ghost use Rattle.std.specs.Prelude.{◌≡◌, ◌<◌, false, Some, None, IfSome, MatchOption, MatchResult, length, slice_get, slice_set};
 ghost use Rattle.pos_service.specs.declared.category.Category.TheVariants as category;
 ghost use Rattle.pos_service.specs.declared.kind.Kind.TheVariants as kind;
 ghost use Rattle.pos_service.specs.Claims.{held_rows, holder_at};
@@ -77,7 +77,7 @@ fn check_held(controls: &[Control], caller: usize, claims: &Claims) -> Result<()
 /// `clearInput` of the control with a number.
 fn clear_input(controls: &mut [Control], caller: usize)
     requires { caller < length controls.old }
-    ensures { IfSome (slice_get (controls_of controls.old) caller) (λ control.
+    ensures { MatchOption (slice_get (controls_of controls.old) caller) ⊥ (λ control.
         controls_of controls.new ≡ slice_set (controls_of controls.old) caller (without_input control)) }
 {
     controls[caller].clear_input();
@@ -86,7 +86,7 @@ fn clear_input(controls: &mut [Control], caller: usize)
 /// `clearInputProperties` of the control with a number.
 fn clear_input_properties(controls: &mut [Control], caller: usize)
     requires { caller < length controls.old }
-    ensures { IfSome (slice_get (controls_of controls.old) caller) (λ control.
+    ensures { MatchOption (slice_get (controls_of controls.old) caller) ⊥ (λ control.
         controls_of controls.new ≡ slice_set (controls_of controls.old) caller (without_scan control)) }
 {
     controls[caller].clear_input_properties();
