@@ -101,6 +101,11 @@ covered_at hs cl n c at all =
     let Covered : Control → Type 0 = λ control. IfSome control.device (λ place. place < length cl) in
     subst Covered (get_or_from_slice_get (controls_of hs) n c c at) (All-get_or Covered (controls_of hs) n c (slice_get_within (controls_of hs) n c at) all)
 
+-- what is no device with a peripheral is Hard Totals
+pub are_totals : (k : Category) → is_totals k ≡ true → k ≡ category.HardTotals
+are_totals category.HardTotals is = refl
+are_totals k is = cc
+
 -- ---- devices with a peripheral, which the table of claims has
 
 dropped_of : (k : Category) (m : Machine) (n : ℕ) (c : Control) → is_totals k ≡ false → dropped k m n c ≡ record m { claims = released_by m.claims c.device n }

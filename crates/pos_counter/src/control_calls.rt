@@ -11,9 +11,10 @@ ghost use Rattle.pos_counter.specs.Steps.{CallOf, Answered};
 
 use crate::devices::find_for;
 use crate::entry::Entry;
+use crate::totals_calls::is_totals;
 use pos_common::{Claims, Control};
 use pos_disk::Disk;
-use pos_service::{Answer, Category, Code, HasState, Value};
+use pos_service::{Answer, Code, HasState, Value};
 use pos_totals::Totals;
 
 /// `open`, of the first device with a name (common chapter).
@@ -51,7 +52,7 @@ pub(crate) fn close<D: Disk>(
     if device.is_none() {
         return Answer::Refused(Code::Closed, 0);
     }
-    if controls[number].category() == Category::HardTotals {
+    if is_totals(&controls[number]) {
         totals.drop_control(number);
         return controls[number].close();
     }
@@ -74,7 +75,7 @@ pub(crate) fn claim<D: Disk>(
         (CallOf number (call.Claim timeout)) (Answered result) controls.now claims.new states totals.new }
 {
     let control = &controls[number];
-    if control.category() == Category::HardTotals {
+    if is_totals(control) {
         return claim_area(control, totals, number, timeout);
     }
     claim_device(control, claims, number, timeout)
@@ -134,7 +135,7 @@ pub(crate) fn release<D: Disk>(
         (CallOf number call.Release) (Answered result) controls.new claims.new states totals.new }
 {
     let control = &mut controls[number];
-    if control.category() == Category::HardTotals {
+    if is_totals(control) {
         return release_area(control, totals, number);
     }
     release_device(control, claims, number)

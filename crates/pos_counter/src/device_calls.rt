@@ -14,7 +14,7 @@ use crate::devices::find;
 use crate::entry::Entry;
 use crate::faults::{InputFault, SnapshotFault};
 use crate::properties::{get, set};
-use crate::totals_calls::call_totals;
+use crate::totals_calls::{call_totals, is_totals};
 use pos_common::{Claims, Control};
 use pos_disk::Disk;
 use pos_service::{
@@ -73,10 +73,10 @@ fn call_category<D: Disk>(
     let Some(place) = controls[number].device() else {
         return Ok(Answer::Refused(Code::Closed, 0));
     };
-    let category = controls[number].category();
-    if category == Category::HardTotals {
+    if is_totals(&controls[number]) {
         return call_totals(controls, claims, totals, number, call);
     }
+    let category = controls[number].category();
     call_device(controls, number, category, claims, &mut boxes[place], call)
 }
 

@@ -14,9 +14,10 @@ ghost use Rattle.pos_counter.specs.Totals.{asks_recovery, file_facts};
 
 use crate::devices::signs_at;
 use crate::entry::Entry;
+use crate::totals_calls::is_totals;
 use pos_common::{Claims, Control};
 use pos_disk::Disk;
-use pos_service::{Answer, Category, Facts, FileFacts, HasState, NoMemory, Property, Value};
+use pos_service::{Answer, Facts, FileFacts, HasState, NoMemory, Property, Value};
 use pos_totals::Totals;
 
 /// Gets a property. Want of memory, for a copy of bytes, changes nothing.
@@ -80,7 +81,7 @@ fn is_holder(control: &Control, claims: &Claims, area: Option<usize>, number: us
 fn find_holder(control: &Control, claims: &Claims, area: Option<usize>) -> Option<usize>
     ensures { result ≡ holder_in control.now.control.category claims.now area control.now.control.device }
 {
-    if control.category() == Category::HardTotals {
+    if is_totals(control) {
         return area;
     }
     claims.holder(control.device())
@@ -152,7 +153,7 @@ fn set_recovered<D: Disk>(
 fn is_recovering(control: &Control, is_ready: bool, property: Property, value: &Value) -> bool
     ensures { result ≡ (asks_recovery control.now.control property value.now && not is_ready) }
 {
-    control.category() == Category::HardTotals
+    is_totals(control)
         && control.device().is_some()
         && !control.is_enabled()
         && matches!(

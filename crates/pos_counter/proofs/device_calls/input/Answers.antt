@@ -33,7 +33,7 @@ returns-in-Ok g c =
     let place = c.in-Some.place in
     let within : place < length bs = omega arith in
     let gs = c.take_input.new.controls in
-    let box = c.take_input.new.drawer in
+    let box = c.take_input.new.peripheral in
     station_serves boxes.state hs gs es bs place box (InputTo c.args.name.now c.args.input.now) TakenIn c.requires c.in-Ok.ensures.in_service.unparked
     (λ shared. on_station boxes.state hs gs es bs shared place _ box _ _ c.requires.attached (slice_get-get_or bs place c.index-boxes-place-2.result within) (sym (c.in-Some.ensures.place _)) c.in-Ok.ensures.taken)
 
@@ -46,7 +46,7 @@ returns-in-Err g c =
     let place = c.in-Some.place in
     let within : place < length bs = omega arith in
     let gs = c.take_input.new.controls in
-    let box = c.take_input.new.drawer in
+    let box = c.take_input.new.peripheral in
     let fit = ap (λ k. input_fits k c.args.input.now) (sym c.kind.ensures.kind) ∙ sym c.fits.ensures ∙ c.if-not-fits.false in
     station_serves boxes.state hs gs es bs place box (InputTo c.args.name.now c.args.input.now) OutOfMemory c.requires c.in-Err.ensures.in_service.unparked (λ shared. (
       finds_fit boxes.state hs es bs shared c.args.name.now place (get_or bs place c.index-boxes-place.result) c.args.input.now true c.requires.attached (c.in-Some.ensures.place _) (slice_get-get_or bs place c.index-boxes-place.result within) fit,
