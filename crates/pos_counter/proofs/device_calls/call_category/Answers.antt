@@ -2,26 +2,52 @@ use Rattle.std.proofs.Common.{◌≡◌, ◌∙◌, ◌<◌, length, get_or, map
 use Rattle.std.specs.Prelude.{Some, None, false, []}
 use Rattle.std.proofs.lemmas.List.{get_or_default}
 use Rattle.std.proofs.lemmas.Option.{slice_get-get_or}
+use Rattle.pos_service.specs.declared.answer.Answer.TheVariants as answer
 use Rattle.pos_service.specs.declared.category.Category.{Category}
 use Rattle.pos_service.specs.declared.category.Category.TheVariants as category
+use Rattle.pos_service.specs.declared.code.Code.TheVariants as code
 use Rattle.pos_service.specs.declared.peripheral_box.HasState.{Ghosts}
 use Rattle.pos_service.specs.Calls.{serves}
 use Rattle.pos_service.specs.Stations.{CalledBy, station_of}
 use Rattle.pos_common.specs.Held.{Held, controls_of}
 use Rattle.pos_counter.specs.Responses.{answered}
-use Rattle.pos_counter.specs.Steps.{CallOf, DeviceDoes, device_rows}
+use Rattle.pos_counter.specs.Steps.{CallOf, Answered, DeviceDoes, device_rows}
 use Rattle.pos_counter.specs.Machine.{Shared}
-use Rattle.pos_counter.specs.Parts.{part_of}
+use Rattle.pos_counter.specs.Parts.{machine_with, part_of}
 use Rattle.pos_counter.specs.Totals.{TotalsPart, is_totals}
+use Rattle.pos_counter.proofs.Claiming.{are_totals}
 use Rattle.pos_counter.proofs.Lifts.{control_at}
-use Rattle.pos_counter.proofs.Serving.{parts_serve, station_sound}
-use Rattle.pos_counter.proofs.Stations.{ServedAt, device_step, is_open_there, served_there, unparked_at}
+use Rattle.pos_counter.proofs.Serving.{looks_serve, parts_serve, station_sound}
+use Rattle.pos_counter.proofs.Stations.{ServedAt, closed_step, device_step, is_open_there, served_there, unparked_at}
 use Rattle.pos_counter.proofs.device_calls.call_category.Goals as goal
 
 -- a device without a kind is Hard Totals
 has_kind : (k : Category) → is_totals k ≡ false → serves k None ≡ false
 has_kind category.HardTotals is = cc
 has_kind k is = refl
+
+pub returns-in_default : goal.returns-in_default
+returns-in_default g c =
+    let boxes : Ghosts _ = record { state = λ b. (goal.Peripheral-dyn g (b.device.vtable, b.device.value)).state b.device.value } in
+    let hs = c.args.controls.now in
+    let cl = c.args.claims.now in
+    let es = c.args.entries.now in
+    let ss = map boxes.state c.args.boxes.now in
+    let n = c.args.number in
+    let d = c.index-controls-number.result in
+    let view = c.args.totals.now in
+    let q = c.args.call.now in
+    looks_serve g.D.Disk view hs cl es ss (CallOf n q) (Answered (answer.Refused code.Closed 0)) (λ bytes honest since. g.met.D.Disk.only_now view.disk bytes honest since) c.requires.sound
+    (λ left. closed_step (machine_with hs cl es ss (part_of g.D.Disk view left)) n (get_or hs n d).control q c.requires.own (control_at hs n d c.requires.in_range) (sym c.in_default.ensures))
+
+pub call_totals-requires-clause-open : goal.call_totals-requires-clause-open
+call_totals-requires-clause-open g c =
+    let hs = c.args.controls.now in
+    let n = c.args.number in
+    let d = c.index-controls-number.result in
+    let one = (get_or hs n d).control in
+    let is = are_totals one.category (ap (λ (h : Held). is_totals h.control.category) (get_or_default hs n d c.index-controls-number-2.result c.requires.in_range) ∙ sym c.is_totals.ensures ∙ c.if-is_totals.true) in
+    is_open_there (controls_of hs) n one category.HardTotals c.in-Some.place (control_at hs n d c.requires.in_range) is (sym c.in-Some.ensures)
 
 pub bounds-boxes-place : goal.bounds-boxes-place
 bounds-boxes-place g c =
