@@ -9,11 +9,11 @@ use Rattle.pos_console.proofs.run_over_devices.Goals as goal
 
 pub returns : goal.returns
 returns g c =
-    let counter = c.in-Ok-new.counter in
-    let boxes = boxes_of c.in-Ok-new.ensures.sound in
+    let counter = c.in-Ok-new-2.counter in
+    let boxes = boxes_of c.in-Ok-new-2.ensures.sound in
     let list = c.push_reserved-2.new.self.items in
     let disk = c.in-Ok-format_disk.disk in
-    let begins = c.in-Ok-new.ensures.begins in
+    let begins = c.in-Ok-new-2.ensures.begins in
     let one = c.push_reserved.ensures.items ∙ ap (λ l. l ++ c.closed_drawer.result ∷ []) c.in-Ok-with_capacity.ensures.items in
     let two = c.push_reserved-2.ensures.items ∙ ap (λ l. l ++ c.plain_scanner.result ∷ []) one in
     let states = ap (map boxes.state) two ∙ ap (λ s. s ∷ boxes.state c.plain_scanner.result ∷ []) c.closed_drawer.ensures ∙ ap (λ s. drawer_state false false ∷ s ∷ []) c.plain_scanner.ensures in
