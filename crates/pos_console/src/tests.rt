@@ -4,7 +4,7 @@ ghost use Rattle.std.specs.Prelude.{None};
 use crate::arguments::{LineFault, read_three, read_two};
 use crate::disk::format_disk;
 use crate::run::{RunFault, run};
-use crate::{closed_drawer, park_all, run_over_devices, serve};
+use crate::{closed_drawer, park_all, plain_scanner, run_over_devices, serve};
 use pos_counter::{Counter, Ended};
 use pos_service::{Bytes, Peripheral, Plant, Snapshot};
 use pos_sims::{PlainDrawer, PlainScanner};
@@ -512,7 +512,7 @@ fn drawer_after(
     let result = run(alloc, &mut reader, &mut writer, &mut counter);
     let is_open = match counter.snapshot(b"d1") {
         Ok(Snapshot(Plant::Drawer(is_open))) => Some(is_open),
-        Err(_) => None,
+        _ => None,
     };
     let Ended { disk: _, boxes } = counter.shutdown();
     park_all(boxes);
