@@ -25,14 +25,16 @@ pub fn room_all(controls: &mut [Control], place: usize, count: usize) -> Result<
 /// no other, in the order drawer, cover, paper (common chapter, StatusUpdateEvent).
 pub fn hear_all(controls: &mut [Control], place: usize, old: Signs, new: Signs)
     requires { All (HasRoom place sign_events) controls.old }
-    ensures { controls_of controls.new ≡ all_listening place (heard (status_events old new)) (controls_of controls.old) }
+    ensures { let events = status_events old new in
+        controls_of controls.new ≡ all_listening place (heard events) (controls_of controls.old) }
 {
     for control in controls.iter_mut() {
         control.hear(place, old, new);
     }
 }
 
-/// Copies of a scan, by its type, all that was read, and the label: one for each control that has the device at a place open and enabled.
+/// Copies of a scan, by its type, all that was read, and the label: one for each control that has the device at a place
+/// open and enabled.
 pub fn copy_for_all(
     alloc: Global,
     controls: &[Control],

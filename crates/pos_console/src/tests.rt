@@ -188,8 +188,8 @@ const TRANSACTIONS_TEXT: &[u8] =
 /// A scanner that one of two controls holds; a scan under AutoDisable, delivered without its label; frozen events.
 const SCANS: &[u8] =
     b"new a Scanner\nopen a s1\nset a DeviceEnabled true\nset a DeviceEnabled 5\ncall a clearInput\nclaim a 0\n\
-    new b Scanner\nopen b s1\nclaim b 0\nset b DeviceEnabled true\ncall b clearInputProperties\nset b AutoDisable true\n\
-    set a AutoDisable true\nset a DeviceEnabled true\nset a FreezeEvents true\ninput s1 scan 110 4142 42\n\
+    new b Scanner\nopen b s1\nclaim b 0\nset b DeviceEnabled true\ncall b clearInputProperties\n\
+    set b AutoDisable true\nset a AutoDisable true\nset a DeviceEnabled true\nset a FreezeEvents true\ninput s1 scan 110 4142 42\n\
     input s1 scan 110 4344 44\nget a DataCount\nget a DeviceEnabled\nget b DataCount\nset a DataEventEnabled true\n\
     deliver a\nset a FreezeEvents false\ndeliver a\nget a ScanData\nget a ScanDataLabel\nget a ScanDataType\n\
     get a DataEventEnabled\ncall a clearInputProperties\nget a ScanData\nset a ScanData 41\nset a ScanData ab\n\

@@ -68,7 +68,9 @@ fn check_held(controls: &[Control], caller: usize, claims: &Claims) -> Result<()
     requires { IsOpen category.Scanner (controls_of controls.now) caller }
     ensures { IfSome (slice_get (controls_of controls.now) caller) (λ control.
         let rows = held_rows caller (holder_at claims.now control.device) in
-        MatchResult result (λ _. first_refusal rows ≡ None) (λ code. first_refusal rows ≡ Some (Answer.Refused code 0))) }
+        MatchResult result
+        (λ _. first_refusal rows ≡ None)
+        (λ code. first_refusal rows ≡ Some (Answer.Refused code 0))) }
 {
     let holder = claims.holder(controls[caller].device());
     controls[caller].check(caller, holder, HELD)

@@ -9,9 +9,9 @@ use pos_common::{Control, FAULT_EVENTS, SCAN_EVENTS, copy_for_all, fail_all, rea
 use pos_service::{Bytes, HasState, Input, NoMemory, PeripheralBox, Taken};
 use std::alloc::Global;
 
-/// Hands an input to the scanner at a place. Of a scan each control that has the scanner open and enabled gets a DataEvent
-/// with a copy of its own, and is disabled under AutoDisable; of a failed scan it gets ErrorEvents. In the input error
-/// state both are ignored (common chapter, data events and error handling).
+/// Hands an input to the scanner at a place. Of a scan each control that has the scanner open and enabled gets a
+/// DataEvent with a copy of its own, and is disabled under AutoDisable; of a failed scan it gets ErrorEvents. In the
+/// input error state both are ignored (common chapter, data events and error handling).
 ///
 /// All copies, and the room for all events, are made before the scanner is told. Want of memory changes nothing.
 pub fn take_input(

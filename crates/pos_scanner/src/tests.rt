@@ -55,7 +55,8 @@ impl Peripheral for TestScanner {
 
     fn ask(&mut self, order: &Order) -> Result<Reply, NoMemory>
         requires { self.old.is_parked ≡ false }
-        ensures { let state : PeripheralState = record { kind = kind.Scanner; plant = plant.Scanner; is_parked = false; failures = 0 } in
+        ensures { let state : PeripheralState =
+            record { kind = kind.Scanner; plant = plant.Scanner; is_parked = false; failures = 0 } in
             Asked state order.now result state }
     {
         let _ = order;

@@ -81,8 +81,8 @@ all_listening place change controls = map (if_listening place change) controls
 abbrev pub heard : List Enqueued → Control → Control
 heard events control = record control { list = all_enqueued events control.list }
 
--- a control for which a scan has come: it gets a DataEvent and is disabled under AutoDisable, but not in the input error
--- state, in which the scan is ignored
+-- a control for which a scan has come: it gets a DataEvent and is disabled under AutoDisable, but not in the input
+-- error state, in which the scan is ignored
 abbrev pub read : Scan → Control → Control
 read scan control =
     if control.list.in_error then control
@@ -116,8 +116,8 @@ scan_in (Some event) = scan_of event
 abbrev pub as_shown : Bool → Scan → Scan
 as_shown decode scan = if decode then scan else record scan { kind = 0; label = [] }
 
--- what is kept of input, once a DataEvent with this scan has been delivered: the scan is shown as DecodeData is now, and
--- DataEventEnabled is false; another event changes nothing of it
+-- what is kept of input, once a DataEvent with this scan has been delivered: the scan is shown as DecodeData is now,
+-- and DataEventEnabled is false; another event changes nothing of it
 abbrev pub after_scan : Option Scan → Reader → Reader
 after_scan None reader = reader
 after_scan (Some scan) reader = record reader { data_enabled = false; shown = as_shown reader.decode scan }

@@ -48,8 +48,8 @@ order_fits kind.Scanner order.OpenDrawer = false
 order_fits (kind.Display rows columns) order.OpenDrawer = false
 order_fits (kind.Printer chars near) order.OpenDrawer = false
 
--- the input can happen at a peripheral of this kind: a drawer is moved, a scanner reads a bar code of the types 0 to 999,
--- or fails to read
+-- the input can happen at a peripheral of this kind: a drawer is moved, a scanner reads a bar code of the types 0 to
+-- 999, or fails to read
 abbrev pub input_fits : Kind → Input → Bool
 input_fits kind.Drawer (input.DrawerMoved is_open) = true
 input_fits kind.Scanner (input.Scan number bytes label) = nat_le number 999

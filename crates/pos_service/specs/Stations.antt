@@ -62,7 +62,8 @@ abbrev pub CalledBy :
     (Control → Call → List Row) → (Call → ℕ → ℕ → Answer → Effect) → ℕ → Call → Result Answer NoMemory → Effect
 CalledBy rows Does number asked outcome old before new after =
     MatchOption (slice_get old number) ⊥ (λ control. IfSome control.device (λ place.
-    CalledAt asked (own_rows control asked (rows control asked)) (Does asked number place) outcome old before new after))
+    CalledAt asked (own_rows control asked (rows control asked)) (Does asked number place)
+    outcome old before new after))
 
 -- A peripheral is in service, and of the kind that it was.
 pub record StaysInService (old new : PeripheralState) : Type 0 where

@@ -111,8 +111,8 @@ impl Control {
     /// Whether it is as a call of its category asks an open control to be.
     ///
     /// Refused with E_CLAIMED where the call needs that no other control than this one, which has the number, holds the
-    /// device, and one does; with E_NOTCLAIMED where it needs that this one holds the device, and nobody does; then with
-    /// E_DISABLED where it needs the device enabled and it isn't.
+    /// device, and one does; with E_NOTCLAIMED where it needs that this one holds the device, and nobody does; then
+    /// with E_DISABLED where it needs the device enabled and it isn't.
     pub fn check(&self, number: usize, holder: Option<usize>, need: Need) -> Result<(), Code>
         ensures { MatchResult result
             (λ _. first_refusal (need_rows self.now.control number holder need) ≡ None)

@@ -65,8 +65,8 @@ impl Control {
         }
     }
 
-    /// A scan has come, if it has the device at this place open and enabled: a DataEvent is enqueued, and it is disabled
-    /// under AutoDisable. In the input error state the scan is ignored (common chapter, data events).
+    /// A scan has come, if it has the device at this place open and enabled: a DataEvent is enqueued, and it is
+    /// disabled under AutoDisable. In the input error state the scan is ignored (common chapter, data events).
     pub fn read(&mut self, place: usize, scan: Scan)
         requires { HasRoom place scan_events self.old }
         ensures { self.new.control ≡ if_listening place (read scan) self.old.control }

@@ -18,8 +18,8 @@ impl Control {
     /// chapter). The value that it has is checked like any other.
     ///
     /// Refused with E_CLOSED where the control is closed, E_ILLEGAL where its category doesn't have the property or it
-    /// can't be set; for DeviceEnabled of an exclusive-use device with E_CLAIMED where another control holds the device,
-    /// E_NOTCLAIMED where nobody does; with E_ILLEGAL for a value of another type or out of range.
+    /// can't be set; for DeviceEnabled of an exclusive-use device with E_CLAIMED where another control holds the
+    /// device, E_NOTCLAIMED where nobody does; with E_ILLEGAL for a value of another type or out of range.
     pub fn set(
         &mut self,
         number: usize,
