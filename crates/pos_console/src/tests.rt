@@ -189,34 +189,35 @@ const TRANSACTIONS_TEXT: &[u8] =
 const SCANS: &[u8] =
     b"new a Scanner\nopen a s1\nset a DeviceEnabled true\nset a DeviceEnabled 5\ncall a clearInput\nclaim a 0\n\
     new b Scanner\nopen b s1\nclaim b 0\nset b DeviceEnabled true\ncall b clearInputProperties\n\
-    set b AutoDisable true\nset a AutoDisable true\nset a DeviceEnabled true\nset a FreezeEvents true\ninput s1 scan 110 4142 42\n\
-    input s1 scan 110 4344 44\nget a DataCount\nget a DeviceEnabled\nget b DataCount\nset a DataEventEnabled true\n\
-    deliver a\nset a FreezeEvents false\ndeliver a\nget a ScanData\nget a ScanDataLabel\nget a ScanDataType\n\
-    get a DataEventEnabled\ncall a clearInputProperties\nget a ScanData\nset a ScanData 41\nset a ScanData ab\n\
-    set a AutoDisable false\nset a DeviceEnabled true\ninput s1 scan 999 - -\ninput s1 scan 1000 - -\n\
-    input s1 scan 999999999999999999 41 42\ninput s9 scan 999999999999999999 41 42\ninput s1 scan -1 - -\n\
-    input s1 scan -0 - -\ninput s1 scan 1 4 -\ninput s1 open\ninput d1 fault\ninput s1 fault now\nget a DataCount\n\
-    release b\nrelease a\nget a DeviceEnabled\nget a DataCount\nshow s1\nget a CapStatus\ncall a openDrawer\n";
+    set b AutoDisable true\nset a AutoDisable true\nset a DeviceEnabled true\nset a FreezeEvents true\n\
+    input s1 scan 110 4142 42\ninput s1 scan 110 4344 44\nget a DataCount\nget a DeviceEnabled\nget b DataCount\n\
+    set a DataEventEnabled true\ndeliver a\nset a FreezeEvents false\ndeliver a\nget a ScanData\nget a ScanDataLabel\n\
+    get a ScanDataType\nget a DataEventEnabled\ncall a clearInputProperties\nget a ScanData\nset a ScanData 41\n\
+    set a ScanData ab\nset a AutoDisable false\nset a DeviceEnabled true\ninput s1 scan 999 - -\n\
+    input s1 scan 1000 - -\ninput s1 scan 999999999999999999 41 42\ninput s9 scan 999999999999999999 41 42\n\
+    input s1 scan -1 - -\ninput s1 scan -0 - -\ninput s1 scan 1 4 -\ninput s1 open\ninput d1 fault\n\
+    input s1 fault now\nget a DataCount\nrelease b\nrelease a\nget a DeviceEnabled\nget a DataCount\nshow s1\n\
+    get a CapStatus\ncall a openDrawer\n";
 
 const SCANS_TEXT: &[u8] =
-    b"ok\nok\nerr 103\nerr 103\nerr 103\nok\nok\nok\nerr 112\nerr 102\nerr 102\nok\nok\nok\nok\nok\nok\nok 1\nok false\n\
-    ok 0\nok\nnone\nok\nevent DataEvent 0\nok 4142\nok -\nok 0\nok false\nok\nok -\nerr 106\nbad line\nok\nok\nok\n\
-    bad input\nbad input\nbad device\nbad line\nok\nbad line\nbad input\nbad input\nbad line\nok 2\nerr 106\nok\n\
-    ok false\nok 0\nok\nerr 106\nerr 106\n";
+    b"ok\nok\nerr 103\nerr 103\nerr 103\nok\nok\nok\nerr 112\nerr 102\nerr 102\nok\nok\nok\nok\nok\nok\nok 1\n\
+    ok false\nok 0\nok\nnone\nok\nevent DataEvent 0\nok 4142\nok -\nok 0\nok false\nok\nok -\nerr 106\nbad line\nok\n\
+    ok\nok\nbad input\nbad input\nbad device\nbad line\nok\nbad line\nbad input\nbad input\nbad line\nok 2\nerr 106\n\
+    ok\nok false\nok 0\nok\nerr 106\nerr 106\n";
 
 /// Errors of input and the replies to them, with scans before them.
 const INPUT_ERRORS: &[u8] =
     b"new a Scanner\nopen a s1\nclaim a 0\nset a DeviceEnabled true\nset a DecodeData true\ninput s1 scan 104 41 42\n\
-    input s1 scan 104 41 42\ninput s1 fault\nget a State\ndeliver a\nset a DataEventEnabled true\ndeliver a\ndeliver a\n\
-    get a ScanDataType\nset a DataEventEnabled true\ndeliver a\nget a State\nset a DataEventEnabled true\ndeliver a\n\
-    get a State\ninput s1 scan 104 41 42\ninput s1 fault\ninput s1 scan 104 41 42\nget a DataCount\ndeliver a clear\n\
-    get a DataCount\nget a State\ninput s1 fault\ndeliver a\nget a DataEventEnabled\ninput s1 fault\ncall a clearInput\n\
-    get a State\ndeliver a\nget a ScanDataLabel\n";
+    input s1 scan 104 41 42\ninput s1 fault\nget a State\ndeliver a\nset a DataEventEnabled true\ndeliver a\n\
+    deliver a\nget a ScanDataType\nset a DataEventEnabled true\ndeliver a\nget a State\nset a DataEventEnabled true\n\
+    deliver a\nget a State\ninput s1 scan 104 41 42\ninput s1 fault\ninput s1 scan 104 41 42\nget a DataCount\n\
+    deliver a clear\nget a DataCount\nget a State\ninput s1 fault\ndeliver a\nget a DataEventEnabled\ninput s1 fault\n\
+    call a clearInput\nget a State\ndeliver a\nget a ScanDataLabel\n";
 
 const INPUT_ERRORS_TEXT: &[u8] =
     b"ok\nok\nok\nok\nok\nok\nok\nok\nok 4\nnone\nok\nevent ErrorEvent 111 0 3\nevent DataEvent 0\nok 104\nok\n\
-    event DataEvent 0\nok 4\nok\nevent ErrorEvent 111 0 2\nok 2\nok\nok\nok\nok 1\nevent ErrorEvent 111 0 3\nok 0\nok 2\nok\n\
-    event ErrorEvent 111 0 2\nok true\nok\nok\nok 2\nnone\nok 42\n";
+    event DataEvent 0\nok 4\nok\nevent ErrorEvent 111 0 2\nok 2\nok\nok\nok\nok 1\nevent ErrorEvent 111 0 3\nok 0\n\
+    ok 2\nok\nevent ErrorEvent 111 0 2\nok true\nok\nok\nok 2\nnone\nok 42\n";
 
 /// Status events are frozen as others are.
 const FROZEN: &[u8] =
