@@ -1,3 +1,4 @@
 pub mod Drawers
+pub mod Scanners
 pub mod Windows
 pub mod Tapes

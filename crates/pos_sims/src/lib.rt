@@ -3,6 +3,7 @@
 
 mod laying;
 mod plain_drawer;
+mod plain_scanner;
 mod printing;
 mod roll;
 mod scrolling;
@@ -12,5 +13,6 @@ mod tests;
 mod window;
 
 pub use plain_drawer::PlainDrawer;
+pub use plain_scanner::PlainScanner;
 pub use roll::Roll;
 pub use window::Window;

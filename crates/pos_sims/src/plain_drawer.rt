@@ -1,5 +1,5 @@
-ghost use Rattle.std.specs.Prelude.{◌≡◌, false, IsOk, IfOk};
-ghost use Rattle.pos_service.specs.Peripherals.{Asked, Fed};
+ghost use Rattle.std.specs.Prelude.{◌≡◌, true, false, IsOk, IfOk};
+ghost use Rattle.pos_service.specs.Peripherals.{Asked, Fed, input_fits};
 ghost use Rattle.pos_sims.specs.Drawers.{drawer_state, state_of};
 
 use pos_service::{
@@ -54,7 +54,8 @@ impl Peripheral for PlainDrawer {
     }
 
     fn feed(&mut self, input: &Input) -> Result<Taken, NoMemory>
-        requires { (state_of self.old).is_parked ≡ false }
+        requires unparked { (state_of self.old).is_parked ≡ false }
+        requires fits { input_fits (state_of self.old).kind input.now ≡ true }
         ensures fed { Fed (state_of self.old) input.now result (state_of self.new) }
         ensures takes_no_memory { IsOk result }
     {
@@ -63,6 +64,7 @@ impl Peripheral for PlainDrawer {
                 self.is_open = *is_open;
                 Ok(Taken::Quiet)
             }
+            _ => unreachable!(),
         }
     }
 
