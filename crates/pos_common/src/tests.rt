@@ -27,6 +27,7 @@ fn drawer_facts(is_open: bool) -> Facts {
     Facts {
         is_claimed: false,
         in_transaction: false,
+        kind: None,
         signs: drawer_signs(is_open),
         totals_size: 8192,
         files: None,
@@ -40,7 +41,7 @@ fn a_control_is_opened_and_enabled_and_closed(rt: HostRuntime) -> Result<(), Fai
     assert!(rt; matches!(a.open(Finding::At(3)), Answer::Done(Value::Empty)));
     assert_eq!(rt; a.place(), 3);
     assert_eq!(rt; a.check(0, None, DRAWER_NEED), Err(Code::Disabled));
-    a.set(0, None, Property::DeviceEnabled, &Value::Truth(true));
+    a.set(0, None, None, Property::DeviceEnabled, &Value::Truth(true));
     assert!(rt; a.listens(3) && !a.listens(2));
     assert_eq!(rt; a.check(0, None, DRAWER_NEED), Ok(()));
     let opened = a.get(Property::DrawerOpened, &facts)?;
@@ -54,7 +55,7 @@ fn a_control_is_opened_and_enabled_and_closed(rt: HostRuntime) -> Result<(), Fai
 fn enabled(alloc: Global, place: usize) -> Control {
     let mut control = Control::new(alloc, Category::CashDrawer);
     control.open(Finding::At(place));
-    control.set(0, None, Property::DeviceEnabled, &Value::Truth(true));
+    control.set(0, None, None, Property::DeviceEnabled, &Value::Truth(true));
     control
 }
 
@@ -113,7 +114,7 @@ fn claims_ask_for_an_open_control_and_a_good_timeout(rt: HostRuntime) -> Result<
     assert!(rt; is_refused(&a.claim(0, None, i128::MIN), Code::Illegal));
     assert!(rt; is_done(&a.claim(0, None, i128::MAX)));
     assert_eq!(rt; a.check(0, Some(1), need), Err(Code::Disabled));
-    a.set(0, None, Property::DeviceEnabled, &Value::Truth(true));
+    a.set(0, None, None, Property::DeviceEnabled, &Value::Truth(true));
     assert_eq!(rt; a.check(0, Some(1), need), Ok(()));
     Ok(())
 }

@@ -1,5 +1,5 @@
 -- The calls of a line display (chapter Line Display).
-use Rattle.std.specs.Prelude.{◌≡◌, ℕ, ℤ, nat_abs, Bool, true, false, not, List, [], ◌∷◌, Option, Some, None, is_none, MatchOption, IfSome, ◌⊎◌, slice_get, slice_set}
+use Rattle.std.specs.Prelude.{◌≡◌, ℕ, ℤ, nat_abs, Bool, true, false, not, List, [], ◌∷◌, Option, Some, None, is_none, MatchOption, ◌⊎◌, slice_get, slice_set}
 use Rattle.std.specs.Option.{option_map}
 use Rattle.pos_service.specs.declared.answer.Answer.{Answer}
 use Rattle.pos_service.specs.declared.answer.Answer.TheVariants as answer
@@ -99,6 +99,7 @@ DisplayDoes asked number place result old before new after =
     old before new after))
 
 -- The cursor of the control with a number is at a place of the display that stands at its device.
-pub record HasCursor (at : Kind) (controls : List Control) (number : ℕ) : Type 0 where
-  pub within : IfSome (slice_get controls number) (λ control.
-      is_cursor_place (rows_of (Some at)) (columns_of (Some at)) control.cursor.place ≡ true)
+abbrev pub HasCursor : Kind → List Control → ℕ → Type 0
+HasCursor at controls number =
+    MatchOption (slice_get controls number) ⊥ (λ control.
+    is_cursor_place (rows_of (Some at)) (columns_of (Some at)) control.cursor.place ≡ true)
