@@ -40,10 +40,7 @@ impl Peripheral for PlainDisplay {
     ghost state = { λ display. state_of display };
 
     fn kind(&self) -> Kind {
-        Kind::Display {
-            rows: self.window.rows(),
-            columns: self.window.columns(),
-        }
+        self.window.kind()
     }
 
     fn signs(&self) -> Signs {

@@ -33,11 +33,13 @@ fn carries_out(display: &mut PlainDisplay, order: &Order) -> Result<bool, NoMemo
 /// Whether the display shows these characters, row by row.
 fn shows(display: &PlainDisplay, characters: &[u8]) -> Result<bool, NoMemory> {
     match display.snapshot()? {
-        Snapshot(Plant::Display(cells)) => Ok(cells
-            .as_slice()
-            .iter()
-            .map(|cell: &DisplayCell| cell.character)
-            .eq(characters.iter().copied())),
+        Snapshot(Plant::Display(cells)) => Ok(
+            cells
+                .as_slice()
+                .iter()
+                .map(|cell: &DisplayCell| cell.character)
+                .eq(characters.iter().copied()),
+        ),
         _ => Ok(false),
     }
 }
