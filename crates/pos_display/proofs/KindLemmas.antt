@@ -17,5 +17,5 @@ some_rows (kind.Printer chars near) is range = cc
 pub some_columns : (k : Kind) → is_display k ≡ true → IsInRange k → 1 ≤ columns_of (Some k)
 some_columns kind.Drawer is range = cc
 some_columns kind.Scanner is range = cc
-some_columns (kind.Display rows columns) is range = range.1.1.0
+some_columns (kind.Display rows columns) is range = range.2.0
 some_columns (kind.Printer chars near) is range = cc

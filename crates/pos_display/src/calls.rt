@@ -3,10 +3,12 @@ ghost use Rattle.pos_service.specs.declared.category.Category.TheVariants as cat
 ghost use Rattle.pos_service.specs.Controls.{with_place};
 ghost use Rattle.pos_service.specs.DisplayCalls.{display_rows, DisplayDoes, HasCursor};
 ghost use Rattle.pos_service.specs.Kinds.{is_display};
+ghost use Rattle.pos_service.specs.Peripherals.{order_fits};
 ghost use Rattle.pos_service.specs.Stations.{station_of, IsOpen, CalledBy, StaysInService};
 ghost use Rattle.pos_common.specs.Held.{controls_of};
+ghost use Rattle.pos_display.specs.Plans.{Carries};
 
-use crate::plans::plan;
+use crate::plans::{Plan, plan_call};
 use pos_common::{ClaimNeed, Claims, Control, Need};
 use pos_service::display_text::Place;
 use pos_service::{Answer, Call, Category, Code, HasState, NoMemory, PeripheralBox, Reply, Value};
@@ -58,9 +60,30 @@ pub fn call(
         return Ok(Answer::Refused(code, 0));
     }
     let cursor = controls[caller].cursor();
-    let Some(plan) = plan(alloc, display.kind(), cursor, call)? else {
+    let Some(plan) = plan_call(alloc, display.kind(), cursor, call)? else {
         return Ok(Answer::Refused(Code::Illegal, 0));
     };
+    carry_out(controls, caller, display, plan)
+}
+
+/// Gives the display the order of a plan, and has the caller's cursor where the plan says once that is done.
+///
+/// Refused with E_FAILURE where the line to the display fails. Neither that nor want of memory changes anything.
+fn carry_out(
+    controls: &mut [Control],
+    caller: usize,
+    display: &mut PeripheralBox,
+    plan: Plan,
+) -> Result<Answer, NoMemory>
+    requires number { caller < length controls.old }
+    requires unparked { (⟦<PeripheralBox as HasState>⟧.state display.old).is_parked ≡ false }
+    requires fits { order_fits (⟦<PeripheralBox as HasState>⟧.state display.old).kind plan.order ≡ true }
+    ensures ordered { let state = ⟦<PeripheralBox as HasState>⟧.state in
+        Carries plan caller result (controls_of controls.old) (station_of (state display.old))
+        (controls_of controls.new) (station_of (state display.new)) }
+    ensures in_service { let state = ⟦<PeripheralBox as HasState>⟧.state in
+        StaysInService (state display.old) (state display.new) }
+{
     match display.ask(&plan.order)? {
         Reply::Done => {
             move_cursor(controls, caller, plan.place);

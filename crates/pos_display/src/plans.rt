@@ -1,6 +1,8 @@
 //! What a call has the display do, found before anything is done.
 ghost use Rattle.std.specs.Prelude.{◌≡◌, ◌≤◌, true, Some, MatchOption};
+ghost use Rattle.pos_service.specs.declared.answer.Answer.TheVariants as answer;
 ghost use Rattle.pos_service.specs.declared.category.Category.TheVariants as category;
+ghost use Rattle.pos_service.specs.declared.code.Code.TheVariants as code;
 ghost use Rattle.pos_service.specs.Calls.{has_call};
 ghost use Rattle.pos_service.specs.DisplayCalls.{argument_rows};
 ghost use Rattle.pos_service.specs.Displays.{is_cursor_place, place_left};
@@ -28,7 +30,7 @@ pub(crate) struct Plan {
 /// once the arguments are found good.
 ///
 /// None where an argument is out of range.
-pub(crate) fn plan(
+pub(crate) fn plan_call(
     alloc: Global,
     kind: Kind,
     cursor: Cursor,
@@ -105,7 +107,8 @@ fn place_left(kind: Kind, cursor: Cursor, bytes: &[u8]) -> Place
     if !cursor.update {
         return cursor.place;
     }
-    place_after(rows_of(Some(kind)), columns_of(Some(kind)), cursor.place, bytes)
+    let (rows, columns) = (rows_of(Some(kind)), columns_of(Some(kind)));
+    place_after(rows, columns, cursor.place, bytes)
 }
 
 /// The plan of `scrollText` with the number of a direction, and with units.
@@ -113,7 +116,7 @@ fn plan_scroll(kind: Kind, cursor: Cursor, direction: i128, units: i128) -> Opti
     requires display { is_display kind ≡ true }
     requires cursor { is_cursor_place (rows_of (Some kind)) (columns_of (Some kind)) cursor.place ≡ true }
     ensures { MatchOption result
-        (first_refusal (argument_rows (Some kind) (Call.ScrollText direction units)) ≡ Some (Answer.Refused Code.Illegal 0))
+        (first_refusal (argument_rows (Some kind) (Call.ScrollText direction units)) ≡ Some (answer.Refused code.Illegal 0))
         (IsPlanOf kind cursor (Call.ScrollText direction units)) }
 {
     let Some(direction) = Direction::from_number(direction) else {

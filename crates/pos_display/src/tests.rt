@@ -99,15 +99,42 @@ fn is_refused(answered: &(Answer, Cursor), code: Code) -> bool {
 
 #[test]
 fn texts_are_shown_and_move_the_cursor(rt: HostRuntime) -> Result<(), Fail> {
-    let (first, second) = (Bytes::from_slice(rt.alloc(), b"ABCDEFGH")?, Bytes::from_slice(rt.alloc(), b"I")?);
+    let (first, second) = (
+        Bytes::from_slice(rt.alloc(), b"ABCDEFGH")?,
+        Bytes::from_slice(rt.alloc(), b"I")?,
+    );
     let device: Box<dyn Peripheral> = Box::new(rt.alloc(), PlainDisplay::new(rt.alloc(), 2, 4)?)?;
     let mut display = PeripheralBox::new(device);
-    let full = asked(rt.alloc(), at(0, 0, true), Some(0), &mut display, &Call::DisplayText(first, 0));
+    let full = asked(
+        rt.alloc(),
+        at(0, 0, true),
+        Some(0),
+        &mut display,
+        &Call::DisplayText(first, 0),
+    );
     let shown = display.snapshot();
-    let next = asked(rt.alloc(), at(1, 4, true), Some(0), &mut display, &Call::DisplayText(second, 2));
+    let next = asked(
+        rt.alloc(),
+        at(1, 4, true),
+        Some(0),
+        &mut display,
+        &Call::DisplayText(second, 2),
+    );
     let scrolled = display.snapshot();
-    let illegal = asked(rt.alloc(), at(0, 0, true), Some(0), &mut display, &Call::ScrollText(1, 3));
-    let cleared = asked(rt.alloc(), at(1, 1, false), Some(0), &mut display, &Call::ClearText);
+    let illegal = asked(
+        rt.alloc(),
+        at(0, 0, true),
+        Some(0),
+        &mut display,
+        &Call::ScrollText(1, 3),
+    );
+    let cleared = asked(
+        rt.alloc(),
+        at(1, 1, false),
+        Some(0),
+        &mut display,
+        &Call::ClearText,
+    );
     let blank = display.snapshot();
     display.end();
     assert!(rt; is_done(&full?, 1, 4));
@@ -122,14 +149,35 @@ fn texts_are_shown_and_move_the_cursor(rt: HostRuntime) -> Result<(), Fail> {
 
 #[test]
 fn the_cursor_stays_without_updates(rt: HostRuntime) -> Result<(), Fail> {
-    let (first, second) = (Bytes::from_slice(rt.alloc(), b"A\rB")?, Bytes::from_slice(rt.alloc(), b"C")?);
+    let (first, second) = (
+        Bytes::from_slice(rt.alloc(), b"A\rB")?,
+        Bytes::from_slice(rt.alloc(), b"C")?,
+    );
     let device: Box<dyn Peripheral> = Box::new(rt.alloc(), PlainDisplay::new(rt.alloc(), 2, 4)?)?;
     let mut display = PeripheralBox::new(device);
-    let stays = asked(rt.alloc(), at(0, 4, false), Some(0), &mut display, &Call::DisplayText(first, 1));
+    let stays = asked(
+        rt.alloc(),
+        at(0, 4, false),
+        Some(0),
+        &mut display,
+        &Call::DisplayText(first, 1),
+    );
     let shown = display.snapshot();
-    let scrolls = asked(rt.alloc(), at(0, 4, false), Some(0), &mut display, &Call::ScrollText(4, 1));
+    let scrolls = asked(
+        rt.alloc(),
+        at(0, 4, false),
+        Some(0),
+        &mut display,
+        &Call::ScrollText(4, 1),
+    );
     let scrolled = display.snapshot();
-    let moves = asked(rt.alloc(), at(0, 0, false), Some(0), &mut display, &Call::DisplayTextAt(1, 2, second, 0));
+    let moves = asked(
+        rt.alloc(),
+        at(0, 0, false),
+        Some(0),
+        &mut display,
+        &Call::DisplayTextAt(1, 2, second, 0),
+    );
     display.end();
     assert!(rt; is_done(&stays?, 0, 4));
     assert!(rt; shows(&shown?, b"    B   ", &[0, 0, 0, 0, 1, 0, 0, 0]));
@@ -141,14 +189,47 @@ fn the_cursor_stays_without_updates(rt: HostRuntime) -> Result<(), Fail> {
 
 #[test]
 fn refused_calls_show_nothing(rt: HostRuntime) -> Result<(), Fail> {
-    let (first, second) = (Bytes::from_slice(rt.alloc(), b"A")?, Bytes::from_slice(rt.alloc(), b"\t")?);
+    let (first, second) = (
+        Bytes::from_slice(rt.alloc(), b"A")?,
+        Bytes::from_slice(rt.alloc(), b"\t")?,
+    );
     let device: Box<dyn Peripheral> = Box::new(rt.alloc(), PlainDisplay::new(rt.alloc(), 2, 4)?)?;
     let mut display = PeripheralBox::new(device);
-    let row = asked(rt.alloc(), at(0, 0, true), Some(0), &mut display, &Call::DisplayTextAt(2, 0, first, 0));
-    let text = asked(rt.alloc(), at(0, 0, true), Some(0), &mut display, &Call::DisplayText(second, 0));
-    let free = asked(rt.alloc(), at(0, 0, true), None, &mut display, &Call::ClearText);
-    let held = asked(rt.alloc(), at(0, 0, true), Some(1), &mut display, &Call::ScrollText(9, 9));
-    let foreign = asked(rt.alloc(), at(0, 0, true), None, &mut display, &Call::ClearInput);
+    let row = asked(
+        rt.alloc(),
+        at(0, 0, true),
+        Some(0),
+        &mut display,
+        &Call::DisplayTextAt(2, 0, first, 0),
+    );
+    let text = asked(
+        rt.alloc(),
+        at(0, 0, true),
+        Some(0),
+        &mut display,
+        &Call::DisplayText(second, 0),
+    );
+    let free = asked(
+        rt.alloc(),
+        at(0, 0, true),
+        None,
+        &mut display,
+        &Call::ClearText,
+    );
+    let held = asked(
+        rt.alloc(),
+        at(0, 0, true),
+        Some(1),
+        &mut display,
+        &Call::ScrollText(9, 9),
+    );
+    let foreign = asked(
+        rt.alloc(),
+        at(0, 0, true),
+        None,
+        &mut display,
+        &Call::ClearInput,
+    );
     let shown = display.snapshot();
     display.end();
     assert!(rt; is_refused(&row?, Code::Illegal) && is_refused(&text?, Code::Illegal));
