@@ -1,5 +1,5 @@
 ghost use Rattle.std.specs.Prelude.{◌≡◌, Some, IsTrue, is_some};
-ghost use Rattle.pos_service.specs.Controls.{new_control};
+ghost use Rattle.pos_service.specs.Controls.{new_control, with_place};
 
 mod calls;
 mod events;
@@ -9,6 +9,7 @@ use crate::reader::Reader;
 pub use events::{FAULT_EVENTS, SCAN_EVENTS, SIGN_EVENTS};
 use pos_events::EventQueue;
 use pos_service::Category;
+use pos_service::display_text::{Cursor, Place};
 use std::alloc::Global;
 use std::marker::Model;
 
@@ -21,6 +22,7 @@ pub struct Control {
     is_enabled: bool,
     is_frozen: bool,
     reader: Reader,
+    cursor: Cursor,
     events: EventQueue,
 }
 
@@ -36,6 +38,7 @@ impl Model for Control {
         enabled = a.is_enabled;
         frozen = a.is_frozen;
         reader = a.reader;
+        cursor = a.cursor;
         list = a.events.list;
       };
       spare = a.events.spare;
@@ -53,6 +56,7 @@ impl Control {
             is_enabled: false,
             is_frozen: false,
             reader: Reader::new(alloc),
+            cursor: Cursor::new(),
             events: EventQueue::new(alloc),
         }
     }
@@ -84,5 +88,19 @@ impl Control {
         ensures { self.now.control.device ≡ Some result }
     {
         self.device.unwrap()
+    }
+
+    /// CursorRow, CursorColumn and CursorUpdate (chapter Line Display).
+    pub fn cursor(&self) -> Cursor
+        ensures { result ≡ self.now.control.cursor }
+    {
+        self.cursor
+    }
+
+    /// Has CursorRow and CursorColumn at another place from now on (chapter Line Display).
+    pub fn move_cursor(&mut self, place: Place)
+        ensures { self.new ≡ record self.old { control = with_place place self.old.control } }
+    {
+        self.cursor.place = place;
     }
 }

@@ -1,8 +1,10 @@
 mod input;
 
 use crate::{ClaimNeed, Claims, Control, Need, SIGN_EVENTS, hear_all, room_all};
+use pos_service::display_text::Place;
 use pos_service::{
-    Answer, Category, Code, ErrorReply, Event, Facts, Finding, PaperLevel, Property, Signs, Value,
+    Answer, Category, Code, ErrorReply, Event, Facts, Finding, Kind, PaperLevel, Property, Signs,
+    Value,
 };
 use std::alloc::Global;
 use std::test::Fail;
@@ -27,6 +29,7 @@ fn drawer_facts(is_open: bool) -> Facts {
     Facts {
         is_claimed: false,
         in_transaction: false,
+        kind: None,
         signs: drawer_signs(is_open),
         totals_size: 8192,
         files: None,
@@ -40,7 +43,7 @@ fn a_control_is_opened_and_enabled_and_closed(rt: HostRuntime) -> Result<(), Fai
     assert!(rt; matches!(a.open(Finding::At(3)), Answer::Done(Value::Empty)));
     assert_eq!(rt; a.place(), 3);
     assert_eq!(rt; a.check(0, None, DRAWER_NEED), Err(Code::Disabled));
-    a.set(0, None, Property::DeviceEnabled, &Value::Truth(true));
+    a.set(0, None, None, Property::DeviceEnabled, &Value::Truth(true));
     assert!(rt; a.listens(3) && !a.listens(2));
     assert_eq!(rt; a.check(0, None, DRAWER_NEED), Ok(()));
     let opened = a.get(Property::DrawerOpened, &facts)?;
@@ -54,7 +57,7 @@ fn a_control_is_opened_and_enabled_and_closed(rt: HostRuntime) -> Result<(), Fai
 fn enabled(alloc: Global, place: usize) -> Control {
     let mut control = Control::new(alloc, Category::CashDrawer);
     control.open(Finding::At(place));
-    control.set(0, None, Property::DeviceEnabled, &Value::Truth(true));
+    control.set(0, None, None, Property::DeviceEnabled, &Value::Truth(true));
     control
 }
 
@@ -113,7 +116,7 @@ fn claims_ask_for_an_open_control_and_a_good_timeout(rt: HostRuntime) -> Result<
     assert!(rt; is_refused(&a.claim(0, None, i128::MIN), Code::Illegal));
     assert!(rt; is_done(&a.claim(0, None, i128::MAX)));
     assert_eq!(rt; a.check(0, Some(1), need), Err(Code::Disabled));
-    a.set(0, None, Property::DeviceEnabled, &Value::Truth(true));
+    a.set(0, None, None, Property::DeviceEnabled, &Value::Truth(true));
     assert_eq!(rt; a.check(0, Some(1), need), Ok(()));
     Ok(())
 }
@@ -203,4 +206,71 @@ fn a_refused_room_changes_nothing(rt: HostRuntime) {
         }
     }
     assert_eq!(rt; a.deliver(ErrorReply::Default), None);
+}
+
+/// What is known of a device that is a display of two rows of four columns.
+fn display_facts() -> Facts {
+    Facts {
+        kind: Some(Kind::Display {
+            rows: 2,
+            columns: 4,
+        }),
+        ..drawer_facts(false)
+    }
+}
+
+#[test]
+fn a_cursor_is_set_within_the_display(rt: HostRuntime) -> Result<(), Fail> {
+    let facts = display_facts();
+    let mut a = Control::new(rt.alloc(), Category::LineDisplay);
+    let row = Property::CursorRow;
+    assert!(rt;
+        matches!(
+            a.set(0, None, facts.kind, row, &Value::Number(1)),
+            Answer::Refused(Code::Closed, 0)
+        )
+    );
+    a.open(Finding::At(2));
+    for (property, number) in [(row, 1), (Property::CursorColumn, 4)] {
+        let value = Value::Number(number);
+        assert!(rt; matches!(a.set(0, None, facts.kind, property, &value), Answer::Done(Value::Empty)));
+        let told = a.get(property, &facts)?;
+        assert!(rt; matches!(told, Answer::Done(Value::Number(n)) if n == number));
+    }
+    for (property, number) in [
+        (row, 2),
+        (row, -1),
+        (row, 999_999_999_999_999_999),
+        (Property::CursorColumn, 5),
+        (Property::Rows, 1),
+    ] {
+        let value = Value::Number(number);
+        assert!(rt;
+            matches!(
+                a.set(0, None, facts.kind, property, &value),
+                Answer::Refused(Code::Illegal, 0)
+            )
+        );
+    }
+    assert_eq!(rt; a.cursor().place, Place { row: 1, column: 4 });
+    Ok(())
+}
+
+#[test]
+fn open_alone_gives_the_cursor_its_defaults(rt: HostRuntime) -> Result<(), Fail> {
+    let facts = display_facts();
+    let mut a = Control::new(rt.alloc(), Category::LineDisplay);
+    a.open(Finding::At(2));
+    a.set(0, None, facts.kind, Property::CursorUpdate, &Value::Truth(false));
+    a.move_cursor(Place { row: 1, column: 3 });
+    a.release(0, Some(0));
+    assert!(rt; a.cursor().place == Place { row: 1, column: 3 } && !a.cursor().update);
+    let rows = a.get(Property::Rows, &facts)?;
+    assert!(rt; matches!(rows, Answer::Done(Value::Number(2))));
+    let columns = a.get(Property::Columns, &drawer_facts(false))?;
+    assert!(rt; matches!(columns, Answer::Done(Value::Number(0))));
+    a.close();
+    a.open(Finding::At(2));
+    assert!(rt; a.cursor().place == Place { row: 0, column: 0 } && a.cursor().update);
+    Ok(())
 }

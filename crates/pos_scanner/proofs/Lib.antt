@@ -1,2 +1,1 @@
-pub mod ChangeLemmas
 pub mod ScanLemmas

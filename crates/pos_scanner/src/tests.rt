@@ -100,8 +100,8 @@ fn control(alloc: Global) -> Control
 {
     let mut control = Control::new(alloc, Category::Scanner);
     control.open(Finding::At(0));
-    control.set(0, Some(0), Property::DeviceEnabled, &Value::Truth(true));
-    control.set(0, Some(0), Property::DataEventEnabled, &Value::Truth(true));
+    control.set(0, Some(0), None, Property::DeviceEnabled, &Value::Truth(true));
+    control.set(0, Some(0), None, Property::DataEventEnabled, &Value::Truth(true));
     control
 }
 

@@ -1,7 +1,8 @@
 -- The calls and properties that every category has: the refusals of each in their order, and what it does.
-use Rattle.std.specs.Prelude.{ℕ, Bool, true, false, not, ◌&&◌, pos, List, [], ◌∷◌, Option, Some, None, is_some, is_none}
+use Rattle.std.specs.Prelude.{ℕ, nat_abs, Bool, true, false, not, ◌&&◌, pos, List, [], ◌∷◌, Option, Some, None, is_some, is_none}
 use Rattle.pos_service.specs.declared.category.Category.{Category}
 use Rattle.pos_service.specs.declared.category.Category.TheVariants as category
+use Rattle.pos_service.specs.declared.display_text.Cursor.{Cursor}
 use Rattle.pos_service.specs.declared.kind.Kind.{Kind}
 use Rattle.pos_service.specs.declared.kind.Kind.TheVariants as kind
 use Rattle.pos_service.specs.declared.property.Property.{Property}
@@ -18,6 +19,8 @@ use Rattle.pos_service.specs.declared.finding.Finding.TheVariants as finding
 use Rattle.pos_service.specs.Claims.{is_exclusive, is_foreign}
 use Rattle.pos_service.specs.Controls.{Control, Reader, state_of}
 use Rattle.pos_service.specs.Events.{data_count}
+use Rattle.pos_service.specs.Kinds.{is_display, rows_of, columns_of}
+use Rattle.pos_service.specs.Numbers.{is_index, is_up_to}
 use Rattle.pos_service.specs.Refusals.{Row, when}
 
 -- controls of a category may open devices of its kind
@@ -32,6 +35,8 @@ serves category.Scanner (Some kind.Drawer) = false
 serves category.Scanner (Some kind.Scanner) = true
 serves category.Scanner (Some (kind.Display rows columns)) = false
 serves category.Scanner (Some (kind.Printer chars near)) = false
+serves category.LineDisplay None = false
+serves category.LineDisplay (Some k) = is_display k
 serves category.HardTotals None = true
 serves category.HardTotals (Some k) = false
 
@@ -50,6 +55,10 @@ abbrev pub has_call : Category → Call → Bool
 has_call category.CashDrawer call.OpenDrawer = true
 has_call category.Scanner call.ClearInput = true
 has_call category.Scanner call.ClearInputProperties = true
+has_call category.LineDisplay (call.DisplayText text attribute) = true
+has_call category.LineDisplay (call.DisplayTextAt row column text attribute) = true
+has_call category.LineDisplay call.ClearText = true
+has_call category.LineDisplay (call.ScrollText direction units) = true
 has_call category.HardTotals (call.Create name size detection) = true
 has_call category.HardTotals (call.Delete name) = true
 has_call category.HardTotals (call.Find name) = true
@@ -68,6 +77,10 @@ has_call c asked = false
 -- the calls of a category's own that may want memory
 abbrev pub takes_memory : Call → Bool
 takes_memory call.OpenDrawer = true
+takes_memory (call.DisplayText text attribute) = true
+takes_memory (call.DisplayTextAt row column text attribute) = true
+takes_memory call.ClearText = true
+takes_memory (call.ScrollText direction units) = true
 takes_memory (call.Create name size detection) = true
 takes_memory (call.Delete name) = true
 takes_memory (call.FindByIndex index) = true
@@ -93,6 +106,11 @@ has_property category.Scanner property.DecodeData = true
 has_property category.Scanner property.ScanData = true
 has_property category.Scanner property.ScanDataLabel = true
 has_property category.Scanner property.ScanDataType = true
+has_property category.LineDisplay property.Rows = true
+has_property category.LineDisplay property.Columns = true
+has_property category.LineDisplay property.CursorRow = true
+has_property category.LineDisplay property.CursorColumn = true
+has_property category.LineDisplay property.CursorUpdate = true
 has_property category.HardTotals property.TotalsSize = true
 has_property category.HardTotals property.FreeData = true
 has_property category.HardTotals property.NumberOfFiles = true
@@ -141,31 +159,38 @@ is_settable property.FreezeEvents = true
 is_settable property.DataEventEnabled = true
 is_settable property.AutoDisable = true
 is_settable property.DecodeData = true
+is_settable property.CursorRow = true
+is_settable property.CursorColumn = true
+is_settable property.CursorUpdate = true
 is_settable p = false
 
--- the property may be set to this value, by its type and range
-abbrev pub takes : Property → Value → Bool
-takes property.DeviceEnabled (value.Truth is_true) = true
-takes property.FreezeEvents (value.Truth is_true) = true
-takes property.DataEventEnabled (value.Truth is_true) = true
-takes property.AutoDisable (value.Truth is_true) = true
-takes property.DecodeData (value.Truth is_true) = true
-takes p v = false
+-- The property may be set to this value, by its type, and by its range at a device of this kind: CursorRow is one of the
+-- display's rows, CursorColumn one of its columns or the place right of them.
+abbrev pub takes : Option Kind → Property → Value → Bool
+takes at property.DeviceEnabled (value.Truth is_true) = true
+takes at property.FreezeEvents (value.Truth is_true) = true
+takes at property.DataEventEnabled (value.Truth is_true) = true
+takes at property.AutoDisable (value.Truth is_true) = true
+takes at property.DecodeData (value.Truth is_true) = true
+takes at property.CursorRow (value.Number n) = is_index (rows_of at) n
+takes at property.CursorColumn (value.Number n) = is_up_to (columns_of at) n
+takes at property.CursorUpdate (value.Truth is_true) = true
+takes at p v = false
 
 -- the property may be set by the control alone that holds its device
 abbrev pub needs_claim : Category → Property → Bool
 needs_claim category property.DeviceEnabled = is_exclusive category
 needs_claim category p = false
 
--- A property is set by the control with a number, whose device has this holder: a property of another category can't be
--- set either.
-abbrev pub set_rows : ℕ → Option ℕ → Control → Property → Value → List Row
-set_rows number holder control p v =
+-- A property is set by the control with a number, whose device has this holder and is of this kind: a property of another
+-- category can't be set either.
+abbrev pub set_rows : ℕ → Option ℕ → Option Kind → Control → Property → Value → List Row
+set_rows number holder at control p v =
     when (is_none control.device) code.Closed
     ∷ when (not (has_property control.category p && is_settable p)) code.Illegal
     ∷ when (needs_claim control.category p && is_foreign number holder) code.Claimed
     ∷ when (needs_claim control.category p && is_none holder) code.NotClaimed
-    ∷ when (not (takes p v)) code.Illegal ∷ []
+    ∷ when (not (takes at p v)) code.Illegal ∷ []
 
 -- DeviceEnabled, once the property is set
 abbrev pub enabled_after : Bool → Property → Value → Bool
@@ -184,12 +209,20 @@ reader_after was property.AutoDisable (value.Truth is_true) = record was { auto_
 reader_after was property.DecodeData (value.Truth is_true) = record was { decode = is_true }
 reader_after was p v = was
 
+-- the cursor, once the property is set
+abbrev pub cursor_after : Cursor → Property → Value → Cursor
+cursor_after was property.CursorRow (value.Number n) = record was { place = record was.place { row = nat_abs n } }
+cursor_after was property.CursorColumn (value.Number n) = record was { place = record was.place { column = nat_abs n } }
+cursor_after was property.CursorUpdate (value.Truth is_true) = record was { update = is_true }
+cursor_after was p v = was
+
 -- the control with the property set
 abbrev pub after_set : Control → Property → Value → Control
 after_set control p v = record control {
   enabled = enabled_after control.enabled p v;
   frozen = frozen_after control.frozen p v;
   reader = reader_after control.reader p v;
+  cursor = cursor_after control.cursor p v;
 }
 
 -- the property can be read of an open control alone
@@ -243,6 +276,11 @@ property_of control facts property.ScanDataLabel = value.Bytes control.reader.sh
 property_of control facts property.ScanDataType = value.Number (pos control.reader.shown.kind)
 property_of control facts property.CapStatus = value.Truth true
 property_of control facts property.DrawerOpened = value.Truth facts.signs.drawer_open
+property_of control facts property.Rows = value.Number (pos (rows_of facts.kind))
+property_of control facts property.Columns = value.Number (pos (columns_of facts.kind))
+property_of control facts property.CursorRow = value.Number (pos control.cursor.place.row)
+property_of control facts property.CursorColumn = value.Number (pos control.cursor.place.column)
+property_of control facts property.CursorUpdate = value.Truth control.cursor.update
 property_of control facts property.TotalsSize = value.Number (pos facts.totals_size)
 property_of control facts property.FreeData = told_of_files facts.files (λ files. files.free)
 property_of control facts property.NumberOfFiles = told_of_files facts.files (λ files. files.count)

@@ -1,9 +1,13 @@
--- A control: its properties and its list of events (common chapter, and for its reader chapter Scanner).
+-- A control: its properties and its list of events (common chapter, for its reader chapter Scanner, and for its
+-- cursor chapter Line Display).
 use Rattle.std.specs.Prelude.{ℕ, Bool, false, not, ◌&&◌, ◌||◌, List, [], Option, Some, None, is_none, option_map, map, nat_eq, if◌then◌else◌}
 use Rattle.pos_service.specs.declared.category.Category.{Category}
+use Rattle.pos_service.specs.declared.display_text.Cursor.{Cursor}
+use Rattle.pos_service.specs.declared.display_text.Place.{Place}
 use Rattle.pos_service.specs.declared.event.ErrorReply.{ErrorReply}
 use Rattle.pos_service.specs.declared.event.Event.{Event}
 use Rattle.pos_service.specs.declared.scan.Scan.{Scan}
+use Rattle.pos_service.specs.Displays.{default_cursor}
 use Rattle.pos_service.specs.Events.{EventList, Enqueued, Data, no_events, event_of, scan_of, enqueued, all_enqueued, input_failed}
 use Rattle.pos_service.specs.Events.{deliverable as deliverable_in, delivered as delivered_in}
 
@@ -30,6 +34,7 @@ pub record Control : Type 0 where
   pub enabled : Bool
   pub frozen : Bool
   pub reader : Reader
+  pub cursor : Cursor
   pub list : EventList
 
 -- a control as it is made
@@ -40,6 +45,7 @@ new_control category = record {
   enabled = false;
   frozen = false;
   reader = default_reader;
+  cursor = default_cursor;
   list = no_events;
 }
 
@@ -55,6 +61,14 @@ stopped control = record control { enabled = false; list = no_events }
 -- a control that was closed
 abbrev pub closed : Control → Control
 closed control = record (stopped control) { device = None }
+
+-- the cursor at another place
+abbrev pub moved_to : Place → Cursor → Cursor
+moved_to place cursor = record cursor { place = place }
+
+-- a control whose cursor is at another place
+abbrev pub with_place : Place → Control → Control
+with_place place control = record control { cursor = moved_to place control.cursor }
 
 -- S_CLOSED, S_ERROR or S_IDLE
 abbrev pub state_of : Control → ℕ

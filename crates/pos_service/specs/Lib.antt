@@ -1,4 +1,6 @@
 pub mod Codes
+pub mod Numbers
+pub mod Kinds
 pub mod Displays
 pub mod Receipts
 pub mod Peripherals
@@ -12,5 +14,6 @@ pub mod Claims
 pub mod Stations
 pub mod DrawerCalls
 pub mod ScannerCalls
+pub mod DisplayCalls
 pub mod HardTotals
 pub mod TotalsCalls

@@ -13,6 +13,8 @@ pub enum Category {
     CashDrawer,
     /// Chapter Scanner.
     Scanner,
+    /// Chapter Line Display.
+    LineDisplay,
     /// Chapter Hard Totals.
     HardTotals,
 }
@@ -25,6 +27,13 @@ impl Category {
         match self {
             Category::CashDrawer => matches!(kind, Some(Kind::Drawer)),
             Category::Scanner => matches!(kind, Some(Kind::Scanner)),
+            Category::LineDisplay => matches!(
+                kind,
+                Some(Kind::Display {
+                    rows: _,
+                    columns: _,
+                })
+            ),
             Category::HardTotals => kind.is_none(),
         }
     }
@@ -37,6 +46,7 @@ impl Category {
         match self {
             Category::CashDrawer => false,
             Category::Scanner => true,
+            Category::LineDisplay => true,
             Category::HardTotals => false,
         }
     }
@@ -58,6 +68,11 @@ impl Category {
             | Property::ScanData
             | Property::ScanDataLabel
             | Property::ScanDataType => self == Category::Scanner,
+            Property::Rows
+            | Property::Columns
+            | Property::CursorRow
+            | Property::CursorColumn
+            | Property::CursorUpdate => self == Category::LineDisplay,
             _ => self == Category::HardTotals,
         }
     }
@@ -69,6 +84,13 @@ impl Category {
         match self {
             Category::CashDrawer => matches!(call, Call::OpenDrawer),
             Category::Scanner => matches!(call, Call::ClearInput | Call::ClearInputProperties),
+            Category::LineDisplay => matches!(
+                call,
+                Call::DisplayText(_, _)
+                    | Call::DisplayTextAt(_, _, _, _)
+                    | Call::ClearText
+                    | Call::ScrollText(_, _)
+            ),
             Category::HardTotals => matches!(
                 call,
                 Call::Create(_, _, _)

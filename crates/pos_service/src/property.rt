@@ -1,7 +1,8 @@
 ghost use Rattle.std.specs.Prelude.{◌≡◌};
 ghost use Rattle.pos_service.specs.Calls.{is_settable, needs_open, needs_enabled};
 
-/// A property of a control (common chapter, and chapters Cash Drawer, Scanner and Hard Totals).
+/// A property of a control (common chapter, and chapters Cash Drawer, Scanner, Line Display and Hard
+/// Totals).
 #[derive(Clone, Copy, Debug, PartialEq, Eq)]
 pub enum Property {
     /// What the control is at: closed 1, idle 2, busy 3, in error 4.
@@ -30,6 +31,16 @@ pub enum Property {
     CapStatus,
     /// Whether the drawer is open.
     DrawerOpened,
+    /// How many rows the display has.
+    Rows,
+    /// How many columns the display has.
+    Columns,
+    /// The row where the next text begins, from 0.
+    CursorRow,
+    /// The column where the next text begins, from 0: at most one right of the last column.
+    CursorColumn,
+    /// Whether a text moves the cursor to its end.
+    CursorUpdate,
     /// How many bytes the files of the totals may have in sum.
     TotalsSize,
     /// How many bytes are left for new files.
@@ -58,6 +69,9 @@ impl Property {
                 | Property::DataEventEnabled
                 | Property::AutoDisable
                 | Property::DecodeData
+                | Property::CursorRow
+                | Property::CursorColumn
+                | Property::CursorUpdate
         )
     }
 

@@ -2,6 +2,7 @@
 #![tactic(auto)]
 
 mod laying;
+mod plain_display;
 mod plain_drawer;
 mod plain_scanner;
 mod printing;
@@ -12,6 +13,7 @@ mod tape;
 mod tests;
 mod window;
 
+pub use plain_display::PlainDisplay;
 pub use plain_drawer::PlainDrawer;
 pub use plain_scanner::PlainScanner;
 pub use roll::Roll;

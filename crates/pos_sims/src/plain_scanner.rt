@@ -45,12 +45,9 @@ impl Peripheral for PlainScanner {
         ensures asked { Asked (state_of self.old) order.now result (state_of self.new) }
         ensures takes_no_memory { IsOk result }
     {
-        match order {
-            Order::OpenDrawer => {
-                self.failures = self.failures.saturating_add(1);
-                Ok(Reply::LineFault)
-            }
-        }
+        let _ = order;
+        self.failures = self.failures.saturating_add(1);
+        Ok(Reply::LineFault)
     }
 
     fn feed(&mut self, input: &Input) -> Result<Taken, NoMemory>

@@ -1,3 +1,5 @@
+mod display;
+
 use crate::{PlainDrawer, PlainScanner};
 use pos_service::{
     Bytes, HasState, Input, Kind, NoMemory, Order, PaperLevel, Peripheral, PeripheralBox, Plant,

@@ -9,6 +9,7 @@ ghost use Rattle.pos_common.specs.Needs.{need_rows};
 use super::Control;
 use crate::claims::is_foreign;
 use crate::need::{ClaimNeed, Need};
+use pos_service::display_text::Cursor;
 use pos_service::{Answer, Code, Finding, Value};
 
 impl Control {
@@ -40,6 +41,7 @@ impl Control {
         self.device = Some(place);
         self.is_frozen = false;
         self.reader.reset();
+        self.cursor = Cursor::new();
         self.stop();
     }
 

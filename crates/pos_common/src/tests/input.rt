@@ -20,7 +20,7 @@ fn reading(alloc: Global) -> Control {
 
 /// Sets a property of the control 0, which holds its device.
 fn set(control: &mut Control, property: Property, is_true: bool) -> Answer {
-    control.set(0, Some(0), property, &Value::Truth(is_true))
+    control.set(0, Some(0), None, property, &Value::Truth(is_true))
 }
 
 /// A scan of a bar code of this type has come to the control, if it is enabled: a byte of data, and a byte of label.
@@ -179,27 +179,27 @@ fn an_exclusive_device_is_enabled_by_its_holder_and_disabled_by_its_release(
     let mut a = Control::new(rt.alloc(), Category::Scanner);
     a.open(Finding::At(0));
     for (holder, code) in [(None, Code::NotClaimed), (Some(1), Code::Claimed)] {
-        assert!(rt; is_refused(&a.set(0, holder, Property::DeviceEnabled, &on), code));
+        assert!(rt; is_refused(&a.set(0, holder, None, Property::DeviceEnabled, &on), code));
         assert_eq!(rt; a.check(0, holder, need), Err(code));
-        assert!(rt; is_done(&a.set(0, holder, Property::DataEventEnabled, &on)));
+        assert!(rt; is_done(&a.set(0, holder, None, Property::DataEventEnabled, &on)));
     }
     let five = Value::Number(5);
     assert!(rt;
         is_refused(
-            &a.set(0, None, Property::DeviceEnabled, &five),
+            &a.set(0, None, None, Property::DeviceEnabled, &five),
             Code::NotClaimed
         )
     );
     assert!(rt;
         is_refused(
-            &a.set(0, Some(0), Property::DeviceEnabled, &five),
+            &a.set(0, Some(0), None, Property::DeviceEnabled, &five),
             Code::Illegal
         )
     );
-    assert!(rt; is_refused(&a.set(0, None, Property::DataCount, &five), Code::Illegal));
-    assert!(rt; is_refused(&a.set(0, None, Property::CapStatus, &on), Code::Illegal));
+    assert!(rt; is_refused(&a.set(0, None, None, Property::DataCount, &five), Code::Illegal));
+    assert!(rt; is_refused(&a.set(0, None, None, Property::CapStatus, &on), Code::Illegal));
     assert_eq!(rt; a.check(0, Some(0), need), Ok(()));
-    assert!(rt; is_done(&a.set(0, Some(0), Property::DeviceEnabled, &on)));
+    assert!(rt; is_done(&a.set(0, Some(0), None, Property::DeviceEnabled, &on)));
     scan(rt.alloc(), &mut a, 104, b'A')?;
     fault(&mut a)?;
     assert!(rt; is_done(&a.release(0, Some(0))));

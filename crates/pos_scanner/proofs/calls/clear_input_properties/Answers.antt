@@ -1,5 +1,5 @@
 use Rattle.pos_service.specs.ScannerCalls.{without_scan}
-use Rattle.pos_scanner.proofs.ChangeLemmas.{changed_at}
+use Rattle.pos_common.proofs.ChangeLemmas.{changed_at}
 use Rattle.pos_scanner.proofs.calls.clear_input_properties.Goals as goal
 
 pub returns : goal.returns
