@@ -56,6 +56,11 @@ two s t words = first s (one t) words
 abbrev pub three : {A B C : Type 0} → Shape A → Shape B → Shape C → List (List ℕ) → Reading (A × (B × C))
 three s t u words = first s (two t u) words
 
+-- four arguments
+abbrev pub four : {A B C D : Type 0} → Shape A → Shape B → Shape C → Shape D
+    → List (List ℕ) → Reading (A × (B × (C × D)))
+four s t u v words = first s (three t u v) words
+
 -- what is made where there are no arguments
 abbrev pub from_none : {R : Type 0} → R → List (List ℕ) → Reading R
 from_none made words = become (λ u. made) (none words)
@@ -72,6 +77,12 @@ from_two s t make words = become (λ read. make read.0 read.1) (two s t words)
 abbrev pub from_three : {A B C R : Type 0} → Shape A → Shape B → Shape C → (A → B → C → R)
     → List (List ℕ) → Reading R
 from_three s t u make words = become (λ read. make read.0 read.1.0 read.1.1) (three s t u words)
+
+-- what is made of four arguments
+abbrev pub from_four : {A B C D R : Type 0} → Shape A → Shape B → Shape C → Shape D → (A → B → C → D → R)
+    → List (List ℕ) → Reading R
+from_four s t u v make words =
+    become (λ read. make read.0 read.1.0 read.1.1.0 read.1.1.1) (four s t u v words)
 
 -- the value of a result, if it succeeded
 abbrev pub value_of : {A E : Type 0} → Result A E → Option A

@@ -2,7 +2,7 @@
 use Rattle.std.specs.Prelude.{ℕ, List, [], ◌∷◌, bytes_eq, codes, if◌then◌else◌}
 use Rattle.pos_service.specs.declared.call.Call.{Call}
 use Rattle.pos_service.specs.declared.call.Call.TheVariants as call
-use Rattle.pos_console.specs.Arguments.{Reading, misshapen, from_none, from_one, from_two, from_three}
+use Rattle.pos_console.specs.Arguments.{Reading, misshapen, from_none, from_one, from_two, from_three, from_four}
 use Rattle.pos_console.specs.Words.{bytes_shape, number_shape, truth_shape}
 
 -- A method: its word, and its call by the words behind it.
@@ -39,12 +39,21 @@ totals_methods =
     ∷ method (codes "find") (from_one bytes_shape call.Find)
     ∷ method (codes "findByIndex") (from_one number_shape call.FindByIndex) ∷ handle_methods
 
--- the methods: that of a cash drawer, those of a scanner, and those of Hard Totals
+-- the methods of a line display, and those of Hard Totals
+abbrev pub display_methods : List Method
+display_methods =
+    method (codes "displayText") (from_two bytes_shape number_shape call.DisplayText)
+    ∷ method (codes "displayTextAt")
+        (from_four number_shape number_shape bytes_shape number_shape call.DisplayTextAt)
+    ∷ method (codes "clearText") (from_none call.ClearText)
+    ∷ method (codes "scrollText") (from_two number_shape number_shape call.ScrollText) ∷ totals_methods
+
+-- the methods: that of a cash drawer, those of a scanner, those of a line display, and those of Hard Totals
 abbrev pub methods : List Method
 methods =
     method (codes "openDrawer") (from_none call.OpenDrawer)
     ∷ method (codes "clearInput") (from_none call.ClearInput)
-    ∷ method (codes "clearInputProperties") (from_none call.ClearInputProperties) ∷ totals_methods
+    ∷ method (codes "clearInputProperties") (from_none call.ClearInputProperties) ∷ display_methods
 
 -- the call of the first method with a word
 abbrev pub call_in : List Method → List ℕ → List (List ℕ) → Reading Call

@@ -3,11 +3,13 @@ use Rattle.std.specs.Prelude.{◌≡◌, ◌++◌, ◌<◌, ◌∷◌, [], ℕ, 
 use Rattle.std.specs.Io.KnownBytes.{Appends, Keeps}
 use Rattle.pos_counter.specs.Machine.{Machine}
 use Rattle.pos_sims.specs.Drawers.{drawer_state}
+use Rattle.pos_sims.specs.LineDisplays.{display_state}
 use Rattle.pos_sims.specs.Scanners.{scanner_state}
 use Rattle.pos_disk.specs.Memory.{Memory, state_of}
 use Rattle.pos_disk.specs.State.{IsAtRest}
 use Rattle.pos_image.specs.NewDisk.{no_files}
 use Rattle.pos_image.specs.Standing.{HasNewImage}
+use Rattle.pos_service.specs.Displays.{blank_display}
 use Rattle.pos_service.specs.HardTotals.{Off}
 use Rattle.pos_service.specs.Peripherals.{PeripheralState}
 use Rattle.pos_store.specs.Standing.{Stands}
@@ -71,9 +73,10 @@ pub record RunsScript {C : Type 0} (Runs : Leads C) (old : C) (left before after
   pub whole : ReadsWhole left input result
   pub run : ScriptLeaves Runs old input before after result new
 
--- the program's peripherals: the closed drawer `d1`, and the scanner `s1`, in service
+-- the program's peripherals, in service: the closed drawer `d1`, the scanner `s1`, and the display `p1`, which is blank
+-- and has 2 rows of 4 columns
 abbrev pub peripherals : List PeripheralState
-peripherals = drawer_state false false ∷ scanner_state false 0 ∷ []
+peripherals = drawer_state false false ∷ scanner_state false 0 ∷ display_state (blank_display 2 4) false ∷ []
 
 -- the machine as the program begins: no control, no claim, its peripherals, and the totals off over a disk that was
 -- formatted

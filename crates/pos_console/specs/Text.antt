@@ -1,5 +1,5 @@
 -- What a line prints (docs/CONSOLE.md, "Answers").
-use Rattle.std.specs.Prelude.{ℕ, ◌++◌, Bool, true, false, List, [], ◌∷◌, Option, Some, None, codes, decimal}
+use Rattle.std.specs.Prelude.{ℕ, ◌++◌, Bool, true, false, List, [], ◌∷◌, Option, Some, None, codes, decimal, map, flat_map}
 use Rattle.std.specs.Fmt.{signed_decimal}
 use Rattle.hex.specs.Hex.{encode_lower}
 use Rattle.pos_service.specs.declared.answer.Value.{Value}
@@ -8,11 +8,13 @@ use Rattle.pos_service.specs.declared.answer.Answer.{Answer}
 use Rattle.pos_service.specs.declared.answer.Answer.TheVariants as answer
 use Rattle.pos_service.specs.declared.code.Code.{Code}
 use Rattle.pos_service.specs.declared.code.Code.TheVariants as code
+use Rattle.pos_service.specs.declared.display_text.DisplayCell.{DisplayCell}
 use Rattle.pos_service.specs.declared.event.Event.{Event}
 use Rattle.pos_service.specs.declared.event.Event.TheVariants as event
 use Rattle.pos_service.specs.declared.plant.Plant.{Plant}
 use Rattle.pos_service.specs.declared.plant.Plant.TheVariants as plant
 use Rattle.pos_service.specs.Codes.{number_of, locus_number_of}
+use Rattle.pos_service.specs.Displays.{attribute_number_of}
 use Rattle.pos_counter.specs.Steps.{Response, Made, Full, Answered, TakenIn, NoDevice, WrongInput, Delivered, Shown, OutOfMemory}
 use Rattle.pos_console.specs.declared.reply.Reply.{Reply}
 use Rattle.pos_console.specs.declared.reply.Reply.TheVariants as reply
@@ -59,11 +61,21 @@ abbrev pub delivered_text : Option Event → List ℕ
 delivered_text None = codes "none"
 delivered_text (Some event) = event_text event
 
--- what a device is physically
+-- the characters of a display's cells in lower-case hex
+abbrev pub characters_text : List DisplayCell → List ℕ
+characters_text cells = encode_lower (map (λ cell. cell.character) cells)
+
+-- the numbers of the attributes of a display's cells, a digit each
+abbrev pub attributes_text : List DisplayCell → List ℕ
+attributes_text cells = flat_map (λ cell. decimal (attribute_number_of cell.attribute)) cells
+
+-- what a device is physically; of a display all characters row by row, and behind them all attributes
 abbrev pub plant_text : Plant → List ℕ
 plant_text (plant.Drawer true) = codes "ok open"
 plant_text (plant.Drawer false) = codes "ok closed"
 plant_text plant.Scanner = codes "ok"
+plant_text (plant.Display shown) =
+    codes "ok " ++ characters_text shown.cells ++ codes " " ++ attributes_text shown.cells
 
 -- what a response of the machine prints
 abbrev pub response_text : Response → List ℕ

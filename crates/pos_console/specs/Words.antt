@@ -79,7 +79,8 @@ abbrev pub category_named : List ℕ → Option Category
 category_named word =
     if bytes_eq word (codes "CashDrawer") then Some category.CashDrawer
     else (if bytes_eq word (codes "Scanner") then Some category.Scanner
-    else (if bytes_eq word (codes "HardTotals") then Some category.HardTotals else None))
+    else (if bytes_eq word (codes "LineDisplay") then Some category.LineDisplay
+    else (if bytes_eq word (codes "HardTotals") then Some category.HardTotals else None)))
 
 -- the property of Hard Totals of this name
 abbrev pub totals_property_named : List ℕ → Option Property
@@ -92,7 +93,17 @@ totals_property_named word =
     else (if bytes_eq word (codes "CapSingleFile") then Some property.CapSingleFile
     else (if bytes_eq word (codes "CapErrorDetection") then Some property.CapErrorDetection else None))))))
 
--- the property of scanners, or of Hard Totals, of this name
+-- the property of line displays, or of Hard Totals, of this name
+abbrev pub display_property_named : List ℕ → Option Property
+display_property_named word =
+    if bytes_eq word (codes "Rows") then Some property.Rows
+    else (if bytes_eq word (codes "Columns") then Some property.Columns
+    else (if bytes_eq word (codes "CursorRow") then Some property.CursorRow
+    else (if bytes_eq word (codes "CursorColumn") then Some property.CursorColumn
+    else (if bytes_eq word (codes "CursorUpdate") then Some property.CursorUpdate
+    else totals_property_named word))))
+
+-- the property of scanners, of line displays, or of Hard Totals, of this name
 abbrev pub scanner_property_named : List ℕ → Option Property
 scanner_property_named word =
     if bytes_eq word (codes "DataEventEnabled") then Some property.DataEventEnabled
@@ -102,7 +113,7 @@ scanner_property_named word =
     else (if bytes_eq word (codes "ScanData") then Some property.ScanData
     else (if bytes_eq word (codes "ScanDataLabel") then Some property.ScanDataLabel
     else (if bytes_eq word (codes "ScanDataType") then Some property.ScanDataType
-    else totals_property_named word))))))
+    else display_property_named word))))))
 
 -- the property of this name
 abbrev pub property_named : List ℕ → Option Property

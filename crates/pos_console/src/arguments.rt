@@ -1,6 +1,6 @@
 ghost use Rattle.std.specs.Prelude.{◌≡◌, true, is_some};
 ghost use Rattle.pos_console.specs.Lines.{words_of};
-ghost use Rattle.pos_console.specs.Arguments.{Shape, Reads, word_as, none, one, two, three};
+ghost use Rattle.pos_console.specs.Arguments.{Shape, Reads, word_as, none, one, two, three, four};
 ghost use Rattle.pos_console.specs.Words.{number_shape, count_shape, truth_shape, bytes_shape, device_shape, category_shape, property_shape, value_shape, error_reply_shape};
 
 use crate::lines::next_word;
@@ -219,6 +219,29 @@ pub fn read_three<A: Argument, B: Argument, C: Argument>(
         return Err(LineFault::WrongShape);
     }
     let others = match read_two(alloc, rest) {
+        Ok(others) => others,
+        Err(fault) => return Err(fault),
+    };
+    match A::read(alloc, word) {
+        Ok(first) => Ok((first, others)),
+        Err(fault) => Err(fault),
+    }
+}
+
+/// Reads four arguments, the last of the line. All shapes are looked at before memory is asked for.
+pub fn read_four<A: Argument, B: Argument, C: Argument, D: Argument>(
+    alloc: Global,
+    words: &[u8],
+) -> Result<(A, (B, (C, D))), LineFault>
+    ensures { Reads (four A.shape B.shape C.shape D.shape (words_of words.now)) result }
+{
+    let Some((word, rest)) = next_word(words) else {
+        return Err(LineFault::WrongShape);
+    };
+    if !A::has_shape(word) {
+        return Err(LineFault::WrongShape);
+    }
+    let others = match read_three(alloc, rest) {
         Ok(others) => others,
         Err(fault) => return Err(fault),
     };

@@ -2,11 +2,13 @@
 //! each line prints to standard output (docs/CONSOLE.md).
 #![tactic(auto)]
 
-ghost use Rattle.std.specs.Prelude.{◌≡◌, false, [], OnOk};
+ghost use Rattle.std.specs.Prelude.{◌≡◌, ◌≤◌, false, [], map, vec_capacity, OnOk};
 ghost use Rattle.std.specs.Io.Buffered.{writer_buffer, writer_contents};
+ghost use Rattle.pos_service.specs.Displays.{blank_display};
 ghost use Rattle.pos_sims.specs.Drawers.{drawer_state};
+ghost use Rattle.pos_sims.specs.LineDisplays.{display_state};
 ghost use Rattle.pos_sims.specs.Scanners.{scanner_state};
-ghost use Rattle.pos_console.specs.Running.{RunsFromStart, Serves, status};
+ghost use Rattle.pos_console.specs.Running.{RunsFromStart, Serves, peripherals, status};
 
 mod arguments;
 mod command;
@@ -27,7 +29,7 @@ mod write;
 use disk::format_disk;
 use pos_counter::{Counter, Ended};
 use pos_service::{HasState, Peripheral, PeripheralBox};
-use pos_sims::{PlainDrawer, PlainScanner};
+use pos_sims::{PlainDisplay, PlainDrawer, PlainScanner};
 use run::{RunFault, run};
 use std::alloc::Global;
 use std::io::{BufWriter, Read, Write};
@@ -43,24 +45,29 @@ fn park_all(mut boxes: Vec<PeripheralBox>)
     boxes.destroy_empty();
 }
 
-/// The box of a closed drawer that is in service.
-fn closed_drawer(device: Box<dyn Peripheral>) -> PeripheralBox
-    requires { state device ≡ drawer_state false false }
-    ensures { ⟦<PeripheralBox as HasState>⟧.state result ≡ drawer_state false false }
+/// Puts the program's peripherals into an empty list with room for them, in the order of their devices: a closed
+/// drawer, a scanner, and a blank display of 2 rows of 4 columns, in service.
+fn fill(
+    boxes: &mut Vec<PeripheralBox>,
+    drawer: Box<dyn Peripheral>,
+    scanner: Box<dyn Peripheral>,
+    display: Box<dyn Peripheral>,
+)
+    requires empty { boxes.old.items ≡ [] }
+    requires room { 3 ≤ vec_capacity boxes.old }
+    requires drawer { state drawer ≡ drawer_state false false }
+    requires scanner { state scanner ≡ scanner_state false 0 }
+    requires display { state display ≡ display_state (blank_display 2 4) false }
+    ensures { map ⟦<PeripheralBox as HasState>⟧.state boxes.new.items ≡ peripherals }
 {
-    PeripheralBox::new(device)
+    boxes.push_reserved(PeripheralBox::new(drawer));
+    boxes.push_reserved(PeripheralBox::new(scanner));
+    boxes.push_reserved(PeripheralBox::new(display));
 }
 
-/// The box of a scanner that is in service.
-fn plain_scanner(device: Box<dyn Peripheral>) -> PeripheralBox
-    requires { state device ≡ scanner_state false 0 }
-    ensures { ⟦<PeripheralBox as HasState>⟧.state result ≡ scanner_state false 0 }
-{
-    PeripheralBox::new(device)
-}
-
-/// Runs a script over a counter of a simulated cash drawer, the device `d1`, a simulated scanner, the device `s1`, and
-/// Hard Totals, the device `t1`, on a disk in memory.
+/// Runs a script over a counter of a simulated cash drawer, the device `d1`, a simulated scanner, the device `s1`, a
+/// simulated line display of 2 rows of 4 columns, the device `p1`, and Hard Totals, the device `t1`, on a disk in
+/// memory.
 fn run_over_devices<R: Read, W: Write>(
     alloc: Global,
     reader: &mut R,
@@ -74,17 +81,20 @@ fn run_over_devices<R: Read, W: Write>(
     let Ok(scanner) = Box::new(alloc, PlainScanner::new()) else {
         return Err(RunFault::NoMemory);
     };
-    let Ok(mut boxes) = Vec::with_capacity(alloc, 2) else {
+    let Ok(display) = PlainDisplay::new(alloc, 2, 4) else {
+        return Err(RunFault::NoMemory);
+    };
+    let Ok(display) = Box::new(alloc, display) else {
+        return Err(RunFault::NoMemory);
+    };
+    let Ok(mut boxes) = Vec::with_capacity(alloc, 3) else {
         return Err(RunFault::NoMemory);
     };
     let Ok(disk) = format_disk(alloc) else {
         boxes.destroy_empty();
         return Err(RunFault::NoMemory);
     };
-    let drawer: Box<dyn Peripheral> = drawer;
-    boxes.push_reserved(closed_drawer(drawer));
-    let scanner: Box<dyn Peripheral> = scanner;
-    boxes.push_reserved(plain_scanner(scanner));
+    fill(&mut boxes, drawer, scanner, display);
     let mut counter = match Counter::new(alloc, boxes, disk) {
         Ok(counter) => counter,
         Err((_, boxes, _)) => {

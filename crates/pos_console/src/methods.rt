@@ -1,10 +1,10 @@
 ghost use Rattle.pos_console.specs.Lines.{words_of};
 ghost use Rattle.pos_service.specs.declared.call.Call.TheVariants as call;
-ghost use Rattle.pos_console.specs.Arguments.{Reads, from_three};
+ghost use Rattle.pos_console.specs.Arguments.{Reads, from_three, from_four};
 ghost use Rattle.pos_console.specs.Words.{bytes_shape, number_shape, truth_shape};
-ghost use Rattle.pos_console.specs.Methods.{call_in, call_of, handle_methods, totals_methods, transaction_methods};
+ghost use Rattle.pos_console.specs.Methods.{call_in, call_of, display_methods, handle_methods, totals_methods, transaction_methods};
 
-use crate::arguments::{LineFault, read_none, read_one, read_three, read_two};
+use crate::arguments::{LineFault, read_four, read_none, read_one, read_three, read_two};
 use crate::words::is;
 use pos_service::Call;
 use std::alloc::Global;
@@ -22,7 +22,36 @@ pub fn read_call(alloc: Global, method: &[u8], words: &[u8]) -> Result<Call, Lin
     if is(method, "clearInputProperties") {
         return read_none(words).map(|_| Call::ClearInputProperties);
     }
+    read_display_call(alloc, method, words)
+}
+
+/// The call of a method of a line display, or of another one.
+fn read_display_call(alloc: Global, method: &[u8], words: &[u8]) -> Result<Call, LineFault>
+    ensures { Reads (call_in display_methods method.now (words_of words.now)) result }
+{
+    if is(method, "displayText") {
+        return read_two(alloc, words).map(|(bytes, attribute)| Call::DisplayText(bytes, attribute));
+    }
+    if is(method, "displayTextAt") {
+        return read_text_at(alloc, words);
+    }
+    if is(method, "clearText") {
+        return read_none(words).map(|_| Call::ClearText);
+    }
+    if is(method, "scrollText") {
+        return read_two(alloc, words).map(|(direction, units)| Call::ScrollText(direction, units));
+    }
     read_totals_call(alloc, method, words)
+}
+
+/// The call `displayTextAt`, by the words behind it.
+fn read_text_at(alloc: Global, words: &[u8]) -> Result<Call, LineFault>
+    ensures { Reads (from_four number_shape number_shape bytes_shape number_shape call.DisplayTextAt
+        (words_of words.now)) result }
+{
+    read_four(alloc, words).map(|(row, (column, (bytes, attribute)))| Call::DisplayTextAt(
+        row, column, bytes, attribute,
+    ))
 }
 
 /// The call of a method of Hard Totals.

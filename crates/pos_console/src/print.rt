@@ -1,11 +1,12 @@
 ghost use Rattle.std.specs.Prelude.{◌≡◌, ◌++◌, ◌∷◌, [], codes, flat_map};
 ghost use Rattle.std.specs.Fmt.{signed_decimal};
 ghost use Rattle.pos_console.specs.Writing.{Writes};
-ghost use Rattle.pos_console.specs.Text.{answer_text, hex_text, event_text, delivered_text, plant_text, reply_text};
+ghost use Rattle.pos_console.specs.Text.{answer_text, hex_text, event_text, delivered_text, plant_text, reply_text, characters_text, attributes_text};
 
 use crate::reply::Reply;
 use crate::write::{WriteFault, write_bytes, write_hex};
 use itoa::Buffer;
+use pos_service::display_text::DisplayCell;
 use pos_service::{Answer, Code, Event, Locus, Plant, Snapshot, Value};
 use std::io::Write;
 
@@ -145,6 +146,39 @@ fn print_delivered<W: Write>(writer: &mut W, event: Option<Event>) -> Result<(),
     }
 }
 
+/// Writes the characters of a display's cells in hex.
+fn write_characters<W: Write>(writer: &mut W, cells: &[DisplayCell]) -> Result<(), WriteFault>
+    ensures { Writes (W.contents writer.old) (W.contents writer.new) (characters_text cells.now) result }
+{
+    for cell in cells {
+        write_hex(writer, &[cell.character])?;
+    }
+    Ok(())
+}
+
+/// Writes the numbers of the attributes of a display's cells, a digit each.
+fn write_attributes<W: Write>(writer: &mut W, cells: &[DisplayCell]) -> Result<(), WriteFault>
+    ensures { Writes (W.contents writer.old) (W.contents writer.new) (attributes_text cells.now) result }
+{
+    for cell in cells {
+        let mut buffer = Buffer::new();
+        write_bytes(writer, buffer.format(cell.attribute.number()).as_bytes())?;
+    }
+    Ok(())
+}
+
+/// Writes `ok` and a display's cells: all characters, and then all attributes.
+fn print_cells<W: Write>(writer: &mut W, cells: &[DisplayCell]) -> Result<(), WriteFault>
+    ensures { Writes (W.contents writer.old) (W.contents writer.new)
+        (codes "ok " ++ (characters_text cells.now ++ (codes " " ++ (attributes_text cells.now ++ 10 ∷ [])))) result }
+{
+    write_parts(writer, &["ok "])?;
+    write_characters(writer, cells)?;
+    write_parts(writer, &[" "])?;
+    write_attributes(writer, cells)?;
+    write_parts(writer, &["\n"])
+}
+
 /// Writes what a device is physically.
 fn print_plant<W: Write>(writer: &mut W, snapshot: Snapshot) -> Result<(), WriteFault>
     ensures { Writes (W.contents writer.old) (W.contents writer.new) (plant_text snapshot.0 ++ 10 ∷ []) result }
@@ -153,6 +187,7 @@ fn print_plant<W: Write>(writer: &mut W, snapshot: Snapshot) -> Result<(), Write
         Plant::Drawer(true) => write_parts(writer, &["ok open\n"]),
         Plant::Drawer(false) => write_parts(writer, &["ok closed\n"]),
         Plant::Scanner => write_parts(writer, &["ok\n"]),
+        Plant::Display(shown) => print_cells(writer, shown.as_slice()),
     }
 }
 

@@ -1,13 +1,13 @@
-//! Whole scripts over one drawer, with readers and writers that cut and fail.
+//! Whole scripts over the program's devices, with readers and writers that cut and fail.
 ghost use Rattle.std.specs.Prelude.{None};
 
-use crate::arguments::{LineFault, read_three, read_two};
+use crate::arguments::{LineFault, read_four, read_three, read_two};
 use crate::disk::format_disk;
 use crate::run::{RunFault, run};
-use crate::{closed_drawer, park_all, plain_scanner, run_over_devices, serve};
+use crate::{fill, park_all, run_over_devices, serve};
 use pos_counter::{Counter, Ended};
-use pos_service::{Bytes, Peripheral, Plant, Snapshot};
-use pos_sims::{PlainDrawer, PlainScanner};
+use pos_service::{Bytes, Plant, Snapshot};
+use pos_sims::{PlainDisplay, PlainDrawer, PlainScanner};
 use std::alloc::{AllocError, Global};
 use std::io;
 use std::io::{BufWriter, Read, Write};
@@ -227,6 +227,66 @@ const FROZEN: &[u8] =
 const FROZEN_TEXT: &[u8] =
     b"ok\nok\nok\nok\nok\nnone\nok true\nok\nevent StatusUpdateEvent 1\nerr 106\n";
 
+/// A display that one of two controls holds: texts with their attributes, a scroll, and what another control may do.
+const SHOWN: &[u8] =
+    b"show p1\nnew a LineDisplay\nget a Rows\nopen a p1\nget a Rows\nget a Columns\nget a CursorUpdate\n\
+    call a displayText 41 0\nset a DeviceEnabled true\nclaim a 0\ncall a displayText 41 0\n\
+    set a DeviceEnabled true\nnew b LineDisplay\nopen b p1\nclaim b 0\nset b DeviceEnabled true\n\
+    call b clearText\ncall a displayText 4142434445464748 0\nget a CursorRow\nget a CursorColumn\nshow p1\n\
+    call a displayText 49 2\nshow p1\ncall a scrollText 1 3\ncall a clearText\nget a CursorColumn\nshow p1\n\
+    release a\nget a DeviceEnabled\ncall a clearText\nclaim b 0\nset b DeviceEnabled true\n\
+    call b displayText 42 3\ncall a clearText\nshow p1\nget b CursorColumn\nclose b\nopen b p1\n\
+    get b CursorColumn\nshow p1\n";
+
+const SHOWN_TEXT: &[u8] =
+    b"ok 2020202020202020 00000000\nok\nerr 101\nok\nok 2\nok 4\nok true\nerr 103\nerr 103\nok\nerr 105\nok\n\
+    ok\nok\nerr 112\nerr 102\nerr 102\nok\nok 1\nok 4\nok 4142434445464748 00000000\nok\n\
+    ok 4546474849202020 00002000\nerr 106\nok\nok 0\nok 2020202020202020 00000000\nok\nok false\nerr 103\nok\n\
+    ok\nok\nerr 102\nok 4220202020202020 30000000\nok 1\nok\nok\nok 0\nok 4220202020202020 30000000\n";
+
+/// A display whose texts leave the cursor where it is, and then move it; and scrolls in each direction.
+const CURSORS: &[u8] =
+    b"new a LineDisplay\nopen a p1\nclaim a 0\nset a DeviceEnabled true\nset a CursorUpdate false\n\
+    set a CursorColumn 4\ncall a displayText 410d42 1\nshow p1\nget a CursorRow\nget a CursorColumn\n\
+    call a displayTextAt 2 0 43 0\ncall a scrollText 4 1\nshow p1\nset a CursorRow -1\nset a CursorRow 1\n\
+    call a displayTextAt 0 4 41 0\nget a CursorRow\nget a CursorColumn\nshow p1\nset a CursorUpdate true\n\
+    call a displayTextAt 0 0 6869200a7e 3\nshow p1\nget a CursorRow\nget a CursorColumn\ncall a displayText 0a 0\n\
+    show p1\nget a CursorRow\nget a CursorColumn\ncall a scrollText 2 1\nshow p1\ncall a scrollText 3 1\nshow p1\n\
+    call a scrollText 1 0\nshow p1\ncall a displayText - 2\ncall a scrollText 3 4\nshow p1\n";
+
+const CURSORS_TEXT: &[u8] =
+    b"ok\nok\nok\nok\nok\nok\nok\nok 2020202042202020 00001000\nok 0\nok 4\nerr 106\nok\n\
+    ok 2020202020422020 00000100\nerr 106\nok\nok\nok 0\nok 4\nok 2020202041422020 00000100\nok\nok\n\
+    ok 686920207e422020 33303100\nok 1\nok 1\nok\nok 7e42202020202020 31000000\nok 1\nok 0\nok\n\
+    ok 202020207e422020 00003100\nok\nok 2020202042202020 00001000\nok\nok 2020202042202020 00001000\nok\nok\n\
+    ok 2020202020202020 00000000\n";
+
+/// Numbers and bytes that a display doesn't take, and lines of a wrong shape.
+const UNSHOWN: &[u8] =
+    b"new a LineDisplay\nopen a d1\nopen a p1\nclaim a 0\nset a DeviceEnabled true\nset a CursorRow 2\n\
+    set a CursorColumn 5\nset a CursorColumn -1\nset a CursorColumn true\nset a CursorUpdate 1\nset a Rows 3\n\
+    set a CursorRow 999999999999999999\nset a CursorRow -999999999999999999\ncall a displayText 41 4\n\
+    call a displayText 41 -1\ncall a displayText 41 999999999999999999\ncall a displayText 1f 0\n\
+    call a displayText 7f 0\ncall a displayText 4109 0\ncall a displayText 0b 0\ncall a displayText 80 0\n\
+    call a displayTextAt 999999999999999999 0 41 0\ncall a displayTextAt -1 0 41 0\n\
+    call a displayTextAt 0 5 41 0\ncall a displayTextAt 0 -999999999999999999 41 0\ncall a scrollText 0 0\n\
+    call a scrollText 5 1\ncall a scrollText 3 5\ncall a scrollText 1 -1\ncall a scrollText 999999999999999999 1\n\
+    get a CursorRow\nget a CursorColumn\nshow p1\ncall a displayText 41\ncall a displayText 41 0 0\n\
+    call a displayText 4 0\ncall a displayText 41 x\ncall a displayText 41 1234567890123456789\n\
+    call a displayTextAt 0 41 0\ncall a displayTextAt 0 0 41 0 0\ncall a displayTextAt 0 - 41 0\n\
+    call a clearText 0\ncall a scrollText 1\ncall a scrollText up 1\ncall a cleartext\nnew d Linedisplay\n\
+    get a cursorRow\ncall a openDrawer\ncall a clearInput\nget a CapStatus\ninput p1 open\ninput p1 scan 1 - -\n\
+    input p1 fault\ninput p1\ninput p1 shut\ndeliver a\nnew c CashDrawer\nget c Claimed\nopen c s1\nopen c p1\n\
+    open c d1\nclaim c -2\ncall c clearText\n";
+
+const UNSHOWN_TEXT: &[u8] =
+    b"ok\nerr 109\nok\nok\nok\nerr 106\nerr 106\nerr 106\nerr 106\nerr 106\nerr 106\nerr 106\nerr 106\n\
+    err 106\nerr 106\nerr 106\nerr 106\nerr 106\nerr 106\nerr 106\nerr 106\nerr 106\nerr 106\nerr 106\n\
+    err 106\nerr 106\nerr 106\nerr 106\nerr 106\nerr 106\nok 0\nok 0\nok 2020202020202020 00000000\nbad line\n\
+    bad line\nbad line\nbad line\nbad line\nbad line\nbad line\nbad line\nbad line\nbad line\nbad line\n\
+    bad line\nbad line\nbad line\nerr 106\nerr 106\nerr 106\nbad input\nbad input\nbad input\nbad line\n\
+    bad line\nnone\nok\nerr 101\nerr 109\nerr 109\nok\nerr 106\nerr 106\n";
+
 /// Blanks, comments, and wrong shapes.
 const SHAPES: &[u8] =
     b"# \xff a comment\r\n\n   \n  new   - CashDrawer  \r\n show d1\r\r\n #x\nfrob\nnew a Drawer\n\
@@ -256,6 +316,9 @@ fn scripts_print_their_answers(rt: HostRuntime) -> Result<(), Fail> {
         (SCANS, SCANS_TEXT),
         (INPUT_ERRORS, INPUT_ERRORS_TEXT),
         (FROZEN, FROZEN_TEXT),
+        (SHOWN, SHOWN_TEXT),
+        (CURSORS, CURSORS_TEXT),
+        (UNSHOWN, UNSHOWN_TEXT),
         (SHAPES, SHAPES_TEXT),
         (b"".as_slice(), b"".as_slice()),
     ];
@@ -266,17 +329,17 @@ fn scripts_print_their_answers(rt: HostRuntime) -> Result<(), Fail> {
     Ok(())
 }
 
-/// A line of `write` with so many bytes, behind others.
-fn with_write(
+/// A script with a word of so many bytes, all the same, between others.
+fn with_bytes(
     alloc: Global,
-    lines: &[u8],
+    start: &[u8],
+    byte: &[u8],
     count: usize,
     end: &[u8],
 ) -> Result<Vec<u8>, AllocError> {
-    let mut script = Vec::from_slice(alloc, lines)?;
-    script.extend_from_slice(b"call a write 1 0 ")?;
+    let mut script = Vec::from_slice(alloc, start)?;
     for _ in 0..count {
-        script.extend_from_slice(b"01")?;
+        script.extend_from_slice(byte)?;
     }
     script.extend_from_slice(end)?;
     Ok(script)
@@ -286,16 +349,28 @@ fn with_write(
 fn a_transaction_costs_at_most_so_much(rt: HostRuntime) -> Result<(), Fail> {
     let start =
         b"new a HardTotals\nopen a t1\nset a DeviceEnabled true\ncall a create 46 8192 false\n\
-        call a beginTrans\n";
-    let most = with_write(
-        rt.alloc(),
-        start,
-        8_176,
-        b"\ncall a setAll 1 0\ncall a rollback\ncall a beginTrans\n",
-    )?;
-    let script = with_write(rt.alloc(), &most, 8_177, b"\n")?;
+        call a beginTrans\ncall a write 1 0 ";
+    let next =
+        b"\ncall a setAll 1 0\ncall a rollback\ncall a beginTrans\ncall a write 1 0 ".as_slice();
+    let most = with_bytes(rt.alloc(), start, b"01", 8_176, next)?;
+    let script = with_bytes(rt.alloc(), &most, b"01", 8_177, b"\n")?;
     let text = text_of(rt.alloc(), &script)?;
     let want = b"ok\nok\nok\nok 1\nok\nok\nerr 114 201\nok\nok\nerr 114 201\n".as_slice();
+    assert_eq!(rt; text.as_slice(), want);
+    Ok(())
+}
+
+#[test]
+fn a_text_has_at_most_so_many_bytes(rt: HostRuntime) -> Result<(), Fail> {
+    let start =
+        b"new a LineDisplay\nopen a p1\nclaim a 0\nset a DeviceEnabled true\ncall a displayText ";
+    let next = b" 1\nshow p1\ncall a displayText ".as_slice();
+    let most = with_bytes(rt.alloc(), start, b"5A", 4_096, next)?;
+    let script = with_bytes(rt.alloc(), &most, b"41", 4_097, b" 2\nshow p1\n")?;
+    let text = text_of(rt.alloc(), &script)?;
+    let want =
+        b"ok\nok\nok\nok\nok\nok 5a5a5a5a5a5a5a5a 11111111\nerr 106\nok 5a5a5a5a5a5a5a5a 11111111\n"
+            .as_slice();
     assert_eq!(rt; text.as_slice(), want);
     Ok(())
 }
@@ -415,6 +490,9 @@ fn arguments_are_read_by_their_shapes(rt: HostRuntime) -> Result<(), Fail> {
     assert_eq!(rt; bytes.as_slice(), b"\x4a\xff".as_slice());
     assert_eq!(rt; number, -20);
     assert_eq!(rt; truth, false);
+    let (row, (column, (bytes, truth))) = read_four::<i128, i128, Bytes, bool>(alloc, b"1 -0 7E true")?;
+    assert_eq!(rt; (row, column, truth), (1, 0, true));
+    assert_eq!(rt; bytes.as_slice(), b"~".as_slice());
     let (none, largest) = read_two::<Bytes, i128>(alloc, b"- 999999999999999999")?;
     assert_eq!(rt; none.as_slice(), b"".as_slice());
     assert_eq!(rt; largest, 999_999_999_999_999_999);
@@ -491,11 +569,12 @@ fn drawer_after(
     };
     let drawer = Box::new(alloc, PlainDrawer::new())?;
     let scanner = Box::new(alloc, PlainScanner::new())?;
-    let mut boxes = Vec::with_capacity(alloc, 2)?;
-    let drawer: Box<dyn Peripheral> = drawer;
-    boxes.push_reserved(closed_drawer(drawer));
-    let scanner: Box<dyn Peripheral> = scanner;
-    boxes.push_reserved(plain_scanner(scanner));
+    let Ok(display) = PlainDisplay::new(alloc, 2, 4) else {
+        return Err(AllocError);
+    };
+    let display = Box::new(alloc, display)?;
+    let mut boxes = Vec::with_capacity(alloc, 3)?;
+    fill(&mut boxes, drawer, scanner, display);
     let mut counter = match Counter::new(alloc, boxes, disk) {
         Ok(counter) => counter,
         Err((_, boxes, _)) => {

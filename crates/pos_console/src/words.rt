@@ -2,7 +2,7 @@ ghost use Rattle.std.specs.Prelude.{◌≡◌, ◌<◌, ◌^◌, true, bytes_eq,
 ghost use Rattle.std.specs.List.{list_all};
 ghost use Rattle.hex.specs.Hex.{is_hex_digit};
 ghost use Rattle.pos_console.specs.Words.{number_of_digits, is_digit, is_digits, is_name_byte, is_name, digits_named, number_named, count_named, truth_named, bytes_named};
-ghost use Rattle.pos_console.specs.Words.{value_named, category_named, property_named, scanner_property_named, totals_property_named, error_reply_named};
+ghost use Rattle.pos_console.specs.Words.{value_named, category_named, property_named, scanner_property_named, display_property_named, totals_property_named, error_reply_named};
 
 use pos_service::{Bytes, Category, ErrorReply, NoMemory, Property, Value};
 use std::alloc::Global;
@@ -150,6 +150,9 @@ pub fn category(word: &[u8]) -> Option<Category>
     if is(word, "Scanner") {
         return Some(Category::Scanner);
     }
+    if is(word, "LineDisplay") {
+        return Some(Category::LineDisplay);
+    }
     if is(word, "HardTotals") {
         return Some(Category::HardTotals);
     }
@@ -213,7 +216,7 @@ pub fn property(word: &[u8]) -> Option<Property>
     scanner_property(word)
 }
 
-/// The property of scanners, or of Hard Totals, of this name.
+/// The property of scanners, of line displays, or of Hard Totals, of this name.
 fn scanner_property(word: &[u8]) -> Option<Property>
     ensures { result ≡ scanner_property_named word.now }
 {
@@ -237,6 +240,28 @@ fn scanner_property(word: &[u8]) -> Option<Property>
     }
     if is(word, "ScanDataType") {
         return Some(Property::ScanDataType);
+    }
+    display_property(word)
+}
+
+/// The property of line displays, or of Hard Totals, of this name.
+fn display_property(word: &[u8]) -> Option<Property>
+    ensures { result ≡ display_property_named word.now }
+{
+    if is(word, "Rows") {
+        return Some(Property::Rows);
+    }
+    if is(word, "Columns") {
+        return Some(Property::Columns);
+    }
+    if is(word, "CursorRow") {
+        return Some(Property::CursorRow);
+    }
+    if is(word, "CursorColumn") {
+        return Some(Property::CursorColumn);
+    }
+    if is(word, "CursorUpdate") {
+        return Some(Property::CursorUpdate);
     }
     totals_property(word)
 }
