@@ -6,6 +6,8 @@ use Rattle.std.proofs.lemmas.List.{drop_more}
 use Rattle.std.proofs.lemmas.List.Concat.{flat_map-append}
 use Rattle.std.proofs.KnownBytes.{Appends-trans}
 use Rattle.hex.specs.Hex.{encode_with, encode_lower}
+use Rattle.pos_service.specs.declared.display_text.DisplayCell.{DisplayCell}
+use Rattle.pos_console.specs.Text.{characters_text}
 use Rattle.pos_console.specs.Writing.{Writes}
 
 -- where one part is cut, so is the whole
@@ -25,17 +27,26 @@ unfolding encode_with
 hex_of_each [] = refl
 hex_of_each (b ∷ bs) = ap (λ rest. encode_lower (b ∷ []) ++ rest) (hex_of_each bs)
 
+-- the characters of cells in hex are those of each cell in turn
+pub hex_of_cells : (cells : List DisplayCell) → flat_map (λ (cell : DisplayCell). encode_lower (cell.character ∷ [])) cells ≡ characters_text cells
+unfolding encode_with
+hex_of_cells [] = refl
+hex_of_cells (cell ∷ cells) = ap (λ rest. encode_lower (cell.character ∷ []) ++ rest) (hex_of_cells cells)
+
 -- a text that isn't empty stays so
 pub longer : (xs ys : List ℕ) → 0 < length xs → 0 < length (xs ++ ys)
 longer xs ys lt = omega (arith, length-append xs ys)
 
--- what fails behind a text that was written
-pub failed_behind : {E F : Type 0} (a b c : Option (List ℕ)) (first second rest : List ℕ) (e : E) (f : F) → Appends a b first → Writes b c second (Err e) → Writes a c (first ++ (second ++ rest)) (Err f)
-failed_behind a b c first second rest e f done w =
-    (first ++ w.0, w.1 ++ rest, ap (λ x. first ++ x) (ap (λ x. x ++ rest) w.2 ∙ append_assoc w.0 w.1 rest) ∙ sym (append_assoc first w.0 (w.1 ++ rest)), longer w.1 rest w.3, Appends-trans a b c first w.0 done w.4)
+-- what fails before the rest of a text
+pub failed_front : {E F : Type 0} (a b : Option (List ℕ)) (first rest : List ℕ) (e : E) (f : F) → Writes a b first (Err e) → Writes a b (first ++ rest) (Err f)
+failed_front a b first rest e f w = (w.0, w.1 ++ rest, ap (λ x. x ++ rest) w.2 ∙ append_assoc w.0 w.1 rest, longer w.1 rest w.3, w.4)
 
 -- a text behind one that was written
 pub behind : {E : Type 0} (a b c : Option (List ℕ)) (first second : List ℕ) (result : Result (Unit {0}) E) → Appends a b first → Writes b c second result → Writes a c (first ++ second) result
 behind a b c first second (Ok u) done w = Appends-trans a b c first second done w
 behind a b c first second (Err e) done w =
     (first ++ w.0, w.1, ap (λ x. first ++ x) w.2 ∙ sym (append_assoc first w.0 w.1), w.3, Appends-trans a b c first w.0 done w.4)
+
+-- what fails behind a text that was written
+pub failed_behind : {E : Type 0} (a b c : Option (List ℕ)) (first second : List ℕ) (e : E) → Appends a b first → Writes b c second (Err e) → Writes a c (first ++ second) (Err e)
+failed_behind a b c first second e done w = behind a b c first second (Err e) done w
