@@ -61,13 +61,21 @@ fn gives(value: &Value, wanted: Wanted<'_>) -> bool {
 
 /// Whether a display shows these characters and attributes, row by row.
 fn shows(plant: &Plant, characters: &[u8], attributes: &[u32]) -> bool {
-    let Plant::Display(cells) = plant else {
-        return false;
-    };
-    let cells = cells.as_slice().iter();
-    let shown = cells.clone().map(|cell: &DisplayCell| cell.character);
-    let styles = cells.map(|cell: &DisplayCell| cell.attribute.number());
-    shown.eq(characters.iter().copied()) && styles.eq(attributes.iter().copied())
+    match plant {
+        Plant::Display(cells) => {
+            cells
+                .as_slice()
+                .iter()
+                .map(|cell: &DisplayCell| cell.character)
+                .eq(characters.iter().copied())
+                && cells
+                    .as_slice()
+                    .iter()
+                    .map(|cell: &DisplayCell| cell.attribute.number())
+                    .eq(attributes.iter().copied())
+        }
+        _ => false,
+    }
 }
 
 /// Whether a response is what is wanted.
