@@ -1,14 +1,14 @@
 -- A machine's devices by the parts of a counter.
 use Rattle.std.proofs.Common.{◌≡◌, ◌∷◌, [], ℕ, ◌<◌, ◌≤◌, zero, suc, List, Option, Some, None, length, set, ap, ◌∙◌, refl, arith}
-use Rattle.std.specs.Prelude.{Bool, cond, ◌||◌, is_none, is_some, slice_get, option_map}
+use Rattle.std.specs.Prelude.{Bool, cond, ◌||◌, is_none, is_some, slice_get, option_map, option_and_then}
 use Rattle.pos_service.specs.declared.category.Category.{Category}
 use Rattle.pos_service.specs.declared.finding.Finding.TheVariants as finding
 use Rattle.pos_service.specs.Calls.{serves}
 use Rattle.pos_service.specs.Peripherals.{PeripheralState}
 use Rattle.pos_service.specs.Stations.{station_of}
-use Rattle.pos_counter.specs.Machine.{station_in, device_at, found_at}
+use Rattle.pos_counter.specs.Machine.{station_in, device_at, kind_in, found_at}
 use Rattle.pos_counter.specs.declared.entry.Entry.{Entry}
-use Rattle.pos_counter.specs.Parts.{device_of, devices_of, standing_at}
+use Rattle.pos_counter.specs.Parts.{device_of, devices_of, kind_at, standing_at}
 
 -- the device at a place is the profile's there, with what stands there
 pub device_there : (es : List Entry) (ss : List PeripheralState) (i : ℕ) → slice_get (devices_of es ss) i ≡ option_map (λ e. device_of e (option_map station_of (slice_get ss i))) (slice_get es i)
@@ -17,6 +17,15 @@ device_there (e ∷ es) [] zero = refl
 device_there (e ∷ es) [] (suc i) = device_there es [] i
 device_there (e ∷ es) (s ∷ ss) zero = refl
 device_there (e ∷ es) (s ∷ ss) (suc i) = device_there es ss i
+
+-- what a device is, its entry says
+pub kind_there : (es : List Entry) (ss : List PeripheralState) (place : Option ℕ) → kind_in (device_at (devices_of es ss) place) ≡ kind_at es place
+kind_there es ss None = refl
+kind_there es ss (Some i) = ap kind_in (device_there es ss i) ∙ by (slice_get es i)
+  where
+    by : (o : Option Entry) → kind_in (option_map (λ e. device_of e (option_map station_of (slice_get ss i))) o) ≡ option_and_then (λ entry. entry.kind) o
+    by None = refl
+    by (Some e) = refl
 
 -- where each peripheral has a device, what stands at a device is what the peripheral is
 pub station_there : (es : List Entry) (ss : List PeripheralState) (place : Option ℕ) → length ss ≤ length es → station_in (device_at (devices_of es ss) place) ≡ standing_at ss place

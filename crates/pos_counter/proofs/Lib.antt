@@ -1,6 +1,7 @@
 pub mod Lifts
 pub mod Places
 pub mod DeviceLists
+pub mod Cursors
 pub mod Sound
 pub mod Stations
 pub mod Runs

@@ -16,9 +16,11 @@ use Rattle.pos_service.specs.declared.call.Call.TheVariants as call
 use Rattle.pos_service.specs.declared.category.Category.{Category}
 use Rattle.pos_service.specs.declared.category.Category.TheVariants as category
 use Rattle.pos_service.specs.declared.code.Code.TheVariants as code
+use Rattle.pos_service.specs.declared.kind.Kind.{Kind}
 use Rattle.pos_service.specs.declared.property.Property.{Property}
 use Rattle.pos_service.specs.Claims.{after_release}
 use Rattle.pos_service.specs.Controls.{Control, closed}
+use Rattle.pos_service.specs.DisplayCalls.{argument_rows}
 use Rattle.pos_service.specs.HardTotals.{File, Totals, Mode, Off, Ready, Change, Create, Delete, Rename, Write, SetAll, Question, Find, FindByIndex, Read, Done, DoesCommit, DoesTogether, IsAmong, sequences_after, mode_after, files_after_all, files_of, is_called, is_last, is_own_claim, is_ready, question_rows, change_rows, commit_rows, while_ready, with_each, with_files, with_transaction, claimed as claimed_file, changes_in, in_transaction, spent_by, transaction_of, layout_1, number_rows, after_disk_fault}
 use Rattle.pos_service.specs.HardTotals.{Arrangement, ClaimFile, ReleaseFile, BeginTrans, Rollback, after_arrangement, arrangement_rows}
 use Rattle.pos_service.specs.Refusals.{Row, Decided, first_refusal, when}
@@ -32,7 +34,7 @@ use Rattle.pos_totals.specs.Groups.{group_of}
 use Rattle.pos_totals.specs.Recoveries.{numbered}
 use Rattle.pos_totals.specs.Views.{plain, stored}
 use Rattle.pos_counter.specs.History.{NothingDone, changes_asked, event_between, event_of}
-use Rattle.pos_counter.specs.Machine.{Machine, with_control}
+use Rattle.pos_counter.specs.Machine.{Machine, kind_of, with_control}
 use Rattle.pos_counter.specs.Steps.{Request, NewControl, CallOf, InputTo, Deliver, Snapshot, Response, Made, Full, Answered, TakenIn, NoDevice, WrongInput, Delivered, Shown, OutOfMemory, OnStation, Step, Called, Does, CategoryDoes, Stays, Sets, SetsByRecovery, refusals, category_rows, device_rows, claimed, dropped, released}
 use Rattle.pos_counter.specs.Totals.{TotalsPart, ChangesTotals, CommitsTotals, TotalsDo, Recovered, Rests, asks_recovery, in_doubt, left_after, put_at_once, recovers, settled}
 use Rattle.pos_counter.proofs.FileCalls.{kept_left, plain_claimed}
@@ -152,17 +154,24 @@ files_refuse totals number (Arranges arrangement) =
 files_refuse totals number Commits = (tt, ready_refuse totals.mode (λ files. commit_rows files number (transaction_of totals number)) (λ files. commits_refuse files number (transaction_of totals number)))
 files_refuse totals number Nothing = tt
 
-device_refuse : (k : Category) (claims : List (Option ℕ)) (n : ℕ) (c : Control) (own : Call) → AllRefuse (device_rows k claims n c own)
-device_refuse category.CashDrawer claims n c call.OpenDrawer = (tt, (tt, tt))
-device_refuse category.CashDrawer claims n c own = tt
-device_refuse category.Scanner claims n c call.ClearInput = (tt, (tt, tt))
-device_refuse category.Scanner claims n c call.ClearInputProperties = (tt, (tt, tt))
-device_refuse category.Scanner claims n c own = tt
-device_refuse category.HardTotals claims n c own = tt
+arguments_refuse : (at : Option Kind) (own : Call) → AllRefuse (argument_rows at own)
+arguments_refuse at (call.DisplayText text attribute) = (tt, (tt, tt))
+arguments_refuse at (call.DisplayTextAt row column text attribute) = (tt, (tt, (tt, (tt, tt))))
+arguments_refuse at (call.ScrollText direction units) = (tt, (tt, tt))
+arguments_refuse at own = tt
+
+device_refuse : (k : Category) (claims : List (Option ℕ)) (n : ℕ) (at : Option Kind) (c : Control) (own : Call) → AllRefuse (device_rows k claims n at c own)
+device_refuse category.CashDrawer claims n at c call.OpenDrawer = (tt, (tt, tt))
+device_refuse category.CashDrawer claims n at c own = tt
+device_refuse category.Scanner claims n at c call.ClearInput = (tt, (tt, tt))
+device_refuse category.Scanner claims n at c call.ClearInputProperties = (tt, (tt, tt))
+device_refuse category.Scanner claims n at c own = tt
+device_refuse category.LineDisplay claims n at c own = (tt, (tt, (tt, arguments_refuse at own)))
+device_refuse category.HardTotals claims n at c own = tt
 
 category_refuse : (k : Category) (m : Machine) (n : ℕ) (c : Control) (own : Call) → AllRefuse (category_rows k m n c own)
 category_refuse category.HardTotals m n c own = (tt, (tt, files_refuse m.totals.totals n (file_call own)))
-category_refuse k m n c own = device_refuse k m.claims n c own
+category_refuse k m n c own = device_refuse k m.claims n (kind_of m c) c own
 
 all_refuse : (m : Machine) (n : ℕ) (c : Control) (asked : Call) → AllRefuse (refusals m n c asked)
 all_refuse m n c (call.Open name) = (tt, (tt, (tt, tt)))

@@ -15,9 +15,10 @@ use Rattle.pos_service.specs.declared.category.Category.{Category}
 use Rattle.pos_service.specs.declared.category.Category.TheVariants as category
 use Rattle.pos_service.specs.declared.code.Code.{Code}
 use Rattle.pos_service.specs.declared.code.Code.TheVariants as code
+use Rattle.pos_service.specs.declared.kind.Kind.{Kind}
 use Rattle.pos_service.specs.declared.property.Property.{Property}
 use Rattle.pos_service.specs.declared.property.Property.TheVariants as property
-use Rattle.pos_service.specs.Calls.{set_rows, after_set, has_property}
+use Rattle.pos_service.specs.Calls.{set_rows, after_set, has_property, takes}
 use Rattle.pos_service.specs.Controls.{Control}
 use Rattle.pos_service.specs.HardTotals.{Mode, Off, Ready, Totals, is_ready}
 use Rattle.pos_service.specs.Peripherals.{PeripheralState}
@@ -30,13 +31,13 @@ use Rattle.pos_totals.specs.declared.fault.RecoveryFault.TheVariants as fault
 use Rattle.pos_totals.specs.Recoveries.{Recovers as DiskRecovers, RecoversOneOf, FindsFiles, ReadsAs, code_of}
 use Rattle.pos_totals.specs.Views.{TotalsView, WhenOff, LeavesTheirFiles}
 use Rattle.pos_counter.specs.declared.entry.Entry.{Entry}
-use Rattle.pos_counter.specs.Machine.{Machine, holder_in, holder_of, with_control}
+use Rattle.pos_counter.specs.Machine.{Machine, device_at, holder_in, holder_of, kind_in, kind_of, with_control}
 use Rattle.pos_counter.specs.Parts.{machine_of, machine_with, devices_of, over, part_of, ArePartsSound, IsRecovering, IsLeft, Leaves, Serves, SparesDisk, Stepped}
 use Rattle.pos_counter.specs.Responses.{answered}
 use Rattle.pos_counter.specs.Steps.{CallOf, Answered, IsSound, Step, Sets, SetsByRecovery}
 use Rattle.pos_counter.specs.Totals.{TotalsPart, Recovers, asks_recovery, recovers, is_enabling, is_totals, settled}
 use Rattle.pos_counter.proofs.Lifts.{control_at, decided_at, match_at_none, match_at_some, match_cases, match_weaker}
-use Rattle.pos_counter.proofs.Sound.{seated, with_control_sound}
+use Rattle.pos_counter.proofs.Sound.{seated, set_seat, with_control_sound}
 
 and_left : (a b : Bool) → (a && b) ≡ true → a ≡ true
 and_left true b e = refl
@@ -69,12 +70,12 @@ asks_enabling c p v e =
     totals k e = cc
 
 -- nothing refuses it, whoever holds the area
-enabling_unrefused : (n : ℕ) (holder : Option ℕ) (c : Control) (p : Property) (v : Value) → asks_recovery c p v ≡ true → first_refusal (set_rows n holder c p v) ≡ None
-enabling_unrefused n holder c p v e =
+enabling_unrefused : (n : ℕ) (holder : Option ℕ) (at : Option Kind) (c : Control) (p : Property) (v : Value) → asks_recovery c p v ≡ true → first_refusal (set_rows n holder at c p v) ≡ None
+enabling_unrefused n holder at c p v e =
     let asks = asks_enabling c p v e in
-    subst (λ q. first_refusal (set_rows n holder c q v) ≡ None) (sym asks.0) (subst (λ u. first_refusal (set_rows n holder c property.DeviceEnabled u) ≡ None) (sym asks.1) (open_one c asks.2 asks.3))
+    subst (λ q. first_refusal (set_rows n holder at c q v) ≡ None) (sym asks.0) (subst (λ u. first_refusal (set_rows n holder at c property.DeviceEnabled u) ≡ None) (sym asks.1) (open_one c asks.2 asks.3))
   where
-    open_one : (c : Control) → is_some c.device ≡ true → c.category ≡ category.HardTotals → first_refusal (set_rows n holder c property.DeviceEnabled (value.Truth true)) ≡ None
+    open_one : (c : Control) → is_some c.device ≡ true → c.category ≡ category.HardTotals → first_refusal (set_rows n holder at c property.DeviceEnabled (value.Truth true)) ≡ None
     open_one c device is = by_parts c.device c.category device is
       where
         Rows : Option ℕ → Category → List Row
@@ -90,12 +91,19 @@ set_machine : (hs : List Held) (cl : List (Option ℕ)) (es : List Entry) (ss : 
 set_machine hs cl es ss n g c old new e =
     ap (λ (cs : List Control). let m : Machine = record { controls = cs; devices = devices_of es ss; claims = cl; totals = new } in m) (map-set (λ (h : Held). h.control) hs n g ∙ ap (set (controls_of hs) n) e)
 
--- a control with a property set keeps the parts sound
-set_sound : (hs : List Held) (es : List Entry) (ss : List PeripheralState) (n : ℕ) (g : Held) (c : Control) (p : Property) (v : Value) → slice_get (controls_of hs) n ≡ Some c → g.control ≡ after_set c p v → ArePartsSound hs es ss → ArePartsSound (set hs n g) es ss
-set_sound hs es ss n g c p v at e sound = record {
+-- and DeviceEnabled takes it
+enabling_taken : (at : Option Kind) (c : Control) (p : Property) (v : Value) → asks_recovery c p v ≡ true → takes at p v ≡ true
+enabling_taken at c p v e =
+    let asks = asks_enabling c p v e in
+    subst (λ q. takes at q v ≡ true) (sym asks.0) (subst (λ u. takes at property.DeviceEnabled u ≡ true) (sym asks.1) refl)
+
+-- a control that is to be enabled keeps the parts sound
+set_sound : (hs : List Held) (es : List Entry) (ss : List PeripheralState) (n : ℕ) (g : Held) (c : Control) (p : Property) (v : Value) → slice_get (controls_of hs) n ≡ Some c → asks_recovery c p v ≡ true → g.control ≡ after_set c p v → ArePartsSound hs es ss → ArePartsSound (set hs n g) es ss
+set_sound hs es ss n g c p v at asks e sound = record {
   machine = λ shared.
       let m = machine_of hs es ss shared in
-      let there = with_control_sound m n (after_set c p v) (seated m n c (sound.machine shared) at) (sound.machine shared) in
+      let seat = set_seat m.devices c p v (enabling_taken (kind_of m c) c p v asks) (seated m n c (sound.machine shared) at) in
+      let there = with_control_sound m n (after_set c p v) seat (sound.machine shared) in
       subst IsSound (sym (set_machine hs shared.claims es ss n g (after_set c p v) shared.totals shared.totals e)) (record { kinds = there.kinds; places = there.places });
   unparked = sound.unparked;
   attached = sound.attached;
@@ -103,10 +111,10 @@ set_sound hs es ss n g c p v at e sound = record {
 
 -- a property is set, and nothing is recovered
 pub plain_set : (hs : List Held) (cl : List (Option ℕ)) (es : List Entry) (ss : List PeripheralState) (part : TotalsPart) (n : ℕ) (g h : Held) (p : Property) (v : Value) (r : Answer) → n < length hs → h ≡ get_or hs n h → recovers part h.control p v ≡ false
-    → TurnsInto (set_rows n (holder_in h.control.category cl part.totals.area h.control.device) h.control p v) r h g (after_set h.control p v)
+    → TurnsInto (set_rows n (holder_in h.control.category cl part.totals.area h.control.device) (kind_in (device_at (devices_of es ss) h.control.device)) h.control p v) r h g (after_set h.control p v)
     → Step (machine_with hs cl es ss part) (CallOf n (call.Set p v)) (Answered r) (machine_with (set hs n g) cl es ss part)
 plain_set hs cl es ss part n g h p v r lt is plain turns =
-    let rows = set_rows n (holder_in h.control.category cl part.totals.area h.control.device) h.control p v in
+    let rows = set_rows n (holder_in h.control.category cl part.totals.area h.control.device) (kind_in (device_at (devices_of es ss) h.control.device)) h.control p v in
     let d = decided_at hs (devices_of es ss) (record { claims = cl; totals = part }) n g h rows r _ (after_set h.control p v) is turns in
     match_at_some _ h.control _ _ (control_at hs n h lt ∙ ap (λ (k : Held). Some k.control) (sym is)) (record {
       outcome = match_weaker (first_refusal rows) _ _ _ _
@@ -114,15 +122,6 @@ plain_set hs cl es ss part n g h p v r lt is plain turns =
           (λ refusal y. y)
           d.outcome;
     })
-
--- the parts after it are sound
-pub plain_sound : (hs : List Held) (es : List Entry) (ss : List PeripheralState) (n : ℕ) (holder : Option ℕ) (g h : Held) (p : Property) (v : Value) (r : Answer) → n < length hs → h ≡ get_or hs n h → TurnsInto (set_rows n holder h.control p v) r h g (after_set h.control p v) → ArePartsSound hs es ss → ArePartsSound (set hs n g) es ss
-plain_sound hs es ss n holder g h p v r lt is turns sound =
-    let at = control_at hs n h lt ∙ ap (λ (k : Held). Some k.control) (sym is) in
-    elim (match_cases (first_refusal (set_rows n holder h.control p v)) _ _ turns.outcome) [
-      | inl x ↦ set_sound hs es ss n g h.control p v at x.1.1 sound
-      | inr x ↦ subst (λ (ks : List Held). ArePartsSound ks es ss) (sym (ap (set hs n) (x.2.1 ∙ is) ∙ set-get_or hs n h)) sound
-    ]
 
 -- ---- a recovery
 
@@ -178,13 +177,13 @@ module _ {D : Type 0} (bound : Ghosts D) (old new : TotalsView D) (off : old.tot
               is_settled = settled_twice left new.totals.mode;
             };
             step = match_at_some _ c _ _ at (record {
-              outcome = match_at_none (first_refusal (set_rows n (holder left) c p v)) _ _ (enabling_unrefused n (holder left) c p v asks)
+              outcome = match_at_none (first_refusal (set_rows n (holder left) (kind_of (before left) c) c p v)) _ _ (enabling_unrefused n (holder left) (kind_of (before left) c) c p v asks)
                   (subst (λ b. MatchBool b (SetsByRecovery (before left) n c p v r (machine_with (set hs n g) cl es ss (part_of bound new after))) (Sets (before left) n c p v r (machine_with (set hs n g) cl es ss (part_of bound new after)))) (sym recovering)
                   (inl (done, record { found = f.found; left = refl; later = recovers.kept.later leaves.honest }, set_machine hs cl es ss n g (after_set c p v) (part_of bound old left) (part_of bound new after) is)));
             });
             any_moment = weaker (bound.state old.disk) (bound.state new.disk) (StandsForOneOf left) (IsLeft left after) (λ b q. inl q) f.any_moment;
           };
-      sound = set_sound hs es ss n g c p v at is sound;
+      sound = set_sound hs es ss n g c p v at asks is sound;
       covers = refl;
       alone = λ spares. absurd (uses spares);
       kept = recovers.kept;
@@ -226,7 +225,7 @@ module _ {D : Type 0} (bound : Ghosts D) (old new : TotalsView D) (off : old.tot
             after = left;
             leaves = failed_leaves (Err x) left recovers leaves same;
             step = match_at_some _ c _ _ at (record {
-              outcome = match_at_none (first_refusal (set_rows n (holder left) c p v)) _ _ (enabling_unrefused n (holder left) c p v asks)
+              outcome = match_at_none (first_refusal (set_rows n (holder left) (kind_of (before left) c) c p v)) _ _ (enabling_unrefused n (holder left) (kind_of (before left) c) c p v asks)
                   (subst (λ b. MatchBool b (SetsByRecovery (before left) n c p v (answer.Refused k 0) (machine_with hs cl es ss (part_of bound new left))) (Sets (before left) n c p v (answer.Refused k 0) (machine_with hs cl es ss (part_of bound new left)))) (sym recovering)
                   (inr (why left x k recovers leaves is same, refl)));
             });
@@ -260,10 +259,10 @@ asks_there hs n p v mode h =
     is_off (Ready files q) e = cc
 
 -- nothing refuses to set the property
-pub done_set : (hs : List Held) (n : ℕ) (holder : Option ℕ) (h g : Held) (c : Control) (p : Property) (v : Value) (r : Answer) → n < length hs → h ≡ get_or hs n h → slice_get (controls_of hs) n ≡ Some c → asks_recovery c p v ≡ true → TurnsInto (set_rows n holder h.control p v) r h g (after_set h.control p v) → (r ≡ answer.Done value.Empty) × (g.control ≡ after_set c p v)
-done_set hs n holder h g c p v r lt is at asks turns =
+pub done_set : (hs : List Held) (n : ℕ) (holder : Option ℕ) (kind : Option Kind) (h g : Held) (c : Control) (p : Property) (v : Value) (r : Answer) → n < length hs → h ≡ get_or hs n h → slice_get (controls_of hs) n ≡ Some c → asks_recovery c p v ≡ true → TurnsInto (set_rows n holder kind h.control p v) r h g (after_set h.control p v) → (r ≡ answer.Done value.Empty) × (g.control ≡ after_set c p v)
+done_set hs n holder kind h g c p v r lt is at asks turns =
     let same : h.control ≡ c = some_same h.control c (sym (control_at hs n h lt ∙ ap (λ (k : Held). Some k.control) (sym is)) ∙ at) in
-    let none = subst (λ (k : Control). first_refusal (set_rows n holder k p v) ≡ None) (sym same) (enabling_unrefused n holder c p v asks) in
+    let none = subst (λ (k : Control). first_refusal (set_rows n holder kind k p v) ≡ None) (sym same) (enabling_unrefused n holder kind c p v asks) in
     let done = subst (λ o. MatchOption o ((r ≡ answer.Done value.Empty) × (g.control ≡ after_set h.control p v)) (λ refusal. (r ≡ refusal) × (g ≡ h))) none turns.outcome in
     (done.0, done.1 ∙ ap (λ (k : Control). after_set k p v) same)
   where

@@ -1,7 +1,7 @@
 -- Every step keeps the machine sound.
 use Rattle.std.proofs.Common.{◌≡◌, ℕ, ◌∷◌, inl, inr, zero, suc, List, [], Option, Some, None, Bool, true, false, cond, set, ap, sym, ◌∙◌, subst, refl}
 use Rattle.std.specs.Bool.{MatchBool}
-use Rattle.std.specs.Prelude.{MatchOption, IfSome, All, ◌++◌, ◌||◌, slice_get, is_some, is_none}
+use Rattle.std.specs.Prelude.{MatchOption, IfSome, IsTrue, All, ◌++◌, ◌||◌, slice_get, is_some, is_none}
 use Rattle.std.proofs.lemmas.List.Elements.{All-push, All-set, All-weaker, All-map, All-get_or}
 use Rattle.std.proofs.lemmas.Option.{slice_get_within, get_or_from_slice_get}
 use Rattle.pos_service.specs.declared.category.Category.{Category}
@@ -14,41 +14,63 @@ use Rattle.pos_service.specs.declared.input.Input.TheVariants as input
 use Rattle.pos_service.specs.declared.input.Taken.{Taken}
 use Rattle.pos_service.specs.declared.input.Taken.TheVariants as taken
 use Rattle.pos_service.specs.declared.scan.Scan.{Scan}
+use Rattle.pos_service.specs.declared.display_text.Cursor.{Cursor}
+use Rattle.pos_service.specs.declared.display_text.Place.{Place}
+use Rattle.pos_service.specs.declared.kind.Kind.{Kind}
+use Rattle.pos_service.specs.declared.order.Order.{Order}
 use Rattle.pos_service.specs.declared.property.Property.{Property}
 use Rattle.pos_service.specs.declared.call.Call.{Call}
 use Rattle.pos_service.specs.declared.call.Call.TheVariants as call
-use Rattle.pos_service.specs.Controls.{Control, new_control, closed, stopped, delivered, heard, read, listens, if_listening, all_listening}
+use Rattle.pos_service.specs.Controls.{Control, new_control, closed, stopped, delivered, heard, read, listens, if_listening, all_listening, with_place as moved}
 use Rattle.pos_service.specs.Events.{EventList, Enqueued}
 use Rattle.pos_service.specs.Refusals.{Row, Decided, first_refusal}
-use Rattle.pos_service.specs.Calls.{serves, place_found, after_set, close_rows, get_rows}
+use Rattle.pos_service.specs.Calls.{serves, takes, place_found, after_set, cursor_after, close_rows, get_rows}
+use Rattle.pos_service.specs.DisplayCalls.{DisplayDoes, OrdersDisplay, argument_rows, display_order, place_after_call}
+use Rattle.pos_service.specs.Displays.{origin}
+use Rattle.pos_service.specs.Peripherals.{IsInRange}
 use Rattle.pos_service.specs.Claims.{after_release, is_exclusive}
 use Rattle.pos_service.specs.ScannerCalls.{ChangesItself, ScannerDoes, without_input, without_scan}
 use Rattle.pos_service.specs.Stations.{Station, Effect, TakesIn, reaction}
-use Rattle.pos_service.specs.DrawerCalls.{DrawerOpens, DrawerDoes}
+use Rattle.pos_service.specs.DrawerCalls.{DrawerOpens, DrawerDoes, LineFailed}
 use Rattle.pos_service.specs.HardTotals.{with_control as with_place}
-use Rattle.pos_counter.specs.Machine.{Device, Machine, device_at, place_of, found_at, with_control, with_totals}
-use Rattle.pos_counter.specs.Steps.{Request, NewControl, CallOf, InputTo, Deliver, Snapshot, Response, Made, Full, Answered, TakenIn, NoDevice, WrongInput, Delivered, Shown, OutOfMemory, OnStation, Step, Called, Stays, Sets, SetsByRecovery, CategoryDoes, DeviceDoes, claimed, released, dropped, facts_of, refusals, IsSound, IsServed, HasItsKind, HasItsDevice}
+use Rattle.pos_counter.specs.Machine.{Device, Machine, device_at, kind_in, kind_of, place_of, found_at, with_control, with_totals}
+use Rattle.pos_counter.specs.Steps.{Request, NewControl, CallOf, InputTo, Deliver, Snapshot, Response, Made, Full, Answered, TakenIn, NoDevice, WrongInput, Delivered, Shown, OutOfMemory, OnStation, Step, Called, Stays, Sets, SetsByRecovery, CategoryDoes, DeviceDoes, category_rows, claimed, released, dropped, facts_of, refusals, IsSound, IsPlaceOn, HasItsKind, HasItsDevice}
 use Rattle.pos_counter.specs.Totals.{TotalsPart, recovers}
+use Rattle.pos_counter.proofs.Cursors.{NoneApplies, none_applies, place_called, place_opened, place_set, unless_not}
 use Rattle.pos_counter.proofs.Lifts.{match_cases}
 
--- the device is there, and the category serves it
-abbrev pub Served : Category → Option Device → Type 0
-Served category o = MatchOption o ⊥ (IsServed category)
+-- the device is there, and serves a control of the category whose cursor is at a place
+abbrev pub Served : Category → Place → Option Device → Type 0
+Served category cursor o =
+    MatchOption o ⊥ (λ device. (serves category device.kind ≡ true) × IsTrue (is_none device.kind || is_some device.station) × IsPlaceOn device.kind cursor)
 
--- a category's control may have the device at this place open
-abbrev Seat : List Device → Category → Option ℕ → Type 0
-Seat devices category place = IfSome place (λ at. Served category (slice_get devices at))
+-- a category's control whose cursor is at a place may have the device at this one open
+abbrev Seat : List Device → Category → Place → Option ℕ → Type 0
+Seat devices category cursor place = IfSome place (λ at. Served category cursor (slice_get devices at))
 
 same_machine : (m m' : Machine) → m' ≡ m → IsSound m → IsSound m'
 same_machine m m' e s = subst IsSound (sym e) s
 
-same_seat : (ds : List Device) (c d : Control) → d.category ≡ c.category → d.device ≡ c.device → HasItsDevice ds c → HasItsDevice ds d
-same_seat ds c d k e h = subst (λ category. Seat ds category d.device) (sym k) (subst (Seat ds c.category) (sym e) h)
+same_seat : (ds : List Device) (c d : Control) → d.category ≡ c.category → d.device ≡ c.device → d.cursor ≡ c.cursor → HasItsDevice ds c → HasItsDevice ds d
+same_seat ds c d k e p h =
+    subst (λ category. Seat ds category d.cursor.place d.device) (sym k)
+    (subst (λ (cursor : Cursor). Seat ds c.category cursor.place d.device) (sym p) (subst (Seat ds c.category c.cursor.place) (sym e) h))
+
+-- the cursor has moved to another place of the device
+moved_seat : (ds : List Device) (category : Category) (was now : Place) (device : Option ℕ) → (IsPlaceOn (kind_in (device_at ds device)) was → IsPlaceOn (kind_in (device_at ds device)) now) → Seat ds category was device → Seat ds category now device
+moved_seat ds category was now None moves h = tt
+moved_seat ds category was now (Some i) moves h = by (slice_get ds i) moves h
+  where
+    by : (o : Option Device) → (IsPlaceOn (kind_in o) was → IsPlaceOn (kind_in o) now) → Served category was o → Served category now o
+    by None moves h = h
+    by (Some d) moves h = (h.0, h.1, moves h.2)
 
 -- the control that a number has is one with its device
+seat_of : (ds : List Device) (cs : List Control) (n : ℕ) (c : Control) → slice_get cs n ≡ Some c → All (HasItsDevice ds) cs → HasItsDevice ds c
+seat_of ds cs n c e all = subst (HasItsDevice ds) (get_or_from_slice_get cs n c c e) (All-get_or (HasItsDevice ds) cs n c (slice_get_within cs n c e) all)
+
 pub seated : (m : Machine) (n : ℕ) (c : Control) → IsSound m → slice_get m.controls n ≡ Some c → HasItsDevice m.devices c
-seated m n c s e =
-    subst (HasItsDevice m.devices) (get_or_from_slice_get m.controls n c c e) (All-get_or (HasItsDevice m.devices) m.controls n c (slice_get_within m.controls n c e) s.places)
+seated m n c s e = seat_of m.devices m.controls n c e s.places
 
 -- a control with its device in the place of another
 pub with_control_sound : (m : Machine) (n : ℕ) (c : Control) → HasItsDevice m.devices c → IsSound m → IsSound (with_control m n c)
@@ -65,28 +87,33 @@ decided_sound rows r m m' n c Done h d s =
       | inr x ↦ same_machine m m' x.2.1 s
     ]
 
--- what a control finds to open is there, and its category serves it
-found_seat : (ds : List Device) (category : Category) (place : Option ℕ) → Seat ds category (place_found (found_at category place (device_at ds place)))
-found_seat ds category None = tt
-found_seat ds category (Some i) = there (slice_get ds i) refl
+-- the device at a place is of a kind in range, and so is its peripheral
+pub kind_of_device : (ds : List Device) (i : ℕ) (d : Device) → slice_get ds i ≡ Some d → All HasItsKind ds → HasItsKind d
+kind_of_device ds i d e all = subst HasItsKind (get_or_from_slice_get ds i d d e) (All-get_or HasItsKind ds i d (slice_get_within ds i d e) all)
+
+-- what a control finds to open is there, and serves it at the first place
+found_seat : (ds : List Device) (category : Category) (place : Option ℕ) → All HasItsKind ds → Seat ds category origin (place_found (found_at category place (device_at ds place)))
+found_seat ds category None kinds = tt
+found_seat ds category (Some i) kinds = there (slice_get ds i) refl
   where
-    pick : (d : Device) → slice_get ds i ≡ Some d → (served attached : Bool) → serves category d.kind ≡ served → (is_none d.kind || is_some d.station) ≡ attached → Seat ds category (place_found (cond served (cond attached (finding.At i) finding.Vacant) finding.NotThere))
-    pick d e true true s a = subst (Served category) (sym e) (s, a)
+    pick : (d : Device) → slice_get ds i ≡ Some d → (served attached : Bool) → serves category d.kind ≡ served → (is_none d.kind || is_some d.station) ≡ attached → Seat ds category origin (place_found (cond served (cond attached (finding.At i) finding.Vacant) finding.NotThere))
+    pick d e true true s a = subst (Served category origin) (sym e) (s, a, place_opened d.kind (kind_of_device ds i d e kinds).0)
     pick d e true false s a = tt
     pick d e false true s a = tt
     pick d e false false s a = tt
 
-    there : (o : Option Device) → slice_get ds i ≡ o → Seat ds category (place_found (found_at category (Some i) o))
+    there : (o : Option Device) → slice_get ds i ≡ o → Seat ds category origin (place_found (found_at category (Some i) o))
     there None e = tt
     there (Some d) e = pick d e (serves category d.kind) (is_none d.kind || is_some d.station) refl refl
 
--- a change of controls that leaves each its category and its device
+-- a change of controls that leaves each its category, its device and its cursor
 pub record KeepsDevice (change : Control → Control) : Type 0 where
   pub category : (c : Control) → (change c).category ≡ c.category
   pub device : (c : Control) → (change c).device ≡ c.device
+  pub cursor : (c : Control) → (change c).cursor ≡ c.cursor
 
 changed_seat : (ds : List Device) (change : Control → Control) (c : Control) → KeepsDevice change → HasItsDevice ds c → HasItsDevice ds (change c)
-changed_seat ds change c keeps h = same_seat ds c (change c) (keeps.category c) (keeps.device c) h
+changed_seat ds change c keeps h = same_seat ds c (change c) (keeps.category c) (keeps.device c) (keeps.cursor c) h
 
 listening_seat : (ds : List Device) (b : Bool) (c d : Control) → HasItsDevice ds c → HasItsDevice ds d → HasItsDevice ds (cond b d c)
 listening_seat ds true c d h g = g
@@ -98,10 +125,10 @@ all_listening_keep ds place change cs keeps all =
     (All-weaker (HasItsDevice ds) (λ c. HasItsDevice ds (if_listening place change c)) (λ c h. listening_seat ds (listens place c) c (change c) h (changed_seat ds change c keeps h)) cs all)
 
 heard_keeps : (statuses : List Enqueued) → KeepsDevice (heard statuses)
-heard_keeps statuses = record { category = λ c. refl; device = λ c. refl }
+heard_keeps statuses = record { category = λ c. refl; device = λ c. refl; cursor = λ c. refl }
 
 read_keeps : (scan : Scan) → KeepsDevice (read scan)
-read_keeps scan = record { category = λ c. category c.list.in_error c _ _; device = λ c. device c.list.in_error c _ _ }
+read_keeps scan = record { category = λ c. category c.list.in_error c _ _; device = λ c. device c.list.in_error c _ _; cursor = λ c. cursor c.list.in_error c _ _ }
   where
     category : (b : Bool) (c : Control) (list : EventList) (enabled : Bool) → (cond b c (record c { enabled = enabled; list = list })).category ≡ c.category
     category true c list enabled = refl
@@ -111,109 +138,148 @@ read_keeps scan = record { category = λ c. category c.list.in_error c _ _; devi
     device true c list enabled = refl
     device false c list enabled = refl
 
+    cursor : (b : Bool) (c : Control) (list : EventList) (enabled : Bool) → (cond b c (record c { enabled = enabled; list = list })).cursor ≡ c.cursor
+    cursor true c list enabled = refl
+    cursor false c list enabled = refl
+
 reaction_keeps : (i : Input) (t : Taken) (statuses : List Enqueued) → KeepsDevice (reaction i t statuses)
 reaction_keeps i taken.Quiet statuses = heard_keeps statuses
 reaction_keeps (input.Scan kind bytes label) taken.Scan statuses = read_keeps _
-reaction_keeps i taken.Scan statuses = record { category = λ c. refl; device = λ c. refl }
-reaction_keeps i taken.Fault statuses = record { category = λ c. refl; device = λ c. refl }
+reaction_keeps i taken.Scan statuses = record { category = λ c. refl; device = λ c. refl; cursor = λ c. refl }
+reaction_keeps i taken.Fault statuses = record { category = λ c. refl; device = λ c. refl; cursor = λ c. refl }
 
 -- another station at a device, of its kind
 abbrev with_after : Device → Station → Device
 with_after device after = record device { station = Some after }
 
-served_stays : (ds : List Device) (i k : ℕ) (d : Device) (after : Station) (category : Category) → slice_get ds i ≡ Some d → Served category (slice_get ds k) → Served category (slice_get (set ds i (with_after d after)) k)
-served_stays [] i k d after category is h = absurd h
-served_stays (x ∷ ds) zero zero d after category is h =
+served_stays : (ds : List Device) (i k : ℕ) (d : Device) (after : Station) (category : Category) (cursor : Place) → slice_get ds i ≡ Some d → Served category cursor (slice_get ds k) → Served category cursor (slice_get (set ds i (with_after d after)) k)
+served_stays [] i k d after category cursor is h = absurd h
+served_stays (x ∷ ds) zero zero d after category cursor is h =
     let same : x ≡ d = cc in
-    (subst (λ (y : Device). serves category y.kind ≡ true) same h.0, attached (is_none d.kind))
+    (subst (λ (y : Device). serves category y.kind ≡ true) same h.0, attached (is_none d.kind), subst (λ (y : Device). IsPlaceOn y.kind cursor) same h.2)
   where
     attached : (b : Bool) → (b || true) ≡ true
     attached true = refl
     attached false = refl
-served_stays (x ∷ ds) zero (suc k) d after category is h = h
-served_stays (x ∷ ds) (suc i) zero d after category is h = h
-served_stays (x ∷ ds) (suc i) (suc k) d after category is h = served_stays ds i k d after category is h
+served_stays (x ∷ ds) zero (suc k) d after category cursor is h = h
+served_stays (x ∷ ds) (suc i) zero d after category cursor is h = h
+served_stays (x ∷ ds) (suc i) (suc k) d after category cursor is h = served_stays ds i k d after category cursor is h
 
 seat_stays : (ds : List Device) (i : ℕ) (d : Device) (after : Station) → slice_get ds i ≡ Some d → (c : Control) → HasItsDevice ds c → HasItsDevice (set ds i (with_after d after)) c
 seat_stays ds i d after is c h = by_place c.device h
   where
-    by_place : (o : Option ℕ) → Seat ds c.category o → Seat (set ds i (with_after d after)) c.category o
+    by_place : (o : Option ℕ) → Seat ds c.category c.cursor.place o → Seat (set ds i (with_after d after)) c.category c.cursor.place o
     by_place None g = tt
-    by_place (Some k) g = served_stays ds i k d after c.category is g
+    by_place (Some k) g = served_stays ds i k d after c.category c.cursor.place is g
+
+-- A station stands at a device: it is of the device's kind, which is in range.
+pub record StandsAt (ds : List Device) (at : Option ℕ) (station : Station) : Type 0 where
+  pub kind : kind_in (device_at ds at) ≡ Some station.kind
+  pub range : IsInRange station.kind
 
 -- what is done at a device's station keeps its kind, and each control's device
-pub record Keeps (before : Station) (old : List Control) (after : Station) (new : List Control) : Type 0 where
+pub record Keeps (ds : List Device) (before : Station) (old : List Control) (after : Station) (new : List Control) : Type 0 where
   pub kind : after.kind ≡ before.kind
-  pub seats : (ds : List Device) → All (HasItsDevice ds) old → All (HasItsDevice ds) new
+  pub seats : All (HasItsDevice ds) old → All (HasItsDevice ds) new
 
-on_station_sound : (m m' : Machine) (at : Option ℕ) (Does : ℕ → Effect) → ((place : ℕ) (old : List Control) (before : Station) (new : List Control) (after : Station) → Does place old before new after → Keeps before old after new) → OnStation m at Does m' → IsSound m → IsSound m'
+on_station_sound : (m m' : Machine) (at : Option ℕ) (Does : ℕ → Effect) → ((place : ℕ) (before : Station) (new : List Control) (after : Station) → StandsAt m.devices at before → Does place m.controls before new after → Keeps m.devices before m.controls after new) → OnStation m at Does m' → IsSound m → IsSound m'
 on_station_sound m m' at Does keeps o s =
-    let kept = keeps _ _ _ _ _ o.does in
-    let here : HasItsKind o.device = subst HasItsKind (get_or_from_slice_get m.devices o.place o.device o.device o.is_device) (All-get_or HasItsKind m.devices o.place o.device (slice_get_within m.devices o.place o.device o.is_device) s.kinds) in
-    let kind : o.device.kind ≡ Some o.before.kind = subst (λ (st : Option Station). IfSome st (λ station. o.device.kind ≡ Some station.kind)) o.is_attached here in
+    let here : HasItsKind o.device = kind_of_device m.devices o.place o.device o.is_device s.kinds in
+    let kind : o.device.kind ≡ Some o.before.kind = subst (λ (st : Option Station). IfSome st (λ station. o.device.kind ≡ Some station.kind)) o.is_attached here.1 in
+    let stands : StandsAt m.devices at o.before = record {
+      kind = ap (λ p. kind_in (device_at m.devices p)) o.is_at ∙ ap kind_in o.is_device ∙ kind;
+      range = subst (λ (k : Option Kind). IfSome k IsInRange) kind here.0;
+    } in
+    let kept = keeps o.place o.before o.controls o.after stands o.does in
     same_machine _ m' o.machine (record {
-      kinds = All-set HasItsKind m.devices o.place (with_after o.device o.after) (kind ∙ ap Some (sym kept.kind)) s.kinds;
-      places = All-weaker (HasItsDevice m.devices) (HasItsDevice (set m.devices o.place (with_after o.device o.after))) (seat_stays m.devices o.place o.device o.after o.is_device) o.controls (kept.seats m.devices s.places);
+      kinds = All-set HasItsKind m.devices o.place (with_after o.device o.after) (here.0, kind ∙ ap Some (sym kept.kind)) s.kinds;
+      places = All-weaker (HasItsDevice m.devices) (HasItsDevice (set m.devices o.place (with_after o.device o.after))) (seat_stays m.devices o.place o.device o.after o.is_device) o.controls (kept.seats s.places);
     })
 
-opens_keeps : (r : Answer) (place : ℕ) (old : List Control) (before : Station) (new : List Control) (after : Station) → DrawerOpens place r old before new after → Keeps before old after new
-opens_keeps r place old before new after (inl h) = record {
-  kind = ap (λ (s : Station). s.kind) h.1.station;
-  seats = λ ds all. subst (All (HasItsDevice ds)) (sym h.1.events) (all_listening_keep ds place _ old (heard_keeps _) all);
-}
-opens_keeps r place old before new after (inr h) = record {
-  kind = ap (λ (s : Station). s.kind) h.1.station;
-  seats = λ ds all. subst (All (HasItsDevice ds)) (sym h.1.controls) all;
-}
-
-takes_keeps : (i : Input) (place : ℕ) (old : List Control) (before : Station) (new : List Control) (after : Station) → TakesIn i place old before new after → Keeps before old after new
-takes_keeps i place old before new after h = record {
+failed_keeps : (ds : List Device) (old : List Control) (before : Station) (new : List Control) (after : Station) → LineFailed old before new after → Keeps ds before old after new
+failed_keeps ds old before new after h = record {
   kind = ap (λ (s : Station). s.kind) h.station;
-  seats = λ ds all. subst (All (HasItsDevice ds)) (sym h.controls) (all_listening_keep ds place _ old (reaction_keeps i h.taken _) all);
+  seats = λ all. subst (All (HasItsDevice ds)) (sym h.controls) all;
 }
 
-drawer_keeps : (asked : Call) (r : Answer) (number place : ℕ) (old : List Control) (before : Station) (new : List Control) (after : Station) → DrawerDoes asked number place r old before new after → Keeps before old after new
-drawer_keeps call.OpenDrawer r number place old before new after h = opens_keeps r place old before new after h
-drawer_keeps asked r number place old before new after h = absurd h
+opens_keeps : (ds : List Device) (r : Answer) (place : ℕ) (old : List Control) (before : Station) (new : List Control) (after : Station) → DrawerOpens place r old before new after → Keeps ds before old after new
+opens_keeps ds r place old before new after (inl h) = record {
+  kind = ap (λ (s : Station). s.kind) h.1.station;
+  seats = λ all. subst (All (HasItsDevice ds)) (sym h.1.events) (all_listening_keep ds place _ old (heard_keeps _) all);
+}
+opens_keeps ds r place old before new after (inr h) = failed_keeps ds old before new after h.1
+
+takes_keeps : (ds : List Device) (i : Input) (place : ℕ) (old : List Control) (before : Station) (new : List Control) (after : Station) → TakesIn i place old before new after → Keeps ds before old after new
+takes_keeps ds i place old before new after h = record {
+  kind = ap (λ (s : Station). s.kind) h.station;
+  seats = λ all. subst (All (HasItsDevice ds)) (sym h.controls) (all_listening_keep ds place _ old (reaction_keeps i h.taken _) all);
+}
+
+drawer_keeps : (ds : List Device) (asked : Call) (r : Answer) (number place : ℕ) (old : List Control) (before : Station) (new : List Control) (after : Station) → DrawerDoes asked number place r old before new after → Keeps ds before old after new
+drawer_keeps ds call.OpenDrawer r number place old before new after h = opens_keeps ds r place old before new after h
+drawer_keeps ds asked r number place old before new after h = absurd h
 
 -- a control that changes itself keeps its device
-itself_keeps : (change : Control → Control) (number : ℕ) (r : Answer) (old : List Control) (before : Station) (new : List Control) (after : Station) → KeepsDevice change → ChangesItself change number r old before new after → Keeps before old after new
-itself_keeps change number r old before new after keeps h = record {
+itself_keeps : (ds : List Device) (change : Control → Control) (number : ℕ) (r : Answer) (old : List Control) (before : Station) (new : List Control) (after : Station) → KeepsDevice change → ChangesItself change number r old before new after → Keeps ds before old after new
+itself_keeps ds change number r old before new after keeps h = record {
   kind = ap (λ (s : Station). s.kind) h.station;
-  seats = λ ds all. elim (match_cases (slice_get old number) _ _ h.controls) [
+  seats = λ all. elim (match_cases (slice_get old number) _ _ h.controls) [
     | inl x ↦ absurd x.1
-    | inr x ↦
-        let seat = subst (HasItsDevice ds) (get_or_from_slice_get old number x.0 x.0 x.1) (All-get_or (HasItsDevice ds) old number x.0 (slice_get_within old number x.0 x.1) all) in
-        subst (All (HasItsDevice ds)) (sym x.2) (All-set (HasItsDevice ds) old number (change x.0) (changed_seat ds change x.0 keeps seat) all)
+    | inr x ↦ subst (All (HasItsDevice ds)) (sym x.2) (All-set (HasItsDevice ds) old number (change x.0) (changed_seat ds change x.0 keeps (seat_of ds old number x.0 x.1 all)) all)
   ];
 }
 
-scanner_keeps : (asked : Call) (r : Answer) (number place : ℕ) (old : List Control) (before : Station) (new : List Control) (after : Station) → ScannerDoes asked number place r old before new after → Keeps before old after new
-scanner_keeps call.ClearInput r number place old before new after h = itself_keeps without_input number r old before new after (record { category = λ c. refl; device = λ c. refl }) h
-scanner_keeps call.ClearInputProperties r number place old before new after h = itself_keeps without_scan number r old before new after (record { category = λ c. refl; device = λ c. refl }) h
-scanner_keeps asked r number place old before new after h = absurd h
+scanner_keeps : (ds : List Device) (asked : Call) (r : Answer) (number place : ℕ) (old : List Control) (before : Station) (new : List Control) (after : Station) → ScannerDoes asked number place r old before new after → Keeps ds before old after new
+scanner_keeps ds call.ClearInput r number place old before new after h = itself_keeps ds without_input number r old before new after (record { category = λ c. refl; device = λ c. refl; cursor = λ c. refl }) h
+scanner_keeps ds call.ClearInputProperties r number place old before new after h = itself_keeps ds without_scan number r old before new after (record { category = λ c. refl; device = λ c. refl; cursor = λ c. refl }) h
+scanner_keeps ds asked r number place old before new after h = absurd h
 
-device_keeps : (k : Category) (asked : Call) (r : Answer) (number place : ℕ) (old : List Control) (before : Station) (new : List Control) (after : Station) → DeviceDoes k asked number place r old before new after → Keeps before old after new
-device_keeps category.CashDrawer asked r number place old before new after h = drawer_keeps asked r number place old before new after h
-device_keeps category.Scanner asked r number place old before new after h = scanner_keeps asked r number place old before new after h
-device_keeps category.HardTotals asked r number place old before new after h = absurd h
+-- a display's call whose arguments are allowed leaves the cursor of its control at a place of the display
+display_keeps : (ds : List Device) (asked : Call) (r : Answer) (number place : ℕ) (c : Control) (old : List Control) (before : Station) (new : List Control) (after : Station) → slice_get old number ≡ Some c → StandsAt ds c.device before → NoneApplies (argument_rows (kind_in (device_at ds c.device)) asked) → DisplayDoes asked number place r old before new after → Keeps ds before old after new
+display_keeps ds asked r number place c old before new after e stands allowed h =
+    let Ordered : Control → Type 0 = λ control. MatchOption (display_order control.cursor asked) ⊥ (λ given. OrdersDisplay given (place_after_call (Some before.kind) control.cursor asked) number control r old before new after) in
+    elim (match_cases (display_order c.cursor asked) _ _ (subst (λ (o : Option Control). MatchOption o ⊥ Ordered) e h)) [ inl x ↦ absurd x.1 | inr x ↦ by x.0 x.2 ]
+  where
+    now : Place
+    now = place_after_call (Some before.kind) c.cursor asked
+
+    moves : IsPlaceOn (kind_in (device_at ds c.device)) c.cursor.place → IsPlaceOn (kind_in (device_at ds c.device)) now
+    moves =
+        subst (λ (k : Option Kind). IsPlaceOn k c.cursor.place → IsPlaceOn k now) (sym stands.kind)
+        (place_called before.kind c.cursor asked stands.range (subst (λ (k : Option Kind). NoneApplies (argument_rows k asked)) stands.kind allowed))
+
+    by : (given : Order) → OrdersDisplay given now number c r old before new after → Keeps ds before old after new
+    by given (inl g) = record {
+      kind = ap (λ (s : Station). s.kind) g.1.station;
+      seats = λ all. subst (All (HasItsDevice ds)) (sym g.1.controls) (All-set (HasItsDevice ds) old number (moved now c) (moved_seat ds c.category c.cursor.place now c.device moves (seat_of ds old number c e all)) all);
+    }
+    by given (inr g) = failed_keeps ds old before new after g.1
+
+device_keeps : (k : Category) (m : Machine) (asked : Call) (r : Answer) (n place : ℕ) (c : Control) (before : Station) (new : List Control) (after : Station) → slice_get m.controls n ≡ Some c → NoneApplies (category_rows k m n c asked) → StandsAt m.devices c.device before → DeviceDoes k asked n place r m.controls before new after → Keeps m.devices before m.controls after new
+device_keeps category.CashDrawer m asked r n place c before new after e allowed stands h = drawer_keeps m.devices asked r n place m.controls before new after h
+device_keeps category.Scanner m asked r n place c before new after e allowed stands h = scanner_keeps m.devices asked r n place m.controls before new after h
+device_keeps category.LineDisplay m asked r n place c before new after e allowed stands h = display_keeps m.devices asked r n place c m.controls before new after e stands allowed.1.1.1 h
+device_keeps category.HardTotals m asked r n place c before new after e allowed stands h = absurd h
 
 -- totals that have changed leave all else as it was
 other_totals : (m m' : Machine) → m' ≡ record m { totals = m'.totals } → IsSound m → IsSound m'
 other_totals m m' e s = subst IsSound (sym e) (record { kinds = s.kinds; places = s.places })
 
 -- what a category's call does keeps the machine sound
-category_sound : (k : Category) (m m' : Machine) (n : ℕ) (c : Control) (own : Call) (r : Answer) → CategoryDoes k m n c own r m' → IsSound m → IsSound m'
-category_sound category.HardTotals m m' n c own r h s = other_totals m m' h.1 s
-category_sound k m m' n c own r h s = on_station_sound m m' c.device _ (λ place. device_keeps k own r n place) h s
+category_sound : (k : Category) (m m' : Machine) (n : ℕ) (c : Control) (own : Call) (r : Answer) → slice_get m.controls n ≡ Some c → NoneApplies (category_rows k m n c own) → CategoryDoes k m n c own r m' → IsSound m → IsSound m'
+category_sound category.HardTotals m m' n c own r e allowed h s = other_totals m m' h.1 s
+category_sound k m m' n c own r e allowed h s = on_station_sound m m' c.device _ (λ place before new after. device_keeps k m own r n place c before new after e allowed) h s
 
--- a control with a property set has its device
-set_sound : (m m' : Machine) (n : ℕ) (c : Control) (p : Property) (v : Value) (r : Answer) (b : Bool) → slice_get m.controls n ≡ Some c → MatchBool b (SetsByRecovery m n c p v r m') (Sets m n c p v r m') → IsSound m → IsSound m'
-set_sound m m' n c p v r false e h s = same_machine _ m' h.1 (with_control_sound m n (after_set c p v) (seated m n c s e) s)
-set_sound m m' n c p v r true e (inl h) s =
-    let there = with_control_sound m n (after_set c p v) (seated m n c s e) s in
+-- a control with a property set to what it takes has its device
+pub set_seat : (ds : List Device) (c : Control) (p : Property) (v : Value) → takes (kind_in (device_at ds c.device)) p v ≡ true → HasItsDevice ds c → HasItsDevice ds (after_set c p v)
+set_seat ds c p v may h = moved_seat ds c.category c.cursor.place (cursor_after c.cursor p v).place c.device (place_set (kind_in (device_at ds c.device)) c.cursor p v may) h
+
+set_sound : (m m' : Machine) (n : ℕ) (c : Control) (p : Property) (v : Value) (r : Answer) (b : Bool) → takes (kind_of m c) p v ≡ true → slice_get m.controls n ≡ Some c → MatchBool b (SetsByRecovery m n c p v r m') (Sets m n c p v r m') → IsSound m → IsSound m'
+set_sound m m' n c p v r false may e h s = same_machine _ m' h.1 (with_control_sound m n (after_set c p v) (set_seat m.devices c p v may (seated m n c s e)) s)
+set_sound m m' n c p v r true may e (inl h) s =
+    let there = with_control_sound m n (after_set c p v) (set_seat m.devices c p v may (seated m n c s e)) s in
     same_machine _ m' h.2 (record { kinds = there.kinds; places = there.places })
-set_sound m m' n c p v r true e (inr h) s = other_totals m m' h.1 s
+set_sound m m' n c p v r true may e (inr h) s = other_totals m m' h.1 s
 
 -- claims that have changed leave all else as it was
 other_claims : (m : Machine) (claims : List (Option ℕ)) → IsSound m → IsSound (record m { claims = claims })
@@ -239,7 +305,7 @@ released_seat : (ds : List Device) (k : Category) (c : Control) → HasItsDevice
 released_seat ds k c h = listening_seat ds (is_exclusive k) c (stopped c) h h
 
 called_sound : (m m' : Machine) (n : ℕ) (c : Control) (q : Call) (r : Answer) → slice_get m.controls n ≡ Some c → Called m n c q r m' → IsSound m → IsSound m'
-called_sound m m' n c (call.Open name) r e h s = decided_sound _ r m m' n _ _ (λ none. found_seat m.devices c.category (place_of m.devices name)) h s
+called_sound m m' n c (call.Open name) r e h s = decided_sound _ r m m' n _ _ (λ none. found_seat m.devices c.category (place_of m.devices name) s.kinds) h s
 called_sound m m' n c call.Close r e h s =
     elim (match_cases (first_refusal (close_rows c)) _ _ h.outcome) [
       | inl x ↦ same_machine _ m' x.1.1 (dropped_sound c.category (with_control m n (closed c)) n c (with_control_sound m n (closed c) tt s))
@@ -257,13 +323,15 @@ called_sound m m' n c call.Release r e h s =
     ]
 called_sound m m' n c (call.Set p v) r e h s =
     elim (match_cases (first_refusal (refusals m n c (call.Set p v))) _ _ h.outcome) [
-      | inl x ↦ set_sound m m' n c p v r (recovers m.totals c p v) e x.1 s
+      | inl x ↦
+          let may = unless_not (takes (kind_of m c) p v) (none_applies (refusals m n c (call.Set p v)) x.0).1.1.1.1.0 in
+          set_sound m m' n c p v r (recovers m.totals c p v) may e x.1 s
       | inr x ↦ same_machine m m' x.2.1 s
     ]
 called_sound m m' n c (call.Get p) r e h s = elim (match_cases (first_refusal (get_rows c (facts_of m n c) p)) _ _ h.outcome) [ inl x ↦ same_machine m m' x.1.1 s | inr x ↦ same_machine m m' x.2.1 s ]
 called_sound m m' n c own r e h s =
     elim (match_cases (first_refusal (refusals m n c own)) _ _ h.outcome) [
-      | inl x ↦ category_sound c.category m m' n c own r x.1 s
+      | inl x ↦ category_sound c.category m m' n c own r e (none_applies (refusals m n c own) x.0).1.1 x.1 s
       | inr x ↦ same_machine m m' x.2.1 s
     ]
 
@@ -284,7 +352,7 @@ step_sound m m' (NewControl category) OutOfMemory h s = same_machine m m' h.1 s
 step_sound m m' (CallOf n q) (Answered r) h s =
     elim (match_cases (slice_get m.controls n) _ _ h) [ inl x ↦ same_machine m m' x.1.1 s | inr x ↦ called_sound m m' n x.0 q r x.1 x.2 s ]
 step_sound m m' (CallOf n q) OutOfMemory h s = elim (match_cases (slice_get m.controls n) _ _ h) [ inl x ↦ absurd x.1 | inr x ↦ stays_sound m m' x.0 q x.2.2 s ]
-step_sound m m' (InputTo name input) TakenIn h s = on_station_sound m m' _ _ (takes_keeps input) h s
+step_sound m m' (InputTo name input) TakenIn h s = on_station_sound m m' _ _ (λ place before new after stands. takes_keeps m.devices input place m.controls before new after) h s
 step_sound m m' (InputTo name input) NoDevice h s = same_machine m m' h.1 s
 step_sound m m' (InputTo name input) WrongInput h s = same_machine m m' h.1 s
 step_sound m m' (InputTo name input) OutOfMemory h s = same_machine m m' h.1 s

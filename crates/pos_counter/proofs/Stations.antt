@@ -22,14 +22,14 @@ use Rattle.pos_service.specs.Refusals.{Row, first_refusal, when}
 use Rattle.pos_service.specs.Stations.{Station, Effect, station_of, CalledAt, CalledBy, IsOpen}
 use Rattle.pos_common.specs.Held.{Held, controls_of}
 use Rattle.pos_counter.specs.declared.entry.Entry.{Entry}
-use Rattle.pos_counter.specs.Machine.{Device, Machine, Shared, station_in, station_named, device_at, place_of}
+use Rattle.pos_counter.specs.Machine.{Device, Machine, Shared, station_in, station_named, device_at, kind_in, kind_of, place_of}
 use Rattle.pos_counter.specs.Parts.{over, machine_of, devices_of, device_of, AllUnparked}
 use Rattle.pos_counter.specs.Responses.{answered}
-use Rattle.pos_counter.specs.Steps.{OnStation, Step, CallOf, Answered, Does, DeviceDoes, CategoryDoes, Stays, category_rows, device_rows, refusals, takes_memory, FindsFit, IsSound, IsServed, HasItsKind}
+use Rattle.pos_counter.specs.Steps.{OnStation, Step, CallOf, Answered, Does, DeviceDoes, CategoryDoes, Stays, category_rows, device_rows, refusals, takes_memory, FindsFit, IsPlaceOn, IsSound}
 use Rattle.pos_counter.specs.Totals.{is_totals}
 use Rattle.pos_counter.proofs.DeviceLists.{device_there, devices_set, devices_same, station_there}
 use Rattle.pos_counter.proofs.Lifts.{match_cases, match_at_some, match_by, match_weaker}
-use Rattle.pos_counter.proofs.Sound.{seated, Served}
+use Rattle.pos_counter.proofs.Sound.{kind_of_device, seated, Served}
 
 entry_within : (es : List Entry) (i : ℕ) → i < length es → (e : Entry) × (slice_get es i ≡ Some e)
 entry_within [] i lt = absurd (omega arith)
@@ -93,19 +93,21 @@ unparked_at state ps place p at all =
 pub unparked_set : {P : Type 0} (state : P → PeripheralState) (ps : List P) (place : ℕ) (q : P) → (state q).is_parked ≡ false → AllUnparked (map state ps) → AllUnparked (map state (set ps place q))
 unparked_set state ps place q unparked all = subst AllUnparked (sym (map-set state ps place q)) (All-set (λ (s : PeripheralState). s.is_parked ≡ false) (map state ps) place (state q) unparked all)
 
--- At this place of a list there is a peripheral of a kind that the category serves.
-pub record ServedAt {P : Type 0} (state : P → PeripheralState) (ps : List P) (category : Category) (place : ℕ) : Type 0 where
+-- At this place there is a peripheral, which is of the device's kind and serves the control.
+pub record ServedAt {P : Type 0} (state : P → PeripheralState) (es : List Entry) (ps : List P) (control : Control) (place : ℕ) : Type 0 where
   pub within : place < length ps
-  pub is_served : (d : P) → serves category (Some (state (get_or ps place d)).kind) ≡ true
+  pub kind : (d : P) → kind_in (device_at (devices_of es (map state ps)) (Some place)) ≡ Some (state (get_or ps place d)).kind
+  pub is_served : (d : P) → serves control.category (Some (state (get_or ps place d)).kind) ≡ true
+  pub cursor : (d : P) → IsPlaceOn (Some (state (get_or ps place d)).kind) control.cursor.place
 
 -- an open control's device has a peripheral, where its category serves no device without one
-pub served_there : {P : Type 0} (state : P → PeripheralState) (hs : List Held) (es : List Entry) (ps : List P) (shared : Shared) (n : ℕ) (c : Control) (place : ℕ) → IsSound (machine_of hs es (map state ps) shared) → length (map state ps) ≤ length es → slice_get (controls_of hs) n ≡ Some c → c.device ≡ Some place → serves c.category None ≡ false → ServedAt state ps c.category place
+pub served_there : {P : Type 0} (state : P → PeripheralState) (hs : List Held) (es : List Entry) (ps : List P) (shared : Shared) (n : ℕ) (c : Control) (place : ℕ) → IsSound (machine_of hs es (map state ps) shared) → length (map state ps) ≤ length es → slice_get (controls_of hs) n ≡ Some c → c.device ≡ Some place → serves c.category None ≡ false → ServedAt state es ps c place
 served_there {P = P} state hs es ps shared n c place sound whole at is peripheral =
     let ds = devices_of es (map state ps) in
-    let seat = subst (λ (o : Option ℕ). IfSome o (λ k. Served c.category (slice_get ds k))) is (seated (machine_of hs es (map state ps) shared) n c sound at) in
+    let seat = subst (λ (o : Option ℕ). IfSome o (λ k. Served c.category c.cursor.place (slice_get ds k))) is (seated (machine_of hs es (map state ps) shared) n c sound at) in
     elim (match_cases (slice_get ds place) _ _ seat) [
       | inl x ↦ absurd x.1
-      | inr x ↦ by_peripheral x.0 x.1 x.2.0 x.2.1 (slice_get ps place) refl
+      | inr x ↦ by_peripheral x.0 x.1 x.2.0 x.2.1 x.2.2 (slice_get ps place) refl
     ]
   where
     stands : (d : Device) → slice_get (devices_of es (map state ps)) place ≡ Some d → d.station ≡ option_map station_of (option_map state (slice_get ps place))
@@ -116,15 +118,18 @@ served_there {P = P} state hs es ps shared n c place sound whole at is periphera
     nothing (Some k) None served attached none = cc
     nothing (Some k) (Some s) served attached none = cc
 
-    by_peripheral : (d : Device) → slice_get (devices_of es (map state ps)) place ≡ Some d → serves c.category d.kind ≡ true → IsTrue (is_none d.kind || is_some d.station) → (o : Option P) → slice_get ps place ≡ o → ServedAt state ps c.category place
-    by_peripheral d there served attached None none =
+    by_peripheral : (d : Device) → slice_get (devices_of es (map state ps)) place ≡ Some d → serves c.category d.kind ≡ true → IsTrue (is_none d.kind || is_some d.station) → IsPlaceOn d.kind c.cursor.place → (o : Option P) → slice_get ps place ≡ o → ServedAt state es ps c place
+    by_peripheral d there served attached cursor None none =
         absurd (nothing d.kind d.station served attached (stands d there ∙ ap (λ o. option_map station_of (option_map state o)) none))
-    by_peripheral d there served attached (Some p) some =
-        let its : HasItsKind d = subst HasItsKind (get_or_from_slice_get (devices_of es (map state ps)) place d d there) (All-get_or HasItsKind (devices_of es (map state ps)) place d (slice_get_within (devices_of es (map state ps)) place d there) sound.kinds) in
+    by_peripheral d there served attached cursor (Some p) some =
+        let its = (kind_of_device (devices_of es (map state ps)) place d there sound.kinds).1 in
         let same : d.kind ≡ Some (state p).kind = subst (λ (o : Option Station). IfSome o (λ station. d.kind ≡ Some station.kind)) (stands d there ∙ ap (λ o. option_map station_of (option_map state o)) some) its in
+        let here : (e : P) → d.kind ≡ Some (state (get_or ps place e)).kind = λ e. same ∙ ap (λ q. Some (state q).kind) (sym (get_or_from_slice_get ps place p e some)) in
         record {
           within = slice_get_within ps place p some;
-          is_served = λ e. ap (λ q. serves c.category (Some (state q).kind)) (get_or_from_slice_get ps place p e some) ∙ ap (serves c.category) (sym same) ∙ served;
+          kind = λ e. ap kind_in there ∙ here e;
+          is_served = λ e. ap (serves c.category) (sym (here e)) ∙ served;
+          cursor = λ e. subst (λ (k : Option Kind). IsPlaceOn k c.cursor.place) (here e) cursor;
         }
 
 -- a name finds a device whose peripheral has an input, or hasn't
@@ -202,7 +207,7 @@ open_refusals m n c k asked own is device =
     is_there (Some i) h = refl
 
 -- what the categories with a peripheral ask and do
-rows_at_device : (k : Category) (m : Machine) (n : ℕ) (c : Control) (asked : Call) → is_totals k ≡ false → category_rows k m n c asked ≡ device_rows k m.claims n c asked
+rows_at_device : (k : Category) (m : Machine) (n : ℕ) (c : Control) (asked : Call) → is_totals k ≡ false → category_rows k m n c asked ≡ device_rows k m.claims n (kind_of m c) c asked
 rows_at_device category.HardTotals m n c asked is = cc
 rows_at_device k m n c asked is = refl
 
@@ -213,10 +218,11 @@ does_at_device k m m' n c asked r is h = h
 -- a call of a category's own on an open control, at its device's station, is a step
 pub device_step : {P : Type 0} (state : P → PeripheralState) (hs gs : List Held) (es : List Entry) (ps : List P) (shared : Shared) (n place : ℕ) (p q : P) (c : Control) (asked : Call) (r : Result Answer NoMemory)
     → is_common asked ≡ false → slice_get (controls_of hs) n ≡ Some c → is_totals c.category ≡ false → c.device ≡ Some place → length (map state ps) ≤ length es → slice_get ps place ≡ Some p
-    → CalledBy (device_rows c.category shared.claims n) (DeviceDoes c.category) n asked r (controls_of hs) (station_of (state p)) (controls_of gs) (station_of (state q))
+    → kind_in (device_at (devices_of es (map state ps)) (Some place)) ≡ Some (state p).kind
+    → CalledBy (device_rows c.category shared.claims n (Some (state p).kind)) (DeviceDoes c.category) n asked r (controls_of hs) (station_of (state p)) (controls_of gs) (station_of (state q))
     → Step (machine_of hs es (map state ps) shared) (CallOf n asked) (answered r) (machine_of gs es (map state (set ps place q)) shared)
-device_step state hs gs es ps shared n place p q c asked r own at is device whole there called =
-    let Q : Control → ℕ → Type 0 = λ control place. CalledAt asked (own_rows control asked (device_rows c.category shared.claims n control asked)) (DeviceDoes c.category asked n place) r (controls_of hs) (station_of (state p)) (controls_of gs) (station_of (state q)) in
+device_step state hs gs es ps shared n place p q c asked r own at is device whole there kind called =
+    let Q : Control → ℕ → Type 0 = λ control place. CalledAt asked (own_rows control asked (device_rows c.category shared.claims n (Some (state p).kind) control asked)) (DeviceDoes c.category asked n place) r (controls_of hs) (station_of (state p)) (controls_of gs) (station_of (state q)) in
     by_outcome r (called_there _ c place Q at device called)
   where
     m : Machine
@@ -226,10 +232,13 @@ device_step state hs gs es ps shared n place p q c asked r own at is device whol
     m' = machine_of gs es (map state (set ps place q)) shared
 
     rows : List Row
-    rows = own_rows c asked (device_rows c.category shared.claims n c asked)
+    rows = own_rows c asked (device_rows c.category shared.claims n (Some (state p).kind) c asked)
 
     unrefused : first_refusal (refusals m n c asked) ≡ first_refusal rows
-    unrefused = open_refusals m n c c.category asked own refl (ap is_some device) ∙ ap (λ table. first_refusal (own_rows c asked table)) (rows_at_device c.category m n c asked is)
+    unrefused =
+        open_refusals m n c c.category asked own refl (ap is_some device)
+        ∙ ap (λ table. first_refusal (own_rows c asked table)) (rows_at_device c.category m n c asked is)
+        ∙ ap (λ at. first_refusal (own_rows c asked (device_rows c.category shared.claims n at c asked))) (ap (λ o. kind_in (device_at m.devices o)) device ∙ kind)
 
     by_outcome : (o : Result Answer NoMemory) → CalledAt asked rows (DeviceDoes c.category asked n place) o (controls_of hs) (station_of (state p)) (controls_of gs) (station_of (state q)) → Step m (CallOf n asked) (answered o) m'
     by_outcome (Ok result) h =

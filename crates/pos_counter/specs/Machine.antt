@@ -47,6 +47,11 @@ abbrev pub station_in : Option Device → Option Station
 station_in None = None
 station_in (Some device) = device.station
 
+-- what a device is, where it has a peripheral
+abbrev pub kind_in : Option Device → Option Kind
+kind_in None = None
+kind_in (Some device) = device.kind
+
 -- what stands at the device of this name
 abbrev pub station_named : Machine → List ℕ → Option Station
 station_named machine name = station_in (device_at machine.devices (place_of machine.devices name))
@@ -85,6 +90,10 @@ holder_in c claims area device = holder_at claims device
 -- the control that holds a control's device
 abbrev pub holder_of : Machine → Control → Option ℕ
 holder_of machine control = holder_in control.category machine.claims machine.totals.totals.area control.device
+
+-- what a control's device is
+abbrev pub kind_of : Machine → Control → Option Kind
+kind_of machine control = kind_in (device_at machine.devices control.device)
 
 -- the machine with other totals over the same disk
 abbrev pub with_totals : Machine → Totals → Machine

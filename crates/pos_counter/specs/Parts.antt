@@ -1,9 +1,10 @@
 -- The machine that a counter's parts stand for.
-use Rattle.std.specs.Prelude.{◌≡◌, ◌≤◌, ◌<◌, ◌⊎◌, ◌&&◌, not, ℕ, Bool, true, false, List, [], ◌∷◌, Option, Some, None, MatchOption, IfSome, Result, All, length, map, option_map, slice_get, ⊤}
+use Rattle.std.specs.Prelude.{◌≡◌, ◌≤◌, ◌<◌, ◌⊎◌, ◌&&◌, not, ℕ, Bool, true, false, List, [], ◌∷◌, Option, Some, None, MatchOption, IfSome, Result, All, length, map, option_map, option_and_then, slice_get, ⊤}
 use Rattle.std.specs.List.{filter_map}
 use Rattle.pos_service.specs.declared.answer.Answer.{Answer}
 use Rattle.pos_service.specs.declared.call.Call.{Call}
 use Rattle.pos_service.specs.declared.facts.Facts.{Facts}
+use Rattle.pos_service.specs.declared.kind.Kind.{Kind}
 use Rattle.pos_service.specs.declared.memory.NoMemory.{NoMemory}
 use Rattle.pos_service.specs.HardTotals.{Mode, layout_1, is_ready}
 use Rattle.pos_service.specs.Peripherals.{PeripheralState}
@@ -52,6 +53,11 @@ machine_of helds entries states shared = over helds (devices_of entries states) 
 abbrev pub machine_with : List Held → List (Option ℕ) → List Entry → List PeripheralState → TotalsPart → Machine
 machine_with helds claims entries states part =
     machine_of helds entries states (record { claims = claims; totals = part })
+
+-- what the device at a place is
+abbrev pub kind_at : List Entry → Option ℕ → Option Kind
+kind_at entries None = None
+kind_at entries (Some place) = option_and_then (λ entry. entry.kind) (slice_get entries place)
 
 -- what stands at a place
 abbrev pub standing_at : List PeripheralState → Option ℕ → Option Station

@@ -5,7 +5,9 @@ use Rattle.pos_service.specs.declared.category.Category.{Category}
 use Rattle.pos_service.specs.declared.category.Category.TheVariants as category
 use Rattle.pos_service.specs.declared.call.Call.{Call}
 use Rattle.pos_service.specs.declared.call.Call.TheVariants as call
+use Rattle.pos_service.specs.declared.display_text.Place.{Place}
 use Rattle.pos_service.specs.declared.input.Input.{Input}
+use Rattle.pos_service.specs.declared.kind.Kind.{Kind}
 use Rattle.pos_service.specs.declared.plant.Plant.{Plant}
 use Rattle.pos_service.specs.declared.event.Event.{Event}
 use Rattle.pos_service.specs.declared.event.ErrorReply.{ErrorReply}
@@ -13,13 +15,16 @@ use Rattle.pos_service.specs.declared.answer.Answer.{Answer}
 use Rattle.pos_service.specs.declared.answer.Answer.TheVariants as answer
 use Rattle.pos_service.specs.declared.answer.Value.TheVariants as value
 use Rattle.pos_service.specs.declared.code.Code.TheVariants as code
-use Rattle.pos_service.specs.Peripherals.{input_fits}
+use Rattle.pos_service.specs.Displays.{is_cursor_place}
+use Rattle.pos_service.specs.Kinds.{is_display, rows_of, columns_of}
+use Rattle.pos_service.specs.Peripherals.{IsInRange, input_fits}
 use Rattle.pos_service.specs.Controls.{Control, new_control, opened, closed, deliverable, delivered}
 use Rattle.pos_service.specs.Claims.{is_own, is_foreign, holder_at, claimed_by, released_by, claim_rows, release_rows, after_release}
 use Rattle.pos_service.specs.Refusals.{Row, Decided, first_refusal, when}
 use Rattle.pos_service.specs.Calls.{takes_memory as own_takes_memory}
 use Rattle.pos_service.specs.Calls.{serves, own_rows, place_found, open_rows, close_rows, set_rows, after_set, get_rows, is_of_bytes, property_of}
 use Rattle.pos_service.specs.Stations.{Station, Effect, TakesIn, signs_in}
+use Rattle.pos_service.specs.DisplayCalls.{display_rows, DisplayDoes}
 use Rattle.pos_service.specs.DrawerCalls.{drawer_rows, DrawerDoes}
 use Rattle.pos_service.specs.ScannerCalls.{scanner_rows, ScannerDoes}
 use Rattle.pos_service.specs.declared.property.Property.{Property}
@@ -28,7 +33,7 @@ use Rattle.pos_service.specs.declared.facts.Facts.{Facts}
 use Rattle.pos_service.specs.HardTotals.{layout_1, in_transaction, is_area_taken, without_control, with_control as with_place}
 use Rattle.pos_service.specs.TotalsCalls.{file_call, totals_rows}
 use Rattle.pos_counter.specs.Totals.{TotalsDo, Recovered, Recovers, Rests, recovers, file_facts}
-use Rattle.pos_counter.specs.Machine.{Device, Machine, place_of, device_at, station_in, station_named, found_under, holder_of, with_control, with_station, with_totals}
+use Rattle.pos_counter.specs.Machine.{Device, Machine, place_of, device_at, station_in, station_named, found_under, holder_of, kind_of, with_control, with_station, with_totals}
 
 -- what may be asked of the machine: controls by their numbers, devices by their names
 pub data Request : Type 0 where
@@ -53,6 +58,7 @@ pub data Response : Type 0 where
 -- what is known of the control with a number and of its device, as properties tell it
 abbrev pub facts_of : Machine → ℕ → Control → Facts
 facts_of machine number control = record {
+  kind = kind_of machine control;
   signs = signs_in (station_in (device_at machine.devices control.device));
   totals_size = layout_1.bytes;
   files = file_facts machine.totals.totals.mode;
@@ -87,11 +93,12 @@ takes_memory machine control (call.Set property v) = recovers machine.totals con
 takes_memory machine control (call.Get property) = is_of_bytes property
 takes_memory machine control own = own_takes_memory own
 
--- what each call at a device with a peripheral asks, in order, by who holds each device
-abbrev pub device_rows : Category → List (Option ℕ) → ℕ → Control → Call → List Row
-device_rows category.CashDrawer claims number control own = drawer_rows claims number control own
-device_rows category.Scanner claims number control own = scanner_rows claims number control own
-device_rows category.HardTotals claims number control own = []
+-- what each call at a device with a peripheral asks, in order, by who holds each device and by what the control's is
+abbrev pub device_rows : Category → List (Option ℕ) → ℕ → Option Kind → Control → Call → List Row
+device_rows category.CashDrawer claims number at control own = drawer_rows claims number control own
+device_rows category.Scanner claims number at control own = scanner_rows claims number control own
+device_rows category.LineDisplay claims number at control own = display_rows claims number at control own
+device_rows category.HardTotals claims number at control own = []
 
 -- what it does at the device's station, where nothing refuses it
 abbrev pub DeviceDoes : Category → Call → ℕ → ℕ → Answer → Effect
@@ -99,12 +106,15 @@ DeviceDoes category.CashDrawer own number place result old before new after =
     DrawerDoes own number place result old before new after
 DeviceDoes category.Scanner own number place result old before new after =
     ScannerDoes own number place result old before new after
+DeviceDoes category.LineDisplay own number place result old before new after =
+    DisplayDoes own number place result old before new after
 DeviceDoes category.HardTotals own number place result old before new after = ⊥
 
 -- what each call of a category's own asks, in order
 abbrev pub category_rows : Category → Machine → ℕ → Control → Call → List Row
 category_rows category.HardTotals machine number control own = totals_rows machine.totals.totals number control own
-category_rows c machine number control own = device_rows c machine.claims number control own
+category_rows c machine number control own =
+    device_rows c machine.claims number (kind_of machine control) control own
 
 -- what each call of a category's own does, where nothing refuses it: with the totals, or at its device's station
 abbrev pub CategoryDoes : Category → Machine → ℕ → Control → Call → Answer → Machine → Type 0
@@ -148,7 +158,7 @@ refusals machine number control (call.Claim timeout) =
 refusals machine number control call.Release =
     release_rows control (is_own number (holder_of machine control))
 refusals machine number control (call.Set property v) =
-    set_rows number (holder_of machine control) control property v
+    set_rows number (holder_of machine control) (kind_of machine control) control property v
 refusals machine number control (call.Get property) = get_rows control (facts_of machine number control) property
 refusals machine number control own =
     when (is_none control.device) code.Closed
@@ -244,18 +254,27 @@ abbrev pub Run : Machine → List (Request × Response) → Machine → Type 0
 Run old [] new = new ≡ old
 Run old (step ∷ steps) new = (mid : Machine) × Step old step.0 step.1 mid × Run mid steps new
 
--- A device's peripheral, where it has one, is of the device's kind.
+-- A device's kind is in range, and its peripheral, where it has one, is of this kind.
 abbrev pub HasItsKind : Device → Type 0
-HasItsKind device = IfSome device.station (λ station. device.kind ≡ Some station.kind)
+HasItsKind device =
+    IfSome device.kind IsInRange × IfSome device.station (λ station. device.kind ≡ Some station.kind)
 
--- The category serves the device, which has a peripheral where it is of a kind.
-abbrev pub IsServed : Category → Device → Type 0
-IsServed category device = (serves category device.kind ≡ true) × IsTrue (is_none device.kind || is_some device.station)
+-- A place is one of what a device is, where that is a display.
+abbrev pub IsPlaceOn : Option Kind → Place → Type 0
+IsPlaceOn at place =
+    IfSome at (λ kind. is_display kind ≡ true → is_cursor_place (rows_of at) (columns_of at) place ≡ true)
 
--- The device of an open control is there, and the control's category serves it.
+-- The control's category serves the device, which has a peripheral where it is of a kind; where that is a display, the
+-- control's cursor is at one of its places.
+abbrev pub IsServed : Control → Device → Type 0
+IsServed control device =
+    (serves control.category device.kind ≡ true) × IsTrue (is_none device.kind || is_some device.station)
+    × IsPlaceOn device.kind control.cursor.place
+
+-- The device of an open control is there, and serves it.
 abbrev pub HasItsDevice : List Device → Control → Type 0
 HasItsDevice devices control =
-    IfSome control.device (λ place. MatchOption (slice_get devices place) ⊥ (IsServed control.category))
+    IfSome control.device (λ place. MatchOption (slice_get devices place) ⊥ (IsServed control))
 
 -- What is true of every machine that a counter stands for.
 pub record IsSound (machine : Machine) : Type 0 where

@@ -101,6 +101,7 @@ impl<D: Disk> Counter<D> {
         ensures sound { IsCounterSound ⟦<PeripheralBox as HasState>⟧ self.new }
     {
         device_calls::call(
+            self.desk.allocator(),
             &mut self.desk.controls,
             &mut self.claims,
             &self.entries,

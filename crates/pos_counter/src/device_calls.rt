@@ -1,6 +1,8 @@
 //! The calls of an application, and what happens at devices.
 ghost use Rattle.std.specs.Prelude.{◌≡◌, ◌<◌, ◌≤◌, false, true, List, Some, length, map};
 ghost use Rattle.pos_service.specs.Calls.{is_common, serves};
+ghost use Rattle.pos_service.specs.DisplayCalls.{HasCursor};
+ghost use Rattle.pos_service.specs.Kinds.{is_display};
 ghost use Rattle.pos_service.specs.Peripherals.{input_fits};
 ghost use Rattle.pos_service.specs.Stations.{station_of, CalledBy, IsOpen, StaysInService, TakenAt};
 ghost use Rattle.pos_common.specs.Held.{Held, controls_of};
@@ -25,6 +27,7 @@ use std::alloc::Global;
 
 /// A call of an application on a control.
 pub(crate) fn call<D: Disk>(
+    alloc: Global,
     controls: &mut [Control],
     claims: &mut Claims,
     entries: &[Entry],
@@ -47,14 +50,19 @@ pub(crate) fn call<D: Disk>(
         Call::Close => Ok(close(controls, claims, totals, number)),
         Call::Claim(timeout) => Ok(claim(controls, claims, totals, number, *timeout)),
         Call::Release => Ok(release(controls, claims, totals, number)),
-        Call::Set(property, value) => set(controls, claims, totals, number, *property, value),
+        Call::Set(property, value) => set(
+            controls, claims, entries, totals, number, *property, value,
+        ),
         Call::Get(property) => get(controls, claims, entries, boxes, totals, number, *property),
-        _ => call_category(controls, claims, entries, boxes, totals, number, call),
+        _ => call_category(
+            alloc, controls, claims, entries, boxes, totals, number, call,
+        ),
     }
 }
 
 /// A call of a category's own, which the crate of the control's category answers.
 fn call_category<D: Disk>(
+    alloc: Global,
     controls: &mut [Control],
     claims: &Claims,
     entries: &[Entry],
@@ -77,11 +85,21 @@ fn call_category<D: Disk>(
         return call_totals(controls, claims, totals, number, call);
     }
     let category = controls[number].category();
-    call_device(controls, number, category, claims, &mut boxes[place], call)
+    call_device(
+        alloc,
+        controls,
+        number,
+        category,
+        claims,
+        &mut boxes[place],
+        call,
+    )
 }
 
-/// A call of a category's own on an open control of a device with a peripheral, which is the device's.
+/// A call of a category's own on an open control of a device with a peripheral, which is the device's. Where that is a
+/// display, the control's cursor is at one of its places.
 fn call_device(
+    alloc: Global,
     controls: &mut [Control],
     number: usize,
     category: Category,
@@ -92,8 +110,11 @@ fn call_device(
     requires open { IsOpen category (controls_of controls.old) number }
     requires unparked { (⟦<PeripheralBox as HasState>⟧.state peripheral.old).is_parked ≡ false }
     requires served { serves category (Some (⟦<PeripheralBox as HasState>⟧.state peripheral.old).kind) ≡ true }
+    requires cursor { let kind = (⟦<PeripheralBox as HasState>⟧.state peripheral.old).kind in
+        is_display kind ≡ true → HasCursor kind (controls_of controls.old) number }
     ensures called { let state = ⟦<PeripheralBox as HasState>⟧.state in
-        CalledBy (device_rows category claims.now number) (DeviceDoes category) number call.now result
+        CalledBy (device_rows category claims.now number (Some (state peripheral.old).kind)) (DeviceDoes category)
+        number call.now result
         (controls_of controls.old) (station_of (state peripheral.old))
         (controls_of controls.new) (station_of (state peripheral.new)) }
     ensures in_service { let state = ⟦<PeripheralBox as HasState>⟧.state in
@@ -102,6 +123,9 @@ fn call_device(
     match category {
         Category::CashDrawer => pos_drawer::call(controls, number, claims, peripheral, call),
         Category::Scanner => pos_scanner::call(controls, number, claims, peripheral, call),
+        Category::LineDisplay => {
+            pos_display::call(alloc, controls, number, claims, peripheral, call)
+        }
         Category::HardTotals => unreachable!(),
     }
 }

@@ -3,7 +3,7 @@ ghost use Rattle.std.specs.Prelude.{◌≡◌, ◌<◌, ◌≤◌, ◌||◌, Lis
 ghost use Rattle.pos_service.specs.Peripherals.{PeripheralState};
 ghost use Rattle.pos_service.specs.Stations.{signs_in};
 ghost use Rattle.pos_counter.specs.Machine.{Shared, place_of, found_under};
-ghost use Rattle.pos_counter.specs.Parts.{devices_of, machine_of, standing_at};
+ghost use Rattle.pos_counter.specs.Parts.{devices_of, kind_at, machine_of, standing_at};
 
 use crate::entry::Entry;
 use pos_service::{Category, Finding, HasState, Kind, PaperLevel, Signs};
@@ -50,6 +50,18 @@ fn is_attached<P: HasState>(kind: Option<Kind>, peripherals: &[P], place: usize)
     ensures { result ≡ (is_none kind || is_some (slice_get (map P.state peripherals.now) place)) }
 {
     kind.is_none() || place < peripherals.len()
+}
+
+/// What the device at the place is, where it has a peripheral.
+pub(crate) fn kind_at(entries: &[Entry], place: Option<usize>) -> Option<Kind>
+    ensures { result ≡ kind_at entries.now place }
+{
+    if let Some(place) = place {
+        if let Some(entry) = entries.get(place) {
+            return entry.kind;
+        }
+    }
+    None
 }
 
 /// The signs of the peripheral at the place, each false or good where there is none.

@@ -8,6 +8,8 @@ mod counter;
 mod desk;
 mod device_calls;
 mod devices;
+#[cfg(test)]
+mod display_tests;
 mod entry;
 mod faults;
 pub mod laws;

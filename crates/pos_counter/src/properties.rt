@@ -4,7 +4,6 @@ ghost use Rattle.pos_service.specs.declared.call.Call.TheVariants as call;
 ghost use Rattle.pos_service.specs.Claims.{is_own};
 ghost use Rattle.pos_service.specs.Peripherals.{PeripheralState};
 ghost use Rattle.pos_store.specs.Standing.{Standing};
-ghost use Rattle.pos_counter.specs.declared.entry.Entry.{Entry as OneEntry};
 ghost use Rattle.pos_counter.specs.Parts.{ArePartsSound, Serves, machine_with, part_of};
 ghost use Rattle.pos_counter.specs.Machine.{holder_in};
 ghost use Rattle.pos_counter.specs.Responses.{answered};
@@ -12,7 +11,7 @@ ghost use Rattle.pos_counter.specs.Steps.{Step, CallOf, facts_of};
 ghost use Rattle.pos_counter.specs.Parts.{IsRecovering};
 ghost use Rattle.pos_counter.specs.Totals.{asks_recovery, file_facts};
 
-use crate::devices::signs_at;
+use crate::devices::{kind_at, signs_at};
 use crate::entry::Entry;
 use crate::totals_calls::is_totals;
 use pos_common::{Claims, Control};
@@ -60,6 +59,7 @@ fn find_facts<P: HasState, D: Disk>(
     Facts {
         is_claimed: is_holder(control, claims, totals.area(), number),
         in_transaction: totals.in_transaction(number),
+        kind: kind_at(entries, control.device()),
         signs: signs_at(peripherals, control.device()),
         totals_size: totals.size(),
         files: find_file_facts(totals),
@@ -107,27 +107,31 @@ fn find_file_facts<D: Disk>(totals: &Totals<D>) -> Option<FileFacts>
 pub(crate) fn set<D: Disk>(
     controls: &mut [Control],
     claims: &Claims,
+    entries: &[Entry],
     totals: &mut Totals<D>,
     number: usize,
     property: Property,
     value: &Value,
 ) -> Result<Answer, NoMemory>
     requires { number < length controls.old }
-    ensures { (entries : List OneEntry) (states : List PeripheralState) → ArePartsSound controls.old entries states →
-        Serves D.Disk controls.old claims.now entries states totals.old
+    ensures { (states : List PeripheralState) → ArePartsSound controls.old entries.now states →
+        Serves D.Disk controls.old claims.now entries.now states totals.old
         (CallOf number (call.Set property value.now)) (answered result) controls.new claims.now states totals.new }
 {
     if is_recovering(&controls[number], totals.is_ready(), property, value) {
-        return set_recovered(controls, claims, totals, number, property, value);
+        return set_recovered(controls, claims, entries, totals, number, property, value);
     }
-    let holder = find_holder(&controls[number], claims, totals.area());
-    Ok(controls[number].set(number, holder, property, value))
+    let control = &mut controls[number];
+    let holder = find_holder(control, claims, totals.area());
+    let kind = kind_at(entries, control.device());
+    Ok(control.set(number, holder, kind, property, value))
 }
 
 /// Enables a control of Hard Totals that are off, once they are recovered.
 fn set_recovered<D: Disk>(
     controls: &mut [Control],
     claims: &Claims,
+    entries: &[Entry],
     totals: &mut Totals<D>,
     number: usize,
     property: Property,
@@ -135,13 +139,15 @@ fn set_recovered<D: Disk>(
 ) -> Result<Answer, NoMemory>
     requires in_range { number < length controls.old }
     requires recovers { IsRecovering controls.old number property value.now totals.old.totals.mode }
-    ensures { (entries : List OneEntry) (states : List PeripheralState) → ArePartsSound controls.old entries states →
-        Serves D.Disk controls.old claims.now entries states totals.old
+    ensures { (states : List PeripheralState) → ArePartsSound controls.old entries.now states →
+        Serves D.Disk controls.old claims.now entries.now states totals.old
         (CallOf number (call.Set property value.now)) (answered result) controls.new claims.now states totals.new }
 {
-    let holder = find_holder(&controls[number], claims, totals.area());
+    let control = &mut controls[number];
+    let holder = find_holder(control, claims, totals.area());
+    let kind = kind_at(entries, control.device());
     match totals.recover() {
-        Ok(()) => Ok(controls[number].set(number, holder, property, value)),
+        Ok(()) => Ok(control.set(number, holder, kind, property, value)),
         Err(fault) => match fault.code() {
             Ok(code) => Ok(Answer::Refused(code, 0)),
             Err(NoMemory) => Err(NoMemory),

@@ -2,8 +2,10 @@
 use crate::support::{counter_over, end};
 use crate::{Request, Response};
 use pos_disk::Disk;
+use pos_service::display_text::DisplayCell;
 use pos_service::{
-    Answer, Bytes, Call, Category, Code, ErrorReply, Event, NoMemory, Property, Value,
+    Answer, Bytes, Call, Category, Code, ErrorReply, Event, Input, NoMemory, Plant, Property,
+    Snapshot, Value,
 };
 use std::alloc::{AllocError, Global};
 
@@ -19,6 +21,8 @@ pub enum Wanted<'a> {
     Refused(Code, u32),
     Status(u32),
     NoEvent,
+    WrongInput,
+    Shows(&'a [u8], &'a [u32]),
 }
 
 pub const NOTHING: Wanted<'static> = Wanted::Nothing;
@@ -32,6 +36,10 @@ pub const FAILURE: Wanted<'static> = Wanted::Refused(Code::Failure, 0);
 pub const NO_ROOM: Wanted<'static> = Wanted::Refused(Code::Extended, 201);
 
 pub const CLAIMED: Wanted<'static> = Wanted::Refused(Code::Claimed, 0);
+
+pub const NOT_CLAIMED: Wanted<'static> = Wanted::Refused(Code::NotClaimed, 0);
+
+pub const CLOSED: Wanted<'static> = Wanted::Refused(Code::Closed, 0);
 
 pub const TIMEOUT: Wanted<'static> = Wanted::Refused(Code::Timeout, 0);
 
@@ -51,6 +59,25 @@ fn gives(value: &Value, wanted: Wanted<'_>) -> bool {
     }
 }
 
+/// Whether a display shows these characters and attributes, row by row.
+fn shows(plant: &Plant, characters: &[u8], attributes: &[u32]) -> bool {
+    match plant {
+        Plant::Display(cells) => {
+            cells
+                .as_slice()
+                .iter()
+                .map(|cell: &DisplayCell| cell.character)
+                .eq(characters.iter().copied())
+                && cells
+                    .as_slice()
+                    .iter()
+                    .map(|cell: &DisplayCell| cell.attribute.number())
+                    .eq(attributes.iter().copied())
+        }
+        _ => false,
+    }
+}
+
 /// Whether a response is what is wanted.
 fn fits(response: &Response, wanted: Wanted<'_>) -> bool {
     match response {
@@ -63,11 +90,15 @@ fn fits(response: &Response, wanted: Wanted<'_>) -> bool {
             matches!(wanted, Wanted::Status(number) if *status == number)
         }
         Response::Delivered(None) => matches!(wanted, Wanted::NoEvent),
+        Response::WrongInput => matches!(wanted, Wanted::WrongInput),
+        Response::Shown(Snapshot(plant)) => {
+            matches!(wanted, Wanted::Shows(characters, attributes) if shows(plant, characters, attributes))
+        }
         _ => false,
     }
 }
 
-/// What is asked of a control.
+/// What is asked of a control, or of a device.
 #[derive(Clone, Copy)]
 pub enum Step<'a> {
     Make(Category),
@@ -78,7 +109,15 @@ pub enum Step<'a> {
     Deliver,
     Enable(bool),
     Get(Property),
+    SetTruth(Property, bool),
+    SetNumber(Property, i128),
+    Move(&'a [u8]),
+    Show(&'a [u8]),
     OpenDrawer,
+    Text(&'a [u8], i128),
+    TextAt(i128, i128, &'a [u8], i128),
+    ClearText,
+    Scroll(i128, i128),
     Create(&'a [u8], i128),
     Delete(&'a [u8]),
     Find(&'a [u8]),
@@ -104,31 +143,60 @@ pub fn bytes(alloc: Global, items: &[u8]) -> Result<Bytes, AllocError> {
 
 /// The request of a step of a control.
 fn request_of(alloc: Global, number: usize, step: Step<'_>) -> Result<Request, AllocError> {
-    let call = match step {
-        Step::Make(category) => return Ok(Request::NewControl(category)),
-        Step::Open(name) => Call::Open(bytes(alloc, name)?),
-        Step::Deliver => return Ok(Request::Deliver(number, ErrorReply::Default)),
-        Step::Close => Call::Close,
-        Step::Claim(timeout) => Call::Claim(timeout),
-        Step::Release => Call::Release,
-        Step::Enable(truth) => Call::Set(Property::DeviceEnabled, Value::Truth(truth)),
-        Step::Get(property) => Call::Get(property),
-        Step::OpenDrawer => Call::OpenDrawer,
-        Step::Create(name, size) => Call::Create(bytes(alloc, name)?, size, false),
-        Step::Delete(name) => Call::Delete(bytes(alloc, name)?),
-        Step::Find(name) => Call::Find(bytes(alloc, name)?),
-        Step::FindByIndex(index) => Call::FindByIndex(index),
-        Step::Read(handle, offset, count) => Call::Read(handle, offset, count),
-        Step::Write(handle, offset, items) => Call::Write(handle, offset, bytes(alloc, items)?),
-        Step::SetAll(handle, value) => Call::SetAll(handle, value),
-        Step::Rename(handle, name) => Call::Rename(handle, bytes(alloc, name)?),
-        Step::ClaimFile(handle, timeout) => Call::ClaimFile(handle, timeout),
-        Step::ReleaseFile(handle) => Call::ReleaseFile(handle),
-        Step::Begin => Call::BeginTrans,
-        Step::Commit => Call::CommitTrans,
-        Step::Rollback => Call::Rollback,
-    };
-    Ok(Request::CallOf(number, call))
+    match step {
+        Step::Make(category) => Ok(Request::NewControl(category)),
+        Step::Deliver => Ok(Request::Deliver(number, ErrorReply::Default)),
+        Step::Move(name) => Ok(Request::InputTo(
+            bytes(alloc, name)?,
+            Input::DrawerMoved(false),
+        )),
+        Step::Show(name) => Ok(Request::Snapshot(bytes(alloc, name)?)),
+        call => Ok(Request::CallOf(number, call_of(alloc, call)?)),
+    }
+}
+
+/// The call of a step.
+fn call_of(alloc: Global, step: Step<'_>) -> Result<Call, AllocError> {
+    match step {
+        Step::Open(name) => Ok(Call::Open(bytes(alloc, name)?)),
+        Step::Close => Ok(Call::Close),
+        Step::Claim(timeout) => Ok(Call::Claim(timeout)),
+        Step::Release => Ok(Call::Release),
+        Step::Enable(truth) => Ok(Call::Set(Property::DeviceEnabled, Value::Truth(truth))),
+        Step::SetTruth(property, truth) => Ok(Call::Set(property, Value::Truth(truth))),
+        Step::SetNumber(property, number) => Ok(Call::Set(property, Value::Number(number))),
+        Step::Get(property) => Ok(Call::Get(property)),
+        Step::OpenDrawer => Ok(Call::OpenDrawer),
+        Step::Text(text, attribute) => Ok(Call::DisplayText(bytes(alloc, text)?, attribute)),
+        Step::TextAt(row, column, text, attribute) => Ok(Call::DisplayTextAt(
+            row,
+            column,
+            bytes(alloc, text)?,
+            attribute,
+        )),
+        Step::ClearText => Ok(Call::ClearText),
+        Step::Scroll(direction, units) => Ok(Call::ScrollText(direction, units)),
+        call => file_call_of(alloc, call),
+    }
+}
+
+/// The call of a step of Hard Totals.
+fn file_call_of(alloc: Global, step: Step<'_>) -> Result<Call, AllocError> {
+    match step {
+        Step::Create(name, size) => Ok(Call::Create(bytes(alloc, name)?, size, false)),
+        Step::Delete(name) => Ok(Call::Delete(bytes(alloc, name)?)),
+        Step::Find(name) => Ok(Call::Find(bytes(alloc, name)?)),
+        Step::FindByIndex(index) => Ok(Call::FindByIndex(index)),
+        Step::Read(handle, offset, count) => Ok(Call::Read(handle, offset, count)),
+        Step::Write(handle, offset, items) => Ok(Call::Write(handle, offset, bytes(alloc, items)?)),
+        Step::SetAll(handle, value) => Ok(Call::SetAll(handle, value)),
+        Step::Rename(handle, name) => Ok(Call::Rename(handle, bytes(alloc, name)?)),
+        Step::ClaimFile(handle, timeout) => Ok(Call::ClaimFile(handle, timeout)),
+        Step::ReleaseFile(handle) => Ok(Call::ReleaseFile(handle)),
+        Step::Begin => Ok(Call::BeginTrans),
+        Step::Commit => Ok(Call::CommitTrans),
+        _ => Ok(Call::Rollback),
+    }
 }
 
 /// Asks these steps of a counter of its own over a disk: the first place that gets another answer, and the disk.

@@ -1,8 +1,10 @@
-//! A counter over a drawer, whose line fails as often as it is told, a scanner, and a disk of the totals.
+//! A counter over a drawer, whose line fails as often as it is told, a scanner, a display, and a disk of the totals.
 ghost use Rattle.std.specs.Prelude.{◌≡◌, false, IfOk};
+ghost use Rattle.pos_service.specs.Displays.{blank_display};
 ghost use Rattle.pos_service.specs.Peripherals.{PeripheralState, Asked, Fed};
 ghost use Rattle.pos_service.specs.declared.kind.Kind.TheVariants as kind;
 ghost use Rattle.pos_service.specs.declared.plant.Plant.TheVariants as plant;
+ghost use Rattle.pos_sims.specs.LineDisplays.{display_state, state_of};
 ghost use Rattle.pos_counter.specs.Counters.{IsCounterSound};
 
 use crate::{Counter, Ended};
@@ -12,6 +14,7 @@ use pos_service::{
     HasState, Input, Kind, NoMemory, Order, PaperLevel, Peripheral, PeripheralBox, Plant, Reply,
     Signs, Snapshot, Taken,
 };
+use pos_sims::PlainDisplay;
 use std::alloc::{AllocError, Global};
 
 /// A cash drawer whose line fails with the first orders.
@@ -68,6 +71,7 @@ impl Peripheral for TestDrawer {
                 self.is_open = true;
                 Ok(Reply::Done)
             }
+            _ => unreachable!(),
         }
     }
 
@@ -139,12 +143,9 @@ impl Peripheral for TestScanner {
         requires { (state self.old).is_parked ≡ false }
         ensures { Asked (state self.old) order.now result (state self.new) }
     {
-        match order {
-            Order::OpenDrawer => {
-                self.failures = self.failures.saturating_add(1);
-                Ok(Reply::LineFault)
-            }
-        }
+        let _ = order;
+        self.failures = self.failures.saturating_add(1);
+        Ok(Reply::LineFault)
     }
 
     fn feed(&mut self, input: &Input) -> Result<Taken, NoMemory> {
@@ -203,8 +204,18 @@ pub fn formatted(alloc: Global) -> Result<MemDisk, AllocError> {
     }
 }
 
+/// A blank display of 2 rows of 4 columns.
+pub fn display(alloc: Global) -> Result<PlainDisplay, AllocError>
+    ensures { IfOk result (λ display. state_of display ≡ display_state (blank_display 2 4) false) }
+{
+    match PlainDisplay::new(alloc, 2, 4) {
+        Ok(display) => Ok(display),
+        Err(NoMemory) => Err(AllocError),
+    }
+}
+
 /// A counter over a closed drawer, whose line fails with so many orders, a scanner that finds no memory for as many
-/// inputs, and a disk.
+/// inputs, a blank display, and a disk.
 pub fn counter_over<D: Disk + Drop>(
     alloc: Global,
     faults: u32,
@@ -214,11 +225,14 @@ pub fn counter_over<D: Disk + Drop>(
 {
     let drawer = Box::new(alloc, TestDrawer::new(faults))?;
     let scanner = Box::new(alloc, TestScanner::new(faults))?;
-    let mut boxes = Vec::with_capacity(alloc, 2)?;
+    let display = Box::new(alloc, display(alloc)?)?;
+    let mut boxes = Vec::with_capacity(alloc, 3)?;
     let drawer: Box<dyn Peripheral> = drawer;
     boxes.push_reserved(PeripheralBox::new(drawer));
     let scanner: Box<dyn Peripheral> = scanner;
     boxes.push_reserved(PeripheralBox::new(scanner));
+    let display: Box<dyn Peripheral> = display;
+    boxes.push_reserved(PeripheralBox::new(display));
     match Counter::new(alloc, boxes, disk) {
         Ok(counter) => Ok(counter),
         Err((NoMemory, boxes, _)) => {

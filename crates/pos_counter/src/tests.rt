@@ -1,5 +1,5 @@
 //! A counter and its drawer.
-use crate::support::{TestDrawer, TestScanner, counter_over, end, end_all, formatted};
+use crate::support::{TestDrawer, TestScanner, counter_over, display, end, end_all, formatted};
 use crate::{ControlFault, Counter, Ended, InputFault, Request, Response, SnapshotFault};
 use pos_disk::Disk;
 use pos_service::{
@@ -17,22 +17,26 @@ fn a_new_counter_or_its_refusal_gives_peripherals_and_disk_back(
     let disk = formatted(alloc)?;
     let drawer = Box::new(alloc, TestDrawer::new(0))?;
     let scanner = Box::new(alloc, TestScanner::new(0))?;
-    let mut boxes = Vec::with_capacity(alloc, 2)?;
+    let display = Box::new(alloc, display(alloc)?)?;
+    let mut boxes = Vec::with_capacity(alloc, 3)?;
     let drawer: Box<dyn Peripheral> = drawer;
     boxes.push_reserved(PeripheralBox::new(drawer));
     let scanner: Box<dyn Peripheral> = scanner;
     boxes.push_reserved(PeripheralBox::new(scanner));
+    let display: Box<dyn Peripheral> = display;
+    boxes.push_reserved(PeripheralBox::new(display));
     let (Ended { disk, boxes }, is_parked) = match Counter::new(alloc, boxes, disk) {
         Ok(counter) => (counter.shutdown(), true),
         Err((NoMemory, boxes, disk)) => (Ended { disk, boxes }, false),
     };
     assert_eq!(rt; disk.len(), 327_680);
-    assert_eq!(rt; boxes.len(), 2);
+    assert_eq!(rt; boxes.len(), 3);
     for single in &boxes {
         assert_eq!(rt; single.is_parked(), is_parked);
     }
     assert_eq!(rt; boxes[0].kind(), Kind::Drawer);
     assert_eq!(rt; boxes[1].kind(), Kind::Scanner);
+    assert_eq!(rt; boxes[2].kind(), Kind::Display { rows: 2, columns: 4 });
     end_all(boxes);
     Ok(())
 }

@@ -6,7 +6,7 @@ ghost use Rattle.pos_service.specs.Stations.{station_of, StaysInService, TakenAt
 ghost use Rattle.pos_common.specs.Held.{controls_of};
 
 use pos_common::{Control, FAULT_EVENTS, SCAN_EVENTS, copy_for_all, fail_all, read_all, room_all};
-use pos_service::{Bytes, HasState, Input, NoMemory, PeripheralBox, Taken};
+use pos_service::{Bytes, HasState, Input, Kind, NoMemory, PeripheralBox, Taken};
 use std::alloc::Global;
 
 /// Hands an input to the scanner at a place. Of a scan each control that has the scanner open and enabled gets a
@@ -30,6 +30,8 @@ pub fn take_input(
     ensures in_service { let state = ⟦<PeripheralBox as HasState>⟧.state in
         StaysInService (state scanner.old) (state scanner.new) }
 {
+    let device = scanner.kind();
+    prove!(device == Kind::Scanner);
     match input {
         Input::Scan { kind, bytes, label } => {
             room_all(controls, place, SCAN_EVENTS)?;

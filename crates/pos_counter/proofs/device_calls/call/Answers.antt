@@ -59,7 +59,7 @@ returns-in-Set g c =
     let cl = c.args.claims.now in
     let es = c.args.entries.now in
     let ss = map boxes.state c.args.boxes.now in
-    subst (λ q. Serves g.D.Disk c.args.controls.now cl es ss c.args.totals.now (CallOf c.args.number q) (answered c.set.result) c.set.new.controls cl ss c.set.new.totals) (sym c.in-Set.is) (c.set.ensures es ss c.requires.sound)
+    subst (λ q. Serves g.D.Disk c.args.controls.now cl es ss c.args.totals.now (CallOf c.args.number q) (answered c.set.result) c.set.new.controls cl ss c.set.new.totals) (sym c.in-Set.is) (c.set.ensures ss c.requires.sound)
 
 pub returns-in-Get : goal.returns-in-Get
 returns-in-Get g c =

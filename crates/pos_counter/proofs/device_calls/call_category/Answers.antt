@@ -16,7 +16,7 @@ use Rattle.pos_counter.specs.Machine.{Shared}
 use Rattle.pos_counter.specs.Parts.{machine_with, part_of}
 use Rattle.pos_counter.specs.Totals.{TotalsPart, is_totals}
 use Rattle.pos_counter.proofs.Claiming.{are_totals}
-use Rattle.pos_counter.proofs.Lifts.{control_at}
+use Rattle.pos_counter.proofs.Lifts.{control_at, match_at_some}
 use Rattle.pos_counter.proofs.Serving.{looks_serve, parts_serve, station_sound}
 use Rattle.pos_counter.proofs.Stations.{ServedAt, closed_step, device_step, is_open_there, served_there, unparked_at}
 use Rattle.pos_counter.proofs.device_calls.call_category.Goals as goal
@@ -116,6 +116,20 @@ call_device-requires-clause-served g c =
     let category = ap (λ (h : Held). h.control.category) (get_or_default hs n d c.index-controls-number-3.result c.requires.in_range) ∙ sym c.category-category.ensures in
     ap (λ k. serves k (Some (boxes.state (get_or bs c.in-Some.place c.index-boxes-place.result)).kind)) (sym category) ∙ there.is_served c.index-boxes-place.result
 
+pub call_device-requires-clause-cursor : goal.call_device-requires-clause-cursor
+call_device-requires-clause-cursor g c =
+    let boxes : Ghosts _ = record { state = λ b. (goal.Peripheral-dyn g (b.device.vtable, b.device.value)).state b.device.value } in
+    let hs = c.args.controls.now in
+    let bs = c.args.boxes.now in
+    let n = c.args.number in
+    let d = c.index-controls-number.result in
+    let one = (get_or hs n d).control in
+    let is = ap (λ (h : Held). is_totals h.control.category) (get_or_default hs n d c.index-controls-number-2.result c.requires.in_range) ∙ sym c.is_totals.ensures ∙ c.if-is_totals.false in
+    let at = control_at hs n d c.requires.in_range in
+    let shared : Shared = record { claims = c.args.claims.now; totals = part_of g.D.Disk c.args.totals.now [] } in
+    let there = served_there boxes.state hs c.args.entries.now bs shared n one c.in-Some.place (c.requires.sound.machine shared) c.requires.sound.attached at (sym c.in-Some.ensures) (has_kind one.category is) in
+    λ display. match_at_some _ one _ _ at (there.cursor c.index-boxes-place.result display)
+
 pub returns : goal.returns
 returns g c =
     let boxes : Ghosts _ = record { state = λ b. (goal.Peripheral-dyn g (b.device.vtable, b.device.value)).state b.device.value } in
@@ -135,8 +149,8 @@ returns g c =
     let view = c.args.totals.now in
     let place = c.in-Some.place in
     let was = get_or bs place c.index-boxes-place.result in
-    let called = subst (λ k. CalledBy (device_rows k c.args.claims.now n) (DeviceDoes k) n c.args.call.now c.call_device.result (controls_of hs) (station_of (boxes.state was)) (controls_of gs) (station_of (boxes.state box))) (sym category) c.call_device.ensures.called in
-    let step = λ (part : TotalsPart). device_step boxes.state hs gs es bs (record { claims = c.args.claims.now; totals = part }) n place was box one c.args.call.now c.call_device.result c.requires.own at is (sym c.in-Some.ensures) c.requires.sound.attached (slice_get-get_or bs place c.index-boxes-place.result there.within) called in
+    let called = subst (λ k. CalledBy (device_rows k c.args.claims.now n (Some (boxes.state was).kind)) (DeviceDoes k) n c.args.call.now c.call_device.result (controls_of hs) (station_of (boxes.state was)) (controls_of gs) (station_of (boxes.state box))) (sym category) c.call_device.ensures.called in
+    let step = λ (part : TotalsPart). device_step boxes.state hs gs es bs (record { claims = c.args.claims.now; totals = part }) n place was box one c.args.call.now c.call_device.result c.requires.own at is (sym c.in-Some.ensures) c.requires.sound.attached (slice_get-get_or bs place c.index-boxes-place.result there.within) (there.kind c.index-boxes-place.result) called in
     parts_serve g.D.Disk view hs gs c.args.claims.now c.args.claims.now es (map boxes.state bs) _ (CallOf n c.args.call.now) (answered c.call_device.result) (λ bytes honest since. g.met.D.Disk.only_now view.disk bytes honest since)
     (station_sound boxes.state hs gs es bs place box shared (CallOf n c.args.call.now) (answered c.call_device.result) c.requires.sound c.call_device.ensures.in_service.unparked (step shared.totals)) refl
     (λ left. step (part_of g.D.Disk view left))
