@@ -41,15 +41,15 @@ pub covered : (hs : List Held) (es : List Entry) (ss : List PeripheralState) (cl
 covered hs es ss cl shared sound covers =
     All-weaker (HasItsDevice (devices_of es ss)) (λ control. IfSome control.device (λ place. place < length cl)) (λ control seat. by_place control control.device seat) (controls_of hs) (sound.machine shared).places
   where
-    within : (k : Category) (place : ℕ) → Served k (slice_get (devices_of es ss) place) → place < length cl
-    within k place served = elim (match_cases (slice_get (devices_of es ss) place) _ _ served) [
+    within : (control : Control) (place : ℕ) → Served control.category control.cursor.place (slice_get (devices_of es ss) place) → place < length cl
+    within control place served = elim (match_cases (slice_get (devices_of es ss) place) _ _ served) [
       | inl x ↦ absurd x.1
       | inr x ↦ let there = slice_get_within (devices_of es ss) place x.0 x.1 in omega (arith, there, length_devices es ss, covers)
     ]
 
-    by_place : (control : Control) (o : Option ℕ) → IfSome o (λ place. Served control.category (slice_get (devices_of es ss) place)) → IfSome o (λ place. place < length cl)
+    by_place : (control : Control) (o : Option ℕ) → IfSome o (λ place. Served control.category control.cursor.place (slice_get (devices_of es ss) place)) → IfSome o (λ place. place < length cl)
     by_place control None seat = tt
-    by_place control (Some place) seat = within control.category place seat
+    by_place control (Some place) seat = within control place seat
 
 -- the machine with one control in the place of another, and other claims
 pub claims_machine : (hs : List Held) (cl dl : List (Option ℕ)) (es : List Entry) (ss : List PeripheralState) (n : ℕ) (g : Held) (c : Control) (part : TotalsPart) → g.control ≡ c → machine_with (set hs n g) dl es ss part ≡ record (with_control (machine_with hs cl es ss part) n c) { claims = dl }
