@@ -36,7 +36,13 @@ fn a_new_counter_or_its_refusal_gives_peripherals_and_disk_back(
     }
     assert_eq!(rt; boxes[0].kind(), Kind::Drawer);
     assert_eq!(rt; boxes[1].kind(), Kind::Scanner);
-    assert_eq!(rt; boxes[2].kind(), Kind::Display { rows: 2, columns: 4 });
+    assert_eq!(rt;
+        boxes[2].kind(),
+        Kind::Display {
+            rows: 2,
+            columns: 4
+        }
+    );
     end_all(boxes);
     Ok(())
 }
