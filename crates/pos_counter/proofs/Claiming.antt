@@ -1,13 +1,12 @@
 -- Claims, releases and closes as steps of the machine.
-use Rattle.std.proofs.Common.{◌≡◌, ◌∙◌, ◌<◌, ◌≤◌, ◌∷◌, [], ℕ, ℤ, zero, suc, List, Option, Some, None, Bool, true, false, inl, inr, cond, get_or, set, length, map, ap, sym, subst, refl, arith}
-use Rattle.std.specs.Prelude.{IfSome, IsTrue, MatchOption, All, slice_get, slice_set, is_none, is_some, not}
+use Rattle.std.proofs.Common.{◌≡◌, ◌∙◌, ◌<◌, ◌∷◌, [], ℕ, ℤ, suc, List, Option, Some, None, Bool, true, false, inl, inr, cond, get_or, set, length, ap, sym, subst, refl, arith}
+use Rattle.std.specs.Prelude.{IfSome, MatchOption, slice_get, is_none, is_some, not}
 use Rattle.std.proofs.lemmas.List.{map-set, length-set, set-get_or}
 use Rattle.std.proofs.lemmas.List.Elements.{All-get_or, All-weaker}
 use Rattle.std.proofs.lemmas.Option.{slice_get_within, get_or_from_slice_get}
 use Rattle.pos_service.specs.declared.answer.Answer.{Answer}
 use Rattle.pos_service.specs.declared.answer.Answer.TheVariants as answer
 use Rattle.pos_service.specs.declared.answer.Value.TheVariants as value
-use Rattle.pos_service.specs.declared.call.Call.{Call}
 use Rattle.pos_service.specs.declared.call.Call.TheVariants as call
 use Rattle.pos_service.specs.declared.category.Category.{Category}
 use Rattle.pos_service.specs.declared.category.Category.TheVariants as category
@@ -19,16 +18,13 @@ use Rattle.pos_service.specs.HardTotals.{Totals, is_area_taken, without_control}
 use Rattle.pos_service.specs.Peripherals.{PeripheralState}
 use Rattle.pos_service.specs.Refusals.{Row, Decided, first_refusal, when}
 use Rattle.pos_common.specs.Held.{Held, TurnsInto, controls_of}
-use Rattle.pos_disk.specs.declared.device.Disk.{Ghosts}
-use Rattle.pos_totals.specs.Views.{TotalsView}
 use Rattle.pos_counter.specs.declared.entry.Entry.{Entry}
-use Rattle.pos_counter.specs.Machine.{Device, Machine, Shared, holder_in, with_control}
-use Rattle.pos_counter.specs.Parts.{machine_of, machine_with, devices_of, part_of, AreCovered, ArePartsSound, Serves}
-use Rattle.pos_counter.specs.Steps.{CallOf, Answered, Step, Called, Does, claimed, dropped, released, is_taken, refusals, HasItsDevice, IsServed}
+use Rattle.pos_counter.specs.Machine.{Machine, Shared, holder_in, with_control}
+use Rattle.pos_counter.specs.Parts.{machine_with, devices_of, AreCovered, ArePartsSound}
+use Rattle.pos_counter.specs.Steps.{CallOf, Answered, Step, claimed, dropped, released, is_taken, refusals, HasItsDevice}
 use Rattle.pos_counter.specs.Totals.{TotalsPart, is_totals}
-use Rattle.pos_counter.proofs.Lifts.{match_at_some, match_at_none, match_by, match_cases, match_weaker, control_at}
-use Rattle.pos_counter.proofs.Serving.{OnlyNow, any_shared, parts_serve}
-use Rattle.pos_counter.proofs.Sound.{Served, step_sound}
+use Rattle.pos_counter.proofs.Lifts.{match_at_some, match_at_none, match_by, match_cases, match_weaker}
+use Rattle.pos_counter.proofs.Sound.{Served}
 
 -- there are as many devices as entries
 length_devices : (es : List Entry) (ss : List PeripheralState) → length (devices_of es ss) ≡ length es
@@ -41,15 +37,15 @@ pub covered : (hs : List Held) (es : List Entry) (ss : List PeripheralState) (cl
 covered hs es ss cl shared sound covers =
     All-weaker (HasItsDevice (devices_of es ss)) (λ control. IfSome control.device (λ place. place < length cl)) (λ control seat. by_place control control.device seat) (controls_of hs) (sound.machine shared).places
   where
-    within : (k : Category) (place : ℕ) → Served k (slice_get (devices_of es ss) place) → place < length cl
-    within k place served = elim (match_cases (slice_get (devices_of es ss) place) _ _ served) [
+    within : (control : Control) (place : ℕ) → Served control.category control.cursor.place (slice_get (devices_of es ss) place) → place < length cl
+    within control place served = elim (match_cases (slice_get (devices_of es ss) place) _ _ served) [
       | inl x ↦ absurd x.1
       | inr x ↦ let there = slice_get_within (devices_of es ss) place x.0 x.1 in omega (arith, there, length_devices es ss, covers)
     ]
 
-    by_place : (control : Control) (o : Option ℕ) → IfSome o (λ place. Served control.category (slice_get (devices_of es ss) place)) → IfSome o (λ place. place < length cl)
+    by_place : (control : Control) (o : Option ℕ) → IfSome o (λ place. Served control.category control.cursor.place (slice_get (devices_of es ss) place)) → IfSome o (λ place. place < length cl)
     by_place control None seat = tt
-    by_place control (Some place) seat = within control.category place seat
+    by_place control (Some place) seat = within control place seat
 
 -- the machine with one control in the place of another, and other claims
 pub claims_machine : (hs : List Held) (cl dl : List (Option ℕ)) (es : List Entry) (ss : List PeripheralState) (n : ℕ) (g : Held) (c : Control) (part : TotalsPart) → g.control ≡ c → machine_with (set hs n g) dl es ss part ≡ record (with_control (machine_with hs cl es ss part) n c) { claims = dl }

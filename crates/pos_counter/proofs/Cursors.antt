@@ -1,5 +1,5 @@
 -- Where the calls of a display and its properties leave a cursor: at a place of the display.
-use Rattle.std.proofs.Common.{◌≡◌, ◌∷◌, ◌++◌, ◌+◌, ◌-◌, ◌%◌, ◌<◌, ◌≤◌, ◌&&◌, ℕ, ℤ, pos, negsuc, nat_abs, List, [], Option, Some, None, Bool, true, false, not, cond, length, nat_lt, nat_le, ap, arith, refl}
+use Rattle.std.proofs.Common.{◌≡◌, ◌∷◌, ◌++◌, ◌+◌, ◌-◌, ◌%◌, ◌<◌, ◌≤◌, ℕ, ℤ, pos, negsuc, nat_abs, List, [], Option, Some, None, Bool, true, false, not, cond, length, nat_lt, nat_le, arith, refl}
 use Rattle.std.specs.List.{AllByRecursion}
 use Rattle.std.specs.Prelude.{IfSome, ◌==◌}
 use Rattle.std.proofs.lemmas.Bool.{and_from, and_parts}
@@ -18,7 +18,7 @@ use Rattle.pos_service.specs.declared.answer.Value.TheVariants as value
 use Rattle.pos_service.specs.Calls.{takes, cursor_after}
 use Rattle.pos_service.specs.DisplayCalls.{argument_rows, place_after_call}
 use Rattle.pos_service.specs.Displays.{Strip, fed, is_cursor_place, origin, place_in_window, place_left, returned, text_from, with_run, with_text}
-use Rattle.pos_service.specs.Kinds.{is_display, rows_of, columns_of}
+use Rattle.pos_service.specs.Kinds.{rows_of, columns_of}
 use Rattle.pos_service.specs.Numbers.{is_index, is_up_to}
 use Rattle.pos_service.specs.Peripherals.{IsInRange}
 use Rattle.pos_service.specs.Refusals.{Row, first_refusal}

@@ -1,8 +1,8 @@
 -- What the totals do with a call, for all that their disk may leave before it.
 use Rattle.std.proofs.Common.{◌≡◌, ◌≤◌, ◌⊎◌, inl, inr, ℕ, ◌+◌, List, [], ◌∷◌, ◌++◌, Option, Some, None, Result, Ok, Err, Bool, true, false, cond, not, ◌&&◌, refl, sym, ap, ◌∙◌, subst, arith}
-use Rattle.std.specs.Prelude.{MatchOption, MatchResult, IsTrue, is_none, is_some}
+use Rattle.std.specs.Prelude.{MatchOption, IsTrue, is_none, is_some}
 use Rattle.pos_disk.specs.Keeps.{KeepsDisk}
-use Rattle.pos_disk.specs.State.{DiskState, MayLeave, LeavesOnly, Rises}
+use Rattle.pos_disk.specs.State.{LeavesOnly, Rises}
 use Rattle.pos_disk.specs.declared.device.Disk.{Ghosts}
 use Rattle.pos_disk.proofs.Moments.{started, weaker}
 use Rattle.pos_service.specs.declared.answer.Answer.{Answer}
@@ -14,8 +14,8 @@ use Rattle.pos_service.specs.declared.category.Category.TheVariants as category
 use Rattle.pos_service.specs.declared.code.Code.TheVariants as code
 use Rattle.pos_service.specs.declared.memory.NoMemory.{NoMemory}
 use Rattle.pos_service.specs.Calls.{has_call, takes_memory}
-use Rattle.pos_service.specs.HardTotals.{File, Mode, Off, Ready, Totals, Change, Question, layout_1, files_of, files_after_all, next_sequences, refusals_of_change, refusals_of_question, number_rows, given_by, Done, DoesChange, MayTell}
-use Rattle.pos_service.specs.HardTotals.{Arrangement, ClaimFile, ReleaseFile, BeginTrans, Rollback, DoesCommit, Arranges, after_arrangement, changes_in, claimed, in_transaction, is_last, refusals_of_arrangement, refusals_of_commit, transaction_of, with_each, with_files, with_transaction, is_called}
+use Rattle.pos_service.specs.HardTotals.{File, Mode, Off, Ready, Totals, Change, Question, layout_1, files_after_all, refusals_of_change, refusals_of_question, number_rows, given_by, Done, DoesChange, MayTell}
+use Rattle.pos_service.specs.HardTotals.{Arrangement, ClaimFile, ReleaseFile, BeginTrans, Rollback, DoesCommit, after_arrangement, changes_in, claimed, in_transaction, is_last, refusals_of_arrangement, refusals_of_commit, transaction_of, with_each, with_files, with_transaction, is_called}
 use Rattle.pos_service.specs.Claims.{is_foreign}
 use Rattle.pos_service.specs.HardTotals.{mode_after, IsAmong, sequences_after, when_foreign_area, while_ready, change_rows, spent_by, commit_rows}
 use Rattle.pos_service.specs.Refusals.{Row, Decided, first_refusal, when}
@@ -24,7 +24,7 @@ use Rattle.pos_store.specs.Standing.{Standing, Stands, LeavesOneOf, StandsForOne
 use Rattle.pos_totals.specs.Changes.{Arranged, Changes, CommitsBuffer, PutsGroup, HasFailed, IsDone, IsOneGroup, IsBeforeOrAfter, before_or_after}
 use Rattle.pos_totals.specs.Views.{TotalsView, TurnsOff, LeavesTheirFiles, plain, plain_file}
 use Rattle.pos_counter.specs.Parts.{CallsFiles, FilesStepped, IsLeft, Leaves, part_of}
-use Rattle.pos_counter.specs.Totals.{TotalsPart, TotalsDo, ChangesTotals, CommitsTotals, PutsChanges, FilesCalled, put_at_once, settled, left_after, in_doubt, is_change}
+use Rattle.pos_counter.specs.Totals.{TotalsPart, TotalsDo, FilesCalled, put_at_once, settled, left_after, in_doubt, is_change}
 use Rattle.pos_counter.proofs.Lifts.{match_cases, match_weaker, match_at_none, match_at_some}
 use Rattle.pos_counter.proofs.Serving.{OnlyNow, kept_disk, same_view}
 

@@ -20,11 +20,11 @@ use Rattle.pos_service.specs.declared.kind.Kind.{Kind}
 use Rattle.pos_service.specs.declared.property.Property.{Property}
 use Rattle.pos_service.specs.Claims.{after_release}
 use Rattle.pos_service.specs.Controls.{Control, closed}
-use Rattle.pos_service.specs.DisplayCalls.{argument_rows}
+use Rattle.pos_service.specs.DisplayCalls.{DisplayDoes, argument_rows}
 use Rattle.pos_service.specs.HardTotals.{File, Totals, Mode, Off, Ready, Change, Create, Delete, Rename, Write, SetAll, Question, Find, FindByIndex, Read, Done, DoesCommit, DoesTogether, IsAmong, sequences_after, mode_after, files_after_all, files_of, is_called, is_last, is_own_claim, is_ready, question_rows, change_rows, commit_rows, while_ready, with_each, with_files, with_transaction, claimed as claimed_file, changes_in, in_transaction, spent_by, transaction_of, layout_1, number_rows, after_disk_fault}
 use Rattle.pos_service.specs.HardTotals.{Arrangement, ClaimFile, ReleaseFile, BeginTrans, Rollback, after_arrangement, arrangement_rows}
 use Rattle.pos_service.specs.Refusals.{Row, Decided, first_refusal, when}
-use Rattle.pos_service.specs.Stations.{Effect}
+use Rattle.pos_service.specs.Stations.{Effect, Station}
 use Rattle.pos_service.specs.TotalsCalls.{FileCall, Arranges, Asks, Commits, Makes, Nothing, file_call, file_rows}
 use Rattle.pos_disk.specs.State.{Rises}
 use Rattle.pos_store.specs.Modes.{Ready as StoreReady}
@@ -338,12 +338,23 @@ set_told old new n c p v result true e (inr (h, is)) = elim h [
 station_same : (old new : Machine) (at : Option ℕ) (Does : ℕ → Effect) → OnStation old at Does new → new.totals ≡ old.totals
 station_same old new at Does o = ap (λ (m : Machine). m.totals) o.machine
 
+-- a display's call is none of the totals'
+display_asks : (own : Call) (result : Answer) (number place : ℕ) (old : List Control) (before : Station) (new : List Control) (after : Station) → DisplayDoes own number place result old before new after → file_call own ≡ Nothing
+display_asks (call.DisplayText text attribute) result number place old before new after h = refl
+display_asks (call.DisplayTextAt row column text attribute) result number place old before new after h = refl
+display_asks call.ClearText result number place old before new after h = refl
+display_asks (call.ScrollText direction units) result number place old before new after h = refl
+display_asks own result number place old before new after h = absurd (elim (match_cases (slice_get old number) _ _ h) [ inl x ↦ x.1 | inr x ↦ x.2 ])
+
 category_told : (k : Category) (old new : Machine) (n : ℕ) (c : Control) (own : Call) (result : Answer) → old.totals.left ≡ settled old.totals.totals.mode old.totals.left → CategoryDoes k old n c own result new → Told (changes_asked old.totals.totals n (file_call own)) old.totals (Answered result) new.totals
 category_told category.CashDrawer old new n c call.OpenDrawer result is h = rest_unasked old.totals new.totals (Answered result) (station_same old new c.device _ h)
 category_told category.CashDrawer old new n c own result is h = absurd h.does
 category_told category.Scanner old new n c call.ClearInput result is h = rest_unasked old.totals new.totals (Answered result) (station_same old new c.device _ h)
 category_told category.Scanner old new n c call.ClearInputProperties result is h = rest_unasked old.totals new.totals (Answered result) (station_same old new c.device _ h)
 category_told category.Scanner old new n c own result is h = absurd h.does
+category_told category.LineDisplay old new n c own result is h =
+    subst (λ asked. Told (changes_asked old.totals.totals n asked) old.totals (Answered result) new.totals) (sym (display_asks own result n h.place old.controls h.before h.controls h.after h.does))
+    (rest_unasked old.totals new.totals (Answered result) (station_same old new c.device _ h))
 category_told category.HardTotals old new n c own result is h = files_told (file_call own) old.totals new.totals n result is h.0
 
 -- what a control's claim, its release and its end leave of the files

@@ -2,7 +2,7 @@
 use Rattle.std.proofs.Common.{◌≡◌, inl, inr, ℕ, List, [], ◌∷◌, Option, Some, None, Result, Ok, Err, Bool, true, false, not, ◌&&◌, set, get_or, length, ◌<◌, refl, sym, ap, ◌∙◌, subst}
 use Rattle.std.specs.Bool.{MatchBool}
 use Rattle.std.specs.Prelude.{MatchOption, is_some, is_none, slice_get, ⊤}
-use Rattle.std.proofs.lemmas.List.{map-set, set-get_or}
+use Rattle.std.proofs.lemmas.List.{map-set}
 use Rattle.pos_disk.specs.State.{LeavesOnly}
 use Rattle.pos_disk.specs.declared.device.Disk.{Ghosts}
 use Rattle.pos_disk.proofs.Moments.{weaker}
@@ -32,8 +32,7 @@ use Rattle.pos_totals.specs.Recoveries.{Recovers as DiskRecovers, RecoversOneOf,
 use Rattle.pos_totals.specs.Views.{TotalsView, WhenOff, LeavesTheirFiles}
 use Rattle.pos_counter.specs.declared.entry.Entry.{Entry}
 use Rattle.pos_counter.specs.Machine.{Machine, device_at, holder_in, holder_of, kind_in, kind_of, with_control}
-use Rattle.pos_counter.specs.Parts.{machine_of, machine_with, devices_of, over, part_of, ArePartsSound, IsRecovering, IsLeft, Leaves, Serves, SparesDisk, Stepped}
-use Rattle.pos_counter.specs.Responses.{answered}
+use Rattle.pos_counter.specs.Parts.{machine_of, machine_with, devices_of, part_of, ArePartsSound, IsRecovering, IsLeft, Leaves, Serves, SparesDisk}
 use Rattle.pos_counter.specs.Steps.{CallOf, Answered, IsSound, Step, Sets, SetsByRecovery}
 use Rattle.pos_counter.specs.Totals.{TotalsPart, Recovers, asks_recovery, recovers, is_enabling, is_totals, settled}
 use Rattle.pos_counter.proofs.Lifts.{control_at, decided_at, match_at_none, match_at_some, match_cases, match_weaker}

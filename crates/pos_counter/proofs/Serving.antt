@@ -1,5 +1,5 @@
 -- A step from sound parts of a counter leads to sound ones.
-use Rattle.std.proofs.Common.{◌≡◌, ◌≤◌, ◌∙◌, ℕ, List, [], Option, false, inl, set, map, length, ap, sym, subst, refl, arith}
+use Rattle.std.proofs.Common.{◌≡◌, ◌∙◌, ℕ, List, [], Option, false, inl, set, map, length, ap, sym, subst, refl, arith}
 use Rattle.std.proofs.lemmas.List.{length-map, length-set}
 use Rattle.pos_disk.specs.State.{MayLeave}
 use Rattle.pos_disk.specs.declared.device.Disk.{Ghosts}
@@ -12,7 +12,7 @@ use Rattle.pos_service.specs.HardTotals.{Totals}
 use Rattle.pos_totals.specs.Views.{TotalsView}
 use Rattle.pos_counter.specs.declared.entry.Entry.{Entry}
 use Rattle.pos_counter.specs.Machine.{Machine, Shared}
-use Rattle.pos_counter.specs.Parts.{machine_of, machine_with, part_of, ArePartsSound, IsLeft, Leaves, Serves, ServesBeside, SparesDisk, Stepped}
+use Rattle.pos_counter.specs.Parts.{machine_of, machine_with, part_of, ArePartsSound, IsLeft, Leaves, Serves, ServesBeside, Stepped}
 use Rattle.pos_counter.specs.Steps.{Request, Response, Step, IsSound}
 use Rattle.pos_counter.specs.Totals.{TotalsPart, settled}
 use Rattle.pos_counter.proofs.Sound.{step_sound}

@@ -1,6 +1,6 @@
 -- A call of the totals' own as a step of the machine.
-use Rattle.std.proofs.Common.{◌≡◌, ◌<◌, inl, inr, ℕ, List, [], ◌∷◌, length, get_or, arith, Option, Some, None, Result, Ok, Err, Bool, true, false, cond, not, ◌&&◌, refl, sym, ap, ◌∙◌, subst}
-use Rattle.std.specs.Prelude.{MatchOption, MatchResult, IsTrue, is_none, is_some, slice_get, ⊤}
+use Rattle.std.proofs.Common.{◌≡◌, ◌<◌, inl, inr, ℕ, List, [], ◌∷◌, length, get_or, arith, Option, Some, None, Result, Ok, Err, Bool, true, false, not, ◌&&◌, refl, sym, ap, ◌∙◌, subst}
+use Rattle.std.specs.Prelude.{MatchOption, IsTrue, is_some, slice_get, ⊤}
 use Rattle.std.proofs.lemmas.List.{length-map}
 use Rattle.std.proofs.lemmas.Option.{slice_get_within}
 use Rattle.pos_disk.specs.declared.device.Disk.{Ghosts}
@@ -23,7 +23,7 @@ use Rattle.pos_common.specs.Held.{Held, controls_of}
 use Rattle.pos_totals.specs.Views.{TotalsView}
 use Rattle.pos_counter.specs.declared.entry.Entry.{Entry}
 use Rattle.pos_counter.specs.Machine.{Machine}
-use Rattle.pos_counter.specs.Parts.{machine_with, part_of, ArePartsSound, CallsFiles, Leaves, Serves, Stepped}
+use Rattle.pos_counter.specs.Parts.{machine_with, part_of, ArePartsSound, CallsFiles, Serves}
 use Rattle.pos_counter.specs.Responses.{answered}
 use Rattle.pos_counter.specs.Steps.{CallOf, Answered, Step, CategoryDoes, refusals}
 use Rattle.pos_counter.specs.Totals.{TotalsPart, FilesCalled, is_change, uses_disk}

@@ -1,14 +1,13 @@
 -- The machine that a counter's parts stand for.
-use Rattle.std.specs.Prelude.{◌≡◌, ◌≤◌, ◌<◌, ◌⊎◌, ◌&&◌, not, ℕ, Bool, true, false, List, [], ◌∷◌, Option, Some, None, MatchOption, IfSome, Result, All, length, map, option_map, option_and_then, slice_get, ⊤}
+use Rattle.std.specs.Prelude.{◌≡◌, ◌≤◌, ◌<◌, ◌⊎◌, ◌&&◌, not, ℕ, true, false, List, [], ◌∷◌, Option, Some, None, MatchOption, IfSome, Result, All, length, map, option_map, option_and_then, slice_get, ⊤}
 use Rattle.std.specs.List.{filter_map}
 use Rattle.pos_service.specs.declared.answer.Answer.{Answer}
 use Rattle.pos_service.specs.declared.call.Call.{Call}
-use Rattle.pos_service.specs.declared.facts.Facts.{Facts}
 use Rattle.pos_service.specs.declared.kind.Kind.{Kind}
 use Rattle.pos_service.specs.declared.memory.NoMemory.{NoMemory}
-use Rattle.pos_service.specs.HardTotals.{Mode, layout_1, is_ready}
+use Rattle.pos_service.specs.HardTotals.{Mode, is_ready}
 use Rattle.pos_service.specs.Peripherals.{PeripheralState}
-use Rattle.pos_service.specs.Stations.{Station, station_of, signs_in}
+use Rattle.pos_service.specs.Stations.{Station, station_of}
 use Rattle.pos_service.specs.TotalsCalls.{file_call}
 use Rattle.pos_common.specs.Held.{Held, controls_of}
 use Rattle.pos_disk.specs.State.{LeavesOnly}
@@ -23,7 +22,7 @@ use Rattle.pos_counter.specs.declared.faults.ControlFault.{ControlFault}
 use Rattle.pos_counter.specs.Steps.{Request, NewControl, CallOf, Response, Step, IsSound}
 use Rattle.pos_service.specs.declared.answer.Value.{Value}
 use Rattle.pos_service.specs.declared.property.Property.{Property}
-use Rattle.pos_counter.specs.Totals.{TotalsPart, settled, file_facts, FilesCalled, asks_recovery, is_change, uses_disk}
+use Rattle.pos_counter.specs.Totals.{TotalsPart, settled, FilesCalled, asks_recovery, is_change, uses_disk}
 use Rattle.pos_counter.specs.declared.entry.Entry.{Entry}
 
 -- a device of the profile, and what stands at it

@@ -5,8 +5,8 @@ use Rattle.pos_service.specs.declared.kind.Kind.TheVariants as kind
 use Rattle.pos_service.specs.Peripherals.{PeripheralState}
 use Rattle.pos_counter.specs.declared.entry.Entry.{Entry}
 
--- the built devices in order, their names in bytes: the cash drawer d1, the scanner s1, the line display p1 of 2 rows of
--- 4 columns, and the Hard Totals device t1, which has no peripheral
+-- the built devices in order, their names in bytes: the cash drawer d1, the scanner s1, the line display p1 of 2 rows
+-- of 4 columns, and the Hard Totals device t1, which has no peripheral
 abbrev pub profile : List Entry
 profile =
     record { name = 100 ∷ 49 ∷ []; kind = Some kind.Drawer }

@@ -15,7 +15,7 @@ use Rattle.pos_service.specs.declared.facts.FileFacts.{FileFacts}
 use Rattle.pos_service.specs.declared.property.Property.{Property}
 use Rattle.pos_service.specs.declared.property.Property.TheVariants as property
 use Rattle.pos_service.specs.Controls.{Control}
-use Rattle.pos_service.specs.HardTotals.{Totals, Mode, Off, Ready, Change, Question, layout_1, free_data, files_of, is_ready, told_of}
+use Rattle.pos_service.specs.HardTotals.{Totals, Mode, Off, Ready, Change, layout_1, free_data, files_of, is_ready, told_of}
 use Rattle.pos_service.specs.HardTotals.{DoesChange, DoesCommit, changes_in, in_transaction, transaction_of, with_transaction, after_arrangement}
 use Rattle.pos_service.specs.Calls.{has_call, takes_memory}
 use Rattle.pos_service.specs.Refusals.{Decided, first_refusal, when}

@@ -13,8 +13,8 @@ pub(crate) struct Entry {
     pub(crate) kind: Option<Kind>,
 }
 
-/// The built devices in order: the cash drawer `d1`, the scanner `s1`, the line display `p1` of 2 rows of 4 columns, and
-/// the Hard Totals device `t1`.
+/// The built devices in order: the cash drawer `d1`, the scanner `s1`, the line display `p1` of 2 rows of 4 columns,
+/// and the Hard Totals device `t1`.
 pub(crate) fn build_entries(alloc: Global) -> Result<Vec<Entry>, NoMemory>
     ensures { IfOk result (λ entries. entries.items ≡ profile) }
 {

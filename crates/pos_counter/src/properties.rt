@@ -143,11 +143,10 @@ fn set_recovered<D: Disk>(
         Serves D.Disk controls.old claims.now entries.now states totals.old
         (CallOf number (call.Set property value.now)) (answered result) controls.new claims.now states totals.new }
 {
-    let control = &mut controls[number];
-    let holder = find_holder(control, claims, totals.area());
-    let kind = kind_at(entries, control.device());
+    let holder = find_holder(&controls[number], claims, totals.area());
+    let kind = kind_at(entries, controls[number].device());
     match totals.recover() {
-        Ok(()) => Ok(control.set(number, holder, kind, property, value)),
+        Ok(()) => Ok(controls[number].set(number, holder, kind, property, value)),
         Err(fault) => match fault.code() {
             Ok(code) => Ok(Answer::Refused(code, 0)),
             Err(NoMemory) => Err(NoMemory),

@@ -146,10 +146,7 @@ fn request_of(alloc: Global, number: usize, step: Step<'_>) -> Result<Request, A
     match step {
         Step::Make(category) => Ok(Request::NewControl(category)),
         Step::Deliver => Ok(Request::Deliver(number, ErrorReply::Default)),
-        Step::Move(name) => Ok(Request::InputTo(
-            bytes(alloc, name)?,
-            Input::DrawerMoved(false),
-        )),
+        Step::Move(name) => Ok(Request::InputTo(bytes(alloc, name)?, Input::DrawerMoved(false))),
         Step::Show(name) => Ok(Request::Snapshot(bytes(alloc, name)?)),
         call => Ok(Request::CallOf(number, call_of(alloc, call)?)),
     }

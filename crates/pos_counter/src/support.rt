@@ -1,10 +1,11 @@
 //! A counter over a drawer, whose line fails as often as it is told, a scanner, a display, and a disk of the totals.
 ghost use Rattle.std.specs.Prelude.{◌≡◌, false, IfOk};
 ghost use Rattle.pos_service.specs.Displays.{blank_display};
-ghost use Rattle.pos_service.specs.Peripherals.{PeripheralState, Asked, Fed};
+ghost use Rattle.pos_service.specs.Peripherals.{PeripheralState, Asked};
 ghost use Rattle.pos_service.specs.declared.kind.Kind.TheVariants as kind;
 ghost use Rattle.pos_service.specs.declared.plant.Plant.TheVariants as plant;
 ghost use Rattle.pos_sims.specs.LineDisplays.{display_state, state_of};
+ghost use Rattle.pos_sims.specs.Scanners.{scanner_state};
 ghost use Rattle.pos_counter.specs.Counters.{IsCounterSound};
 
 use crate::{Counter, Ended};
@@ -119,13 +120,7 @@ impl TestScanner {
 }
 
 impl Peripheral for TestScanner {
-    ghost state = { λ s.
-        let state : PeripheralState = record {
-          kind = kind.Scanner;
-          plant = plant.Scanner;
-          is_parked = s.is_parked;
-          failures = s.failures;
-        } in state };
+    ghost state = { λ s. scanner_state s.is_parked s.failures };
 
     fn kind(&self) -> Kind {
         Kind::Scanner
@@ -140,8 +135,9 @@ impl Peripheral for TestScanner {
     }
 
     fn ask(&mut self, order: &Order) -> Result<Reply, NoMemory>
-        requires { (state self.old).is_parked ≡ false }
-        ensures { Asked (state self.old) order.now result (state self.new) }
+        requires { self.old.is_parked ≡ false }
+        ensures { Asked (scanner_state self.old.is_parked self.old.failures) order.now result
+            (scanner_state self.new.is_parked self.new.failures) }
     {
         let _ = order;
         self.failures = self.failures.saturating_add(1);

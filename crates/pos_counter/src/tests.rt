@@ -36,7 +36,13 @@ fn a_new_counter_or_its_refusal_gives_peripherals_and_disk_back(
     }
     assert_eq!(rt; boxes[0].kind(), Kind::Drawer);
     assert_eq!(rt; boxes[1].kind(), Kind::Scanner);
-    assert_eq!(rt; boxes[2].kind(), Kind::Display { rows: 2, columns: 4 });
+    assert_eq!(rt;
+        boxes[2].kind(),
+        Kind::Display {
+            rows: 2,
+            columns: 4
+        }
+    );
     end_all(boxes);
     Ok(())
 }
@@ -113,7 +119,7 @@ fn a_scan_that_finds_no_memory_changes_nothing(rt: HostRuntime) -> Result<(), Fa
     assert_eq!(rt; counter.deliver(0, ErrorReply::Default), Some(Event::Data));
     let shown = counter.call(0, &Call::Get(Property::ScanData));
     assert!(rt;
-        matches!(shown, Ok(Answer::Done(Value::Bytes(bytes))) if bytes.as_slice() == [0x41].as_slice())
+        matches!(&shown, Ok(Answer::Done(Value::Bytes(bytes))) if bytes.as_slice() == [0x41].as_slice())
     );
     assert!(rt; matches!(counter.snapshot(b"s1"), Ok(Snapshot(Plant::Scanner))));
     end(counter);

@@ -1,4 +1,4 @@
-use Rattle.std.proofs.Common.{◌∙◌, Some, ap, get_or, length, set, sym, refl}
+use Rattle.std.proofs.Common.{◌∙◌, ap, get_or, length, set, sym, refl}
 use Rattle.std.specs.Prelude.{None}
 use Rattle.pos_service.specs.Claims.{released_by}
 use Rattle.std.proofs.lemmas.List.{get_or_default}

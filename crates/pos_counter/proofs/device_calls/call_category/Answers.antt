@@ -18,7 +18,7 @@ use Rattle.pos_counter.specs.Totals.{TotalsPart, is_totals}
 use Rattle.pos_counter.proofs.Claiming.{are_totals}
 use Rattle.pos_counter.proofs.Lifts.{control_at, match_at_some}
 use Rattle.pos_counter.proofs.Serving.{looks_serve, parts_serve, station_sound}
-use Rattle.pos_counter.proofs.Stations.{ServedAt, closed_step, device_step, is_open_there, served_there, unparked_at}
+use Rattle.pos_counter.proofs.Stations.{closed_step, device_step, is_open_there, served_there, unparked_at}
 use Rattle.pos_counter.proofs.device_calls.call_category.Goals as goal
 
 -- a device without a kind is Hard Totals

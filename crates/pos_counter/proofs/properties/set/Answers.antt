@@ -1,7 +1,8 @@
-use Rattle.std.proofs.Common.{◌≡◌, ◌∙◌, ◌&&◌, [], not, ap, get_or, set, subst, sym, false, refl}
+use Rattle.std.proofs.Common.{◌≡◌, ◌∙◌, ◌&&◌, List, [], not, ap, get_or, set, subst, sym, false, refl}
 use Rattle.pos_service.specs.HardTotals.{is_ready}
 use Rattle.pos_service.specs.Calls.{after_set, set_rows}
 use Rattle.pos_common.specs.Held.{Held, TurnsInto}
+use Rattle.pos_store.specs.Standing.{Standing}
 use Rattle.pos_counter.specs.Machine.{Shared, holder_in}
 use Rattle.pos_counter.specs.Totals.{asks_recovery}
 use Rattle.std.proofs.lemmas.List.{get_or_default}
@@ -32,7 +33,7 @@ returns g c = λ states sound.
     let turns = subst (λ at. TurnsInto (set_rows n (holder_in h.control.category cl view.totals.area h.control.device) at h.control p v) c.set.result h c.set.new.self (after_set h.control p v)) kind held in
     let plain = subst (λ (k : Held). (asks_recovery k.control p v && not (is_ready view.totals.mode)) ≡ false) (sym same)
     (ap (λ b. asks_recovery (get_or hs n c.index-controls-number.result).control p v && not b) (sym c.is_ready.ensures) ∙ sym c.is_recovering.ensures ∙ c.if-is_recovering.false) in
-    let step = λ left. plain_set hs cl es states (part_of g.D.Disk view left) n c.set.new.self h p v c.set.result c.requires is plain turns in
+    let step = λ (left : List Standing). plain_set hs cl es states (part_of g.D.Disk view left) n c.set.new.self h p v c.set.result c.requires is plain turns in
     let shared : Shared = record { claims = cl; totals = part_of g.D.Disk view [] } in
     record {
       steps = λ left leaves. rests_stepped g.D.Disk view (machine_with hs cl es states) (machine_with (set hs n c.set.new.self) cl es states) q (Answered c.set.result) left (λ bytes honest since. g.met.D.Disk.only_now view.disk bytes honest since) leaves (step left);

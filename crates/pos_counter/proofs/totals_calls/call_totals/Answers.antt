@@ -1,5 +1,5 @@
-use Rattle.std.proofs.Common.{◌≡◌, ◌∙◌, ◌&&◌, Bool, get_or, refl, sym, subst, ap, not, true, false}
-use Rattle.std.specs.Prelude.{Some, None, [], ◌∷◌, is_none, slice_get}
+use Rattle.std.proofs.Common.{◌≡◌, ◌∙◌, ◌&&◌, refl, sym, ap, not, true}
+use Rattle.std.specs.Prelude.{Some, [], ◌∷◌, is_none}
 use Rattle.pos_service.specs.declared.answer.Answer.TheVariants as answer
 use Rattle.pos_service.specs.declared.code.Code.TheVariants as code
 use Rattle.pos_service.specs.Claims.{is_foreign}
