@@ -44,7 +44,7 @@ abbrev pub display_methods : List Method
 display_methods =
     method (codes "displayText") (from_two bytes_shape number_shape call.DisplayText)
     ∷ method (codes "displayTextAt")
-        (from_four number_shape number_shape bytes_shape number_shape call.DisplayTextAt)
+    (from_four number_shape number_shape bytes_shape number_shape call.DisplayTextAt)
     ∷ method (codes "clearText") (from_none call.ClearText)
     ∷ method (codes "scrollText") (from_two number_shape number_shape call.ScrollText) ∷ totals_methods
 

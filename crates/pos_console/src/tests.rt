@@ -369,8 +369,7 @@ fn a_text_has_at_most_so_many_bytes(rt: HostRuntime) -> Result<(), Fail> {
     let script = with_bytes(rt.alloc(), &most, b"41", 4_097, b" 2\nshow p1\n")?;
     let text = text_of(rt.alloc(), &script)?;
     let want =
-        b"ok\nok\nok\nok\nok\nok 5a5a5a5a5a5a5a5a 11111111\nerr 106\nok 5a5a5a5a5a5a5a5a 11111111\n"
-            .as_slice();
+        b"ok\nok\nok\nok\nok\nok 5a5a5a5a5a5a5a5a 11111111\nerr 106\nok 5a5a5a5a5a5a5a5a 11111111\n".as_slice();
     assert_eq!(rt; text.as_slice(), want);
     Ok(())
 }
@@ -490,7 +489,10 @@ fn arguments_are_read_by_their_shapes(rt: HostRuntime) -> Result<(), Fail> {
     assert_eq!(rt; bytes.as_slice(), b"\x4a\xff".as_slice());
     assert_eq!(rt; number, -20);
     assert_eq!(rt; truth, false);
-    let (row, (column, (bytes, truth))) = read_four::<i128, i128, Bytes, bool>(alloc, b"1 -0 7E true")?;
+    let (row, (column, (bytes, truth))) = read_four::<i128, i128, Bytes, bool>(
+        alloc,
+        b"1 -0 7E true",
+    )?;
     assert_eq!(rt; (row, column, truth), (1, 0, true));
     assert_eq!(rt; bytes.as_slice(), b"~".as_slice());
     let (none, largest) = read_two::<Bytes, i128>(alloc, b"- 999999999999999999")?;
