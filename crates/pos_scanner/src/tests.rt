@@ -100,8 +100,20 @@ fn control(alloc: Global) -> Control
 {
     let mut control = Control::new(alloc, Category::Scanner);
     control.open(Finding::At(0));
-    control.set(0, Some(0), None, Property::DeviceEnabled, &Value::Truth(true));
-    control.set(0, Some(0), None, Property::DataEventEnabled, &Value::Truth(true));
+    control.set(
+        0,
+        Some(0),
+        None,
+        Property::DeviceEnabled,
+        &Value::Truth(true),
+    );
+    control.set(
+        0,
+        Some(0),
+        None,
+        Property::DataEventEnabled,
+        &Value::Truth(true),
+    );
     control
 }
 
@@ -135,45 +147,44 @@ fn a_scan_and_a_fault_come_to_the_control_and_a_refused_one_does_not(
     Ok(())
 }
 
+/// What the control with the number 0 is answered to a call after an input error, where its scanner has this holder, and
+/// the event that it is delivered then.
+fn asked(
+    alloc: Global,
+    holder: Option<usize>,
+    asked: &Call,
+) -> Result<(Answer, Option<Event>), Fail> {
+    let mut controls = [control(alloc)];
+    let mut claims = Claims::new(alloc, 1)?;
+    if let Some(holder) = holder {
+        claims.claim(0, holder);
+    }
+    let device: Box<dyn Peripheral> = Box::new(alloc, TestScanner::new())?;
+    let mut scanner = PeripheralBox::new(device);
+    let fault = take_input(alloc, &mut controls, 0, &mut scanner, &Input::ScanFault);
+    let answer = call(&mut controls, 0, &claims, &mut scanner, asked);
+    scanner.end();
+    fault?;
+    Ok((answer?, controls[0].deliver(ErrorReply::Default)))
+}
+
 #[test]
 fn the_holder_alone_clears_its_input(rt: HostRuntime) -> Result<(), Fail> {
-    let mut controls = [control(rt.alloc())];
-    let mut claims = Claims::new(rt.alloc(), 1)?;
-    let device: Box<dyn Peripheral> = Box::new(rt.alloc(), TestScanner::new())?;
-    let mut scanner = PeripheralBox::new(device);
-    let fault = take_input(
-        rt.alloc(),
-        &mut controls,
-        0,
-        &mut scanner,
-        &Input::ScanFault,
-    );
-    let unclaimed = call(&mut controls, 0, &claims, &mut scanner, &Call::ClearInput);
-    claims.claim(0, 1);
-    let foreign = call(
-        &mut controls,
-        0,
-        &claims,
-        &mut scanner,
-        &Call::ClearInputProperties,
-    );
-    claims.claim(0, 0);
-    let other = call(&mut controls, 0, &claims, &mut scanner, &Call::OpenDrawer);
-    let cleared = call(&mut controls, 0, &claims, &mut scanner, &Call::ClearInput);
-    let shown = call(
-        &mut controls,
-        0,
-        &claims,
-        &mut scanner,
-        &Call::ClearInputProperties,
-    );
-    scanner.end();
-    assert!(rt; fault.is_ok());
-    assert!(rt; matches!(unclaimed?, Answer::Refused(Code::NotClaimed, 0)));
-    assert!(rt; matches!(foreign?, Answer::Refused(Code::Claimed, 0)));
-    assert!(rt; matches!(other?, Answer::Refused(Code::Illegal, 0)));
-    assert!(rt; matches!(cleared?, Answer::Done(Value::Empty)));
-    assert!(rt; matches!(shown?, Answer::Done(Value::Empty)));
-    assert_eq!(rt; controls[0].deliver(ErrorReply::Default), None);
+    let held = Some(Event::Error(Code::Failure, 0, Locus::Input));
+    for (holder, call, code) in [
+        (None, Call::ClearInput, Code::NotClaimed),
+        (Some(1), Call::ClearInputProperties, Code::Claimed),
+        (Some(0), Call::OpenDrawer, Code::Illegal),
+    ] {
+        let (answer, event) = asked(rt.alloc(), holder, &call)?;
+        assert!(rt; matches!(answer, Answer::Refused(refusal, 0) if refusal == code));
+        assert_eq!(rt; event, held);
+    }
+    let (cleared, none) = asked(rt.alloc(), Some(0), &Call::ClearInput)?;
+    assert!(rt; matches!(cleared, Answer::Done(Value::Empty)));
+    assert_eq!(rt; none, None);
+    let (shown, event) = asked(rt.alloc(), Some(0), &Call::ClearInputProperties)?;
+    assert!(rt; matches!(shown, Answer::Done(Value::Empty)));
+    assert_eq!(rt; event, held);
     Ok(())
 }
