@@ -267,31 +267,67 @@ fn have_both(alloc: Global, disk: MemDisk, wanted: &[u8]) -> Result<bool, AllocE
     Ok(wrong.is_none())
 }
 
+/// How many disk calls the transaction makes before its commit.
+fn count_before(alloc: Global, disk: &MemDisk) -> Result<u64, AllocError> {
+    let whole = FuseDisk::new(disk.crash(Fill::New)?, 0, 0);
+    let (_, before) = play(alloc, whole, &BOTH[..6])?;
+    Ok(before.calls())
+}
+
+#[test]
+fn a_commit_calls_the_disk(rt: HostRuntime) -> Result<(), Fail> {
+    let alloc = rt.alloc();
+    let disk = with_two_files(alloc)?;
+    let whole = FuseDisk::new(disk.crash(Fill::New)?, 0, 0);
+    let (wrong, after) = play(alloc, whole, &BOTH)?;
+    assert_eq!(rt; wrong, None);
+    assert!(rt; after.calls() > count_before(alloc, &disk)?);
+    assert!(rt; have_both(alloc, after.into_inner(), &BEEF)?);
+    Ok(())
+}
+
+/// The transaction over a disk that fails for good after so many disk calls: whether its commit is done, or None where a
+/// step gets another answer, and the disk.
+fn stop_after(
+    alloc: Global,
+    disk: &MemDisk,
+    pass: u64,
+) -> Result<(Option<bool>, MemDisk), AllocError> {
+    let mut lines = BOTH;
+    lines[6].2 = FAILURE;
+    let fuse = FuseDisk::new(disk.crash(Fill::New)?, pass, u64::MAX);
+    let (wrong, failed) = play(alloc, fuse, &lines)?;
+    let is_done = match wrong {
+        None => Some(false),
+        Some(6) => Some(true),
+        Some(_) => None,
+    };
+    Ok((is_done, failed.into_inner()))
+}
+
+/// Whether each crash leaves both files as they were written, or, where the commit isn't done, both as they were.
+fn are_whole(alloc: Global, left: &MemDisk, is_done: bool) -> Result<bool, AllocError> {
+    for fill in [Fill::Old, Fill::New, Fill::Byte(0xa5), Fill::Byte(0)] {
+        if have_both(alloc, left.crash(fill)?, &BEEF)? {
+            continue;
+        }
+        if is_done || !have_both(alloc, left.crash(fill)?, &[0, 0, 0, 0])? {
+            return Ok(false);
+        }
+    }
+    Ok(true)
+}
+
 /// The disk fails for good at a disk call of the commit: what each crash leaves has both files old or both new.
 #[test]
 fn a_transaction_is_whole_or_absent(rt: HostRuntime) -> Result<(), Fail> {
     let alloc = rt.alloc();
     let disk = with_two_files(alloc)?;
-    let whole = FuseDisk::new(disk.crash(Fill::New)?, 0, 0);
-    let (_, before) = play(alloc, whole, &BOTH[..6])?;
-    let whole = FuseDisk::new(disk.crash(Fill::New)?, 0, 0);
-    let (wrong, after) = play(alloc, whole, &BOTH)?;
-    assert_eq!(rt; wrong, None);
-    assert!(rt; after.calls() > before.calls());
-    assert!(rt; have_both(alloc, after.into_inner(), &BEEF)?);
-    let mut lines = BOTH;
-    lines[6].2 = FAILURE;
-    for pass in before.calls()..0xff {
-        let fuse = FuseDisk::new(disk.crash(Fill::New)?, pass, u64::MAX);
-        let (wrong, failed) = play(alloc, fuse, &lines)?;
-        let is_done = wrong == Some(6);
-        assert!(rt; is_done || wrong.is_none());
-        let left = failed.into_inner();
-        for fill in [Fill::Old, Fill::New, Fill::Byte(0xa5), Fill::Byte(0)] {
-            let is_new = have_both(alloc, left.crash(fill)?, &BEEF)?;
-            assert!(rt; is_new || !is_done);
-            assert!(rt; is_new || have_both(alloc, left.crash(fill)?, &[0, 0, 0, 0])?);
-        }
+    for pass in count_before(alloc, &disk)?..0xff {
+        let (done, left) = stop_after(alloc, &disk, pass)?;
+        let is_done = done == Some(true);
+        assert!(rt; done.is_some());
+        assert!(rt; are_whole(alloc, &left, is_done)?);
         if is_done {
             return Ok(());
         }

@@ -56,11 +56,12 @@ fn find_facts<P: HasState, D: Disk>(
         let machine = machine_with [] claims.now entries.now states (part_of D.Disk totals.now left) in
         result ≡ facts_of machine number control.now.control }
 {
+    let device = control.device();
     Facts {
         is_claimed: is_holder(control, claims, totals.area(), number),
         in_transaction: totals.in_transaction(number),
-        kind: kind_at(entries, control.device()),
-        signs: signs_at(peripherals, control.device()),
+        kind: kind_at(entries, device),
+        signs: signs_at(peripherals, device),
         totals_size: totals.size(),
         files: find_file_facts(totals),
     }
@@ -123,7 +124,8 @@ pub(crate) fn set<D: Disk>(
     }
     let control = &mut controls[number];
     let holder = find_holder(control, claims, totals.area());
-    let kind = kind_at(entries, control.device());
+    let device = control.device();
+    let kind = kind_at(entries, device);
     Ok(control.set(number, holder, kind, property, value))
 }
 

@@ -1,10 +1,14 @@
-//! A counter and its drawer.
+//! A counter and its devices.
+ghost use Rattle.std.specs.Prelude.{IfOk};
+ghost use Rattle.pos_counter.specs.Counters.{IsCounterSound};
+
+use crate::steps::bytes;
 use crate::support::{TestDrawer, TestScanner, counter_over, display, end, end_all, formatted};
 use crate::{ControlFault, Counter, Ended, InputFault, Request, Response, SnapshotFault};
-use pos_disk::Disk;
+use pos_disk::{Disk, MemDisk};
 use pos_service::{
-    Answer, Bytes, Call, Category, Code, ErrorReply, Event, Input, Kind, NoMemory, Peripheral,
-    PeripheralBox, Plant, Property, Snapshot, Value,
+    Answer, Bytes, Call, Category, Code, ErrorReply, Event, HasState, Input, Kind, NoMemory,
+    Peripheral, PeripheralBox, Plant, Property, Snapshot, Value,
 };
 use std::alloc::{AllocError, Global};
 use std::test::Fail;
@@ -47,46 +51,74 @@ fn a_new_counter_or_its_refusal_gives_peripherals_and_disk_back(
     Ok(())
 }
 
+/// Whether a call is done and gives nothing.
+fn is_done(answered: Result<Answer, NoMemory>) -> bool {
+    matches!(answered, Ok(Answer::Done(Value::Empty)))
+}
+
+/// Whether a call is refused with this code.
+fn is_refused(answered: Result<Answer, NoMemory>, code: Code) -> bool {
+    matches!(answered, Ok(Answer::Refused(told, 0)) if told == code)
+}
+
+/// Whether a call gives these bytes.
+fn gives(answered: Result<Answer, NoMemory>, wanted: &[u8]) -> bool {
+    matches!(&answered, Ok(Answer::Done(Value::Bytes(bytes))) if bytes.as_slice() == wanted)
+}
+
+/// Whether a drawer is shown so.
+fn shows_drawer(shown: Result<Snapshot, SnapshotFault>, wanted: bool) -> bool {
+    matches!(shown, Ok(Snapshot(Plant::Drawer(is_open))) if is_open == wanted)
+}
+
+/// A counter whose control 0 has the drawer open and enabled; its line fails with so many orders.
+fn with_drawer(alloc: Global, faults: u32) -> Result<Counter<MemDisk>, AllocError>
+    ensures { IfOk result (λ counter. IsCounterSound ⟦<PeripheralBox as HasState>⟧ counter) }
+{
+    let name = bytes(alloc, b"d1")?;
+    let mut counter = counter_over(alloc, faults, formatted(alloc)?)?;
+    let _number = counter.control(Category::CashDrawer);
+    let _opened = counter.call(0, &Call::Open(name));
+    let enable = Call::Set(Property::DeviceEnabled, Value::Truth(true));
+    let _enabled = counter.call(0, &enable);
+    Ok(counter)
+}
+
 #[test]
 fn each_call_is_answered(rt: HostRuntime) -> Result<(), AllocError> {
-    let alloc = rt.alloc();
-    let Ok(name) = Bytes::from_slice(alloc, b"d1") else {
-        return Err(AllocError);
-    };
-    let mut counter = counter_over(alloc, 1, formatted(alloc)?)?;
-    assert_eq!(rt; counter.control(Category::CashDrawer), Ok(0));
-    assert!(rt;
-        matches!(
-            counter.call(0, &Call::Open(name)),
-            Ok(Answer::Done(Value::Empty))
-        )
-    );
-    let enable = Call::Set(Property::DeviceEnabled, Value::Truth(true));
-    assert!(rt; matches!(counter.call(0, &enable), Ok(Answer::Done(Value::Empty))));
+    let mut counter = with_drawer(rt.alloc(), 1)?;
     let failed = counter.call(0, &Call::OpenDrawer);
-    assert!(rt; matches!(failed, Ok(Answer::Refused(Code::Failure, 0))));
-    assert_eq!(rt; counter.deliver(0, ErrorReply::Default), None);
+    let early = counter.deliver(0, ErrorReply::Default);
     let opened = counter.call(0, &Call::OpenDrawer);
-    assert!(rt; matches!(opened, Ok(Answer::Done(Value::Empty))));
-    assert_eq!(rt;
-        counter.deliver(0, ErrorReply::Default),
-        Some(Event::StatusUpdate(1))
-    );
-    assert_eq!(rt;
-        counter.input(b"d2", &Input::DrawerMoved(false)),
-        Err(InputFault::NoDevice)
-    );
-    assert!(rt; matches!(counter.snapshot(b"d1"), Ok(Snapshot(Plant::Drawer(true)))));
-    assert_eq!(rt; counter.input(b"d1", &Input::DrawerMoved(false)), Ok(()));
-    assert_eq!(rt; counter.deliver(1, ErrorReply::Default), None);
-    assert_eq!(rt;
-        counter.deliver(0, ErrorReply::Default),
-        Some(Event::StatusUpdate(0))
-    );
-    assert!(rt; matches!(counter.snapshot(b"d"), Err(SnapshotFault::NoDevice)));
+    let told = counter.deliver(0, ErrorReply::Default);
     let unknown = counter.call(1, &Call::Close);
-    assert!(rt; matches!(unknown, Ok(Answer::Refused(Code::Illegal, 0))));
+    let nobody = counter.deliver(1, ErrorReply::Default);
     end(counter);
+    assert!(rt; is_refused(failed, Code::Failure));
+    assert_eq!(rt; early, None);
+    assert!(rt; is_done(opened));
+    assert_eq!(rt; told, Some(Event::StatusUpdate(1)));
+    assert!(rt; is_refused(unknown, Code::Illegal));
+    assert_eq!(rt; nobody, None);
+    Ok(())
+}
+
+#[test]
+fn devices_are_found_by_their_names(rt: HostRuntime) -> Result<(), AllocError> {
+    let mut counter = with_drawer(rt.alloc(), 0)?;
+    let opened = counter.call(0, &Call::OpenDrawer);
+    let shown = counter.snapshot(b"d1");
+    let absent = counter.input(b"d2", &Input::DrawerMoved(false));
+    let moved = counter.input(b"d1", &Input::DrawerMoved(false));
+    let closed = counter.snapshot(b"d1");
+    let short = counter.snapshot(b"d");
+    end(counter);
+    assert!(rt; is_done(opened));
+    assert!(rt; shows_drawer(shown, true));
+    assert_eq!(rt; absent, Err(InputFault::NoDevice));
+    assert_eq!(rt; moved, Ok(()));
+    assert!(rt; shows_drawer(closed, false));
+    assert!(rt; matches!(short, Err(SnapshotFault::NoDevice)));
     Ok(())
 }
 
@@ -99,30 +131,41 @@ fn scan(alloc: Global) -> Result<Input, NoMemory> {
     })
 }
 
+/// A counter whose control 0 holds the scanner, has it enabled and takes DataEvents; for so many inputs there is no
+/// memory.
+fn with_scanner(alloc: Global, wants: u32) -> Result<Counter<MemDisk>, AllocError>
+    ensures { IfOk result (λ counter. IsCounterSound ⟦<PeripheralBox as HasState>⟧ counter) }
+{
+    let name = bytes(alloc, b"s1")?;
+    let mut counter = counter_over(alloc, wants, formatted(alloc)?)?;
+    let _number = counter.control(Category::Scanner);
+    let _opened = counter.call(0, &Call::Open(name));
+    let _claimed = counter.call(0, &Call::Claim(0));
+    let enable = Call::Set(Property::DeviceEnabled, Value::Truth(true));
+    let _enabled = counter.call(0, &enable);
+    let listen = Call::Set(Property::DataEventEnabled, Value::Truth(true));
+    let _listens = counter.call(0, &listen);
+    Ok(counter)
+}
+
 #[test]
 fn a_scan_that_finds_no_memory_changes_nothing(rt: HostRuntime) -> Result<(), Fail> {
     let alloc = rt.alloc();
-    let (name, one, other) = (Bytes::from_slice(alloc, b"s1")?, scan(alloc)?, scan(alloc)?);
-    let mut counter = counter_over(alloc, 1, formatted(alloc)?)?;
-    assert_eq!(rt; counter.control(Category::Scanner), Ok(0));
-    for call in [
-        Call::Open(name),
-        Call::Claim(0),
-        Call::Set(Property::DeviceEnabled, Value::Truth(true)),
-        Call::Set(Property::DataEventEnabled, Value::Truth(true)),
-    ] {
-        assert!(rt; matches!(counter.call(0, &call), Ok(Answer::Done(Value::Empty))));
-    }
-    assert_eq!(rt; counter.input(b"s1", &one), Err(InputFault::NoMemory));
-    assert_eq!(rt; counter.deliver(0, ErrorReply::Default), None);
-    assert_eq!(rt; counter.input(b"s1", &other), Ok(()));
-    assert_eq!(rt; counter.deliver(0, ErrorReply::Default), Some(Event::Data));
-    let shown = counter.call(0, &Call::Get(Property::ScanData));
-    assert!(rt;
-        matches!(&shown, Ok(Answer::Done(Value::Bytes(bytes))) if bytes.as_slice() == [0x41].as_slice())
-    );
-    assert!(rt; matches!(counter.snapshot(b"s1"), Ok(Snapshot(Plant::Scanner))));
+    let (one, other) = (scan(alloc)?, scan(alloc)?);
+    let mut counter = with_scanner(alloc, 1)?;
+    let refused = counter.input(b"s1", &one);
+    let early = counter.deliver(0, ErrorReply::Default);
+    let taken = counter.input(b"s1", &other);
+    let told = counter.deliver(0, ErrorReply::Default);
+    let data = counter.call(0, &Call::Get(Property::ScanData));
+    let shown = counter.snapshot(b"s1");
     end(counter);
+    assert_eq!(rt; refused, Err(InputFault::NoMemory));
+    assert_eq!(rt; early, None);
+    assert_eq!(rt; taken, Ok(()));
+    assert_eq!(rt; told, Some(Event::Data));
+    assert!(rt; gives(data, b"A"));
+    assert!(rt; matches!(shown, Ok(Snapshot(Plant::Scanner))));
     Ok(())
 }
 

@@ -26,8 +26,8 @@ returns g c = λ left.
     let one = c.args.control.now.control in
     let cl = c.args.claims.now in
     facts_same _ (facts_of (machine_with [] cl es ss (part_of g.D.Disk c.args.totals.now left)) n one)
-    (c.kind_at.ensures ∙ ap (kind_at es) c.device.ensures ∙ sym (kind_there es ss one.device))
-    (c.signs_at.ensures ∙ ap (λ o. signs_in (standing_at ss o)) c.device-2.ensures ∙ ap signs_in (sym (station_there es ss one.device c.requires.attached)))
+    (c.kind_at.ensures ∙ ap (kind_at es) c.device-device.ensures ∙ sym (kind_there es ss one.device))
+    (c.signs_at.ensures ∙ ap (λ o. signs_in (standing_at ss o)) c.device-device.ensures ∙ ap signs_in (sym (station_there es ss one.device c.requires.attached)))
     c.size.ensures c.find_file_facts.ensures
     (c.is_holder.ensures ∙ ap (λ area. is_own n (holder_in one.category cl area one.device)) c.area.ensures)
     c.in_transaction.ensures
