@@ -113,8 +113,8 @@ fn control(alloc: Global, cursor: Cursor) -> Control
     control
 }
 
-/// What the control with the number 0 and with this cursor is answered, where the display has this holder, and its cursor
-/// then.
+/// What the control with the number 0 and with this cursor is answered, where the display has this holder, and its
+/// cursor then.
 fn asked(
     alloc: Global,
     cursor: Cursor,
@@ -126,7 +126,8 @@ fn asked(
     requires display { is_display (⟦<PeripheralBox as HasState>⟧.state display.old).kind ≡ true }
     requires cursor { let at = (⟦<PeripheralBox as HasState>⟧.state display.old).kind in
         is_cursor_place (rows_of (Some at)) (columns_of (Some at)) cursor.place ≡ true }
-    ensures { let state = ⟦<PeripheralBox as HasState>⟧.state in StaysInService (state display.old) (state display.new) }
+    ensures { let state = ⟦<PeripheralBox as HasState>⟧.state in
+        StaysInService (state display.old) (state display.new) }
 {
     let mut controls = [control(alloc, cursor)];
     let mut claims = Claims::new(alloc, 1)?;
@@ -425,17 +426,28 @@ fn a_display_of_one_cell_shows_the_last_character(rt: HostRuntime) -> Result<(),
     Ok(())
 }
 
-#[test]
-fn the_longest_text_scrolls_the_largest_display(rt: HostRuntime) -> Result<(), Fail> {
-    // rows 0 to 43 of the text, row 44, rows 45 to 50, and 17 characters of row 51
-    let mut bytes = [b'A'; 4097];
+/// A text of 4,096 bytes for a display of 80 columns: 44 rows of A, one of S, six of T, and 16 Z.
+fn longest(alloc: Global) -> Result<Bytes, NoMemory> {
+    let mut bytes = [b'A'; 4096];
     bytes[3520..3600].fill(b'S');
     bytes[3600..4080].fill(b'T');
     bytes[4080..].fill(b'Z');
-    let (longest, longer) = (
-        Bytes::from_slice(rt.alloc(), &bytes[..4096])?,
-        Bytes::from_slice(rt.alloc(), &bytes)?,
-    );
+    Bytes::from_slice(alloc, &bytes)
+}
+
+/// Whether the largest display shows the end of that text, with the attribute 2.
+fn shows_its_end(shown: &Snapshot) -> bool {
+    let (mut characters, mut attributes) = ([b'T'; 640], [2; 640]);
+    characters[..80].fill(b'S');
+    characters[560..576].fill(b'Z');
+    characters[576..].fill(b' ');
+    attributes[576..].fill(0);
+    shows(shown, &characters, &attributes)
+}
+
+#[test]
+fn the_longest_text_scrolls_the_largest_display(rt: HostRuntime) -> Result<(), Fail> {
+    let text = longest(rt.alloc())?;
     let device: Box<dyn Peripheral> = Box::new(rt.alloc(), PlainDisplay::new(rt.alloc(), 8, 80)?)?;
     let mut display = PeripheralBox::new(device);
     let full = asked(
@@ -443,24 +455,30 @@ fn the_longest_text_scrolls_the_largest_display(rt: HostRuntime) -> Result<(), F
         at(0, 0, true),
         Some(0),
         &mut display,
-        &Call::DisplayText(longest, 2),
+        &Call::DisplayText(text, 2),
     );
+    let shown = display.snapshot();
+    display.end();
+    assert!(rt; is_done(&full?, 7, 16));
+    assert!(rt; shows_its_end(&shown?));
+    Ok(())
+}
+
+#[test]
+fn a_longer_text_shows_nothing(rt: HostRuntime) -> Result<(), Fail> {
+    let text = Bytes::from_slice(rt.alloc(), &[b'A'; 4097])?;
+    let device: Box<dyn Peripheral> = Box::new(rt.alloc(), PlainDisplay::new(rt.alloc(), 8, 80)?)?;
+    let mut display = PeripheralBox::new(device);
     let refused = asked(
         rt.alloc(),
         at(0, 0, true),
         Some(0),
         &mut display,
-        &Call::DisplayText(longer, 0),
+        &Call::DisplayText(text, 0),
     );
     let shown = display.snapshot();
     display.end();
-    let (mut characters, mut attributes) = ([b'T'; 640], [2; 640]);
-    characters[..80].fill(b'S');
-    characters[560..576].fill(b'Z');
-    characters[576..].fill(b' ');
-    attributes[576..].fill(0);
-    assert!(rt; is_done(&full?, 7, 16));
     assert!(rt; is_refused(&refused?, Code::Illegal));
-    assert!(rt; shows(&shown?, &characters, &attributes));
+    assert!(rt; shows(&shown?, &[b' '; 640], &[0; 640]));
     Ok(())
 }
