@@ -1,5 +1,5 @@
 -- What a call has a line display do, and where it leaves the cursor.
-use Rattle.std.specs.Prelude.{◌≡◌, ℕ, List, true, Option, Some, None, Result, MatchOption, MatchResult, slice_get}
+use Rattle.std.specs.Prelude.{◌≡◌, ℕ, true, Option, Some, None, Result, MatchOption, MatchResult, slice_get}
 use Rattle.pos_service.specs.declared.answer.Answer.{Answer}
 use Rattle.pos_service.specs.declared.answer.Answer.TheVariants as answer
 use Rattle.pos_service.specs.declared.call.Call.{Call}
@@ -8,12 +8,11 @@ use Rattle.pos_service.specs.declared.display_text.Cursor.{Cursor}
 use Rattle.pos_service.specs.declared.kind.Kind.{Kind}
 use Rattle.pos_service.specs.declared.memory.NoMemory.{NoMemory}
 use Rattle.pos_service.specs.DisplayCalls.{argument_rows, display_order, place_after_call, OrdersDisplay}
-use Rattle.pos_service.specs.Controls.{Control}
 use Rattle.pos_service.specs.Displays.{is_cursor_place}
 use Rattle.pos_service.specs.Kinds.{rows_of, columns_of}
 use Rattle.pos_service.specs.Peripherals.{order_fits}
 use Rattle.pos_service.specs.Refusals.{first_refusal}
-use Rattle.pos_service.specs.Stations.{Station, SameStation, Effect}
+use Rattle.pos_service.specs.Stations.{SameStation, Effect}
 use Rattle.pos_display.specs.declared.plans.Plan.{Plan}
 
 -- The arguments of the call are allowed, and the plan has its order, which a display of this kind takes, and the place

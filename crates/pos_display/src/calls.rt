@@ -20,17 +20,18 @@ const READY: Need = Need {
     is_enabled: true,
 };
 
-/// A call on a display's control that is open and whose cursor is at a place of the display. The claims are those of all
-/// devices, the peripheral is that of the caller's device. Each call gives one order, once its arguments are found good
-/// and its text, if any, is copied; only when that is done, the caller's cursor moves.
+/// A call on a display's control that is open and whose cursor is at a place of the display. The claims are those of
+/// all devices, the peripheral is that of the caller's device. Each call gives one order, once its arguments are found
+/// good and its text, if any, is copied; only when that is done, the caller's cursor moves.
 ///
 /// `displayText` shows a text from the cursor on and leaves the cursor at its end, where CursorUpdate is true;
 /// `displayTextAt` has the cursor at a row and a column first; `clearText` blanks the display and has the cursor at the
 /// first place; `scrollText` moves what is shown, and keeps the cursor (chapter Line Display).
 ///
 /// Refused with E_ILLEGAL for a call that displays don't have of their own, then with E_CLAIMED where another control
-/// holds the display, E_NOTCLAIMED where nobody does, E_DISABLED where the caller is disabled, E_ILLEGAL for an argument
-/// out of range, E_FAILURE where the line to the display fails. Neither a refusal nor want of memory changes anything.
+/// holds the display, E_NOTCLAIMED where nobody does, E_DISABLED where the caller is disabled, E_ILLEGAL for an
+/// argument out of range, E_FAILURE where the line to the display fails. Neither a refusal nor want of memory changes
+/// anything.
 pub fn call(
     alloc: Global,
     controls: &mut [Control],
@@ -42,7 +43,8 @@ pub fn call(
     requires open { IsOpen category.LineDisplay (controls_of controls.old) caller }
     requires unparked { (⟦<PeripheralBox as HasState>⟧.state display.old).is_parked ≡ false }
     requires display { is_display (⟦<PeripheralBox as HasState>⟧.state display.old).kind ≡ true }
-    requires cursor { HasCursor (⟦<PeripheralBox as HasState>⟧.state display.old).kind (controls_of controls.old) caller }
+    requires cursor { let state = ⟦<PeripheralBox as HasState>⟧.state in
+        HasCursor (state display.old).kind (controls_of controls.old) caller }
     ensures called { let state = ⟦<PeripheralBox as HasState>⟧.state in
         CalledBy (display_rows claims.now caller (Some (state display.old).kind)) DisplayDoes caller call.now result
         (controls_of controls.old) (station_of (state display.old))

@@ -101,7 +101,8 @@ fn plan_text(
 fn place_left(kind: Kind, cursor: Cursor, bytes: &[u8]) -> Place
     requires columns { 1 ≤ columns_of (Some kind) }
     requires cursor { is_cursor_place (rows_of (Some kind)) (columns_of (Some kind)) cursor.place ≡ true }
-    ensures left { result ≡ place_left (rows_of (Some kind)) (columns_of (Some kind)) cursor.update cursor.place bytes.now }
+    ensures left { result ≡
+        place_left (rows_of (Some kind)) (columns_of (Some kind)) cursor.update cursor.place bytes.now }
     ensures within { is_cursor_place (rows_of (Some kind)) (columns_of (Some kind)) result ≡ true }
 {
     if !cursor.update {
@@ -116,7 +117,8 @@ fn plan_scroll(kind: Kind, cursor: Cursor, direction: i128, units: i128) -> Opti
     requires display { is_display kind ≡ true }
     requires cursor { is_cursor_place (rows_of (Some kind)) (columns_of (Some kind)) cursor.place ≡ true }
     ensures { MatchOption result
-        (first_refusal (argument_rows (Some kind) (Call.ScrollText direction units)) ≡ Some (answer.Refused code.Illegal 0))
+        (first_refusal (argument_rows (Some kind) (Call.ScrollText direction units))
+        ≡ Some (answer.Refused code.Illegal 0))
         (IsPlanOf kind cursor (Call.ScrollText direction units)) }
 {
     let Some(direction) = Direction::from_number(direction) else {
