@@ -45,7 +45,10 @@ fn a_refused_growth_queues_nothing(rt: HostRuntime) {
     for _ in 0..100 {
         match queue.put(Order::OpenDrawer) {
             Ok(id) => last = id,
-            Err((fault, Order::OpenDrawer)) => assert_eq!(rt; fault, PutFault::NoMemory),
+            Err((fault, order)) => {
+                assert_eq!(rt; fault, PutFault::NoMemory);
+                assert!(rt; matches!(order, Order::OpenDrawer));
+            }
         }
     }
     let mut done = 0;
