@@ -104,7 +104,13 @@ fn control(alloc: Global, is_enabled: bool) -> Control
 {
     let mut control = Control::new(alloc, Category::CashDrawer);
     control.open(Finding::At(0));
-    control.set(0, None, None, Property::DeviceEnabled, &Value::Truth(is_enabled));
+    control.set(
+        0,
+        None,
+        None,
+        Property::DeviceEnabled,
+        &Value::Truth(is_enabled),
+    );
     control
 }
 

@@ -22,7 +22,10 @@ pub enum Order {
     /// A display is blank.
     ClearText,
     /// What a display shows moves in a direction by so many rows or columns, at most all.
-    Scroll { direction: Direction, units: u32 },
+    Scroll {
+        direction: Direction,
+        units: u32,
+    },
 }
 
 impl Order {
