@@ -147,8 +147,8 @@ fn a_scan_and_a_fault_come_to_the_control_and_a_refused_one_does_not(
     Ok(())
 }
 
-/// What the control with the number 0 is answered to a call after an input error, where its scanner has this holder, and
-/// the event that it is delivered then.
+/// What the control with the number 0 is answered to a call after an input error, where its scanner has this holder,
+/// and the event that it is delivered then.
 fn asked(
     alloc: Global,
     holder: Option<usize>,

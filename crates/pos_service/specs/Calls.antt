@@ -164,8 +164,8 @@ is_settable property.CursorColumn = true
 is_settable property.CursorUpdate = true
 is_settable p = false
 
--- The property may be set to this value, by its type, and by its range at a device of this kind: CursorRow is one of the
--- display's rows, CursorColumn one of its columns or the place right of them.
+-- The property may be set to this value, by its type, and by its range at a device of this kind: CursorRow is one of
+-- the display's rows, CursorColumn one of its columns or the place right of them.
 abbrev pub takes : Option Kind → Property → Value → Bool
 takes at property.DeviceEnabled (value.Truth is_true) = true
 takes at property.FreezeEvents (value.Truth is_true) = true
@@ -182,8 +182,8 @@ abbrev pub needs_claim : Category → Property → Bool
 needs_claim category property.DeviceEnabled = is_exclusive category
 needs_claim category p = false
 
--- A property is set by the control with a number, whose device has this holder and is of this kind: a property of another
--- category can't be set either.
+-- A property is set by the control with a number, whose device has this holder and is of this kind: a property of
+-- another category can't be set either.
 abbrev pub set_rows : ℕ → Option ℕ → Option Kind → Control → Property → Value → List Row
 set_rows number holder at control p v =
     when (is_none control.device) code.Closed

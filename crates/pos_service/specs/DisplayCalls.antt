@@ -67,8 +67,8 @@ display_order cursor (call.ScrollText direction units) =
     option_map (λ way. order.Scroll way (nat_abs units)) (direction_of direction)
 display_order cursor asked = None
 
--- Where each call leaves this cursor, once its order is done: a text at its last place, with CursorUpdate true, and else
--- where the text began; clearText at the first place; scrollText where it was.
+-- Where each call leaves this cursor, once its order is done: a text at its last place, with CursorUpdate true, and
+-- else where the text began; clearText at the first place; scrollText where it was.
 abbrev pub place_after_call : Option Kind → Cursor → Call → Place
 place_after_call at cursor (call.DisplayText text attribute) =
     place_left (rows_of at) (columns_of at) cursor.update cursor.place text

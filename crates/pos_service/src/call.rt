@@ -25,8 +25,8 @@ pub enum Call {
     /// `clearInputProperties`: the properties of the last input have their defaults again (common chapter, chapter
     /// Scanner).
     ClearInputProperties,
-    /// `displayText` with the text and the number of its attribute: it is shown from the cursor on (chapter Line Display,
-    /// as the calls below).
+    /// `displayText` with the text and the number of its attribute: it is shown from the cursor on (chapter Line
+    /// Display, as the calls below).
     DisplayText(Bytes, i128),
     /// `displayTextAt` with a row, a column, the text and the number of its attribute.
     DisplayTextAt(i128, i128, Bytes, i128),

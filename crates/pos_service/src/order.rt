@@ -52,7 +52,8 @@ impl Order {
 /// Whether a display of this kind shows such a text from a row and a column on.
 fn text_fits(kind: Kind, row: u32, column: u32, bytes: &[u8]) -> bool
     ensures { result ≡
-        (is_cursor_place (rows_of (Some kind)) (columns_of (Some kind)) (place_at row column) && is_display_text bytes.now) }
+        (is_cursor_place (rows_of (Some kind)) (columns_of (Some kind)) (place_at row column)
+        && is_display_text bytes.now) }
 {
     row < rows_of(Some(kind)) && column <= columns_of(Some(kind)) && is_text_of_display(bytes)
 }

@@ -11,8 +11,8 @@ use pos_service::{
 };
 use std::alloc::Global;
 
-/// A line display of 1 to 8 rows of 1 to 80 columns whose line never fails (chapter Line Display). Its cells are made by
-/// `new`; after that a snapshot alone takes memory.
+/// A line display of 1 to 8 rows of 1 to 80 columns whose line never fails (chapter Line Display). Its cells are made
+/// by `new`; after that a snapshot alone takes memory.
 #[derive(Debug, Drop)]
 pub struct PlainDisplay {
     alloc: Global,

@@ -20,8 +20,8 @@ const HELD: Need = Need {
 
 impl Control {
     /// Sets a property, by the control's number, the number of the control that holds its device, if any, and what its
-    /// device's peripheral is, where it has one (common chapter, chapter Line Display). The value that it has is checked
-    /// like any other.
+    /// device's peripheral is, where it has one (common chapter, chapter Line Display). The value that it has is
+    /// checked like any other.
     ///
     /// Refused with E_CLOSED where the control is closed, E_ILLEGAL where its category doesn't have the property or it
     /// can't be set; for DeviceEnabled of an exclusive-use device with E_CLAIMED where another control holds the
@@ -114,8 +114,8 @@ impl Control {
         }
     }
 
-    /// A property, by what is known of the control's device (common chapter, chapters Cash Drawer, Scanner, Line Display and Hard
-    /// Totals). Bytes are copied, for which memory may be wanted.
+    /// A property, by what is known of the control's device (common chapter, chapters Cash Drawer, Scanner, Line Display
+    /// and Hard Totals). Bytes are copied, for which memory may be wanted.
     ///
     /// Refused with E_CLOSED where the control is closed, but for State; with E_ILLEGAL where its category doesn't have
     /// the property; with E_DISABLED where the property is one of an enabled device and the device is disabled; with
