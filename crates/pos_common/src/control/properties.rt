@@ -114,8 +114,8 @@ impl Control {
         }
     }
 
-    /// A property, by what is known of the control's device (common chapter, chapters Cash Drawer, Scanner, Line Display
-    /// and Hard Totals). Bytes are copied, for which memory may be wanted.
+    /// A property, by what is known of the control's device (common chapter, chapters Cash Drawer, Scanner, Line
+    /// Display and Hard Totals). Bytes are copied, for which memory may be wanted.
     ///
     /// Refused with E_CLOSED where the control is closed, but for State; with E_ILLEGAL where its category doesn't have
     /// the property; with E_DISABLED where the property is one of an enabled device and the device is disabled; with
