@@ -1,19 +1,24 @@
 mod input;
+mod steps;
 
 use crate::{ClaimNeed, Claims, Control, Need, SIGN_EVENTS, hear_all, room_all};
 use pos_service::display_text::Place;
 use pos_service::{
-    Answer, Category, Code, ErrorReply, Event, Facts, Finding, Kind, PaperLevel, Property, Signs,
-    Value,
+    Answer, Category, ErrorReply, Event, Facts, Finding, Kind, PaperLevel, Property, Signs, Value,
 };
 use std::alloc::Global;
 use std::test::Fail;
+use steps::{
+    CLAIMED, CLOSED, DISABLED, FALSE, ILLEGAL, NOTHING, Step, TIMEOUT, TRUE, Wanted, play,
+};
 
 /// What `openDrawer` asks of its control.
 const DRAWER_NEED: Need = Need {
     claim: ClaimNeed::NoOther,
     is_enabled: true,
 };
+
+const ENABLE: Step = Step::SetTruth(Property::DeviceEnabled, true);
 
 /// The signs of a drawer.
 fn drawer_signs(is_open: bool) -> Signs {
@@ -38,18 +43,22 @@ fn drawer_facts(is_open: bool) -> Facts {
 
 #[test]
 fn a_control_is_opened_and_enabled_and_closed(rt: HostRuntime) -> Result<(), Fail> {
-    let facts = drawer_facts(true);
     let mut a = Control::new(rt.alloc(), Category::CashDrawer);
     assert!(rt; matches!(a.open(Finding::At(3)), Answer::Done(Value::Empty)));
     assert_eq!(rt; a.place(), 3);
-    assert_eq!(rt; a.check(0, None, DRAWER_NEED), Err(Code::Disabled));
-    a.set(0, None, None, Property::DeviceEnabled, &Value::Truth(true));
-    assert!(rt; a.listens(3) && !a.listens(2));
-    assert_eq!(rt; a.check(0, None, DRAWER_NEED), Ok(()));
-    let opened = a.get(Property::DrawerOpened, &facts)?;
-    assert!(rt; matches!(opened, Answer::Done(Value::Truth(true))));
-    assert!(rt; matches!(a.close(), Answer::Done(Value::Empty)));
-    assert_eq!(rt; a.device(), None);
+    let mut controls = [a];
+    let lines = [
+        (0, None, Step::Check(DRAWER_NEED), DISABLED),
+        (0, None, ENABLE, NOTHING),
+        (0, None, Step::Listens(3), TRUE),
+        (0, None, Step::Listens(2), FALSE),
+        (0, None, Step::Check(DRAWER_NEED), NOTHING),
+        (0, None, Step::Get(Property::DrawerOpened), TRUE),
+        (0, None, Step::Close, NOTHING),
+    ];
+    let wrong = play(rt.alloc(), &mut controls, &drawer_facts(true), &lines)?;
+    assert_eq!(rt; wrong, None);
+    assert_eq!(rt; controls[0].device(), None);
     Ok(())
 }
 
@@ -61,42 +70,54 @@ fn enabled(alloc: Global, place: usize) -> Control {
     control
 }
 
-/// It did what it does, and gives nothing.
-fn is_done(answer: &Answer) -> bool {
-    matches!(answer, Answer::Done(Value::Empty))
-}
-
-/// It was refused with this code.
-fn is_refused(answer: &Answer, code: Code) -> bool {
-    matches!(answer, Answer::Refused(told, 0) if *told == code)
-}
-
 #[test]
 fn a_claim_keeps_other_controls_out_until_its_holder_releases_it(
     rt: HostRuntime,
 ) -> Result<(), Fail> {
-    let mut a = enabled(rt.alloc(), 1);
-    let mut b = enabled(rt.alloc(), 1);
+    let facts = drawer_facts(false);
+    let mut controls = [enabled(rt.alloc(), 1), enabled(rt.alloc(), 1)];
     let mut claims = Claims::new(rt.alloc(), 2)?;
-    assert!(rt; is_done(&b.claim(1, claims.holder(b.device()), -1)));
-    assert!(rt; is_done(&a.claim(0, claims.holder(a.device()), 0)));
+    let lines = [
+        (
+            1,
+            claims.holder(controls[1].device()),
+            Step::Claim(-1),
+            NOTHING,
+        ),
+        (
+            0,
+            claims.holder(controls[0].device()),
+            Step::Claim(0),
+            NOTHING,
+        ),
+    ];
+    assert_eq!(rt; play(rt.alloc(), &mut controls, &facts, &lines)?, None);
     claims.claim(1, 0);
     assert_eq!(rt; claims.holder(Some(0)), None);
     let holder = claims.holder(Some(1));
     assert_eq!(rt; holder, Some(0));
-    assert!(rt; is_done(&a.claim(0, holder, 1000)));
-    assert!(rt; is_refused(&b.claim(1, holder, -1), Code::Timeout));
-    assert_eq!(rt; a.check(0, holder, DRAWER_NEED), Ok(()));
-    assert_eq!(rt; b.check(1, holder, DRAWER_NEED), Err(Code::Claimed));
-    assert!(rt; is_refused(&b.release(1, holder), Code::Illegal));
-    claims.release(b.device(), 1);
+    let lines = [
+        (0, holder, Step::Claim(1000), NOTHING),
+        (1, holder, Step::Claim(-1), TIMEOUT),
+        (0, holder, Step::Check(DRAWER_NEED), NOTHING),
+        (1, holder, Step::Check(DRAWER_NEED), CLAIMED),
+        (1, holder, Step::Release, ILLEGAL),
+    ];
+    assert_eq!(rt; play(rt.alloc(), &mut controls, &facts, &lines)?, None);
+    claims.release(controls[1].device(), 1);
     assert_eq!(rt; claims.holder(Some(1)), Some(0));
-    assert!(rt; is_done(&a.release(0, holder)));
-    assert!(rt; a.is_enabled());
-    claims.release(a.device(), 0);
+    let lines = [
+        (0, holder, Step::Release, NOTHING),
+        (0, holder, Step::IsEnabled, TRUE),
+    ];
+    assert_eq!(rt; play(rt.alloc(), &mut controls, &facts, &lines)?, None);
+    claims.release(controls[0].device(), 0);
     assert_eq!(rt; claims.holder(Some(1)), None);
-    assert!(rt; is_refused(&a.release(0, None), Code::Illegal));
-    assert_eq!(rt; b.check(1, None, DRAWER_NEED), Ok(()));
+    let lines = [
+        (0, None, Step::Release, ILLEGAL),
+        (1, None, Step::Check(DRAWER_NEED), NOTHING),
+    ];
+    assert_eq!(rt; play(rt.alloc(), &mut controls, &facts, &lines)?, None);
     Ok(())
 }
 
@@ -106,18 +127,21 @@ fn claims_ask_for_an_open_control_and_a_good_timeout(rt: HostRuntime) -> Result<
         claim: ClaimNeed::Any,
         is_enabled: true,
     };
-    let mut a = Control::new(rt.alloc(), Category::CashDrawer);
-    let claimed = a.get(Property::Claimed, &drawer_facts(false))?;
-    assert!(rt; is_refused(&claimed, Code::Closed));
-    assert!(rt; is_refused(&a.claim(0, None, -2), Code::Closed));
-    assert!(rt; is_refused(&a.release(0, None), Code::Closed));
-    a.open(Finding::At(0));
-    assert!(rt; is_refused(&a.claim(0, Some(1), -2), Code::Illegal));
-    assert!(rt; is_refused(&a.claim(0, None, i128::MIN), Code::Illegal));
-    assert!(rt; is_done(&a.claim(0, None, i128::MAX)));
-    assert_eq!(rt; a.check(0, Some(1), need), Err(Code::Disabled));
-    a.set(0, None, None, Property::DeviceEnabled, &Value::Truth(true));
-    assert_eq!(rt; a.check(0, Some(1), need), Ok(()));
+    let mut controls = [Control::new(rt.alloc(), Category::CashDrawer)];
+    let lines = [
+        (0, None, Step::Get(Property::Claimed), CLOSED),
+        (0, None, Step::Claim(-2), CLOSED),
+        (0, None, Step::Release, CLOSED),
+        (0, None, Step::Open(0), NOTHING),
+        (0, Some(1), Step::Claim(-2), ILLEGAL),
+        (0, None, Step::Claim(i128::MIN), ILLEGAL),
+        (0, None, Step::Claim(i128::MAX), NOTHING),
+        (0, Some(1), Step::Check(need), DISABLED),
+        (0, None, ENABLE, NOTHING),
+        (0, Some(1), Step::Check(need), NOTHING),
+    ];
+    let wrong = play(rt.alloc(), &mut controls, &drawer_facts(false), &lines)?;
+    assert_eq!(rt; wrong, None);
     Ok(())
 }
 
@@ -128,15 +152,28 @@ fn what_a_control_holds_is_told(rt: HostRuntime) -> Result<(), Fail> {
         in_transaction: true,
         ..drawer_facts(false)
     };
-    let mut a = Control::new(rt.alloc(), Category::HardTotals);
-    a.open(Finding::At(1));
-    let claimed = a.get(Property::Claimed, &facts)?;
-    assert!(rt; matches!(claimed, Answer::Done(Value::Truth(true))));
-    let in_transaction = a.get(Property::TransactionInProgress, &facts)?;
-    assert!(rt; matches!(in_transaction, Answer::Done(Value::Truth(true))));
-    let free = a.get(Property::Claimed, &drawer_facts(false))?;
-    assert!(rt; matches!(free, Answer::Done(Value::Truth(false))));
+    let mut controls = [Control::new(rt.alloc(), Category::HardTotals)];
+    let lines = [
+        (0, Some(0), Step::Open(1), NOTHING),
+        (0, Some(0), Step::Get(Property::Claimed), TRUE),
+        (0, Some(0), Step::Get(Property::TransactionInProgress), TRUE),
+    ];
+    let wrong = play(rt.alloc(), &mut controls, &facts, &lines)?;
+    assert_eq!(rt; wrong, None);
+    let lines = [(0, None, Step::Get(Property::Claimed), FALSE)];
+    let wrong = play(rt.alloc(), &mut controls, &drawer_facts(false), &lines)?;
+    assert_eq!(rt; wrong, None);
     Ok(())
+}
+
+/// The control delivers these statuses, and then no event.
+fn tells(control: &mut Control, statuses: [u32; 3]) -> bool {
+    for status in statuses {
+        if control.deliver(ErrorReply::Default) != Some(Event::StatusUpdate(status)) {
+            return false;
+        }
+    }
+    control.deliver(ErrorReply::Default).is_none()
 }
 
 #[test]
@@ -156,20 +193,9 @@ fn each_control_that_listens_hears_what_has_changed(rt: HostRuntime) -> Result<(
     hear_all(&mut controls, 0, closed, other);
     room_all(&mut controls, 1, SIGN_EVENTS)?;
     hear_all(&mut controls, 1, other, closed);
-    for status in [1, 11, 24] {
-        let told = Some(Event::StatusUpdate(status));
-        assert_eq!(rt; controls[0].deliver(ErrorReply::Default), told);
-        assert_eq!(rt; controls[1].deliver(ErrorReply::Default), told);
-    }
-    for status in [0, 12, 26] {
-        assert_eq!(rt;
-            controls[2].deliver(ErrorReply::Default),
-            Some(Event::StatusUpdate(status))
-        );
-    }
-    assert_eq!(rt; controls[0].deliver(ErrorReply::Default), None);
-    assert_eq!(rt; controls[1].deliver(ErrorReply::Default), None);
-    assert_eq!(rt; controls[2].deliver(ErrorReply::Default), None);
+    assert!(rt; tells(&mut controls[0], [1, 11, 24]));
+    assert!(rt; tells(&mut controls[1], [1, 11, 24]));
+    assert!(rt; tells(&mut controls[2], [0, 12, 26]));
     Ok(())
 }
 
@@ -221,56 +247,60 @@ fn display_facts() -> Facts {
 
 #[test]
 fn a_cursor_is_set_within_the_display(rt: HostRuntime) -> Result<(), Fail> {
-    let facts = display_facts();
-    let mut a = Control::new(rt.alloc(), Category::LineDisplay);
-    let row = Property::CursorRow;
-    assert!(rt;
-        matches!(
-            a.set(0, None, facts.kind, row, &Value::Number(1)),
-            Answer::Refused(Code::Closed, 0)
-        )
-    );
-    a.open(Finding::At(2));
-    for (property, number) in [(row, 1), (Property::CursorColumn, 4)] {
-        let value = Value::Number(number);
-        assert!(rt; matches!(a.set(0, None, facts.kind, property, &value), Answer::Done(Value::Empty)));
-        let told = a.get(property, &facts)?;
-        assert!(rt; matches!(told, Answer::Done(Value::Number(n)) if n == number));
-    }
-    for (property, number) in [
-        (row, 2),
-        (row, -1),
-        (row, 999_999_999_999_999_999),
-        (Property::CursorColumn, 5),
-        (Property::Rows, 1),
-    ] {
-        let value = Value::Number(number);
-        assert!(rt;
-            matches!(
-                a.set(0, None, facts.kind, property, &value),
-                Answer::Refused(Code::Illegal, 0)
-            )
-        );
-    }
-    assert_eq!(rt; a.cursor().place, Place { row: 1, column: 4 });
+    let (row, column) = (Property::CursorRow, Property::CursorColumn);
+    let mut controls = [Control::new(rt.alloc(), Category::LineDisplay)];
+    let lines = [
+        (0, None, Step::SetNumber(row, 1), CLOSED),
+        (0, None, Step::Open(2), NOTHING),
+        (0, None, Step::SetNumber(row, 1), NOTHING),
+        (0, None, Step::Get(row), Wanted::Number(1)),
+        (0, None, Step::SetNumber(column, 4), NOTHING),
+        (0, None, Step::Get(column), Wanted::Number(4)),
+        (0, None, Step::SetNumber(row, 2), ILLEGAL),
+        (0, None, Step::SetNumber(row, -1), ILLEGAL),
+        (
+            0,
+            None,
+            Step::SetNumber(row, 999_999_999_999_999_999),
+            ILLEGAL,
+        ),
+        (0, None, Step::SetNumber(column, 5), ILLEGAL),
+        (0, None, Step::SetNumber(Property::Rows, 1), ILLEGAL),
+    ];
+    let wrong = play(rt.alloc(), &mut controls, &display_facts(), &lines)?;
+    assert_eq!(rt; wrong, None);
+    assert_eq!(rt; controls[0].cursor().place, Place { row: 1, column: 4 });
     Ok(())
 }
 
 #[test]
 fn open_alone_gives_the_cursor_its_defaults(rt: HostRuntime) -> Result<(), Fail> {
-    let facts = display_facts();
-    let mut a = Control::new(rt.alloc(), Category::LineDisplay);
-    a.open(Finding::At(2));
-    a.set(0, None, facts.kind, Property::CursorUpdate, &Value::Truth(false));
-    a.move_cursor(Place { row: 1, column: 3 });
-    a.release(0, Some(0));
-    assert!(rt; a.cursor().place == Place { row: 1, column: 3 } && !a.cursor().update);
-    let rows = a.get(Property::Rows, &facts)?;
-    assert!(rt; matches!(rows, Answer::Done(Value::Number(2))));
-    let columns = a.get(Property::Columns, &drawer_facts(false))?;
-    assert!(rt; matches!(columns, Answer::Done(Value::Number(0))));
-    a.close();
-    a.open(Finding::At(2));
-    assert!(rt; a.cursor().place == Place { row: 0, column: 0 } && a.cursor().update);
+    let mut controls = [Control::new(rt.alloc(), Category::LineDisplay)];
+    let place = Place { row: 1, column: 3 };
+    let lines = [
+        (0, None, Step::Open(2), NOTHING),
+        (
+            0,
+            None,
+            Step::SetTruth(Property::CursorUpdate, false),
+            NOTHING,
+        ),
+        (0, None, Step::MoveCursor(place), NOTHING),
+        (0, Some(0), Step::Release, NOTHING),
+        (0, None, Step::Get(Property::Rows), Wanted::Number(2)),
+    ];
+    let wrong = play(rt.alloc(), &mut controls, &display_facts(), &lines)?;
+    assert_eq!(rt; wrong, None);
+    let cursor = controls[0].cursor();
+    assert!(rt; cursor.place == place && !cursor.update);
+    let lines = [
+        (0, None, Step::Get(Property::Columns), Wanted::Number(0)),
+        (0, None, Step::Close, NOTHING),
+        (0, None, Step::Open(2), NOTHING),
+    ];
+    let wrong = play(rt.alloc(), &mut controls, &drawer_facts(false), &lines)?;
+    assert_eq!(rt; wrong, None);
+    let cursor = controls[0].cursor();
+    assert!(rt; cursor.place == Place { row: 0, column: 0 } && cursor.update);
     Ok(())
 }

@@ -1,0 +1,244 @@
+//! Tables of steps: what happens to controls, one step after another, and what has to come of it.
+use super::drawer_signs;
+use crate::{Control, FAULT_EVENTS, Need, SCAN_EVENTS, SIGN_EVENTS};
+use pos_service::display_text::Place;
+use pos_service::{
+    Answer, Bytes, Code, ErrorReply, Event, Facts, Finding, NoMemory, Property, Scan, Value,
+};
+use std::alloc::Global;
+
+/// What happens to a control.
+#[derive(Clone, Copy)]
+pub enum Step {
+    Open(usize),
+    Close,
+    Claim(i128),
+    Release,
+    Check(Need),
+    Get(Property),
+    SetTruth(Property, bool),
+    SetNumber(Property, i128),
+    IsEnabled,
+    Listens(usize),
+    MoveCursor(Place),
+    ClearInputProperties,
+    Input(Input),
+    Deliver(ErrorReply),
+    /// Data events are enabled, and the next event is delivered.
+    Next(ErrorReply),
+}
+
+/// What comes from the device at place 0.
+#[derive(Clone, Copy)]
+pub enum Input {
+    /// A scan of a bar code of this type: this byte of data, and the next one as its label.
+    Scan(u32, u8),
+    /// A scan that has failed.
+    Fault,
+    /// A drawer that has been opened.
+    DrawerOpened,
+}
+
+pub const FAULT: Step = Step::Input(Input::Fault);
+
+pub const DELIVER: Step = Step::Deliver(ErrorReply::Default);
+
+pub const NEXT: Step = Step::Next(ErrorReply::Default);
+
+/// What has to come of a step.
+#[derive(Clone, Copy)]
+pub enum Wanted<'a> {
+    Nothing,
+    Truth(bool),
+    Number(i128),
+    Bytes(&'a [u8]),
+    Refused(Code),
+    Event(Event),
+    NoEvent,
+}
+
+pub const NOTHING: Wanted<'static> = Wanted::Nothing;
+
+pub const TRUE: Wanted<'static> = Wanted::Truth(true);
+
+pub const FALSE: Wanted<'static> = Wanted::Truth(false);
+
+pub const CLOSED: Wanted<'static> = Wanted::Refused(Code::Closed);
+
+pub const ILLEGAL: Wanted<'static> = Wanted::Refused(Code::Illegal);
+
+pub const CLAIMED: Wanted<'static> = Wanted::Refused(Code::Claimed);
+
+pub const NOT_CLAIMED: Wanted<'static> = Wanted::Refused(Code::NotClaimed);
+
+pub const DISABLED: Wanted<'static> = Wanted::Refused(Code::Disabled);
+
+pub const TIMEOUT: Wanted<'static> = Wanted::Refused(Code::Timeout);
+
+/// The number of a control and that of the control which holds its device, what happens to the first, and what has to
+/// come of it.
+pub type Line<'a> = (usize, Option<usize>, Step, Wanted<'a>);
+
+/// Goes through these lines with controls, and with what is known of their devices: the first place where something
+/// else comes of a step.
+pub fn play(
+    alloc: Global,
+    controls: &mut [Control],
+    facts: &Facts,
+    lines: &[Line<'_>],
+) -> Result<Option<usize>, NoMemory> {
+    for (place, (number, holder, step, wanted)) in lines.iter().enumerate() {
+        let Some(control) = controls.get_mut(*number) else {
+            return Ok(Some(place));
+        };
+        let who = (*number, *holder);
+        if !does(alloc, control, who, facts, *step, *wanted)? {
+            return Ok(Some(place));
+        }
+    }
+    Ok(None)
+}
+
+/// Whether of a step of a control with a number, whose device the other number's control holds, comes what is wanted.
+fn does(
+    alloc: Global,
+    control: &mut Control,
+    who: (usize, Option<usize>),
+    facts: &Facts,
+    step: Step,
+    wanted: Wanted<'_>,
+) -> Result<bool, NoMemory> {
+    let (number, holder) = who;
+    match step {
+        Step::Open(place) => Ok(answers(&control.open(Finding::At(place)), wanted)),
+        Step::Close => Ok(answers(&control.close(), wanted)),
+        Step::Claim(timeout) => Ok(answers(&control.claim(number, holder, timeout), wanted)),
+        Step::Release => Ok(answers(&control.release(number, holder), wanted)),
+        Step::Check(need) => Ok(lets(control.check(number, holder, need), wanted)),
+        Step::Get(property) => Ok(answers(&control.get(property, facts)?, wanted)),
+        Step::SetTruth(property, truth) => {
+            let answer = set(control, who, facts, property, &Value::Truth(truth));
+            Ok(answers(&answer, wanted))
+        }
+        Step::SetNumber(property, number) => {
+            let answer = set(control, who, facts, property, &Value::Number(number));
+            Ok(answers(&answer, wanted))
+        }
+        Step::IsEnabled => Ok(is(control.is_enabled(), wanted)),
+        Step::Listens(place) => Ok(is(control.listens(place), wanted)),
+        Step::MoveCursor(place) => {
+            control.move_cursor(place);
+            Ok(is_nothing(wanted))
+        }
+        Step::ClearInputProperties => {
+            control.clear_input_properties();
+            Ok(is_nothing(wanted))
+        }
+        Step::Input(input) => {
+            come(alloc, control, input)?;
+            Ok(is_nothing(wanted))
+        }
+        Step::Deliver(reply) => Ok(delivers(control.deliver(reply), wanted)),
+        Step::Next(reply) => {
+            set(
+                control,
+                who,
+                facts,
+                Property::DataEventEnabled,
+                &Value::Truth(true),
+            );
+            Ok(delivers(control.deliver(reply), wanted))
+        }
+    }
+}
+
+/// Sets a property of a control with a number, whose device the other number's control holds.
+fn set(
+    control: &mut Control,
+    (number, holder): (usize, Option<usize>),
+    facts: &Facts,
+    property: Property,
+    value: &Value,
+) -> Answer {
+    control.set(number, holder, facts.kind, property, value)
+}
+
+/// Input has come to a control, if it has the device open and enabled.
+fn come(alloc: Global, control: &mut Control, input: Input) -> Result<(), NoMemory> {
+    match input {
+        Input::Scan(kind, byte) => scan(alloc, control, kind, byte),
+        Input::Fault => {
+            control.room_for(0, FAULT_EVENTS)?;
+            control.fail_input(0);
+            Ok(())
+        }
+        Input::DrawerOpened => {
+            control.room_for(0, SIGN_EVENTS)?;
+            control.hear(0, drawer_signs(false), drawer_signs(true));
+            Ok(())
+        }
+    }
+}
+
+/// A scan of a bar code of this type has come to a control: a byte of data, and the next one as its label.
+fn scan(alloc: Global, control: &mut Control, kind: u32, byte: u8) -> Result<(), NoMemory> {
+    control.room_for(0, SCAN_EVENTS)?;
+    control.read(
+        0,
+        Scan {
+            kind,
+            bytes: Bytes::from_slice(alloc, &[byte])?,
+            label: Bytes::from_slice(alloc, &[byte.wrapping_add(1)])?,
+        },
+    );
+    Ok(())
+}
+
+/// It did what it does, and gives nothing.
+fn is_nothing(wanted: Wanted<'_>) -> bool {
+    matches!(wanted, Wanted::Nothing)
+}
+
+/// This truth value is what is wanted.
+fn is(truth: bool, wanted: Wanted<'_>) -> bool {
+    matches!(wanted, Wanted::Truth(value) if value == truth)
+}
+
+/// A call that is let through, or refused with a code, is what is wanted.
+fn lets(checked: Result<(), Code>, wanted: Wanted<'_>) -> bool {
+    match checked {
+        Ok(()) => is_nothing(wanted),
+        Err(code) => matches!(wanted, Wanted::Refused(refusal) if refusal == code),
+    }
+}
+
+/// This answer is what is wanted.
+fn answers(answer: &Answer, wanted: Wanted<'_>) -> bool {
+    match answer {
+        Answer::Done(value) => gives(value, wanted),
+        Answer::Refused(code, extended) => {
+            matches!(wanted, Wanted::Refused(refusal) if *code == refusal && *extended == 0)
+        }
+    }
+}
+
+/// This value is what is wanted.
+fn gives(value: &Value, wanted: Wanted<'_>) -> bool {
+    match value {
+        Value::Empty => is_nothing(wanted),
+        Value::Truth(truth) => is(*truth, wanted),
+        Value::Number(number) => matches!(wanted, Wanted::Number(value) if *number == value),
+        Value::Pair(_, _) => false,
+        Value::Bytes(bytes) => {
+            matches!(wanted, Wanted::Bytes(value) if bytes.as_slice() == value)
+        }
+    }
+}
+
+/// This event, or none, is what is wanted.
+fn delivers(delivered: Option<Event>, wanted: Wanted<'_>) -> bool {
+    match delivered {
+        Some(event) => matches!(wanted, Wanted::Event(value) if event == value),
+        None => matches!(wanted, Wanted::NoEvent),
+    }
+}
