@@ -56,8 +56,7 @@ fn a_control_is_opened_and_enabled_and_closed(rt: HostRuntime) -> Result<(), Fai
         (0, None, Step::Get(Property::DrawerOpened), TRUE),
         (0, None, Step::Close, NOTHING),
     ];
-    let wrong = play(rt.alloc(), &mut controls, &drawer_facts(true), &lines)?;
-    assert_eq!(rt; wrong, None);
+    play(rt.alloc(), &mut controls, &drawer_facts(true), &lines)?;
     assert_eq!(rt; controls[0].device(), None);
     Ok(())
 }
@@ -91,7 +90,7 @@ fn a_claim_keeps_other_controls_out_until_its_holder_releases_it(
             NOTHING,
         ),
     ];
-    assert_eq!(rt; play(rt.alloc(), &mut controls, &facts, &lines)?, None);
+    play(rt.alloc(), &mut controls, &facts, &lines)?;
     claims.claim(1, 0);
     assert_eq!(rt; claims.holder(Some(0)), None);
     let holder = claims.holder(Some(1));
@@ -103,22 +102,21 @@ fn a_claim_keeps_other_controls_out_until_its_holder_releases_it(
         (1, holder, Step::Check(DRAWER_NEED), CLAIMED),
         (1, holder, Step::Release, ILLEGAL),
     ];
-    assert_eq!(rt; play(rt.alloc(), &mut controls, &facts, &lines)?, None);
+    play(rt.alloc(), &mut controls, &facts, &lines)?;
     claims.release(controls[1].device(), 1);
     assert_eq!(rt; claims.holder(Some(1)), Some(0));
     let lines = [
         (0, holder, Step::Release, NOTHING),
         (0, holder, Step::IsEnabled, TRUE),
     ];
-    assert_eq!(rt; play(rt.alloc(), &mut controls, &facts, &lines)?, None);
+    play(rt.alloc(), &mut controls, &facts, &lines)?;
     claims.release(controls[0].device(), 0);
     assert_eq!(rt; claims.holder(Some(1)), None);
     let lines = [
         (0, None, Step::Release, ILLEGAL),
         (1, None, Step::Check(DRAWER_NEED), NOTHING),
     ];
-    assert_eq!(rt; play(rt.alloc(), &mut controls, &facts, &lines)?, None);
-    Ok(())
+    play(rt.alloc(), &mut controls, &facts, &lines)
 }
 
 #[test]
@@ -140,9 +138,7 @@ fn claims_ask_for_an_open_control_and_a_good_timeout(rt: HostRuntime) -> Result<
         (0, None, ENABLE, NOTHING),
         (0, Some(1), Step::Check(need), NOTHING),
     ];
-    let wrong = play(rt.alloc(), &mut controls, &drawer_facts(false), &lines)?;
-    assert_eq!(rt; wrong, None);
-    Ok(())
+    play(rt.alloc(), &mut controls, &drawer_facts(false), &lines)
 }
 
 #[test]
@@ -158,12 +154,9 @@ fn what_a_control_holds_is_told(rt: HostRuntime) -> Result<(), Fail> {
         (0, Some(0), Step::Get(Property::Claimed), TRUE),
         (0, Some(0), Step::Get(Property::TransactionInProgress), TRUE),
     ];
-    let wrong = play(rt.alloc(), &mut controls, &facts, &lines)?;
-    assert_eq!(rt; wrong, None);
+    play(rt.alloc(), &mut controls, &facts, &lines)?;
     let lines = [(0, None, Step::Get(Property::Claimed), FALSE)];
-    let wrong = play(rt.alloc(), &mut controls, &drawer_facts(false), &lines)?;
-    assert_eq!(rt; wrong, None);
-    Ok(())
+    play(rt.alloc(), &mut controls, &drawer_facts(false), &lines)
 }
 
 /// The control delivers these statuses, and then no event.
@@ -267,8 +260,7 @@ fn a_cursor_is_set_within_the_display(rt: HostRuntime) -> Result<(), Fail> {
         (0, None, Step::SetNumber(column, 5), ILLEGAL),
         (0, None, Step::SetNumber(Property::Rows, 1), ILLEGAL),
     ];
-    let wrong = play(rt.alloc(), &mut controls, &display_facts(), &lines)?;
-    assert_eq!(rt; wrong, None);
+    play(rt.alloc(), &mut controls, &display_facts(), &lines)?;
     assert_eq!(rt; controls[0].cursor().place, Place { row: 1, column: 4 });
     Ok(())
 }
@@ -289,8 +281,7 @@ fn open_alone_gives_the_cursor_its_defaults(rt: HostRuntime) -> Result<(), Fail>
         (0, Some(0), Step::Release, NOTHING),
         (0, None, Step::Get(Property::Rows), Wanted::Number(2)),
     ];
-    let wrong = play(rt.alloc(), &mut controls, &display_facts(), &lines)?;
-    assert_eq!(rt; wrong, None);
+    play(rt.alloc(), &mut controls, &display_facts(), &lines)?;
     let cursor = controls[0].cursor();
     assert!(rt; cursor.place == place && !cursor.update);
     let lines = [
@@ -298,8 +289,7 @@ fn open_alone_gives_the_cursor_its_defaults(rt: HostRuntime) -> Result<(), Fail>
         (0, None, Step::Close, NOTHING),
         (0, None, Step::Open(2), NOTHING),
     ];
-    let wrong = play(rt.alloc(), &mut controls, &drawer_facts(false), &lines)?;
-    assert_eq!(rt; wrong, None);
+    play(rt.alloc(), &mut controls, &drawer_facts(false), &lines)?;
     let cursor = controls[0].cursor();
     assert!(rt; cursor.place == Place { row: 0, column: 0 } && cursor.update);
     Ok(())

@@ -58,9 +58,7 @@ fn auto_disable_lets_one_scan_in_and_its_label_is_not_decoded(rt: HostRuntime) -
         (0, OWN, Step::ClearInputProperties, NOTHING),
         (0, OWN, Step::Get(Property::ScanData), Wanted::Bytes(b"")),
     ];
-    let wrong = play(rt.alloc(), &mut controls, &drawer_facts(false), &lines)?;
-    assert_eq!(rt; wrong, None);
-    Ok(())
+    play(rt.alloc(), &mut controls, &drawer_facts(false), &lines)
 }
 
 #[test]
@@ -102,9 +100,7 @@ fn an_error_stands_before_and_behind_the_data_that_wait(rt: HostRuntime) -> Resu
         (0, OWN, DELIVER, Wanted::NoEvent),
         (0, OWN, Step::Get(Property::DataEventEnabled), TRUE),
     ];
-    let wrong = play(rt.alloc(), &mut controls, &drawer_facts(false), &lines)?;
-    assert_eq!(rt; wrong, None);
-    Ok(())
+    play(rt.alloc(), &mut controls, &drawer_facts(false), &lines)
 }
 
 #[test]
@@ -127,8 +123,7 @@ fn each_reply_has_its_effect_at_each_locus_of_input(rt: HostRuntime) -> Result<(
             (1, Some(1), Step::Get(Property::State), Wanted::Number(2)),
             (1, Some(1), Step::Deliver(reply), Wanted::NoEvent),
         ];
-        let wrong = play(rt.alloc(), &mut controls, &drawer_facts(false), &lines)?;
-        assert_eq!(rt; wrong, None);
+        play(rt.alloc(), &mut controls, &drawer_facts(false), &lines)?;
     }
     Ok(())
 }
@@ -163,9 +158,7 @@ fn statuses_go_before_data_that_wait_and_none_while_frozen(rt: HostRuntime) -> R
         (0, OWN, NEXT, DATA),
         (0, OWN, NEXT, Wanted::NoEvent),
     ];
-    let wrong = play(rt.alloc(), &mut controls, &drawer_facts(false), &lines)?;
-    assert_eq!(rt; wrong, None);
-    Ok(())
+    play(rt.alloc(), &mut controls, &drawer_facts(false), &lines)
 }
 
 #[test]
@@ -202,9 +195,7 @@ fn an_exclusive_device_is_enabled_by_its_holder_and_disabled_by_its_release(
         (0, None, Step::Get(Property::State), Wanted::Number(2)),
         (0, None, Step::Get(Property::DataEventEnabled), TRUE),
     ];
-    let wrong = play(rt.alloc(), &mut controls, &drawer_facts(false), &lines)?;
-    assert_eq!(rt; wrong, None);
-    Ok(())
+    play(rt.alloc(), &mut controls, &drawer_facts(false), &lines)
 }
 
 #[test]
@@ -229,8 +220,7 @@ fn each_control_that_listens_gets_a_copy_of_its_own(rt: HostRuntime) -> Result<(
             NOTHING,
         ),
     ];
-    let wrong = play(rt.alloc(), &mut controls, &facts, &lines)?;
-    assert_eq!(rt; wrong, None);
+    play(rt.alloc(), &mut controls, &facts, &lines)?;
     let copies = scan_and_fail(rt.alloc(), &mut controls)?;
     assert_eq!(rt; copies, 2);
     let lines = [
@@ -267,9 +257,7 @@ fn each_control_that_listens_gets_a_copy_of_its_own(rt: HostRuntime) -> Result<(
         (0, OWN, Step::IsEnabled, TRUE),
         (2, Some(2), Step::IsEnabled, FALSE),
     ];
-    let wrong = play(rt.alloc(), &mut controls, &facts, &lines)?;
-    assert_eq!(rt; wrong, None);
-    Ok(())
+    play(rt.alloc(), &mut controls, &facts, &lines)
 }
 
 /// A scan has come from the device at place 0, and then a fault: how many controls have got a copy of the scan.

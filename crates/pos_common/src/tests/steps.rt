@@ -6,6 +6,7 @@ use pos_service::{
     Answer, Bytes, Code, ErrorReply, Event, Facts, Finding, NoMemory, Property, Scan, Value,
 };
 use std::alloc::Global;
+use std::test::Fail;
 
 /// What happens to a control.
 #[derive(Clone, Copy)]
@@ -79,9 +80,22 @@ pub const TIMEOUT: Wanted<'static> = Wanted::Refused(Code::Timeout);
 /// come of it.
 pub type Line<'a> = (usize, Option<usize>, Step, Wanted<'a>);
 
-/// Goes through these lines with controls, and with what is known of their devices: the first place where something
-/// else comes of a step.
+/// Goes through these lines with controls, and with what is known of their devices. Where something else comes of a
+/// step the test fails, with the place of its line.
 pub fn play(
+    alloc: Global,
+    controls: &mut [Control],
+    facts: &Facts,
+    lines: &[Line<'_>],
+) -> Result<(), Fail> {
+    match first_wrong(alloc, controls, facts, lines)? {
+        Some(place) => Err(Fail::new(format_args!("something else comes of line {place}"))),
+        None => Ok(()),
+    }
+}
+
+/// The first place of a line where something else comes of the step.
+fn first_wrong(
     alloc: Global,
     controls: &mut [Control],
     facts: &Facts,
@@ -140,13 +154,8 @@ fn does(
         }
         Step::Deliver(reply) => Ok(delivers(control.deliver(reply), wanted)),
         Step::Next(reply) => {
-            set(
-                control,
-                who,
-                facts,
-                Property::DataEventEnabled,
-                &Value::Truth(true),
-            );
+            let on = Value::Truth(true);
+            set(control, who, facts, Property::DataEventEnabled, &on);
             Ok(delivers(control.deliver(reply), wanted))
         }
     }
@@ -194,7 +203,7 @@ fn scan(alloc: Global, control: &mut Control, kind: u32, byte: u8) -> Result<(),
     Ok(())
 }
 
-/// It did what it does, and gives nothing.
+/// What gives nothing is what is wanted.
 fn is_nothing(wanted: Wanted<'_>) -> bool {
     matches!(wanted, Wanted::Nothing)
 }
