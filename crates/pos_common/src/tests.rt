@@ -2,7 +2,7 @@ mod input;
 mod steps;
 
 use crate::{ClaimNeed, Claims, Control, Need, SIGN_EVENTS, hear_all, room_all};
-use pos_service::display_text::Place;
+use pos_service::display_text::{Cursor, Place};
 use pos_service::{
     Answer, Category, ErrorReply, Event, Facts, Finding, Kind, PaperLevel, Property, Signs, Value,
 };
@@ -55,10 +55,9 @@ fn a_control_is_opened_and_enabled_and_closed(rt: HostRuntime) -> Result<(), Fai
         (0, None, Step::Check(DRAWER_NEED), NOTHING),
         (0, None, Step::Get(Property::DrawerOpened), TRUE),
         (0, None, Step::Close, NOTHING),
+        (0, None, Step::HasDevice(None), TRUE),
     ];
-    play(rt.alloc(), &mut controls, &drawer_facts(true), &lines)?;
-    assert_eq!(rt; controls[0].device(), None);
-    Ok(())
+    play(rt.alloc(), &mut controls, &drawer_facts(true), &lines)
 }
 
 /// A control that has the drawer at a place open and enabled.
@@ -73,50 +72,34 @@ fn enabled(alloc: Global, place: usize) -> Control {
 fn a_claim_keeps_other_controls_out_until_its_holder_releases_it(
     rt: HostRuntime,
 ) -> Result<(), Fail> {
-    let facts = drawer_facts(false);
     let mut controls = [enabled(rt.alloc(), 1), enabled(rt.alloc(), 1)];
+    let device = controls[0].device();
     let mut claims = Claims::new(rt.alloc(), 2)?;
-    let lines = [
-        (
-            1,
-            claims.holder(controls[1].device()),
-            Step::Claim(-1),
-            NOTHING,
-        ),
-        (
-            0,
-            claims.holder(controls[0].device()),
-            Step::Claim(0),
-            NOTHING,
-        ),
-    ];
-    play(rt.alloc(), &mut controls, &facts, &lines)?;
+    let free = claims.holder(device);
     claims.claim(1, 0);
-    assert_eq!(rt; claims.holder(Some(0)), None);
-    let holder = claims.holder(Some(1));
-    assert_eq!(rt; holder, Some(0));
-    let lines = [
-        (0, holder, Step::Claim(1000), NOTHING),
-        (1, holder, Step::Claim(-1), TIMEOUT),
-        (0, holder, Step::Check(DRAWER_NEED), NOTHING),
-        (1, holder, Step::Check(DRAWER_NEED), CLAIMED),
-        (1, holder, Step::Release, ILLEGAL),
-    ];
-    play(rt.alloc(), &mut controls, &facts, &lines)?;
+    let (elsewhere, held) = (claims.holder(Some(0)), claims.holder(Some(1)));
     claims.release(controls[1].device(), 1);
-    assert_eq!(rt; claims.holder(Some(1)), Some(0));
+    let kept = claims.holder(Some(1));
+    claims.release(device, 0);
+    let left = claims.holder(Some(1));
+    let holders = [free, elsewhere, held, kept, left];
+    assert_eq!(rt; holders, [None, None, Some(0), Some(0), None]);
     let lines = [
-        (0, holder, Step::Release, NOTHING),
-        (0, holder, Step::IsEnabled, TRUE),
+        (1, free, Step::Claim(-1), NOTHING),
+        (0, free, Step::Claim(0), NOTHING),
+        (0, held, Step::Claim(1000), NOTHING),
+        (1, held, Step::Claim(-1), TIMEOUT),
+        (0, held, Step::Check(DRAWER_NEED), NOTHING),
+        (1, held, Step::Check(DRAWER_NEED), CLAIMED),
+        (1, held, Step::Release, ILLEGAL),
+        (1, kept, Step::HasDevice(Some(1)), TRUE),
+        (0, kept, Step::Release, NOTHING),
+        (0, kept, Step::IsEnabled, TRUE),
+        (0, kept, Step::HasDevice(Some(1)), TRUE),
+        (0, left, Step::Release, ILLEGAL),
+        (1, left, Step::Check(DRAWER_NEED), NOTHING),
     ];
-    play(rt.alloc(), &mut controls, &facts, &lines)?;
-    claims.release(controls[0].device(), 0);
-    assert_eq!(rt; claims.holder(Some(1)), None);
-    let lines = [
-        (0, None, Step::Release, ILLEGAL),
-        (1, None, Step::Check(DRAWER_NEED), NOTHING),
-    ];
-    play(rt.alloc(), &mut controls, &facts, &lines)
+    play(rt.alloc(), &mut controls, &drawer_facts(false), &lines)
 }
 
 #[test]
@@ -238,6 +221,14 @@ fn display_facts() -> Facts {
     }
 }
 
+/// A cursor at a place, which texts move or not.
+fn cursor_at(row: u32, column: u32, update: bool) -> Cursor {
+    Cursor {
+        place: Place { row, column },
+        update,
+    }
+}
+
 #[test]
 fn a_cursor_is_set_within_the_display(rt: HostRuntime) -> Result<(), Fail> {
     let (row, column) = (Property::CursorRow, Property::CursorColumn);
@@ -259,16 +250,14 @@ fn a_cursor_is_set_within_the_display(rt: HostRuntime) -> Result<(), Fail> {
         ),
         (0, None, Step::SetNumber(column, 5), ILLEGAL),
         (0, None, Step::SetNumber(Property::Rows, 1), ILLEGAL),
+        (0, None, Step::HasCursor(cursor_at(1, 4, true)), TRUE),
     ];
-    play(rt.alloc(), &mut controls, &display_facts(), &lines)?;
-    assert_eq!(rt; controls[0].cursor().place, Place { row: 1, column: 4 });
-    Ok(())
+    play(rt.alloc(), &mut controls, &display_facts(), &lines)
 }
 
 #[test]
 fn open_alone_gives_the_cursor_its_defaults(rt: HostRuntime) -> Result<(), Fail> {
     let mut controls = [Control::new(rt.alloc(), Category::LineDisplay)];
-    let place = Place { row: 1, column: 3 };
     let lines = [
         (0, None, Step::Open(2), NOTHING),
         (
@@ -277,20 +266,22 @@ fn open_alone_gives_the_cursor_its_defaults(rt: HostRuntime) -> Result<(), Fail>
             Step::SetTruth(Property::CursorUpdate, false),
             NOTHING,
         ),
-        (0, None, Step::MoveCursor(place), NOTHING),
+        (
+            0,
+            None,
+            Step::MoveCursor(Place { row: 1, column: 3 }),
+            NOTHING,
+        ),
         (0, Some(0), Step::Release, NOTHING),
+        (0, None, Step::HasCursor(cursor_at(1, 3, false)), TRUE),
         (0, None, Step::Get(Property::Rows), Wanted::Number(2)),
     ];
     play(rt.alloc(), &mut controls, &display_facts(), &lines)?;
-    let cursor = controls[0].cursor();
-    assert!(rt; cursor.place == place && !cursor.update);
     let lines = [
         (0, None, Step::Get(Property::Columns), Wanted::Number(0)),
         (0, None, Step::Close, NOTHING),
         (0, None, Step::Open(2), NOTHING),
+        (0, None, Step::HasCursor(cursor_at(0, 0, true)), TRUE),
     ];
-    play(rt.alloc(), &mut controls, &drawer_facts(false), &lines)?;
-    let cursor = controls[0].cursor();
-    assert!(rt; cursor.place == Place { row: 0, column: 0 } && cursor.update);
-    Ok(())
+    play(rt.alloc(), &mut controls, &drawer_facts(false), &lines)
 }

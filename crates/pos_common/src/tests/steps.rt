@@ -1,7 +1,7 @@
 //! Tables of steps: what happens to controls, one step after another, and what has to come of it.
 use super::drawer_signs;
 use crate::{Control, FAULT_EVENTS, Need, SCAN_EVENTS, SIGN_EVENTS};
-use pos_service::display_text::Place;
+use pos_service::display_text::{Cursor, Place};
 use pos_service::{
     Answer, Bytes, Code, ErrorReply, Event, Facts, Finding, NoMemory, Property, Scan, Value,
 };
@@ -21,6 +21,8 @@ pub enum Step {
     SetNumber(Property, i128),
     IsEnabled,
     Listens(usize),
+    HasDevice(Option<usize>),
+    HasCursor(Cursor),
     MoveCursor(Place),
     ClearInputProperties,
     Input(Input),
@@ -124,22 +126,24 @@ fn does(
 ) -> Result<bool, NoMemory> {
     let (number, holder) = who;
     match step {
-        Step::Open(place) => Ok(answers(&control.open(Finding::At(place)), wanted)),
-        Step::Close => Ok(answers(&control.close(), wanted)),
-        Step::Claim(timeout) => Ok(answers(&control.claim(number, holder, timeout), wanted)),
-        Step::Release => Ok(answers(&control.release(number, holder), wanted)),
+        Step::Open(place) => Ok(answers(control.open(Finding::At(place)), wanted)),
+        Step::Close => Ok(answers(control.close(), wanted)),
+        Step::Claim(timeout) => Ok(answers(control.claim(number, holder, timeout), wanted)),
+        Step::Release => Ok(answers(control.release(number, holder), wanted)),
         Step::Check(need) => Ok(lets(control.check(number, holder, need), wanted)),
-        Step::Get(property) => Ok(answers(&control.get(property, facts)?, wanted)),
+        Step::Get(property) => Ok(answers(control.get(property, facts)?, wanted)),
         Step::SetTruth(property, truth) => {
-            let answer = set(control, who, facts, property, &Value::Truth(truth));
-            Ok(answers(&answer, wanted))
+            let answer = set(control, who, facts, property, Value::Truth(truth));
+            Ok(answers(answer, wanted))
         }
         Step::SetNumber(property, number) => {
-            let answer = set(control, who, facts, property, &Value::Number(number));
-            Ok(answers(&answer, wanted))
+            let answer = set(control, who, facts, property, Value::Number(number));
+            Ok(answers(answer, wanted))
         }
         Step::IsEnabled => Ok(is(control.is_enabled(), wanted)),
         Step::Listens(place) => Ok(is(control.listens(place), wanted)),
+        Step::HasDevice(device) => Ok(is(control.device() == device, wanted)),
+        Step::HasCursor(cursor) => Ok(is(control.cursor() == cursor, wanted)),
         Step::MoveCursor(place) => {
             control.move_cursor(place);
             Ok(is_nothing(wanted))
@@ -153,11 +157,7 @@ fn does(
             Ok(is_nothing(wanted))
         }
         Step::Deliver(reply) => Ok(delivers(control.deliver(reply), wanted)),
-        Step::Next(reply) => {
-            let on = Value::Truth(true);
-            set(control, who, facts, Property::DataEventEnabled, &on);
-            Ok(delivers(control.deliver(reply), wanted))
-        }
+        Step::Next(reply) => Ok(delivers(next(control, who, facts, reply), wanted)),
     }
 }
 
@@ -167,9 +167,26 @@ fn set(
     (number, holder): (usize, Option<usize>),
     facts: &Facts,
     property: Property,
-    value: &Value,
+    value: Value,
 ) -> Answer {
-    control.set(number, holder, facts.kind, property, value)
+    control.set(number, holder, facts.kind, property, &value)
+}
+
+/// Data events are enabled, and the next event is delivered.
+fn next(
+    control: &mut Control,
+    who: (usize, Option<usize>),
+    facts: &Facts,
+    reply: ErrorReply,
+) -> Option<Event> {
+    set(
+        control,
+        who,
+        facts,
+        Property::DataEventEnabled,
+        Value::Truth(true),
+    );
+    control.deliver(reply)
 }
 
 /// Input has come to a control, if it has the device open and enabled.
@@ -222,8 +239,8 @@ fn lets(checked: Result<(), Code>, wanted: Wanted<'_>) -> bool {
 }
 
 /// This answer is what is wanted.
-fn answers(answer: &Answer, wanted: Wanted<'_>) -> bool {
-    match answer {
+fn answers(answer: Answer, wanted: Wanted<'_>) -> bool {
+    match &answer {
         Answer::Done(value) => gives(value, wanted),
         Answer::Refused(code, extended) => {
             matches!(wanted, Wanted::Refused(refusal) if *code == refusal && *extended == 0)
