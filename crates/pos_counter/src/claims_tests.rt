@@ -286,8 +286,8 @@ fn a_commit_calls_the_disk(rt: HostRuntime) -> Result<(), Fail> {
     Ok(())
 }
 
-/// The transaction over a disk that fails for good after so many disk calls: whether its commit is done, or None where a
-/// step gets another answer, and the disk.
+/// The transaction over a disk that fails for good after so many disk calls: whether its commit is done, or None where
+/// a step gets another answer, and the disk.
 fn stop_after(
     alloc: Global,
     disk: &MemDisk,

@@ -1,12 +1,13 @@
 //! A counter over a drawer, whose line fails as often as it is told, a scanner, a display, and a disk of the totals.
-ghost use Rattle.std.specs.Prelude.{◌≡◌, false, IfOk};
-ghost use Rattle.pos_service.specs.Displays.{blank_display};
+ghost use Rattle.std.specs.Prelude.{◌≡◌, ◌≤◌, [], false, IfOk};
+ghost use Rattle.std.specs.Vec.{vec_capacity};
 ghost use Rattle.pos_service.specs.Peripherals.{PeripheralState, Asked};
 ghost use Rattle.pos_service.specs.declared.kind.Kind.TheVariants as kind;
 ghost use Rattle.pos_service.specs.declared.plant.Plant.TheVariants as plant;
-ghost use Rattle.pos_sims.specs.LineDisplays.{display_state, state_of};
 ghost use Rattle.pos_sims.specs.Scanners.{scanner_state};
-ghost use Rattle.pos_counter.specs.Counters.{IsCounterSound};
+ghost use Rattle.pos_counter.specs.Counters.{IsCounterSound, states_of};
+ghost use Rattle.pos_counter.specs.Parts.{AllUnparked};
+ghost use Rattle.pos_counter.specs.Profile.{ServesProfile};
 
 use crate::{Counter, Ended};
 use pos_disk::{Disk, MemDisk};
@@ -200,18 +201,45 @@ pub fn formatted(alloc: Global) -> Result<MemDisk, AllocError> {
     }
 }
 
-/// A blank display of 2 rows of 4 columns.
-pub fn display(alloc: Global) -> Result<PlainDisplay, AllocError>
-    ensures { IfOk result (λ display. state_of display ≡ display_state (blank_display 2 4) false) }
+/// Puts what serves a counter's devices into an empty list with room for it: a drawer, a scanner, and a display of 2 rows
+/// of 4 columns, in service.
+fn fill(
+    boxes: &mut Vec<PeripheralBox>,
+    drawer: Box<dyn Peripheral>,
+    scanner: Box<dyn Peripheral>,
+    display: Box<dyn Peripheral>,
+)
+    requires empty { boxes.old.items ≡ [] }
+    requires room { 3 ≤ vec_capacity boxes.old }
+    requires drawer { ((state drawer).kind ≡ kind.Drawer) × ((state drawer).is_parked ≡ false) }
+    requires scanner { ((state scanner).kind ≡ kind.Scanner) × ((state scanner).is_parked ≡ false) }
+    requires display { ((state display).kind ≡ kind.Display 2 4) × ((state display).is_parked ≡ false) }
+    ensures serves { ServesProfile (states_of ⟦<PeripheralBox as HasState>⟧ boxes.new.items) }
+    ensures unparked { AllUnparked (states_of ⟦<PeripheralBox as HasState>⟧ boxes.new.items) }
 {
-    match PlainDisplay::new(alloc, 2, 4) {
-        Ok(display) => Ok(display),
-        Err(NoMemory) => Err(AllocError),
-    }
+    boxes.push_reserved(PeripheralBox::new(drawer));
+    boxes.push_reserved(PeripheralBox::new(scanner));
+    boxes.push_reserved(PeripheralBox::new(display));
 }
 
-/// A counter over a closed drawer, whose line fails with so many orders, a scanner that finds no memory for as many
-/// inputs, a blank display, and a disk.
+/// What serves a counter's devices: a closed drawer, whose line fails with so many orders, a scanner that finds no
+/// memory for as many inputs, and a blank display.
+pub fn peripherals(alloc: Global, faults: u32) -> Result<Vec<PeripheralBox>, AllocError>
+    ensures serves { IfOk result (λ boxes. ServesProfile (states_of ⟦<PeripheralBox as HasState>⟧ boxes.items)) }
+    ensures unparked { IfOk result (λ boxes. AllUnparked (states_of ⟦<PeripheralBox as HasState>⟧ boxes.items)) }
+{
+    let drawer = Box::new(alloc, TestDrawer::new(faults))?;
+    let scanner = Box::new(alloc, TestScanner::new(faults))?;
+    let Ok(display) = PlainDisplay::new(alloc, 2, 4) else {
+        return Err(AllocError);
+    };
+    let display = Box::new(alloc, display)?;
+    let mut boxes = Vec::with_capacity(alloc, 3)?;
+    fill(&mut boxes, drawer, scanner, display);
+    Ok(boxes)
+}
+
+/// A counter over these peripherals and a disk.
 pub fn counter_over<D: Disk + Drop>(
     alloc: Global,
     faults: u32,
@@ -219,16 +247,7 @@ pub fn counter_over<D: Disk + Drop>(
 ) -> Result<Counter<D>, AllocError>
     ensures { IfOk result (λ counter. IsCounterSound ⟦<PeripheralBox as HasState>⟧ counter) }
 {
-    let drawer = Box::new(alloc, TestDrawer::new(faults))?;
-    let scanner = Box::new(alloc, TestScanner::new(faults))?;
-    let display = Box::new(alloc, display(alloc)?)?;
-    let mut boxes = Vec::with_capacity(alloc, 3)?;
-    let drawer: Box<dyn Peripheral> = drawer;
-    boxes.push_reserved(PeripheralBox::new(drawer));
-    let scanner: Box<dyn Peripheral> = scanner;
-    boxes.push_reserved(PeripheralBox::new(scanner));
-    let display: Box<dyn Peripheral> = display;
-    boxes.push_reserved(PeripheralBox::new(display));
+    let boxes = peripherals(alloc, faults)?;
     match Counter::new(alloc, boxes, disk) {
         Ok(counter) => Ok(counter),
         Err((NoMemory, boxes, _)) => {

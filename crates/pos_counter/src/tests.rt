@@ -3,12 +3,12 @@ ghost use Rattle.std.specs.Prelude.{IfOk};
 ghost use Rattle.pos_counter.specs.Counters.{IsCounterSound};
 
 use crate::steps::bytes;
-use crate::support::{TestDrawer, TestScanner, counter_over, display, end, end_all, formatted};
+use crate::support::{counter_over, end, end_all, formatted, peripherals};
 use crate::{ControlFault, Counter, Ended, InputFault, Request, Response, SnapshotFault};
 use pos_disk::{Disk, MemDisk};
 use pos_service::{
     Answer, Bytes, Call, Category, Code, ErrorReply, Event, HasState, Input, Kind, NoMemory,
-    Peripheral, PeripheralBox, Plant, Property, Snapshot, Value,
+    PeripheralBox, Plant, Property, Snapshot, Value,
 };
 use std::alloc::{AllocError, Global};
 use std::test::Fail;
@@ -19,16 +19,7 @@ fn a_new_counter_or_its_refusal_gives_peripherals_and_disk_back(
 ) -> Result<(), AllocError> {
     let alloc = rt.alloc();
     let disk = formatted(alloc)?;
-    let drawer = Box::new(alloc, TestDrawer::new(0))?;
-    let scanner = Box::new(alloc, TestScanner::new(0))?;
-    let display = Box::new(alloc, display(alloc)?)?;
-    let mut boxes = Vec::with_capacity(alloc, 3)?;
-    let drawer: Box<dyn Peripheral> = drawer;
-    boxes.push_reserved(PeripheralBox::new(drawer));
-    let scanner: Box<dyn Peripheral> = scanner;
-    boxes.push_reserved(PeripheralBox::new(scanner));
-    let display: Box<dyn Peripheral> = display;
-    boxes.push_reserved(PeripheralBox::new(display));
+    let boxes = peripherals(alloc, 0)?;
     let (Ended { disk, boxes }, is_parked) = match Counter::new(alloc, boxes, disk) {
         Ok(counter) => (counter.shutdown(), true),
         Err((NoMemory, boxes, disk)) => (Ended { disk, boxes }, false),
