@@ -201,8 +201,8 @@ pub fn formatted(alloc: Global) -> Result<MemDisk, AllocError> {
     }
 }
 
-/// Puts what serves a counter's devices into an empty list with room for it: a drawer, a scanner, and a display of 2 rows
-/// of 4 columns, in service.
+/// Puts what serves a counter's devices into an empty list with room for it: a drawer, a scanner, and a display of 2
+/// rows of 4 columns, in service.
 fn fill(
     boxes: &mut Vec<PeripheralBox>,
     drawer: Box<dyn Peripheral>,
