@@ -1,0 +1,6 @@
+pub mod TableLemmas
+pub mod ListLemmas
+pub mod DocumentLemmas
+pub mod PlaceLemmas
+pub mod RegistryLemmas
+pub mod CallerLemmas
