@@ -65,7 +65,9 @@ fn is_device(alloc: Global, lines: &str) -> bool {
 
 const NO_CATEGORY: &str =
     "category must be CashDrawer, Scanner, LineDisplay, POSPrinter or HardTotals";
+
 const NO_SPARE: &str = "category must be CashDrawer, Scanner, LineDisplay or POSPrinter";
+
 const NO_NAME: &str = "name must be 1 to 16 letters, digits or hyphens";
 
 #[test]
@@ -82,7 +84,13 @@ fn built_profile(rt: HostRuntime) {
     let display = profile.devices().get(2).expect(&rt, "a display");
     assert_eq!(rt; display.name.as_str(), "p1");
     assert_eq!(rt; display.category, DeviceCategory::LineDisplay);
-    assert_eq!(rt; display.kind(), Some(Kind::Display { rows: 2, columns: 4 }));
+    assert_eq!(rt;
+        display.kind(),
+        Some(Kind::Display {
+            rows: 2,
+            columns: 4
+        })
+    );
     assert_eq!(rt; (display.chars, display.lines, display.near), (0, 0, 0));
     let printer = profile.devices().get(3).expect(&rt, "a printer");
     assert_eq!(rt; printer.name.as_bytes(), b"r1".as_slice());
@@ -120,7 +128,14 @@ fn roots_that_are_not_sound(rt: HostRuntime) {
     assert!(rt; is_bad(rt.alloc(), "[device]\nname = \"d1\"", 0, no_array));
     let no_spares = "profile: spare must be an array of tables";
     assert!(rt; is_bad(rt.alloc(), "device = [3]\nspare = \"d1\"", 0, no_spares));
-    assert!(rt; is_bad(rt.alloc(), "device = [3]\nx = 1", 0, "profile: unknown key: x"));
+    assert!(rt;
+        is_bad(
+            rt.alloc(),
+            "device = [3]\nx = 1",
+            0,
+            "profile: unknown key: x"
+        )
+    );
 }
 
 #[test]
@@ -134,8 +149,20 @@ fn entries_that_are_no_tables(rt: HostRuntime) {
 fn categories_that_are_not_sound(rt: HostRuntime) {
     assert!(rt; is_bad_device(rt.alloc(), "name = \"d1\"", NO_CATEGORY));
     assert!(rt; is_bad_device(rt.alloc(), "name = \"d1\"\ncategory = 1", NO_CATEGORY));
-    assert!(rt; is_bad_device(rt.alloc(), "name = \"d1\"\ncategory = \"Drawer\"", NO_CATEGORY));
-    assert!(rt; is_bad_device(rt.alloc(), "name = \"d1\"\ncategory = \"cashDrawer\"", NO_CATEGORY));
+    assert!(rt;
+        is_bad_device(
+            rt.alloc(),
+            "name = \"d1\"\ncategory = \"Drawer\"",
+            NO_CATEGORY
+        )
+    );
+    assert!(rt;
+        is_bad_device(
+            rt.alloc(),
+            "name = \"d1\"\ncategory = \"cashDrawer\"",
+            NO_CATEGORY
+        )
+    );
 }
 
 #[test]
@@ -143,15 +170,38 @@ fn names_that_are_not_sound(rt: HostRuntime) {
     assert!(rt; is_bad_device(rt.alloc(), "category = \"Scanner\"", NO_NAME));
     assert!(rt; is_bad_device(rt.alloc(), "category = \"Scanner\"\nname = 1", NO_NAME));
     assert!(rt; is_bad_device(rt.alloc(), "category = \"Scanner\"\nname = \"\"", NO_NAME));
-    assert!(rt; is_bad_device(rt.alloc(), "category = \"Scanner\"\nname = \"a b\"", NO_NAME));
-    assert!(rt; is_bad_device(rt.alloc(), "category = \"Scanner\"\nname = \"\u{e9}\"", NO_NAME));
-    assert!(rt; is_bad_device(rt.alloc(), "category = \"Scanner\"\nname = \"a234567890123456Z\"", NO_NAME));
+    assert!(rt;
+        is_bad_device(
+            rt.alloc(),
+            "category = \"Scanner\"\nname = \"a b\"",
+            NO_NAME
+        )
+    );
+    assert!(rt;
+        is_bad_device(
+            rt.alloc(),
+            "category = \"Scanner\"\nname = \"\u{e9}\"",
+            NO_NAME
+        )
+    );
+    assert!(rt;
+        is_bad_device(
+            rt.alloc(),
+            "category = \"Scanner\"\nname = \"a234567890123456Z\"",
+            NO_NAME
+        )
+    );
 }
 
 #[test]
 fn names_that_are_sound(rt: HostRuntime) {
     assert!(rt; is_device(rt.alloc(), "category = \"Scanner\"\nname = \"-\""));
-    assert!(rt; is_device(rt.alloc(), "category = \"Scanner\"\nname = \"a23456789012345Z\""));
+    assert!(rt;
+        is_device(
+            rt.alloc(),
+            "category = \"Scanner\"\nname = \"a23456789012345Z\""
+        )
+    );
 }
 
 #[test]
@@ -183,12 +233,27 @@ fn numbers_of_printers(rt: HostRuntime) {
         ("chars = 0\nlines = 5\nnear = 2", "chars must be 1 to 255"),
         ("chars = 256\nlines = 5\nnear = 2", "chars must be 1 to 255"),
         ("chars = 8\nnear = 2", "lines must be 0 to 100000"),
-        ("chars = 8\nlines = -1\nnear = 2", "lines must be 0 to 100000"),
-        ("chars = 8\nlines = 100001\nnear = 2", "lines must be 0 to 100000"),
+        (
+            "chars = 8\nlines = -1\nnear = 2",
+            "lines must be 0 to 100000",
+        ),
+        (
+            "chars = 8\nlines = 100001\nnear = 2",
+            "lines must be 0 to 100000",
+        ),
         ("chars = 8\nlines = 5", "near must be 0 to 100000"),
-        ("chars = 8\nlines = 5\nnear = 100001", "near must be 0 to 100000"),
-        ("chars = 8\nlines = 5\nnear = \"2\"", "near must be 0 to 100000"),
-        ("chars = 8\nlines = 5\nnear = 2\nrows = 2", "unknown key: rows"),
+        (
+            "chars = 8\nlines = 5\nnear = 100001",
+            "near must be 0 to 100000",
+        ),
+        (
+            "chars = 8\nlines = 5\nnear = \"2\"",
+            "near must be 0 to 100000",
+        ),
+        (
+            "chars = 8\nlines = 5\nnear = 2\nrows = 2",
+            "unknown key: rows",
+        ),
     ] {
         let text = format!(in rt.alloc(); "{printer}{lines}").expect(&rt, "ample memory");
         assert!(rt; is_bad_device(rt.alloc(), text.as_str(), reason));
@@ -203,7 +268,10 @@ fn numbers_at_their_bounds(rt: HostRuntime) {
         assert!(rt; is_device(rt.alloc(), text.as_str()));
     }
     let printer = "category = \"POSPrinter\"\nname = \"r\"\n";
-    for lines in ["chars = 1\nlines = 0\nnear = 0", "chars = 255\nlines = 100000\nnear = 100000"] {
+    for lines in [
+        "chars = 1\nlines = 0\nnear = 0",
+        "chars = 255\nlines = 100000\nnear = 100000",
+    ] {
         let text = format!(in rt.alloc(); "{printer}{lines}").expect(&rt, "ample memory");
         assert!(rt; is_device(rt.alloc(), text.as_str()));
     }
@@ -225,12 +293,16 @@ fn keys_that_are_unknown(rt: HostRuntime) {
 
 #[test]
 fn spares_that_are_not_sound(rt: HostRuntime) {
-    let first = "[[device]]\nname = \"d\"\ncategory = \"CashDrawer\"\n[[spare]]\ncategory = \"Scanner\"\n[[spare]]\n";
+    let first =
+        "[[device]]\nname = \"d\"\ncategory = \"CashDrawer\"\n[[spare]]\ncategory = \"Scanner\"\n[[spare]]\n";
     for (lines, reason) in [
         ("rows = 2", NO_SPARE),
         ("category = \"HardTotals\"", NO_SPARE),
         ("category = \"Scanner\"\nname = \"s\"", "unknown key: name"),
-        ("category = \"LineDisplay\"\nrows = 9\ncolumns = 4", "rows must be 1 to 8"),
+        (
+            "category = \"LineDisplay\"\nrows = 9\ncolumns = 4",
+            "rows must be 1 to 8",
+        ),
     ] {
         let text = format!(in rt.alloc(); "{first}{lines}").expect(&rt, "ample memory");
         let told = format!(in rt.alloc(); "spare 2: {reason}").expect(&rt, "ample memory");
@@ -250,17 +322,21 @@ fn second_hard_totals(rt: HostRuntime) {
 fn lowest_number_wins(rt: HostRuntime) {
     let text = "device = [{ name = \"d\", category = \"CashDrawer\" }, 1, 2]\nspare = [3]";
     assert!(rt; is_bad(rt.alloc(), text, 2, "device 2: must be a table"));
-    let text = "device = [{ name = \"d\", category = \"CashDrawer\" }]\nspare = [{ category = \"Scanner\" }, 3]";
+    let text =
+        "device = [{ name = \"d\", category = \"CashDrawer\" }]\nspare = [{ category = \"Scanner\" }, 3]";
     assert!(rt; is_bad(rt.alloc(), text, 3, "spare 2: must be a table"));
 }
 
 #[test]
 fn names_that_stand_twice(rt: HostRuntime) {
-    let text = "device = [{ name = \"a\", category = \"Scanner\" }, { name = \"b\", category = \"Scanner\" }, \
+    let text =
+        "device = [{ name = \"a\", category = \"Scanner\" }, { name = \"b\", category = \"Scanner\" }, \
         { name = \"b\", category = \"CashDrawer\" }, { name = \"a\", category = \"Scanner\" }]";
     assert!(rt; is_duplicate(rt.alloc(), text, "b"));
-    let text = "device = [{ name = \"a\", category = \"Scanner\" }, { name = \"a\", category = \"Scanner\" }]\nspare = [3]";
+    let text =
+        "device = [{ name = \"a\", category = \"Scanner\" }, { name = \"a\", category = \"Scanner\" }]\nspare = [3]";
     assert!(rt; is_bad(rt.alloc(), text, 3, "spare 1: must be a table"));
-    let text = "device = [{ name = \"a\", category = \"Scanner\" }, { name = \"A\", category = \"Scanner\" }]";
+    let text =
+        "device = [{ name = \"a\", category = \"Scanner\" }, { name = \"A\", category = \"Scanner\" }]";
     assert_eq!(rt; counts(rt.alloc(), text), Some((2, 0)));
 }

@@ -27,13 +27,15 @@ returns-then-is_some-clause-attaches g c =
     let found : place_of (names_of list) c.args.name.now ≡ Some place = sym c.in-Some.ensures in
     let within : place < length slots = omega (arith, place_within (names_of list) c.args.name.now place found, names_count list, devices_count boxes slots) in
     let at = device_at boxes slots place slot within c.index-slot.ensures in
-    let some = some_of slot.peripheral (sym c.is_some.ensures ∙ c.if-is_some.true) in
-    (record {
-      device = device_of boxes slot;
-      named = record { place = place; found = found; at = at };
-      state = boxes.state some.0;
-      served = ap (option_map boxes.state) some.1;
-    }, refl)
+    let some = some_of slot.peripheral (sym c.is_some.ensures ∙ c.if-is_some.true) in (
+      record {
+        device = device_of boxes slot;
+        named = record { place = place; found = found; at = at };
+        state = boxes.state some.0;
+        served = ap (option_map boxes.state) some.1;
+      },
+      refl,
+    )
 
 pub returns-then-not-is_same-clause-attaches : goal.returns-then-not-is_same-clause-attaches
 returns-then-not-is_same-clause-attaches g c =
@@ -45,13 +47,15 @@ returns-then-not-is_same-clause-attaches g c =
     let found : place_of (names_of list) c.args.name.now ≡ Some place = sym c.in-Some.ensures in
     let within : place < length slots = omega (arith, place_within (names_of list) c.args.name.now place found, names_count list, devices_count boxes slots) in
     let at = device_at boxes slots place slot within c.index-slot.ensures in
-    let none : slot.peripheral ≡ None = none_of slot.peripheral (sym c.is_some.ensures ∙ c.if-is_some.false) in
-    (record {
-      device = device_of boxes slot;
-      named = record { place = place; found = found; at = at };
-      vacant = ap (option_map boxes.state) none;
-      kind = λ same. c.is_same.ensures.differ c.if-not-is_same.true (sym (c.kind.ensures.kind ∙ same));
-    }, refl)
+    let none : slot.peripheral ≡ None = none_of slot.peripheral (sym c.is_some.ensures ∙ c.if-is_some.false) in (
+      record {
+        device = device_of boxes slot;
+        named = record { place = place; found = found; at = at };
+        vacant = ap (option_map boxes.state) none;
+        kind = λ same. c.is_same.ensures.differ c.if-not-is_same.true (sym (c.kind.ensures.kind ∙ same));
+      },
+      refl,
+    )
 
 pub put-requires-clause-may_serve : goal.put-requires-clause-may_serve
 put-requires-clause-may_serve g c =

@@ -26,12 +26,14 @@ returns-then-is_none-clause-detaches g c =
     let slot = c.index.result.now in
     let found : place_of (names_of list) c.args.name.now ≡ Some place = sym c.in-Some.ensures in
     let within : place < length slots = omega (arith, place_within (names_of list) c.args.name.now place found, names_count list, devices_count boxes slots) in
-    let none : slot.peripheral ≡ None = none_of slot.peripheral (c.is_none.ensures ∙ ap not c.if-is_none.true) in
-    (record {
-      device = device_of boxes slot;
-      named = record { place = place; found = found; at = device_at boxes slots place slot within c.index.ensures };
-      vacant = ap (option_map boxes.state) none;
-    }, refl)
+    let none : slot.peripheral ≡ None = none_of slot.peripheral (c.is_none.ensures ∙ ap not c.if-is_none.true) in (
+      record {
+        device = device_of boxes slot;
+        named = record { place = place; found = found; at = device_at boxes slots place slot within c.index.ensures };
+        vacant = ap (option_map boxes.state) none;
+      },
+      refl,
+    )
 
 pub returns-then-is_open-clause-detaches : goal.returns-then-is_open-clause-detaches
 returns-then-is_open-clause-detaches g c =
@@ -42,13 +44,16 @@ returns-then-is_open-clause-detaches g c =
     let slot = c.index.result.now in
     let found : place_of (names_of list) c.args.name.now ≡ Some place = sym c.in-Some.ensures in
     let within : place < length slots = omega (arith, place_within (names_of list) c.args.name.now place found, names_count list, devices_count boxes slots) in
-    let some = some_of slot.peripheral (c.is_none.ensures ∙ ap not c.if-is_none.false) in
-    (record {
-      device = device_of boxes slot;
-      named = record { place = place; found = found; at = device_at boxes slots place slot within c.index.ensures };
-      state = boxes.state some.0;
-      served = ap (option_map boxes.state) some.1;
-    }, c.if-is_open.true, refl)
+    let some = some_of slot.peripheral (c.is_none.ensures ∙ ap not c.if-is_none.false) in (
+      record {
+        device = device_of boxes slot;
+        named = record { place = place; found = found; at = device_at boxes slots place slot within c.index.ensures };
+        state = boxes.state some.0;
+        served = ap (option_map boxes.state) some.1;
+      },
+      c.if-is_open.true,
+      refl,
+    )
 
 pub unreachable-requires : goal.unreachable-requires
 unreachable-requires g c =

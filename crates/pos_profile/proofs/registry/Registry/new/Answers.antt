@@ -1,0 +1,8 @@
+use Rattle.pos_service.specs.declared.peripheral_box.HasState.{Ghosts}
+use Rattle.pos_profile.proofs.RegistryLemmas.{sound_planned}
+use Rattle.pos_profile.proofs.registry.Registry.new.Goals as goal
+
+pub returns-clause-sound : goal.returns-clause-sound
+returns-clause-sound g c =
+    let boxes : Ghosts _ = record { state = λ b. (goal.Peripheral-dyn g (b.device.vtable, b.device.value)).state b.device.value } in
+    sound_planned boxes _ c.in-Ok.plan.items c.fill.ensures c.in-Ok.ensures.index
