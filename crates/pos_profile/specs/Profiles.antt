@@ -1,8 +1,7 @@
 -- What a document is as a profile (docs/PROFILE.md).
-use Rattle.std.specs.Prelude.{◌≡◌, ◌<◌, ◌≤◌, ℕ, zero, suc, List, [], ◌∷◌, ◌++◌, Option, Some, None, Bool, true, false, not, ◌&&◌, All, IfSome, map, codes, bytes_eq, slice_get, take, Result, Ok, Err, ⊤}
+use Rattle.std.specs.Prelude.{◌≡◌, ◌<◌, ℕ, zero, suc, List, [], ◌∷◌, ◌++◌, Option, Some, None, Bool, true, false, not, ◌&&◌, map, codes, bytes_eq, slice_get, take, Result, Ok, Err, ⊤}
 use Rattle.std.specs.List.{list_any}
 use Rattle.toml.specs.Data.{Members, get_member}
-use Rattle.pos_service.specs.Peripherals.{IsInRange}
 use Rattle.pos_profile.specs.declared.entry.Entry.{Entry}
 use Rattle.pos_profile.specs.declared.role.Role.{Role}
 use Rattle.pos_profile.specs.declared.role.Role.TheVariants.{Device, Spare}
@@ -10,8 +9,6 @@ use Rattle.pos_profile.specs.declared.table.Keys.TheVariants.{OfRoot}
 use Rattle.pos_profile.specs.declared.fault.ProfileFault.{ProfileFault}
 use Rattle.pos_profile.specs.declared.fault.ProfileFault.TheVariants as fault
 use Rattle.pos_profile.specs.Categories.{is_totals}
-use Rattle.pos_profile.specs.Kinds.{kind_of}
-use Rattle.pos_profile.specs.Names.{is_name}
 use Rattle.pos_profile.specs.Tables.{has_only, is_key, is_list, key_of, values_at}
 use Rattle.pos_profile.specs.Entries.{entry_of, Contents}
 
@@ -103,19 +100,3 @@ FromDocument None (Err fault.BadText) = ⊤
 FromDocument None (Err (fault.BadEntry number)) = ⊥
 FromDocument None (Err (fault.Duplicate name)) = ⊥
 FromDocument None (Err fault.NoMemory) = ⊤
-
--- the numbers of an entry are in their ranges
-pub record HasRanges (entry : Entry) : Type 0 where
-  pub kind : IfSome (kind_of entry) IsInRange
-  pub lines : entry.lines ≤ 100000
-
--- a device that a profile may have
-pub record IsDevice (entry : Entry) : Type 0 where
-  pub name : is_name entry.name ≡ true
-  pub ranges : HasRanges entry
-
--- a spare that a profile may have
-pub record IsSpare (entry : Entry) : Type 0 where
-  pub name : entry.name ≡ []
-  pub peripheral : is_totals entry.category ≡ false
-  pub ranges : HasRanges entry

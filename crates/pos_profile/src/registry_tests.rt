@@ -1,4 +1,4 @@
-ghost use Rattle.std.specs.Prelude.{◌≡◌, IfOk};
+ghost use Rattle.std.specs.Prelude.{◌≡◌, false, IfOk};
 ghost use Rattle.pos_profile.specs.Registries.{IsRegistrySound};
 
 use crate::test_drawer::TestDrawer;
@@ -39,11 +39,13 @@ fn end_all(mut slots: Vec<Slot>) -> usize
     parked
 }
 
-/// Why a peripheral isn't attached, if so. One that is handed back is ended.
-fn refusal(attached: Result<(), (AttachFault, PeripheralBox)>) -> Option<AttachFault>
-    requires { Unit {0} }
+/// Attaches a peripheral: why it isn't, if so. One that is handed back is ended.
+fn attach(registry: &mut Registry, name: &[u8], peripheral: PeripheralBox) -> Option<AttachFault>
+    requires sound { IsRegistrySound ⟦<PeripheralBox as HasState>⟧ registry.old }
+    requires unparked { (⟦<PeripheralBox as HasState>⟧.state peripheral).is_parked ≡ false }
+    ensures { IsRegistrySound ⟦<PeripheralBox as HasState>⟧ registry.new }
 {
-    match attached {
+    match registry.attach(name, peripheral) {
         Ok(()) => None,
         Err((fault, peripheral)) => {
             peripheral.end();
@@ -52,63 +54,82 @@ fn refusal(attached: Result<(), (AttachFault, PeripheralBox)>) -> Option<AttachF
     }
 }
 
+/// Detaches a peripheral, and ends it: why it isn't, if so.
+fn detach(registry: &mut Registry, name: &[u8], is_open: bool) -> Option<DetachFault>
+    requires { IsRegistrySound ⟦<PeripheralBox as HasState>⟧ registry.old }
+    ensures { IsRegistrySound ⟦<PeripheralBox as HasState>⟧ registry.new }
+{
+    match registry.detach(name, is_open) {
+        Ok(peripheral) => {
+            peripheral.end();
+            None
+        }
+        Err(fault) => Some(fault),
+    }
+}
+
 #[test]
 fn names_have_places(rt: HostRuntime) {
     let registry = built(rt.alloc()).expect(&rt, "ample memory");
     assert_eq!(rt; registry.slots().len(), 4);
-    for (name, place) in [
-        ("d1", Some(0)),
-        ("s1", Some(1)),
-        ("r1", Some(3)),
-        ("t1", None),
-        ("zz", None),
-    ] {
-        assert_eq!(rt; registry.find(name.as_bytes()), place);
-    }
+    assert_eq!(rt; registry.find(b"d1"), Some(0));
+    assert_eq!(rt; registry.find(b"r1"), Some(3));
+    assert_eq!(rt; registry.find(b"t1"), None);
+    assert_eq!(rt; registry.find(b"zz"), None);
     assert_eq!(rt; end_all(registry.into_entries()), 0);
 }
 
 #[test]
 fn peripherals_are_attached_in_order_of_refusals(rt: HostRuntime) {
     let mut registry = built(rt.alloc()).expect(&rt, "ample memory");
-    for (name, fault) in [
-        ("t1", Some(AttachFault::Unknown)),
-        ("s1", Some(AttachFault::KindDiffers)),
-        ("d1", None),
-        ("d1", Some(AttachFault::InUse)),
-    ] {
-        let drawer = Box::new(rt.alloc(), TestDrawer::new()).expect(&rt, "ample memory");
-        let drawer: Box<dyn Peripheral> = drawer;
-        let attached = registry.attach(name.as_bytes(), PeripheralBox::new(drawer));
-        assert_eq!(rt; refusal(attached), fault);
-    }
-    assert_eq!(rt; end_all(registry.into_entries()), 1);
+    let drawer = Box::new(rt.alloc(), TestDrawer::new()).expect(&rt, "ample memory");
+    let drawer: Box<dyn Peripheral> = drawer;
+    let fault = attach(&mut registry, b"t1", PeripheralBox::new(drawer));
+    assert_eq!(rt; fault, Some(AttachFault::Unknown));
+    let drawer = Box::new(rt.alloc(), TestDrawer::new()).expect(&rt, "ample memory");
+    let drawer: Box<dyn Peripheral> = drawer;
+    let fault = attach(&mut registry, b"s1", PeripheralBox::new(drawer));
+    assert_eq!(rt; fault, Some(AttachFault::KindDiffers));
+    assert_eq!(rt; end_all(registry.into_entries()), 0);
 }
 
 #[test]
-fn peripherals_are_detached_in_order_of_refusals(rt: HostRuntime) {
+fn peripherals_are_exchanged(rt: HostRuntime) {
     let mut registry = built(rt.alloc()).expect(&rt, "ample memory");
     let drawer = Box::new(rt.alloc(), TestDrawer::new()).expect(&rt, "ample memory");
     let drawer: Box<dyn Peripheral> = drawer;
     assert_eq!(rt;
-        refusal(registry.attach(b"d1", PeripheralBox::new(drawer))),
+        attach(&mut registry, b"d1", PeripheralBox::new(drawer)),
         None
     );
-    for (name, is_open, fault) in [
-        ("t1", true, Some(DetachFault::Unknown)),
-        ("s1", true, Some(DetachFault::Vacant)),
-        ("d1", true, Some(DetachFault::InUse)),
-        ("d1", false, None),
-        ("d1", false, Some(DetachFault::Vacant)),
-    ] {
-        let told = match registry.detach(name.as_bytes(), is_open) {
-            Ok(peripheral) => {
-                peripheral.end();
-                None
-            }
-            Err(fault) => Some(fault),
-        };
-        assert_eq!(rt; told, fault);
-    }
+    let drawer = Box::new(rt.alloc(), TestDrawer::new()).expect(&rt, "ample memory");
+    let drawer: Box<dyn Peripheral> = drawer;
+    let fault = attach(&mut registry, b"d1", PeripheralBox::new(drawer));
+    assert_eq!(rt; fault, Some(AttachFault::InUse));
+    assert_eq!(rt;
+        detach(&mut registry, b"d1", true),
+        Some(DetachFault::InUse)
+    );
+    assert_eq!(rt; detach(&mut registry, b"d1", false), None);
+    assert_eq!(rt;
+        detach(&mut registry, b"d1", true),
+        Some(DetachFault::Vacant)
+    );
+    assert_eq!(rt;
+        detach(&mut registry, b"t1", true),
+        Some(DetachFault::Unknown)
+    );
     assert_eq!(rt; end_all(registry.into_entries()), 0);
+}
+
+#[test]
+fn peripherals_end_with_the_registry(rt: HostRuntime) {
+    let mut registry = built(rt.alloc()).expect(&rt, "ample memory");
+    let drawer = Box::new(rt.alloc(), TestDrawer::new()).expect(&rt, "ample memory");
+    let drawer: Box<dyn Peripheral> = drawer;
+    assert_eq!(rt;
+        attach(&mut registry, b"d1", PeripheralBox::new(drawer)),
+        None
+    );
+    assert_eq!(rt; end_all(registry.into_entries()), 1);
 }
