@@ -1,9 +1,6 @@
 -- Each option of the program's command lines has a value where `clap` takes the words.
-use Rattle.std.proofs.Common.{◌≡◌, ◌∙◌, ◌<◌, ℕ, zero, suc, List, [], ◌∷◌, length, slice_index, slice_index_or, Option, Some, None, is_some, true, false, codes, inl, inr, arith, refl, sym, ap, rules}
-use Rattle.std.specs.Prelude.{option_map}
-use Rattle.std.specs.Borrow.{Bor}
+use Rattle.std.proofs.Common.{◌≡◌, zero, suc, [], ◌∷◌, slice_index, codes, inl, inr, arith, refl}
 use Rattle.std.specs.List.{All}
-use Rattle.std.specs.Str.{bytes_eq}
 use Rattle.std.proofs.lemmas.Bool.{false≢true}
 use Rattle.std.proofs.lemmas.List.Elements.{All-cons, All-nil}
 use Rattle.clap.specs.Built.{FitsChain, HasDistinctIds, TakesValue}

@@ -1,9 +1,7 @@
 -- What a parse of a command's words tells of them.
-use Rattle.std.proofs.Common.{◌≡◌, ◌∙◌, ◌∷◌, [], List, ℕ, Some, Err, true, false, map, codes, refl, sym, ap, subst, inl, inr, slice_index, arith}
-use Rattle.std.specs.Prelude.{◌≢◌, ◌⊎◌, slice_get, unwrap_or, option_map, bytes_eq}
-use Rattle.std.proofs.lemmas.Bool.{false≢true}
+use Rattle.std.proofs.Common.{◌≡◌, ◌∙◌, ◌∷◌, [], List, Some, Err, true, map, codes, refl, sym, ap, subst, inl, inr, slice_index, arith}
+use Rattle.std.specs.Prelude.{◌≢◌, slice_get, unwrap_or, option_map}
 use Rattle.std.proofs.lemmas.Option.{slice_get-map}
-use Rattle.std.proofs.lemmas.Slice.Eq.{bytes_eq-Decides}
 use Rattle.clap.specs.Words.{App, HasKind, IsAmong, Kinds, Row, Text, fault_of, first_of, is_simple, is_simple_and_free, kind_of, matches_of}
 use Rattle.clap.specs.declared.error.Error.{Error}
 use Rattle.clap.specs.declared.error.kind.ErrorKind.{ErrorKind}
@@ -11,7 +9,7 @@ use Rattle.clap.specs.declared.error.kind.ErrorKind.TheVariants.{OutOfMemory}
 use Rattle.clap.proofs.OnLiterals.{clap_on_literals}
 use Rattle.pos_program.specs.declared.choice.ChoiceFault.{ChoiceFault}
 use Rattle.pos_program.specs.declared.choice.ChoiceFault.TheVariants.{Words, NoMemory}
-use Rattle.pos_program.specs.Choices.{Accepts, AsksNothing, Chooses, Names, TellsWhy, format_line, path_of, run_line}
+use Rattle.pos_program.specs.Choices.{Accepts, Chooses, Names, TellsWhy, format_line, path_of, run_line}
 
 -- a command line of which `clap` says when it refuses words and what it finds in them
 abbrev pub IsKnown : App → Type 0

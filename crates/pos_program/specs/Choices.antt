@@ -1,7 +1,7 @@
 -- The program's command lines, and what words ask for (docs/CONSOLE.md, "The program").
 use Rattle.std.specs.Prelude.{◌≡◌, ◌≢◌, ◌⊎◌, List, [], Option, Some, true, false, codes, Result, Ok, Err, slice_get}
 use Rattle.clap.specs.Words.{App, Rule, Text, fault_of, first_of, matches_of, new_app, new_rule, with_rule}
-use Rattle.clap.specs.Built.{IsAuto, IsPlainArg}
+use Rattle.clap.specs.Built.{IsPlainArg}
 use Rattle.clap.specs.declared.builder.ArgAction.TheVariants.{Set}
 use Rattle.clap.specs.declared.builder.arg.Arg.{Arg}
 use Rattle.clap.specs.declared.error.kind.ErrorKind.{ErrorKind}

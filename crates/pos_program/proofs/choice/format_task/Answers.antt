@@ -1,4 +1,4 @@
-use Rattle.std.proofs.Common.{◌≡◌, ◌∙◌, ◌∷◌, [], rules, codes, map, arith, refl, sym, true, false, is_some, ap₂, Some}
+use Rattle.std.proofs.Common.{◌≡◌, ◌∙◌, ◌∷◌, [], rules, codes, map, arith, refl, sym, true, is_some, ap₂, Some}
 use Rattle.std.proofs.lemmas.Bool.{false≢true}
 use Rattle.clap.specs.Words.{app_of, found_of, first_of, rows_of, with_rule}
 use Rattle.clap.proofs.CallerLemmas.{required_in_chain, some_of_text}
