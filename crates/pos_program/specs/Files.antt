@@ -1,4 +1,4 @@
--- What is known of a disk in a file (docs/DISK.md, "Premises on a real disk").
+-- What is known of a disk in a file (docs/DISK.md, "Premises").
 use Rattle.std.specs.Prelude.{◌≡◌, Bool, true, false, [], Ok, Err}
 use Rattle.pos_disk.specs.State.{Answer, DiskState}
 

@@ -35,7 +35,7 @@ pub enum FileFault {
 /// fault until the file is opened anew: the system may count as settled what the device never had.
 ///
 /// No clause can say what a file keeps, so the disk is never honest. That a file keeps the model of a disk is a premise
-/// of whoever runs a program on one. docs/DISK.md, "Premises on a real disk".
+/// of whoever runs a program on one. docs/DISK.md, "Premises".
 #[derive(Drop)]
 pub struct FileDisk<F: FileExt + OpenFile + Drop> {
     file: F,
