@@ -1,6 +1,6 @@
 -- What a change of one control does to the machine's controls.
-use Rattle.std.proofs.Common.{◌≡◌, ℕ, ◌+◌, ◌<◌, List, get_or, set, map, take, drop, ◌++◌, sym, ap, ◌∙◌, All, length, arith, subst}
-use Rattle.std.proofs.lemmas.List.{map-set, set-get_or, get_or-map, drop_more, drop-drop, drop-set-lt, take_more_set}
+use Rattle.std.proofs.Common.{◌≡◌, ℕ, ◌+◌, ◌<◌, ◌≤◌, List, get_or, set, map, take, drop, ◌++◌, sym, ap, ◌∙◌, All, length, arith, subst, refl, append-nil}
+use Rattle.std.proofs.lemmas.List.{map-set, set-get_or, get_or-map, drop_more, drop-drop, drop-set-lt, take_more_set, take_all, drop_all}
 use Rattle.std.proofs.lemmas.List.Edits.{map_over_more}
 use Rattle.std.proofs.lemmas.List.Elements.{All-head, All-tail, All-push}
 use Rattle.pos_service.specs.Controls.{Control}
@@ -36,3 +36,7 @@ same_rest hs old i g r = drop-set-lt (i + 1) hs i g (omega arith) ∙ sym (drop-
 -- one more at the front has it
 pub front_after_set : (P : Held → Type 0) (hs : List Held) (i : ℕ) (g : Held) → i < length hs → P g → All P (take i hs) → All P (take (i + 1) (set hs i g))
 front_after_set P hs i g lt p a = subst (All P) (sym (take_more_set hs i g lt)) (All-push P (take i hs) g a p)
+
+-- all controls are mapped
+pub mapped_all : (f : Control → Control) (xs ys : List Control) (i : ℕ) → length xs ≤ i → ys ≡ map f (take i xs) ++ drop i xs → ys ≡ map f xs
+mapped_all f xs ys i le m = m ∙ rw (take_all i xs le, drop_all i xs le, append-nil) refl

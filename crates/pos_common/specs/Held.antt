@@ -1,10 +1,15 @@
 -- A control as the code holds it.
-use Rattle.std.specs.Prelude.{◌≡◌, ℕ, ◌≤◌, List, IsTrue, map}
+use Rattle.std.specs.Prelude.{◌≡◌, ℕ, ◌≤◌, ◌+◌, List, [], ◌∷◌, None, Result, MatchResult, IsTrue, ⊤, count_by, length, map, All}
 use Rattle.pos_service.specs.declared.answer.Answer.{Answer}
 use Rattle.pos_service.specs.declared.answer.Answer.TheVariants as answer
+use Rattle.pos_service.specs.declared.answer.Value.{Value}
 use Rattle.pos_service.specs.declared.answer.Value.TheVariants as value
-use Rattle.pos_service.specs.Controls.{Control, listens}
-use Rattle.pos_service.specs.Refusals.{Row, Decided}
+use Rattle.pos_service.specs.declared.memory.NoMemory.{NoMemory}
+use Rattle.pos_service.specs.declared.property.Property.{Property}
+use Rattle.pos_service.specs.declared.scan.Scan.{Scan}
+use Rattle.pos_service.specs.Calls.{is_of_bytes}
+use Rattle.pos_service.specs.Controls.{Control, listens, if_listening, read as read_by}
+use Rattle.pos_service.specs.Refusals.{Row, Decided, first_refusal}
 
 -- the machine's control, and how many events there is room for
 pub record Held : Type 0 where
@@ -16,19 +21,42 @@ abbrev pub controls_of : List Held → List Control
 controls_of helds = map (λ held. held.control) helds
 
 -- a change of a device's signs has at most so many events: drawer, cover, paper
-abbrev pub most_statuses : ℕ
-most_statuses = 3
+abbrev pub sign_events : ℕ
+sign_events = 3
+
+-- a scan has at most so many events: a DataEvent
+abbrev pub scan_events : ℕ
+scan_events = 1
+
+-- a failed scan has at most so many events: EL_INPUT_DATA and EL_INPUT
+abbrev pub fault_events : ℕ
+fault_events = 2
 
 -- a control that has the device at a place open and enabled has room for so many events
 abbrev pub HasRoom : ℕ → ℕ → Held → Type 0
 HasRoom place count held = IsTrue (listens place held.control) → count ≤ held.spare
 
--- each control that has the device open and enabled has room for the events of a change
-abbrev pub HasStatusRoom : ℕ → Held → Type 0
-HasStatusRoom place held = HasRoom place most_statuses held
+-- There is a copy of a scan for each control that has the device at a place open and enabled.
+pub record AreCopies (scan : Scan) (place : ℕ) (controls : List Control) (copies : List Scan) : Type 0 where
+  pub enough : count_by (listens place) controls ≤ length copies
+  pub each : All (λ copy. copy ≡ scan) copies
+
+-- A control has read one of the copies of a scan, where it has the device at a place open and enabled; the others are
+-- left.
+pub record ReadsCopy (scan : Scan) (place : ℕ) (old new : Held) (copies left : List Scan) : Type 0 where
+  pub read : new.control ≡ if_listening place (read_by scan) old.control
+  pub each : All (λ copy. copy ≡ scan) left
+  pub most : length copies ≤ length left + count_by (listens place) (old.control ∷ [])
 
 -- A call on a control is answered by its table, which changes nothing; where nothing refuses it, it succeeds, and the
 -- control is this one.
 abbrev pub TurnsInto : List Row → Answer → Held → Held → Control → Type 0
 TurnsInto rows result old new control =
     Decided rows result (new ≡ old) ((result ≡ answer.Done value.Empty) × (new.control ≡ control))
+
+-- A property is told as its table says, and else with its value. Memory is wanted for a copy of bytes alone, and only
+-- behind the table.
+abbrev pub Gets : List Row → Property → Value → Result Answer NoMemory → Type 0
+Gets rows p v outcome = MatchResult outcome
+    (λ result. Decided rows result ⊤ (result ≡ answer.Done v))
+    (λ want. IsTrue (is_of_bytes p) × (first_refusal rows ≡ None))

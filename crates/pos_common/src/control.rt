@@ -1,13 +1,16 @@
 ghost use Rattle.std.specs.Prelude.{◌≡◌, Some, IsTrue, is_some};
-ghost use Rattle.pos_service.specs.Controls.{new_control};
+ghost use Rattle.pos_service.specs.Controls.{new_control, with_place};
 
 mod calls;
 mod events;
+mod properties;
 
-pub(crate) use events::MOST_STATUSES;
-use pos_service::{Category, Event};
+use crate::reader::Reader;
+pub use events::{FAULT_EVENTS, SCAN_EVENTS, SIGN_EVENTS};
+use pos_events::EventQueue;
+use pos_service::Category;
+use pos_service::display_text::{Cursor, Place};
 use std::alloc::Global;
-use std::collections::VecDeque;
 use std::marker::Model;
 
 /// A control: an application's hold of a device (common chapter). Contracts see the machine's control, and how many
@@ -17,19 +20,28 @@ pub struct Control {
     category: Category,
     device: Option<usize>,
     is_enabled: bool,
-    events: VecDeque<Event>,
+    is_frozen: bool,
+    reader: Reader,
+    cursor: Cursor,
+    events: EventQueue,
 }
 
 impl Model for Control {
-    ghost use Rattle.std.specs.Prelude.{◌-◌};
-    ghost use Rattle.std.specs.VecDeque.{deque_len, deque_capacity};
     ghost use Rattle.pos_common.specs.Held.{Held};
 
     ghost Value = { Held };
 
     ghost view = { λ a. record {
-      control = record { category = a.category; device = a.device; enabled = a.is_enabled; events = a.events.items };
-      spare = deque_capacity a.events - deque_len a.events;
+      control = record {
+        category = a.category;
+        device = a.device;
+        enabled = a.is_enabled;
+        frozen = a.is_frozen;
+        reader = a.reader;
+        cursor = a.cursor;
+        list = a.events.list;
+      };
+      spare = a.events.spare;
     } };
 }
 
@@ -42,7 +54,10 @@ impl Control {
             category,
             device: None,
             is_enabled: false,
-            events: VecDeque::new(alloc),
+            is_frozen: false,
+            reader: Reader::new(alloc),
+            cursor: Cursor::new(),
+            events: EventQueue::new(alloc),
         }
     }
 
@@ -73,5 +88,19 @@ impl Control {
         ensures { self.now.control.device ≡ Some result }
     {
         self.device.unwrap()
+    }
+
+    /// CursorRow, CursorColumn and CursorUpdate (chapter Line Display).
+    pub fn cursor(&self) -> Cursor
+        ensures { result ≡ self.now.control.cursor }
+    {
+        self.cursor
+    }
+
+    /// Has CursorRow and CursorColumn at another place from now on (chapter Line Display).
+    pub fn move_cursor(&mut self, place: Place)
+        ensures { self.new ≡ record self.old { control = with_place place self.old.control } }
+    {
+        self.cursor.place = place;
     }
 }

@@ -1,20 +1,22 @@
-ghost use Rattle.std.specs.Prelude.{◌≡◌, All, OnOk, OnErr};
-ghost use Rattle.pos_service.specs.Controls.{all_heard};
+ghost use Rattle.std.specs.Prelude.{◌≡◌, [], ◌∷◌, All, OnOk, OnErr, IfOk};
+ghost use Rattle.pos_service.specs.declared.scan.Scan.{Scan};
+ghost use Rattle.pos_service.specs.Controls.{all_listening, heard, read, failed};
 ghost use Rattle.pos_service.specs.Statuses.{status_events};
-ghost use Rattle.pos_common.specs.Held.{HasStatusRoom, controls_of};
+ghost use Rattle.pos_common.specs.Held.{HasRoom, AreCopies, ReadsCopy, controls_of, sign_events, scan_events, fault_events};
 
-use crate::control::{Control, MOST_STATUSES};
-use pos_service::{NoMemory, Signs};
+use crate::control::Control;
+use pos_service::{Bytes, NoMemory, Scan, Signs};
+use std::alloc::Global;
 
-/// Makes room for the events of a change of signs in each control that has the device at a place open and enabled.
-/// Want of memory changes nothing that the machine sees.
-pub fn room_all(controls: &mut [Control], place: usize) -> Result<(), NoMemory>
-    ensures room { OnOk result (All (HasStatusRoom place) controls.new) }
-    ensures full { OnErr result (¬ (All (HasStatusRoom place) controls.old)) }
+/// Makes room for so many events in each control that has the device at a place open and enabled. Want of memory
+/// changes nothing that the machine sees.
+pub fn room_all(controls: &mut [Control], place: usize, count: usize) -> Result<(), NoMemory>
+    ensures room { OnOk result (All (HasRoom place count) controls.new) }
+    ensures full { OnErr result (¬ (All (HasRoom place count) controls.old)) }
     ensures same { controls_of controls.new ≡ controls_of controls.old }
 {
     for control in controls.iter_mut() {
-        control.room_for(place, MOST_STATUSES)?;
+        control.room_for(place, count)?;
     }
     Ok(())
 }
@@ -22,10 +24,85 @@ pub fn room_all(controls: &mut [Control], place: usize) -> Result<(), NoMemory>
 /// Enqueues the statuses that have changed in each control that has the device at a place open and enabled, and in
 /// no other, in the order drawer, cover, paper (common chapter, StatusUpdateEvent).
 pub fn hear_all(controls: &mut [Control], place: usize, old: Signs, new: Signs)
-    requires { All (HasStatusRoom place) controls.old }
-    ensures { controls_of controls.new ≡ all_heard place (status_events old new) (controls_of controls.old) }
+    requires { All (HasRoom place sign_events) controls.old }
+    ensures { let events = status_events old new in
+        controls_of controls.new ≡ all_listening place (heard events) (controls_of controls.old) }
 {
     for control in controls.iter_mut() {
         control.hear(place, old, new);
+    }
+}
+
+/// Copies of a scan, by its type, all that was read, and the label: one for each control that has the device at a place
+/// open and enabled.
+pub fn copy_for_all(
+    alloc: Global,
+    controls: &[Control],
+    place: usize,
+    kind: u32,
+    bytes: &Bytes,
+    label: &Bytes,
+) -> Result<Vec<Scan>, NoMemory>
+    ensures { let scan : Scan = record { kind = kind; bytes = bytes.now; label = label.now } in
+        IfOk result (λ copies. AreCopies scan place (controls_of controls.now) copies.items) }
+{
+    let mut copies = Vec::new(alloc);
+    for control in controls {
+        if control.listens(place) {
+            copies.reserve(1)?;
+            copies.push_reserved(copy_of(alloc, kind, bytes, label)?);
+        }
+    }
+    Ok(copies)
+}
+
+/// A copy of a scan.
+fn copy_of(alloc: Global, kind: u32, bytes: &Bytes, label: &Bytes) -> Result<Scan, NoMemory>
+    ensures { let scan : Scan = record { kind = kind; bytes = bytes.now; label = label.now } in
+        IfOk result (λ copy. copy ≡ scan) }
+{
+    Ok(Scan {
+        kind,
+        bytes: Bytes::from_slice(alloc, bytes.as_slice())?,
+        label: Bytes::from_slice(alloc, label.as_slice())?,
+    })
+}
+
+/// A scan has come to each control that has the device at a place open and enabled, and to no other: it gets one of
+/// the copies in a DataEvent, and is disabled under AutoDisable; in the input error state the scan is ignored (common
+/// chapter, data events).
+pub fn read_all(controls: &mut [Control], place: usize, copies: Vec<Scan>)
+    requires { All (HasRoom place scan_events) controls.old }
+    ensures { (scan : Scan) → AreCopies scan place (controls_of controls.old) copies.items →
+        controls_of controls.new ≡ all_listening place (read scan) (controls_of controls.old) }
+{
+    let mut copies = copies;
+    for control in controls.iter_mut() {
+        read_copy(control, place, &mut copies);
+    }
+}
+
+/// A scan has come to a control, if it has the device at a place open and enabled: it takes one of the copies.
+fn read_copy(control: &mut Control, place: usize, copies: &mut Vec<Scan>)
+    requires { HasRoom place scan_events control.old }
+    ensures { (scan : Scan) → AreCopies scan place (control.old.control ∷ []) copies.old.items →
+        ReadsCopy scan place control.old control.new copies.old.items copies.new.items }
+{
+    if !control.listens(place) {
+        return;
+    }
+    if let Some(copy) = copies.pop() {
+        control.read(place, copy);
+    }
+}
+
+/// Input has failed at each control that has the device at a place open and enabled, and at no other: the input error
+/// state stands from now on, with its ErrorEvents (common chapter, error handling).
+pub fn fail_all(controls: &mut [Control], place: usize)
+    requires { All (HasRoom place fault_events) controls.old }
+    ensures { controls_of controls.new ≡ all_listening place failed (controls_of controls.old) }
+{
+    for control in controls.iter_mut() {
+        control.fail_input(place);
     }
 }

@@ -5,11 +5,12 @@ mod claims;
 mod control;
 mod controls;
 mod need;
+mod reader;
 mod status;
 #[cfg(test)]
 mod tests;
 
 pub use claims::Claims;
-pub use control::Control;
-pub use controls::{hear_all, room_all};
+pub use control::{Control, FAULT_EVENTS, SCAN_EVENTS, SIGN_EVENTS};
+pub use controls::{copy_for_all, fail_all, hear_all, read_all, room_all};
 pub use need::{ClaimNeed, Need};

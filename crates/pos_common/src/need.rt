@@ -14,4 +14,6 @@ pub enum ClaimNeed {
     Any,
     /// That no other control holds the device.
     NoOther,
+    /// That the control holds the device.
+    Held,
 }

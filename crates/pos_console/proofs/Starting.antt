@@ -8,7 +8,6 @@ use Rattle.pos_disk.proofs.Moments.{rest_leaves}
 use Rattle.pos_service.specs.declared.peripheral_box.PeripheralBox.{PeripheralBox}
 use Rattle.pos_service.specs.declared.peripheral_box.HasState.{Ghosts}
 use Rattle.pos_service.specs.HardTotals.{Off}
-use Rattle.pos_sims.specs.Drawers.{drawer_state}
 use Rattle.pos_store.specs.Standing.{Standing, Stands, LeavesOneOf, StandsForOneOf}
 use Rattle.pos_counter.specs.declared.counter.Counter.{Counter}
 use Rattle.pos_counter.specs.Counters.{machine, states_of, Begins, IsRun}
@@ -20,7 +19,7 @@ use Rattle.pos_counter.specs.Steps.{Run}
 use Rattle.pos_counter.proofs.Runs.{machine_runs}
 use Rattle.pos_console.specs.declared.run.RunFault.{RunFault}
 use Rattle.pos_console.specs.declared.run.RunFault.TheVariants as fault
-use Rattle.pos_console.specs.Running.{Finishes, IsNewDisk, RunsScript, RunsFromStart, ScriptLeaves, Stops, start}
+use Rattle.pos_console.specs.Running.{Finishes, IsNewDisk, RunsScript, RunsFromStart, ScriptLeaves, Stops, peripherals, start}
 use Rattle.pos_console.specs.Transcript.{CarriesOut, Transcript}
 
 module _ {D X : Type 0} {O : X → Type 0} (bound : DiskGhosts D) (boxes : Ghosts (PeripheralBox X O)) (old : Counter D X O) (left : List Standing) (leaves : Leaves bound old.totals left) where
@@ -89,10 +88,10 @@ module _ {D X : Type 0} {O : X → Type 0} (bound : DiskGhosts D) (boxes : Ghost
   pub begun_leaves : bound.honest disk → LeavesOneOf (Stands [] 1 ∷ []) (bound.state disk) → Leaves bound counter.totals (Stands [] 1 ∷ [])
   begun_leaves honest leaves = subst (λ v. Leaves bound v (Stands [] 1 ∷ [])) (sym begins.totals) (record { honest = honest; leaves = leaves; is_settled = refl })
 
-  -- a counter over a closed drawer and a new disk begins at the start
-  pub begins_at_start : states_of boxes list ≡ drawer_state false false ∷ [] → (bound.state disk).failures ≡ 0 → machine boxes counter (part_of bound counter.totals (Stands [] 1 ∷ [])) ≡ start
-  begins_at_start closed none =
+  -- a counter over the program's peripherals and a new disk begins at the start
+  pub begins_at_start : states_of boxes list ≡ peripherals → (bound.state disk).failures ≡ 0 → machine boxes counter (part_of bound counter.totals (Stands [] 1 ∷ [])) ≡ start
+  begins_at_start in_service none =
       begins.machine (part_of bound counter.totals (Stands [] 1 ∷ []))
-      ∙ ap (λ states. machine_with [] (replicate (length profile) None) profile states (part_of bound counter.totals (Stands [] 1 ∷ []))) closed
-      ∙ ap (λ v. machine_with [] (replicate (length profile) None) profile (drawer_state false false ∷ []) (part_of bound v (Stands [] 1 ∷ []))) begins.totals
-      ∙ ap (λ n. let part : TotalsPart = record { totals = record { mode = Off; next = 1; area = None; transactions = [] }; left = Stands [] 1 ∷ []; failures = n } in machine_with [] (replicate (length profile) None) profile (drawer_state false false ∷ []) part) none
+      ∙ ap (λ states. machine_with [] (replicate (length profile) None) profile states (part_of bound counter.totals (Stands [] 1 ∷ []))) in_service
+      ∙ ap (λ v. machine_with [] (replicate (length profile) None) profile peripherals (part_of bound v (Stands [] 1 ∷ []))) begins.totals
+      ∙ ap (λ n. let part : TotalsPart = record { totals = record { mode = Off; next = 1; area = None; transactions = [] }; left = Stands [] 1 ∷ []; failures = n } in machine_with [] (replicate (length profile) None) profile peripherals part) none

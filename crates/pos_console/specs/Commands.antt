@@ -11,8 +11,8 @@ use Rattle.pos_console.specs.declared.arguments.LineFault.{LineFault}
 use Rattle.pos_console.specs.declared.command.Command.{Command}
 use Rattle.pos_console.specs.declared.command.Command.TheVariants as command
 use Rattle.pos_console.specs.Lines.{words_of, is_well_spelled}
-use Rattle.pos_console.specs.Arguments.{Reading, Reads, misshapen, become, from_none, from_one, from_two}
-use Rattle.pos_console.specs.Words.{is_name, category_shape, device_shape, number_shape, property_shape, value_shape, error_reply_shape}
+use Rattle.pos_console.specs.Arguments.{Reading, Reads, misshapen, become, from_none, from_one, from_two, from_three}
+use Rattle.pos_console.specs.Words.{is_name, bytes_shape, category_shape, count_shape, device_shape, number_shape, property_shape, value_shape, error_reply_shape}
 use Rattle.pos_console.specs.Methods.{call_of}
 
 -- what a line asks of a control or a device, by its name
@@ -77,7 +77,9 @@ call_line name (method ∷ words) = become (λ call. CallLine name call) (call_o
 abbrev pub input_of : List ℕ → List (List ℕ) → Reading Input
 input_of word words =
     if bytes_eq word (codes "open") then from_none (input.DrawerMoved true) words
-    else (if bytes_eq word (codes "closed") then from_none (input.DrawerMoved false) words else misshapen)
+    else (if bytes_eq word (codes "closed") then from_none (input.DrawerMoved false) words
+    else (if bytes_eq word (codes "scan") then from_three count_shape bytes_shape bytes_shape input.Scan words
+    else (if bytes_eq word (codes "fault") then from_none input.ScanFault words else misshapen)))
 
 -- input DEVICE, and what happens there
 abbrev pub input_line : List ℕ → List (List ℕ) → Reading Asking

@@ -39,9 +39,12 @@ totals_methods =
     ∷ method (codes "find") (from_one bytes_shape call.Find)
     ∷ method (codes "findByIndex") (from_one number_shape call.FindByIndex) ∷ handle_methods
 
--- the methods: that of a cash drawer, and those of Hard Totals
+-- the methods: that of a cash drawer, those of a scanner, and those of Hard Totals
 abbrev pub methods : List Method
-methods = method (codes "openDrawer") (from_none call.OpenDrawer) ∷ totals_methods
+methods =
+    method (codes "openDrawer") (from_none call.OpenDrawer)
+    ∷ method (codes "clearInput") (from_none call.ClearInput)
+    ∷ method (codes "clearInputProperties") (from_none call.ClearInputProperties) ∷ totals_methods
 
 -- the call of the first method with a word
 abbrev pub call_in : List Method → List ℕ → List (List ℕ) → Reading Call

@@ -3,11 +3,13 @@ use Rattle.std.specs.Prelude.{◌≡◌, ◌++◌, ◌<◌, ◌∷◌, [], ℕ, 
 use Rattle.std.specs.Io.KnownBytes.{Appends, Keeps}
 use Rattle.pos_counter.specs.Machine.{Machine}
 use Rattle.pos_sims.specs.Drawers.{drawer_state}
+use Rattle.pos_sims.specs.Scanners.{scanner_state}
 use Rattle.pos_disk.specs.Memory.{Memory, state_of}
 use Rattle.pos_disk.specs.State.{IsAtRest}
 use Rattle.pos_image.specs.NewDisk.{no_files}
 use Rattle.pos_image.specs.Standing.{HasNewImage}
 use Rattle.pos_service.specs.HardTotals.{Off}
+use Rattle.pos_service.specs.Peripherals.{PeripheralState}
 use Rattle.pos_store.specs.Standing.{Stands}
 use Rattle.pos_counter.specs.Parts.{machine_with}
 use Rattle.pos_counter.specs.Profile.{profile}
@@ -69,10 +71,14 @@ pub record RunsScript {C : Type 0} (Runs : Leads C) (old : C) (left before after
   pub whole : ReadsWhole left input result
   pub run : ScriptLeaves Runs old input before after result new
 
--- the machine as the program begins: no control, no claim, the closed drawer `d1` in service, and the totals off over a
--- disk that was formatted
+-- the program's peripherals: the closed drawer `d1`, and the scanner `s1`, in service
+abbrev pub peripherals : List PeripheralState
+peripherals = drawer_state false false ∷ scanner_state false 0 ∷ []
+
+-- the machine as the program begins: no control, no claim, its peripherals, and the totals off over a disk that was
+-- formatted
 abbrev pub start : Machine
-start = machine_with [] (replicate (length profile) None) profile (drawer_state false false ∷ []) (record {
+start = machine_with [] (replicate (length profile) None) profile peripherals (record {
   totals = record { mode = Off; next = 1; area = None; transactions = [] };
   left = Stands [] 1 ∷ [];
   failures = 0;

@@ -63,6 +63,7 @@ delivered_text (Some event) = event_text event
 abbrev pub plant_text : Plant → List ℕ
 plant_text (plant.Drawer true) = codes "ok open"
 plant_text (plant.Drawer false) = codes "ok closed"
+plant_text plant.Scanner = codes "ok"
 
 -- what a response of the machine prints
 abbrev pub response_text : Response → List ℕ

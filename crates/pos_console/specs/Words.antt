@@ -1,5 +1,5 @@
 -- What the words of a line stand for (docs/CONSOLE.md, "Words").
-use Rattle.std.specs.Prelude.{ℕ, ℤ, pos, neg_ℤ, Bool, true, false, not, ◌&&◌, ◌||◌, ◌+◌, ◌-◌, ◌*◌, List, [], ◌∷◌, Option, Some, None, length, nat_le, ◌==◌, bytes_eq, codes, if◌then◌else◌, option_map}
+use Rattle.std.specs.Prelude.{ℕ, ℤ, pos, negsuc, neg_ℤ, min, Bool, true, false, not, ◌&&◌, ◌||◌, ◌+◌, ◌-◌, ◌*◌, List, [], ◌∷◌, Option, Some, None, length, nat_le, ◌==◌, bytes_eq, codes, if◌then◌else◌, option_map, option_and_then}
 use Rattle.std.specs.List.{list_all, fold}
 use Rattle.hex.specs.Hex.{decode_of}
 use Rattle.pos_service.specs.declared.category.Category.{Category}
@@ -44,6 +44,19 @@ number_named [] = None
 number_named (b ∷ bs) =
     if b == 45 then option_map (λ n. neg_ℤ (pos n)) (digits_named bs) else option_map pos (digits_named (b ∷ bs))
 
+-- the greatest number of 32 bits
+abbrev pub most_count : ℕ
+most_count = 4294967295
+
+-- a number that isn't negative, and where it is past 32 bits the greatest of these
+abbrev pub count_of : ℤ → Option ℕ
+count_of (pos n) = Some (min n most_count)
+count_of (negsuc n) = None
+
+-- the number that a word stands for, where it isn't negative
+abbrev pub count_named : List ℕ → Option ℕ
+count_named word = option_and_then count_of (number_named word)
+
 -- the truth value of a word
 abbrev pub truth_named : List ℕ → Option Bool
 truth_named word =
@@ -65,7 +78,8 @@ value_named word =
 abbrev pub category_named : List ℕ → Option Category
 category_named word =
     if bytes_eq word (codes "CashDrawer") then Some category.CashDrawer
-    else (if bytes_eq word (codes "HardTotals") then Some category.HardTotals else None)
+    else (if bytes_eq word (codes "Scanner") then Some category.Scanner
+    else (if bytes_eq word (codes "HardTotals") then Some category.HardTotals else None))
 
 -- the property of Hard Totals of this name
 abbrev pub totals_property_named : List ℕ → Option Property
@@ -78,15 +92,28 @@ totals_property_named word =
     else (if bytes_eq word (codes "CapSingleFile") then Some property.CapSingleFile
     else (if bytes_eq word (codes "CapErrorDetection") then Some property.CapErrorDetection else None))))))
 
+-- the property of scanners, or of Hard Totals, of this name
+abbrev pub scanner_property_named : List ℕ → Option Property
+scanner_property_named word =
+    if bytes_eq word (codes "DataEventEnabled") then Some property.DataEventEnabled
+    else (if bytes_eq word (codes "AutoDisable") then Some property.AutoDisable
+    else (if bytes_eq word (codes "DataCount") then Some property.DataCount
+    else (if bytes_eq word (codes "DecodeData") then Some property.DecodeData
+    else (if bytes_eq word (codes "ScanData") then Some property.ScanData
+    else (if bytes_eq word (codes "ScanDataLabel") then Some property.ScanDataLabel
+    else (if bytes_eq word (codes "ScanDataType") then Some property.ScanDataType
+    else totals_property_named word))))))
+
 -- the property of this name
 abbrev pub property_named : List ℕ → Option Property
 property_named word =
     if bytes_eq word (codes "State") then Some property.State
     else (if bytes_eq word (codes "Claimed") then Some property.Claimed
     else (if bytes_eq word (codes "DeviceEnabled") then Some property.DeviceEnabled
+    else (if bytes_eq word (codes "FreezeEvents") then Some property.FreezeEvents
     else (if bytes_eq word (codes "CapStatus") then Some property.CapStatus
     else (if bytes_eq word (codes "DrawerOpened") then Some property.DrawerOpened
-    else totals_property_named word))))
+    else scanner_property_named word)))))
 
 -- the reply to an ErrorEvent of this name
 abbrev pub error_reply_named : List ℕ → Option ErrorReply
@@ -110,6 +137,9 @@ plain named = record { named = named; is_kept = false }
 -- the shapes of arguments
 abbrev pub number_shape : Shape ℤ
 number_shape = plain number_named
+
+abbrev pub count_shape : Shape ℕ
+count_shape = plain count_named
 
 abbrev pub truth_shape : Shape Bool
 truth_shape = plain truth_named

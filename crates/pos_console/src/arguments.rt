@@ -1,11 +1,11 @@
 ghost use Rattle.std.specs.Prelude.{◌≡◌, true, is_some};
 ghost use Rattle.pos_console.specs.Lines.{words_of};
 ghost use Rattle.pos_console.specs.Arguments.{Shape, Reads, word_as, none, one, two, three};
-ghost use Rattle.pos_console.specs.Words.{number_shape, truth_shape, bytes_shape, device_shape, category_shape, property_shape, value_shape, error_reply_shape};
+ghost use Rattle.pos_console.specs.Words.{number_shape, count_shape, truth_shape, bytes_shape, device_shape, category_shape, property_shape, value_shape, error_reply_shape};
 
 use crate::lines::next_word;
 use crate::words::{
-    category, decode, error_reply, is_hex_word, is_name_word, number, property, truth, value,
+    category, count, decode, error_reply, is_hex_word, is_name_word, number, property, truth, value,
 };
 use pos_service::{Bytes, Category, ErrorReply, Property, Value};
 use std::alloc::Global;
@@ -44,6 +44,18 @@ impl Argument for i128 {
 
     fn read(_: Global, word: &[u8]) -> Result<Self, LineFault> {
         number(word).ok_or(LineFault::WrongShape)
+    }
+}
+
+impl Argument for u32 {
+    ghost shape = { count_shape };
+
+    fn has_shape(word: &[u8]) -> bool {
+        count(word).is_some()
+    }
+
+    fn read(_: Global, word: &[u8]) -> Result<Self, LineFault> {
+        count(word).ok_or(LineFault::WrongShape)
     }
 }
 

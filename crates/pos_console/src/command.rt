@@ -1,9 +1,11 @@
 ghost use Rattle.std.specs.Prelude.{◌≡◌};
 ghost use Rattle.pos_console.specs.Lines.{words_of};
-ghost use Rattle.pos_console.specs.Arguments.{Reads};
+ghost use Rattle.pos_console.specs.Arguments.{Reads, from_three};
+ghost use Rattle.pos_console.specs.Words.{bytes_shape, count_shape};
+ghost use Rattle.pos_service.specs.declared.input.Input.TheVariants as input;
 ghost use Rattle.pos_console.specs.Commands.{ReadsLine, asked_by, asking_of, verb_line, claims_line, device_line, new_line, open_line, close_line, claim_line, release_line, set_line, get_line, call_line, input_of, input_line, deliver_line, show_line};
 
-use crate::arguments::{DeviceName, LineFault, read_none, read_one, read_two};
+use crate::arguments::{DeviceName, LineFault, read_none, read_one, read_three, read_two};
 use crate::lines::{is_well_spelled_line, next_word};
 use crate::methods::read_call;
 use crate::words::{is, is_name_word};
@@ -87,8 +89,15 @@ fn read_method<'a>(alloc: Global, name: &'a [u8], words: &[u8]) -> Result<Comman
     }
 }
 
+/// A scan, by its type, its data and its label.
+fn read_scan(alloc: Global, words: &[u8]) -> Result<Input, LineFault>
+    ensures { Reads (from_three count_shape bytes_shape bytes_shape input.Scan (words_of words.now)) result }
+{
+    read_three(alloc, words).map(|(kind, (bytes, label))| Input::Scan { kind, bytes, label })
+}
+
 /// What happens at a device.
-fn read_event(word: &[u8], words: &[u8]) -> Result<Input, LineFault>
+fn read_event(alloc: Global, word: &[u8], words: &[u8]) -> Result<Input, LineFault>
     ensures { Reads (input_of word.now (words_of words.now)) result }
 {
     if is(word, "open") {
@@ -97,17 +106,23 @@ fn read_event(word: &[u8], words: &[u8]) -> Result<Input, LineFault>
     if is(word, "closed") {
         return read_none(words).map(|_| Input::DrawerMoved(false));
     }
+    if is(word, "scan") {
+        return read_scan(alloc, words);
+    }
+    if is(word, "fault") {
+        return read_none(words).map(|_| Input::ScanFault);
+    }
     Err(LineFault::WrongShape)
 }
 
 /// `input DEVICE`, and what happens there
-fn read_input<'a>(name: &'a [u8], words: &[u8]) -> Result<Command<'a>, LineFault>
+fn read_input<'a>(alloc: Global, name: &'a [u8], words: &[u8]) -> Result<Command<'a>, LineFault>
     ensures { ReadsLine (input_line name.now (words_of words.now)) result }
 {
     let Some((word, rest)) = next_word(words) else {
         return Err(LineFault::WrongShape);
     };
-    read_event(word, rest).map(|input| Command::Input(name, input))
+    read_event(alloc, word, rest).map(|input| Command::Input(name, input))
 }
 
 /// `deliver CONTROL`, or `deliver CONTROL REPLY`
@@ -128,11 +143,16 @@ fn read_show<'a>(name: &'a [u8], words: &[u8]) -> Result<Command<'a>, LineFault>
 }
 
 /// What a line asks of a device, by its verb.
-fn read_device_line<'a>(verb: &[u8], name: &'a [u8], words: &[u8]) -> Result<Command<'a>, LineFault>
+fn read_device_line<'a>(
+    alloc: Global,
+    verb: &[u8],
+    name: &'a [u8],
+    words: &[u8],
+) -> Result<Command<'a>, LineFault>
     ensures { ReadsLine (device_line verb.now name.now (words_of words.now)) result }
 {
     if is(verb, "input") {
-        return read_input(name, words);
+        return read_input(alloc, name, words);
     }
     if is(verb, "show") {
         return read_show(name, words);
@@ -155,7 +175,7 @@ fn read_claims_line<'a>(
     if is(verb, "release") {
         return read_release(name, words);
     }
-    read_device_line(verb, name, words)
+    read_device_line(alloc, verb, name, words)
 }
 
 /// What a line asks of a control or a device, by its verb.

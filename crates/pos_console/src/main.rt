@@ -5,6 +5,7 @@
 ghost use Rattle.std.specs.Prelude.{◌≡◌, false, [], OnOk};
 ghost use Rattle.std.specs.Io.Buffered.{writer_buffer, writer_contents};
 ghost use Rattle.pos_sims.specs.Drawers.{drawer_state};
+ghost use Rattle.pos_sims.specs.Scanners.{scanner_state};
 ghost use Rattle.pos_console.specs.Running.{RunsFromStart, Serves, status};
 
 mod arguments;
@@ -26,7 +27,7 @@ mod write;
 use disk::format_disk;
 use pos_counter::{Counter, Ended};
 use pos_service::{HasState, Peripheral, PeripheralBox};
-use pos_sims::PlainDrawer;
+use pos_sims::{PlainDrawer, PlainScanner};
 use run::{RunFault, run};
 use std::alloc::Global;
 use std::io::{BufWriter, Read, Write};
@@ -50,8 +51,16 @@ fn closed_drawer(device: Box<dyn Peripheral>) -> PeripheralBox
     PeripheralBox::new(device)
 }
 
-/// Runs a script over a counter of one simulated cash drawer, the device `d1`, and of Hard Totals, the device `t1`,
-/// on a disk in memory.
+/// The box of a scanner that is in service.
+fn plain_scanner(device: Box<dyn Peripheral>) -> PeripheralBox
+    requires { state device ≡ scanner_state false 0 }
+    ensures { ⟦<PeripheralBox as HasState>⟧.state result ≡ scanner_state false 0 }
+{
+    PeripheralBox::new(device)
+}
+
+/// Runs a script over a counter of a simulated cash drawer, the device `d1`, a simulated scanner, the device `s1`, and
+/// Hard Totals, the device `t1`, on a disk in memory.
 fn run_over_devices<R: Read, W: Write>(
     alloc: Global,
     reader: &mut R,
@@ -62,7 +71,10 @@ fn run_over_devices<R: Read, W: Write>(
     let Ok(drawer) = Box::new(alloc, PlainDrawer::new()) else {
         return Err(RunFault::NoMemory);
     };
-    let Ok(mut boxes) = Vec::with_capacity(alloc, 1) else {
+    let Ok(scanner) = Box::new(alloc, PlainScanner::new()) else {
+        return Err(RunFault::NoMemory);
+    };
+    let Ok(mut boxes) = Vec::with_capacity(alloc, 2) else {
         return Err(RunFault::NoMemory);
     };
     let Ok(disk) = format_disk(alloc) else {
@@ -71,6 +83,8 @@ fn run_over_devices<R: Read, W: Write>(
     };
     let drawer: Box<dyn Peripheral> = drawer;
     boxes.push_reserved(closed_drawer(drawer));
+    let scanner: Box<dyn Peripheral> = scanner;
+    boxes.push_reserved(plain_scanner(scanner));
     let mut counter = match Counter::new(alloc, boxes, disk) {
         Ok(counter) => counter,
         Err((_, boxes, _)) => {

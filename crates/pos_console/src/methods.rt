@@ -16,6 +16,12 @@ pub fn read_call(alloc: Global, method: &[u8], words: &[u8]) -> Result<Call, Lin
     if is(method, "openDrawer") {
         return read_none(words).map(|_| Call::OpenDrawer);
     }
+    if is(method, "clearInput") {
+        return read_none(words).map(|_| Call::ClearInput);
+    }
+    if is(method, "clearInputProperties") {
+        return read_none(words).map(|_| Call::ClearInputProperties);
+    }
     read_totals_call(alloc, method, words)
 }
 

@@ -152,6 +152,7 @@ fn print_plant<W: Write>(writer: &mut W, snapshot: Snapshot) -> Result<(), Write
     match snapshot.0 {
         Plant::Drawer(true) => write_parts(writer, &["ok open\n"]),
         Plant::Drawer(false) => write_parts(writer, &["ok closed\n"]),
+        Plant::Scanner => write_parts(writer, &["ok\n"]),
     }
 }
 

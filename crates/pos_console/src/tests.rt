@@ -4,10 +4,10 @@ ghost use Rattle.std.specs.Prelude.{None};
 use crate::arguments::{LineFault, read_three, read_two};
 use crate::disk::format_disk;
 use crate::run::{RunFault, run};
-use crate::{closed_drawer, park_all, run_over_devices, serve};
+use crate::{closed_drawer, park_all, plain_scanner, run_over_devices, serve};
 use pos_counter::{Counter, Ended};
 use pos_service::{Bytes, Peripheral, Plant, Snapshot};
-use pos_sims::PlainDrawer;
+use pos_sims::{PlainDrawer, PlainScanner};
 use std::alloc::{AllocError, Global};
 use std::io;
 use std::io::{BufWriter, Read, Write};
@@ -185,6 +185,48 @@ const TRANSACTIONS_TEXT: &[u8] =
     err 109\nok true\nok\nerr 106\nok 3\nok\nerr 102\nerr 112\nerr 112\nok\nerr 106\nok -\nerr 106\nok\nok\nok\n\
     err 102\nok\nok\nok 07\nok\nok\nok\nok\nok\nok false\nok\nok true\nok\n";
 
+/// A scanner that one of two controls holds; a scan under AutoDisable, delivered without its label; frozen events.
+const SCANS: &[u8] =
+    b"new a Scanner\nopen a s1\nset a DeviceEnabled true\nset a DeviceEnabled 5\ncall a clearInput\nclaim a 0\n\
+    new b Scanner\nopen b s1\nclaim b 0\nset b DeviceEnabled true\ncall b clearInputProperties\n\
+    set b AutoDisable true\nset a AutoDisable true\nset a DeviceEnabled true\nset a FreezeEvents true\n\
+    input s1 scan 110 4142 42\ninput s1 scan 110 4344 44\nget a DataCount\nget a DeviceEnabled\nget b DataCount\n\
+    set a DataEventEnabled true\ndeliver a\nset a FreezeEvents false\ndeliver a\nget a ScanData\nget a ScanDataLabel\n\
+    get a ScanDataType\nget a DataEventEnabled\ncall a clearInputProperties\nget a ScanData\nset a ScanData 41\n\
+    set a ScanData ab\nset a AutoDisable false\nset a DeviceEnabled true\ninput s1 scan 999 - -\n\
+    input s1 scan 1000 - -\ninput s1 scan 999999999999999999 41 42\ninput s9 scan 999999999999999999 41 42\n\
+    input s1 scan -1 - -\ninput s1 scan -0 - -\ninput s1 scan 1 4 -\ninput s1 open\ninput d1 fault\n\
+    input s1 fault now\nget a DataCount\nrelease b\nrelease a\nget a DeviceEnabled\nget a DataCount\nshow s1\n\
+    get a CapStatus\ncall a openDrawer\n";
+
+const SCANS_TEXT: &[u8] =
+    b"ok\nok\nerr 103\nerr 103\nerr 103\nok\nok\nok\nerr 112\nerr 102\nerr 102\nok\nok\nok\nok\nok\nok\nok 1\n\
+    ok false\nok 0\nok\nnone\nok\nevent DataEvent 0\nok 4142\nok -\nok 0\nok false\nok\nok -\nerr 106\nbad line\nok\n\
+    ok\nok\nbad input\nbad input\nbad device\nbad line\nok\nbad line\nbad input\nbad input\nbad line\nok 2\nerr 106\n\
+    ok\nok false\nok 0\nok\nerr 106\nerr 106\n";
+
+/// Errors of input and the replies to them, with scans before them.
+const INPUT_ERRORS: &[u8] =
+    b"new a Scanner\nopen a s1\nclaim a 0\nset a DeviceEnabled true\nset a DecodeData true\ninput s1 scan 104 41 42\n\
+    input s1 scan 104 41 42\ninput s1 fault\nget a State\ndeliver a\nset a DataEventEnabled true\ndeliver a\n\
+    deliver a\nget a ScanDataType\nset a DataEventEnabled true\ndeliver a\nget a State\nset a DataEventEnabled true\n\
+    deliver a\nget a State\ninput s1 scan 104 41 42\ninput s1 fault\ninput s1 scan 104 41 42\nget a DataCount\n\
+    deliver a clear\nget a DataCount\nget a State\ninput s1 fault\ndeliver a\nget a DataEventEnabled\ninput s1 fault\n\
+    call a clearInput\nget a State\ndeliver a\nget a ScanDataLabel\n";
+
+const INPUT_ERRORS_TEXT: &[u8] =
+    b"ok\nok\nok\nok\nok\nok\nok\nok\nok 4\nnone\nok\nevent ErrorEvent 111 0 3\nevent DataEvent 0\nok 104\nok\n\
+    event DataEvent 0\nok 4\nok\nevent ErrorEvent 111 0 2\nok 2\nok\nok\nok\nok 1\nevent ErrorEvent 111 0 3\nok 0\n\
+    ok 2\nok\nevent ErrorEvent 111 0 2\nok true\nok\nok\nok 2\nnone\nok 42\n";
+
+/// Status events are frozen as others are.
+const FROZEN: &[u8] =
+    b"new a CashDrawer\nopen a d1\nset a DeviceEnabled true\nset a FreezeEvents true\ncall a openDrawer\ndeliver a\n\
+    get a FreezeEvents\nset a FreezeEvents false\ndeliver a\nset a DataEventEnabled true\n";
+
+const FROZEN_TEXT: &[u8] =
+    b"ok\nok\nok\nok\nok\nnone\nok true\nok\nevent StatusUpdateEvent 1\nerr 106\n";
+
 /// Blanks, comments, and wrong shapes.
 const SHAPES: &[u8] =
     b"# \xff a comment\r\n\n   \n  new   - CashDrawer  \r\n show d1\r\r\n #x\nfrob\nnew a Drawer\n\
@@ -211,6 +253,9 @@ fn scripts_print_their_answers(rt: HostRuntime) -> Result<(), Fail> {
         (NAMES, NAMES_TEXT),
         (CLAIMS, CLAIMS_TEXT),
         (TRANSACTIONS, TRANSACTIONS_TEXT),
+        (SCANS, SCANS_TEXT),
+        (INPUT_ERRORS, INPUT_ERRORS_TEXT),
+        (FROZEN, FROZEN_TEXT),
         (SHAPES, SHAPES_TEXT),
         (b"".as_slice(), b"".as_slice()),
     ];
@@ -445,9 +490,12 @@ fn drawer_after(
         return Err(AllocError);
     };
     let drawer = Box::new(alloc, PlainDrawer::new())?;
-    let mut boxes = Vec::with_capacity(alloc, 1)?;
+    let scanner = Box::new(alloc, PlainScanner::new())?;
+    let mut boxes = Vec::with_capacity(alloc, 2)?;
     let drawer: Box<dyn Peripheral> = drawer;
     boxes.push_reserved(closed_drawer(drawer));
+    let scanner: Box<dyn Peripheral> = scanner;
+    boxes.push_reserved(plain_scanner(scanner));
     let mut counter = match Counter::new(alloc, boxes, disk) {
         Ok(counter) => counter,
         Err((_, boxes, _)) => {
@@ -465,7 +513,7 @@ fn drawer_after(
     let result = run(alloc, &mut reader, &mut writer, &mut counter);
     let is_open = match counter.snapshot(b"d1") {
         Ok(Snapshot(Plant::Drawer(is_open))) => Some(is_open),
-        Err(_) => None,
+        _ => None,
     };
     let Ended { disk: _, boxes } = counter.shutdown();
     park_all(boxes);

@@ -1,7 +1,8 @@
 ghost use Rattle.std.specs.Prelude.{◌≡◌, ◌<◌, ◌^◌, true, bytes_eq, is_some, Some, IfSome, IfOk};
 ghost use Rattle.std.specs.List.{list_all};
 ghost use Rattle.hex.specs.Hex.{is_hex_digit};
-ghost use Rattle.pos_console.specs.Words.{number_of_digits, is_digit, is_digits, is_name_byte, is_name, digits_named, number_named, truth_named, bytes_named, value_named, category_named, property_named, totals_property_named, error_reply_named};
+ghost use Rattle.pos_console.specs.Words.{number_of_digits, is_digit, is_digits, is_name_byte, is_name, digits_named, number_named, count_named, truth_named, bytes_named};
+ghost use Rattle.pos_console.specs.Words.{value_named, category_named, property_named, scanner_property_named, totals_property_named, error_reply_named};
 
 use pos_service::{Bytes, Category, ErrorReply, NoMemory, Property, Value};
 use std::alloc::Global;
@@ -85,6 +86,20 @@ pub fn number(word: &[u8]) -> Option<i128>
     }
 }
 
+/// The number of a word, where it isn't negative; one past 32 bits is read as the greatest of these.
+pub fn count(word: &[u8]) -> Option<u32>
+    ensures { result ≡ count_named word.now }
+{
+    let number = number(word)?;
+    if number < 0 {
+        return None;
+    }
+    if number > i128::from(u32::MAX) {
+        return Some(u32::MAX);
+    }
+    Some(number as u32)
+}
+
 /// The truth value of a word: `true` or `false`.
 pub fn truth(word: &[u8]) -> Option<bool>
     ensures { result ≡ truth_named word.now }
@@ -131,6 +146,9 @@ pub fn category(word: &[u8]) -> Option<Category>
 {
     if is(word, "CashDrawer") {
         return Some(Category::CashDrawer);
+    }
+    if is(word, "Scanner") {
+        return Some(Category::Scanner);
     }
     if is(word, "HardTotals") {
         return Some(Category::HardTotals);
@@ -183,11 +201,42 @@ pub fn property(word: &[u8]) -> Option<Property>
     if is(word, "DeviceEnabled") {
         return Some(Property::DeviceEnabled);
     }
+    if is(word, "FreezeEvents") {
+        return Some(Property::FreezeEvents);
+    }
     if is(word, "CapStatus") {
         return Some(Property::CapStatus);
     }
     if is(word, "DrawerOpened") {
         return Some(Property::DrawerOpened);
+    }
+    scanner_property(word)
+}
+
+/// The property of scanners, or of Hard Totals, of this name.
+fn scanner_property(word: &[u8]) -> Option<Property>
+    ensures { result ≡ scanner_property_named word.now }
+{
+    if is(word, "DataEventEnabled") {
+        return Some(Property::DataEventEnabled);
+    }
+    if is(word, "AutoDisable") {
+        return Some(Property::AutoDisable);
+    }
+    if is(word, "DataCount") {
+        return Some(Property::DataCount);
+    }
+    if is(word, "DecodeData") {
+        return Some(Property::DecodeData);
+    }
+    if is(word, "ScanData") {
+        return Some(Property::ScanData);
+    }
+    if is(word, "ScanDataLabel") {
+        return Some(Property::ScanDataLabel);
+    }
+    if is(word, "ScanDataType") {
+        return Some(Property::ScanDataType);
     }
     totals_property(word)
 }

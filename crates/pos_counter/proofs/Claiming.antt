@@ -25,7 +25,7 @@ use Rattle.pos_counter.specs.declared.entry.Entry.{Entry}
 use Rattle.pos_counter.specs.Machine.{Device, Machine, Shared, holder_in, with_control}
 use Rattle.pos_counter.specs.Parts.{machine_of, machine_with, devices_of, part_of, AreCovered, ArePartsSound, Serves}
 use Rattle.pos_counter.specs.Steps.{CallOf, Answered, Step, Called, Does, claimed, dropped, released, is_taken, refusals, HasItsDevice, IsServed}
-use Rattle.pos_counter.specs.Totals.{TotalsPart}
+use Rattle.pos_counter.specs.Totals.{TotalsPart, is_totals}
 use Rattle.pos_counter.proofs.Lifts.{match_at_some, match_at_none, match_by, match_cases, match_weaker, control_at}
 use Rattle.pos_counter.proofs.Serving.{OnlyNow, any_shared, parts_serve}
 use Rattle.pos_counter.proofs.Sound.{Served, step_sound}
@@ -101,6 +101,33 @@ covered_at hs cl n c at all =
     let Covered : Control → Type 0 = λ control. IfSome control.device (λ place. place < length cl) in
     subst Covered (get_or_from_slice_get (controls_of hs) n c c at) (All-get_or Covered (controls_of hs) n c (slice_get_within (controls_of hs) n c at) all)
 
+-- what is no device with a peripheral is Hard Totals
+pub are_totals : (k : Category) → is_totals k ≡ true → k ≡ category.HardTotals
+are_totals category.HardTotals is = refl
+are_totals k is = cc
+
+-- ---- devices with a peripheral, which the table of claims has
+
+dropped_of : (k : Category) (m : Machine) (n : ℕ) (c : Control) → is_totals k ≡ false → dropped k m n c ≡ record m { claims = released_by m.claims c.device n }
+dropped_of category.HardTotals m n c is = cc
+dropped_of k m n c is = refl
+
+released_of : (k : Category) (m : Machine) (n : ℕ) (c : Control) → is_totals k ≡ false → released k m n c ≡ record m { claims = released_by m.claims c.device n }
+released_of category.HardTotals m n c is = cc
+released_of k m n c is = refl
+
+claimed_of : (k : Category) (m : Machine) (n : ℕ) (c : Control) → is_totals k ≡ false → claimed k m n c ≡ record m { claims = claimed_by m.claims c.device n }
+claimed_of category.HardTotals m n c is = cc
+claimed_of k m n c is = refl
+
+taken_of : (k : Category) (m : Machine) (n : ℕ) (o : Option ℕ) → is_totals k ≡ false → is_taken k m n o ≡ is_foreign n (holder_at m.claims o)
+taken_of category.HardTotals m n o is = cc
+taken_of k m n o is = refl
+
+holder_in_table : (k : Category) (cl : List (Option ℕ)) (area o : Option ℕ) → is_totals k ≡ false → holder_in k cl area o ≡ holder_at cl o
+holder_in_table category.HardTotals cl area o is = cc
+holder_in_table k cl area o is = refl
+
 -- ---- close
 
 -- an option that equals another is none where the other's test says so
@@ -132,7 +159,7 @@ done_by rows r h g c none turns = subst (λ o. MatchOption o ((r ≡ answer.Done
 
 -- a close of a control of a device with a peripheral frees what it holds
 pub close_device : (hs : List Held) (cl dl : List (Option ℕ)) (es : List Entry) (ss : List PeripheralState) (part : TotalsPart) (n : ℕ) (c : Control) (h g : Held) (r : Answer)
-    → slice_get (controls_of hs) n ≡ Some c → c.category ≡ category.CashDrawer → is_none c.device ≡ false → TurnsInto (close_rows c) r h g (closed c) → dl ≡ released_by cl c.device n
+    → slice_get (controls_of hs) n ≡ Some c → is_totals c.category ≡ false → is_none c.device ≡ false → TurnsInto (close_rows c) r h g (closed c) → dl ≡ released_by cl c.device n
     → Step (machine_with hs cl es ss part) (CallOf n call.Close) (Answered r) (machine_with (set hs n g) dl es ss part)
 close_device hs cl dl es ss part n c h g r at is there turns free =
     let none : first_refusal (close_rows c) ≡ None = ap (λ b. first_refusal (when b code.Closed ∷ [])) there in
@@ -141,8 +168,9 @@ close_device hs cl dl es ss part n c h g r at is there turns free =
     match_at_some _ c _ _ at (record {
       outcome = match_at_none (first_refusal (close_rows c)) _ _ none (
         done.0,
-        subst (λ k. machine_with (set hs n g) dl es ss part ≡ dropped k (with_control m n (closed c)) n c) (sym is)
-            (claims_machine hs cl dl es ss n g (closed c) part done.1 ∙ ap (λ claims. let o : Machine = record (with_control m n (closed c)) { claims = claims } in o) free),
+        claims_machine hs cl dl es ss n g (closed c) part done.1
+            ∙ ap (λ claims. let o : Machine = record (with_control m n (closed c)) { claims = claims } in o) free
+            ∙ sym (dropped_of c.category (with_control m n (closed c)) n c is),
       );
     })
 
@@ -166,38 +194,36 @@ close_area hs cl es ss part n c h g r at is there turns =
 
 -- a claim of a device with a peripheral
 pub claim_device : (hs : List Held) (cl dl : List (Option ℕ)) (es : List Entry) (ss : List PeripheralState) (part : TotalsPart) (n : ℕ) (c : Control) (timeout : ℤ) (r : Answer)
-    → slice_get (controls_of hs) n ≡ Some c → c.category ≡ category.CashDrawer
+    → slice_get (controls_of hs) n ≡ Some c → is_totals c.category ≡ false
     → Decided (claim_rows c (is_foreign n (holder_at cl c.device)) timeout) r (dl ≡ cl) ((r ≡ answer.Done value.Empty) × (dl ≡ claimed_by cl c.device n))
     → Step (machine_with hs cl es ss part) (CallOf n (call.Claim timeout)) (Answered r) (machine_with hs dl es ss part)
 claim_device hs cl dl es ss part n c timeout r at is d =
     let m : Machine = machine_with hs cl es ss part in
-    let rows = subst (λ k. first_refusal (refusals m n c (call.Claim timeout)) ≡ first_refusal (claim_rows c (taken k) timeout)) is refl in
+    let rows = ap (λ b. first_refusal (claim_rows c b timeout)) (taken_of c.category m n c.device is) in
     match_at_some _ c _ _ at (record {
       outcome = match_by (first_refusal (refusals m n c (call.Claim timeout))) _ _ _ rows
           (match_weaker (first_refusal (claim_rows c (is_foreign n (holder_at cl c.device)) timeout)) _ _ _ _
-          (λ y. (y.0, subst (λ k. machine_with hs dl es ss part ≡ claimed k m n c) (sym is) (ap (λ claims. let o : Machine = record m { claims = claims } in o) y.1)))
+          (λ y. (y.0, ap (λ claims. let o : Machine = record m { claims = claims } in o) y.1 ∙ sym (claimed_of c.category m n c is)))
           (λ refusal y. (y.0, ap (λ claims. let o : Machine = record m { claims = claims } in o) y.1))
           d.outcome);
     })
-  where
-    taken : Category → Bool
-    taken k = is_taken k (machine_with hs cl es ss part) n c.device
 
 -- a release of a device with a peripheral
 pub release_device : (hs : List Held) (cl dl : List (Option ℕ)) (es : List Entry) (ss : List PeripheralState) (part : TotalsPart) (n : ℕ) (c : Control) (h g : Held) (r : Answer)
-    → slice_get (controls_of hs) n ≡ Some c → c.category ≡ category.CashDrawer → h ≡ get_or hs n h
+    → slice_get (controls_of hs) n ≡ Some c → is_totals c.category ≡ false → h ≡ get_or hs n h
     → Decided (release_rows c (is_own n (holder_at cl c.device))) r ((g ≡ h) × (dl ≡ cl)) ((r ≡ answer.Done value.Empty) × (g.control ≡ after_release c.category c) × (dl ≡ released_by cl c.device n))
     → Step (machine_with hs cl es ss part) (CallOf n call.Release) (Answered r) (machine_with (set hs n g) dl es ss part)
 release_device hs cl dl es ss part n c h g r at is here d =
     let m : Machine = machine_with hs cl es ss part in
-    let rows = subst (λ k. first_refusal (refusals m n c call.Release) ≡ first_refusal (release_rows c (is_own n (holder_in k cl part.totals.area c.device)))) is refl in
+    let rows = ap (λ o. first_refusal (release_rows c (is_own n o))) (holder_in_table c.category cl part.totals.area c.device is) in
     match_at_some _ c _ _ at (record {
       outcome = match_by (first_refusal (refusals m n c call.Release)) _ _ _ rows
           (match_weaker (first_refusal (release_rows c (is_own n (holder_at cl c.device)))) _ _ _ _
           (λ y. (
             y.0,
-            subst (λ k. machine_with (set hs n g) dl es ss part ≡ released k (with_control m n (after_release c.category c)) n c) (sym is)
-                (claims_machine hs cl dl es ss n g (after_release c.category c) part y.1 ∙ ap (λ claims. let o : Machine = record (with_control m n (after_release c.category c)) { claims = claims } in o) y.2),
+            claims_machine hs cl dl es ss n g (after_release c.category c) part y.1
+                ∙ ap (λ claims. let o : Machine = record (with_control m n (after_release c.category c)) { claims = claims } in o) y.2
+                ∙ sym (released_of c.category (with_control m n (after_release c.category c)) n c is),
           ))
           (λ refusal y. (y.0, ap (λ (ks : List Held). machine_with ks dl es ss part) (ap (set hs n) (y.1.0 ∙ here) ∙ set-get_or hs n h) ∙ ap (λ claims. let o : Machine = record m { claims = claims } in o) y.1.1))
           d.outcome);

@@ -1,16 +1,21 @@
 -- From what a call does to one control to what it does to the machine.
-use Rattle.std.proofs.Common.{◌≡◌, ℕ, ◌<◌, ◌⊎◌, inl, inr, List, Option, Some, None, get_or, set, length, ap, sym, ◌∙◌, subst, refl}
+use Rattle.std.proofs.Common.{◌≡◌, ℕ, ◌<◌, ◌⊎◌, inl, inr, List, Option, Some, None, Result, Ok, Err, get_or, set, length, ap, sym, ◌∙◌, subst, refl}
 use Rattle.std.specs.Prelude.{MatchOption, slice_get, option_map}
 use Rattle.std.proofs.lemmas.List.{map-set, set-get_or}
 use Rattle.std.proofs.lemmas.Option.{slice_get-map, slice_get-get_or}
 use Rattle.pos_service.specs.declared.answer.Answer.{Answer}
+use Rattle.pos_service.specs.declared.call.Call.TheVariants as call
+use Rattle.pos_service.specs.declared.memory.NoMemory.{NoMemory}
+use Rattle.pos_service.specs.declared.property.Property.{Property}
+use Rattle.pos_service.specs.Calls.{get_rows, property_of}
 use Rattle.pos_service.specs.declared.event.Event.{Event}
 use Rattle.pos_service.specs.declared.event.ErrorReply.{ErrorReply}
 use Rattle.pos_service.specs.Controls.{Control, deliverable, delivered}
 use Rattle.pos_counter.specs.Machine.{Device, Machine, Shared, with_control}
 use Rattle.pos_service.specs.Refusals.{Row, Decided, first_refusal}
-use Rattle.pos_counter.specs.Steps.{Step, Deliver, Delivered}
-use Rattle.pos_common.specs.Held.{Held, controls_of}
+use Rattle.pos_counter.specs.Responses.{answered}
+use Rattle.pos_counter.specs.Steps.{Step, CallOf, Deliver, Delivered, facts_of}
+use Rattle.pos_common.specs.Held.{Gets, Held, controls_of}
 use Rattle.pos_counter.specs.Parts.{over}
 
 -- the machine of some controls, devices and totals
@@ -57,7 +62,14 @@ decided_at hs ds shared n g h rows r Done c e x = record {
 }
 
 -- a delivery to a control is a step
-pub deliver_step : (hs : List Held) (ds : List Device) (shared : Shared) (n : ℕ) (reply : ErrorReply) (event : Option Event) (g h : Held) → n < length hs → h ≡ get_or hs n h → event ≡ deliverable h.control → g.control ≡ delivered h.control → Step (over hs ds shared) (Deliver n reply) (Delivered event) (over (set hs n g) ds shared)
+pub deliver_step : (hs : List Held) (ds : List Device) (shared : Shared) (n : ℕ) (reply : ErrorReply) (event : Option Event) (g h : Held) → n < length hs → h ≡ get_or hs n h → event ≡ deliverable h.control → g.control ≡ delivered reply h.control → Step (over hs ds shared) (Deliver n reply) (Delivered event) (over (set hs n g) ds shared)
 deliver_step hs ds shared n reply event g h lt is first rest =
     match_at_some _ h.control _ _ (control_at hs n h lt ∙ ap (λ (k : Held). Some k.control) (sym is))
     (first, over_same _ _ ds shared (map-set (λ (k : Held). k.control) hs n g ∙ ap (set (controls_of hs) n) rest))
+
+-- a property that is told, or for which there is no memory, is a step
+pub get_step : (m : Machine) (n : ℕ) (c : Control) (p : Property) (r : Result Answer NoMemory) → slice_get m.controls n ≡ Some c → Gets (get_rows c (facts_of m n c) p) p (property_of c (facts_of m n c) p) r → Step m (CallOf n (call.Get p)) (answered r) m
+get_step m n c p (Ok result) at d = match_at_some _ c _ _ at (record {
+  outcome = match_weaker (first_refusal (get_rows c (facts_of m n c) p)) _ _ _ _ (λ y. (y, refl)) (λ refusal y. (y.0, refl)) d.outcome;
+})
+get_step m n c p (Err want) at h = match_at_some _ c _ _ at (h.0, h.1, refl)

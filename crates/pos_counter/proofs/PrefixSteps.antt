@@ -33,7 +33,7 @@ use Rattle.pos_totals.specs.Recoveries.{numbered}
 use Rattle.pos_totals.specs.Views.{plain, stored}
 use Rattle.pos_counter.specs.History.{NothingDone, changes_asked, event_between, event_of}
 use Rattle.pos_counter.specs.Machine.{Machine, with_control}
-use Rattle.pos_counter.specs.Steps.{Request, NewControl, CallOf, InputTo, Deliver, Snapshot, Response, Made, Full, Answered, TakenIn, NoDevice, WrongInput, Delivered, Shown, OutOfMemory, OnStation, Step, Called, Does, CategoryDoes, Stays, Sets, SetsByRecovery, refusals, category_rows, claimed, dropped, released}
+use Rattle.pos_counter.specs.Steps.{Request, NewControl, CallOf, InputTo, Deliver, Snapshot, Response, Made, Full, Answered, TakenIn, NoDevice, WrongInput, Delivered, Shown, OutOfMemory, OnStation, Step, Called, Does, CategoryDoes, Stays, Sets, SetsByRecovery, refusals, category_rows, device_rows, claimed, dropped, released}
 use Rattle.pos_counter.specs.Totals.{TotalsPart, ChangesTotals, CommitsTotals, TotalsDo, Recovered, Rests, asks_recovery, in_doubt, left_after, put_at_once, recovers, settled}
 use Rattle.pos_counter.proofs.FileCalls.{kept_left, plain_claimed}
 use Rattle.pos_counter.proofs.Lifts.{match_cases}
@@ -152,17 +152,24 @@ files_refuse totals number (Arranges arrangement) =
 files_refuse totals number Commits = (tt, ready_refuse totals.mode (λ files. commit_rows files number (transaction_of totals number)) (λ files. commits_refuse files number (transaction_of totals number)))
 files_refuse totals number Nothing = tt
 
+device_refuse : (k : Category) (claims : List (Option ℕ)) (n : ℕ) (c : Control) (own : Call) → AllRefuse (device_rows k claims n c own)
+device_refuse category.CashDrawer claims n c call.OpenDrawer = (tt, (tt, tt))
+device_refuse category.CashDrawer claims n c own = tt
+device_refuse category.Scanner claims n c call.ClearInput = (tt, (tt, tt))
+device_refuse category.Scanner claims n c call.ClearInputProperties = (tt, (tt, tt))
+device_refuse category.Scanner claims n c own = tt
+device_refuse category.HardTotals claims n c own = tt
+
 category_refuse : (k : Category) (m : Machine) (n : ℕ) (c : Control) (own : Call) → AllRefuse (category_rows k m n c own)
-category_refuse category.CashDrawer m n c call.OpenDrawer = (tt, (tt, tt))
-category_refuse category.CashDrawer m n c own = tt
 category_refuse category.HardTotals m n c own = (tt, (tt, files_refuse m.totals.totals n (file_call own)))
+category_refuse k m n c own = device_refuse k m.claims n c own
 
 all_refuse : (m : Machine) (n : ℕ) (c : Control) (asked : Call) → AllRefuse (refusals m n c asked)
 all_refuse m n c (call.Open name) = (tt, (tt, (tt, tt)))
 all_refuse m n c call.Close = (tt, tt)
 all_refuse m n c (call.Claim timeout) = (tt, (tt, (tt, tt)))
 all_refuse m n c call.Release = (tt, (tt, tt))
-all_refuse m n c (call.Set p v) = (tt, (tt, (tt, tt)))
+all_refuse m n c (call.Set p v) = (tt, (tt, (tt, (tt, (tt, tt)))))
 all_refuse m n c (call.Get p) = (tt, (tt, (tt, (tt, tt))))
 all_refuse m n c own = (tt, (tt, category_refuse c.category m n c own))
 
@@ -325,21 +332,24 @@ station_same old new at Does o = ap (λ (m : Machine). m.totals) o.machine
 category_told : (k : Category) (old new : Machine) (n : ℕ) (c : Control) (own : Call) (result : Answer) → old.totals.left ≡ settled old.totals.totals.mode old.totals.left → CategoryDoes k old n c own result new → Told (changes_asked old.totals.totals n (file_call own)) old.totals (Answered result) new.totals
 category_told category.CashDrawer old new n c call.OpenDrawer result is h = rest_unasked old.totals new.totals (Answered result) (station_same old new c.device _ h)
 category_told category.CashDrawer old new n c own result is h = absurd h.does
+category_told category.Scanner old new n c call.ClearInput result is h = rest_unasked old.totals new.totals (Answered result) (station_same old new c.device _ h)
+category_told category.Scanner old new n c call.ClearInputProperties result is h = rest_unasked old.totals new.totals (Answered result) (station_same old new c.device _ h)
+category_told category.Scanner old new n c own result is h = absurd h.does
 category_told category.HardTotals old new n c own result is h = files_told (file_call own) old.totals new.totals n result is h.0
 
 -- what a control's claim, its release and its end leave of the files
 claimed_told : (k : Category) (old new : Machine) (n : ℕ) (c : Control) (response : Response) → new ≡ claimed k old n c → Told [] old.totals response new.totals
-claimed_told category.CashDrawer old new n c response h = rest_unasked old.totals new.totals response (ap (λ (m : Machine). m.totals) h)
 claimed_told category.HardTotals old new n c response h = rest_beside old.totals new.totals response (ap (λ (m : Machine). stored m.totals.totals.mode) h) (ap (λ (m : Machine). m.totals.left) h)
+claimed_told k old new n c response h = rest_unasked old.totals new.totals response (ap (λ (m : Machine). m.totals) h)
 
 released_told : (k : Category) (old new : Machine) (n : ℕ) (c : Control) (response : Response) → new ≡ released k (with_control old n (after_release k c)) n c → Told [] old.totals response new.totals
-released_told category.CashDrawer old new n c response h = rest_unasked old.totals new.totals response (ap (λ (m : Machine). m.totals) h)
 released_told category.HardTotals old new n c response h = rest_beside old.totals new.totals response (ap (λ (m : Machine). stored m.totals.totals.mode) h) (ap (λ (m : Machine). m.totals.left) h)
+released_told k old new n c response h = rest_unasked old.totals new.totals response (ap (λ (m : Machine). m.totals) h)
 
 dropped_told : (k : Category) (old new : Machine) (n : ℕ) (c : Control) (response : Response) → new ≡ dropped k (with_control old n (closed c)) n c → Told [] old.totals response new.totals
-dropped_told category.CashDrawer old new n c response h = rest_unasked old.totals new.totals response (ap (λ (m : Machine). m.totals) h)
 dropped_told category.HardTotals old new n c response h =
     rest_beside old.totals new.totals response (ap (λ (m : Machine). stored m.totals.totals.mode) h ∙ stored_claimed (is_own_claim n) None old.totals.totals.mode) (ap (λ (m : Machine). m.totals.left) h)
+dropped_told k old new n c response h = rest_unasked old.totals new.totals response (ap (λ (m : Machine). m.totals) h)
 
 does_told : (old new : Machine) (n : ℕ) (c : Control) (asked : Call) (result : Answer) → old.totals.left ≡ settled old.totals.totals.mode old.totals.left → Does old n c asked result new → Told (changes_asked old.totals.totals n (file_call asked)) old.totals (Answered result) new.totals
 does_told old new n c (call.Open name) result is h = rest_unasked old.totals new.totals (Answered result) (ap (λ (m : Machine). m.totals) h.1)

@@ -21,7 +21,8 @@ use Rattle.pos_service.specs.Calls.{set_rows, after_set, has_property}
 use Rattle.pos_service.specs.Controls.{Control}
 use Rattle.pos_service.specs.HardTotals.{Mode, Off, Ready, Totals, is_ready}
 use Rattle.pos_service.specs.Peripherals.{PeripheralState}
-use Rattle.pos_service.specs.Refusals.{first_refusal, when}
+use Rattle.pos_service.specs.Claims.{is_exclusive, is_foreign}
+use Rattle.pos_service.specs.Refusals.{Row, first_refusal, when}
 use Rattle.pos_common.specs.Held.{Held, TurnsInto, controls_of}
 use Rattle.pos_store.specs.Standing.{Standing, LeavesOneOf, StandsForOneOf}
 use Rattle.pos_totals.specs.declared.fault.RecoveryFault.{RecoveryFault}
@@ -29,7 +30,7 @@ use Rattle.pos_totals.specs.declared.fault.RecoveryFault.TheVariants as fault
 use Rattle.pos_totals.specs.Recoveries.{Recovers as DiskRecovers, RecoversOneOf, FindsFiles, ReadsAs, code_of}
 use Rattle.pos_totals.specs.Views.{TotalsView, WhenOff, LeavesTheirFiles}
 use Rattle.pos_counter.specs.declared.entry.Entry.{Entry}
-use Rattle.pos_counter.specs.Machine.{Machine, with_control}
+use Rattle.pos_counter.specs.Machine.{Machine, holder_in, holder_of, with_control}
 use Rattle.pos_counter.specs.Parts.{machine_of, machine_with, devices_of, over, part_of, ArePartsSound, IsRecovering, IsLeft, Leaves, Serves, SparesDisk, Stepped}
 use Rattle.pos_counter.specs.Responses.{answered}
 use Rattle.pos_counter.specs.Steps.{CallOf, Answered, IsSound, Step, Sets, SetsByRecovery}
@@ -65,20 +66,24 @@ asks_enabling c p v e =
 
     totals : (k : Category) → is_totals k ≡ true → k ≡ category.HardTotals
     totals category.HardTotals e = refl
-    totals category.CashDrawer e = cc
+    totals k e = cc
 
--- nothing refuses it
-enabling_unrefused : (c : Control) (p : Property) (v : Value) → asks_recovery c p v ≡ true → first_refusal (set_rows c p v) ≡ None
-enabling_unrefused c p v e =
+-- nothing refuses it, whoever holds the area
+enabling_unrefused : (n : ℕ) (holder : Option ℕ) (c : Control) (p : Property) (v : Value) → asks_recovery c p v ≡ true → first_refusal (set_rows n holder c p v) ≡ None
+enabling_unrefused n holder c p v e =
     let asks = asks_enabling c p v e in
-    subst (λ q. first_refusal (set_rows c q v) ≡ None) (sym asks.0) (subst (λ u. first_refusal (set_rows c property.DeviceEnabled u) ≡ None) (sym asks.1) (open_one c asks.2 asks.3))
+    subst (λ q. first_refusal (set_rows n holder c q v) ≡ None) (sym asks.0) (subst (λ u. first_refusal (set_rows n holder c property.DeviceEnabled u) ≡ None) (sym asks.1) (open_one c asks.2 asks.3))
   where
-    open_one : (c : Control) → is_some c.device ≡ true → c.category ≡ category.HardTotals → first_refusal (set_rows c property.DeviceEnabled (value.Truth true)) ≡ None
+    open_one : (c : Control) → is_some c.device ≡ true → c.category ≡ category.HardTotals → first_refusal (set_rows n holder c property.DeviceEnabled (value.Truth true)) ≡ None
     open_one c device is = by_parts c.device c.category device is
       where
-        by_parts : (o : Option ℕ) (k : Category) → is_some o ≡ true → k ≡ category.HardTotals → first_refusal (when (is_none o) code.Closed ∷ when (not (has_property k property.DeviceEnabled && true)) code.Illegal ∷ when false code.Illegal ∷ []) ≡ None
+        Rows : Option ℕ → Category → List Row
+        Rows o k =
+            when (is_none o) code.Closed ∷ when (not (has_property k property.DeviceEnabled && true)) code.Illegal ∷ when (is_exclusive k && is_foreign n holder) code.Claimed ∷ when (is_exclusive k && is_none holder) code.NotClaimed ∷ when false code.Illegal ∷ []
+
+        by_parts : (o : Option ℕ) (k : Category) → is_some o ≡ true → k ≡ category.HardTotals → first_refusal (Rows o k) ≡ None
         by_parts None k d is = cc
-        by_parts (Some i) k d is = subst (λ (j : Category). first_refusal (when false code.Closed ∷ when (not (has_property j property.DeviceEnabled && true)) code.Illegal ∷ when false code.Illegal ∷ []) ≡ None) (sym is) refl
+        by_parts (Some i) k d is = subst (λ (j : Category). first_refusal (Rows (Some i) j) ≡ None) (sym is) refl
 
 -- the machine with one control in the place of another, and other totals
 set_machine : (hs : List Held) (cl : List (Option ℕ)) (es : List Entry) (ss : List PeripheralState) (n : ℕ) (g : Held) (c : Control) (old new : TotalsPart) → g.control ≡ c → machine_with (set hs n g) cl es ss new ≡ record (with_control (machine_with hs cl es ss old) n c) { totals = new }
@@ -97,22 +102,24 @@ set_sound hs es ss n g c p v at e sound = record {
 }
 
 -- a property is set, and nothing is recovered
-pub plain_set : (hs : List Held) (cl : List (Option ℕ)) (es : List Entry) (ss : List PeripheralState) (part : TotalsPart) (n : ℕ) (g h : Held) (p : Property) (v : Value) (r : Answer) → n < length hs → h ≡ get_or hs n h → recovers part h.control p v ≡ false → TurnsInto (set_rows h.control p v) r h g (after_set h.control p v)
+pub plain_set : (hs : List Held) (cl : List (Option ℕ)) (es : List Entry) (ss : List PeripheralState) (part : TotalsPart) (n : ℕ) (g h : Held) (p : Property) (v : Value) (r : Answer) → n < length hs → h ≡ get_or hs n h → recovers part h.control p v ≡ false
+    → TurnsInto (set_rows n (holder_in h.control.category cl part.totals.area h.control.device) h.control p v) r h g (after_set h.control p v)
     → Step (machine_with hs cl es ss part) (CallOf n (call.Set p v)) (Answered r) (machine_with (set hs n g) cl es ss part)
 plain_set hs cl es ss part n g h p v r lt is plain turns =
-    let d = decided_at hs (devices_of es ss) (record { claims = cl; totals = part }) n g h (set_rows h.control p v) r _ (after_set h.control p v) is turns in
+    let rows = set_rows n (holder_in h.control.category cl part.totals.area h.control.device) h.control p v in
+    let d = decided_at hs (devices_of es ss) (record { claims = cl; totals = part }) n g h rows r _ (after_set h.control p v) is turns in
     match_at_some _ h.control _ _ (control_at hs n h lt ∙ ap (λ (k : Held). Some k.control) (sym is)) (record {
-      outcome = match_weaker (first_refusal (set_rows h.control p v)) _ _ _ _
+      outcome = match_weaker (first_refusal rows) _ _ _ _
           (λ y. subst (λ b. MatchBool b (SetsByRecovery (machine_with hs cl es ss part) n h.control p v r (machine_with (set hs n g) cl es ss part)) (Sets (machine_with hs cl es ss part) n h.control p v r (machine_with (set hs n g) cl es ss part))) (sym plain) y)
           (λ refusal y. y)
           d.outcome;
     })
 
 -- the parts after it are sound
-pub plain_sound : (hs : List Held) (es : List Entry) (ss : List PeripheralState) (n : ℕ) (g h : Held) (p : Property) (v : Value) (r : Answer) → n < length hs → h ≡ get_or hs n h → TurnsInto (set_rows h.control p v) r h g (after_set h.control p v) → ArePartsSound hs es ss → ArePartsSound (set hs n g) es ss
-plain_sound hs es ss n g h p v r lt is turns sound =
+pub plain_sound : (hs : List Held) (es : List Entry) (ss : List PeripheralState) (n : ℕ) (holder : Option ℕ) (g h : Held) (p : Property) (v : Value) (r : Answer) → n < length hs → h ≡ get_or hs n h → TurnsInto (set_rows n holder h.control p v) r h g (after_set h.control p v) → ArePartsSound hs es ss → ArePartsSound (set hs n g) es ss
+plain_sound hs es ss n holder g h p v r lt is turns sound =
     let at = control_at hs n h lt ∙ ap (λ (k : Held). Some k.control) (sym is) in
-    elim (match_cases (first_refusal (set_rows h.control p v)) _ _ turns.outcome) [
+    elim (match_cases (first_refusal (set_rows n holder h.control p v)) _ _ turns.outcome) [
       | inl x ↦ set_sound hs es ss n g h.control p v at x.1.1 sound
       | inr x ↦ subst (λ (ks : List Held). ArePartsSound ks es ss) (sym (ap (set hs n) (x.2.1 ∙ is) ∙ set-get_or hs n h)) sound
     ]
@@ -147,6 +154,9 @@ module _ {D : Type 0} (bound : Ghosts D) (old new : TotalsView D) (off : old.tot
     abbrev before : List Standing → Machine
     before left = machine_with hs cl es ss (part_of bound old left)
 
+    abbrev holder : List Standing → Option ℕ
+    holder left = holder_of (before left) c
+
     -- the call may use the disk
     uses : SparesDisk hs (CallOf n (call.Set p v)) → ⊥
     uses spares =
@@ -168,7 +178,7 @@ module _ {D : Type 0} (bound : Ghosts D) (old new : TotalsView D) (off : old.tot
               is_settled = settled_twice left new.totals.mode;
             };
             step = match_at_some _ c _ _ at (record {
-              outcome = match_at_none (first_refusal (set_rows c p v)) _ _ (enabling_unrefused c p v asks)
+              outcome = match_at_none (first_refusal (set_rows n (holder left) c p v)) _ _ (enabling_unrefused n (holder left) c p v asks)
                   (subst (λ b. MatchBool b (SetsByRecovery (before left) n c p v r (machine_with (set hs n g) cl es ss (part_of bound new after))) (Sets (before left) n c p v r (machine_with (set hs n g) cl es ss (part_of bound new after)))) (sym recovering)
                   (inl (done, record { found = f.found; left = refl; later = recovers.kept.later leaves.honest }, set_machine hs cl es ss n g (after_set c p v) (part_of bound old left) (part_of bound new after) is)));
             });
@@ -216,7 +226,7 @@ module _ {D : Type 0} (bound : Ghosts D) (old new : TotalsView D) (off : old.tot
             after = left;
             leaves = failed_leaves (Err x) left recovers leaves same;
             step = match_at_some _ c _ _ at (record {
-              outcome = match_at_none (first_refusal (set_rows c p v)) _ _ (enabling_unrefused c p v asks)
+              outcome = match_at_none (first_refusal (set_rows n (holder left) c p v)) _ _ (enabling_unrefused n (holder left) c p v asks)
                   (subst (λ b. MatchBool b (SetsByRecovery (before left) n c p v (answer.Refused k 0) (machine_with hs cl es ss (part_of bound new left))) (Sets (before left) n c p v (answer.Refused k 0) (machine_with hs cl es ss (part_of bound new left)))) (sym recovering)
                   (inr (why left x k recovers leaves is same, refl)));
             });
@@ -250,10 +260,10 @@ asks_there hs n p v mode h =
     is_off (Ready files q) e = cc
 
 -- nothing refuses to set the property
-pub done_set : (hs : List Held) (n : ℕ) (h g : Held) (c : Control) (p : Property) (v : Value) (r : Answer) → n < length hs → h ≡ get_or hs n h → slice_get (controls_of hs) n ≡ Some c → asks_recovery c p v ≡ true → TurnsInto (set_rows h.control p v) r h g (after_set h.control p v) → (r ≡ answer.Done value.Empty) × (g.control ≡ after_set c p v)
-done_set hs n h g c p v r lt is at asks turns =
+pub done_set : (hs : List Held) (n : ℕ) (holder : Option ℕ) (h g : Held) (c : Control) (p : Property) (v : Value) (r : Answer) → n < length hs → h ≡ get_or hs n h → slice_get (controls_of hs) n ≡ Some c → asks_recovery c p v ≡ true → TurnsInto (set_rows n holder h.control p v) r h g (after_set h.control p v) → (r ≡ answer.Done value.Empty) × (g.control ≡ after_set c p v)
+done_set hs n holder h g c p v r lt is at asks turns =
     let same : h.control ≡ c = some_same h.control c (sym (control_at hs n h lt ∙ ap (λ (k : Held). Some k.control) (sym is)) ∙ at) in
-    let none = subst (λ (k : Control). first_refusal (set_rows k p v) ≡ None) (sym same) (enabling_unrefused c p v asks) in
+    let none = subst (λ (k : Control). first_refusal (set_rows n holder k p v) ≡ None) (sym same) (enabling_unrefused n holder c p v asks) in
     let done = subst (λ o. MatchOption o ((r ≡ answer.Done value.Empty) × (g.control ≡ after_set h.control p v)) (λ refusal. (r ≡ refusal) × (g ≡ h))) none turns.outcome in
     (done.0, done.1 ∙ ap (λ (k : Control). after_set k p v) same)
   where

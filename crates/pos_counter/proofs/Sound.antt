@@ -7,22 +7,27 @@ use Rattle.std.proofs.lemmas.Option.{slice_get_within, get_or_from_slice_get}
 use Rattle.pos_service.specs.declared.category.Category.{Category}
 use Rattle.pos_service.specs.declared.category.Category.TheVariants as category
 use Rattle.pos_service.specs.declared.answer.Answer.{Answer}
-use Rattle.pos_service.specs.declared.event.Event.{Event}
 use Rattle.pos_service.specs.declared.finding.Finding.TheVariants as finding
 use Rattle.pos_service.specs.declared.answer.Value.{Value}
 use Rattle.pos_service.specs.declared.input.Input.{Input}
+use Rattle.pos_service.specs.declared.input.Input.TheVariants as input
+use Rattle.pos_service.specs.declared.input.Taken.{Taken}
+use Rattle.pos_service.specs.declared.input.Taken.TheVariants as taken
+use Rattle.pos_service.specs.declared.scan.Scan.{Scan}
 use Rattle.pos_service.specs.declared.property.Property.{Property}
 use Rattle.pos_service.specs.declared.call.Call.{Call}
 use Rattle.pos_service.specs.declared.call.Call.TheVariants as call
-use Rattle.pos_service.specs.Controls.{Control, new_control, closed, delivered, heard, listens, all_heard}
+use Rattle.pos_service.specs.Controls.{Control, new_control, closed, stopped, delivered, heard, read, listens, if_listening, all_listening}
+use Rattle.pos_service.specs.Events.{EventList, Enqueued}
 use Rattle.pos_service.specs.Refusals.{Row, Decided, first_refusal}
-use Rattle.pos_service.specs.Calls.{serves, place_found, after_set, close_rows, set_rows, get_rows}
-use Rattle.pos_service.specs.Claims.{after_release}
-use Rattle.pos_service.specs.Stations.{Station, Effect, TakesIn}
+use Rattle.pos_service.specs.Calls.{serves, place_found, after_set, close_rows, get_rows}
+use Rattle.pos_service.specs.Claims.{after_release, is_exclusive}
+use Rattle.pos_service.specs.ScannerCalls.{ChangesItself, ScannerDoes, without_input, without_scan}
+use Rattle.pos_service.specs.Stations.{Station, Effect, TakesIn, reaction}
 use Rattle.pos_service.specs.DrawerCalls.{DrawerOpens, DrawerDoes}
 use Rattle.pos_service.specs.HardTotals.{with_control as with_place}
 use Rattle.pos_counter.specs.Machine.{Device, Machine, device_at, place_of, found_at, with_control, with_totals}
-use Rattle.pos_counter.specs.Steps.{Request, NewControl, CallOf, InputTo, Deliver, Snapshot, Response, Made, Full, Answered, TakenIn, NoDevice, WrongInput, Delivered, Shown, OutOfMemory, OnStation, Step, Called, Stays, Sets, SetsByRecovery, CategoryDoes, claimed, released, dropped, facts_of, refusals, IsSound, IsServed, HasItsKind, HasItsDevice}
+use Rattle.pos_counter.specs.Steps.{Request, NewControl, CallOf, InputTo, Deliver, Snapshot, Response, Made, Full, Answered, TakenIn, NoDevice, WrongInput, Delivered, Shown, OutOfMemory, OnStation, Step, Called, Stays, Sets, SetsByRecovery, CategoryDoes, DeviceDoes, claimed, released, dropped, facts_of, refusals, IsSound, IsServed, HasItsKind, HasItsDevice}
 use Rattle.pos_counter.specs.Totals.{TotalsPart, recovers}
 use Rattle.pos_counter.proofs.Lifts.{match_cases}
 
@@ -75,19 +80,42 @@ found_seat ds category (Some i) = there (slice_get ds i) refl
     there None e = tt
     there (Some d) e = pick d e (serves category d.kind) (is_none d.kind || is_some d.station) refl refl
 
--- a control with other events, or as it was, has its device
-events_keep : (ds : List Device) (b : Bool) (c : Control) (events : List Event) → HasItsDevice ds c → HasItsDevice ds (cond b c (record c { events = events }))
-events_keep ds true c events h = h
-events_keep ds false c events h = h
+-- a change of controls that leaves each its category and its device
+pub record KeepsDevice (change : Control → Control) : Type 0 where
+  pub category : (c : Control) → (change c).category ≡ c.category
+  pub device : (c : Control) → (change c).device ≡ c.device
 
-heard_keep : (ds : List Device) (b : Bool) (c : Control) (events : List Event) → HasItsDevice ds c → HasItsDevice ds (cond b (record c { events = events }) c)
-heard_keep ds true c events h = h
-heard_keep ds false c events h = h
+changed_seat : (ds : List Device) (change : Control → Control) (c : Control) → KeepsDevice change → HasItsDevice ds c → HasItsDevice ds (change c)
+changed_seat ds change c keeps h = same_seat ds c (change c) (keeps.category c) (keeps.device c) h
 
-all_heard_keep : (ds : List Device) (place : ℕ) (events : List Event) (cs : List Control) → All (HasItsDevice ds) cs → All (HasItsDevice ds) (all_heard place events cs)
-all_heard_keep ds place events cs all =
-    All-map (HasItsDevice ds) (heard place events) cs
-    (All-weaker (HasItsDevice ds) (λ c. HasItsDevice ds (heard place events c)) (λ c h. heard_keep ds (listens place c) c _ h) cs all)
+listening_seat : (ds : List Device) (b : Bool) (c d : Control) → HasItsDevice ds c → HasItsDevice ds d → HasItsDevice ds (cond b d c)
+listening_seat ds true c d h g = g
+listening_seat ds false c d h g = h
+
+all_listening_keep : (ds : List Device) (place : ℕ) (change : Control → Control) (cs : List Control) → KeepsDevice change → All (HasItsDevice ds) cs → All (HasItsDevice ds) (all_listening place change cs)
+all_listening_keep ds place change cs keeps all =
+    All-map (HasItsDevice ds) (if_listening place change) cs
+    (All-weaker (HasItsDevice ds) (λ c. HasItsDevice ds (if_listening place change c)) (λ c h. listening_seat ds (listens place c) c (change c) h (changed_seat ds change c keeps h)) cs all)
+
+heard_keeps : (statuses : List Enqueued) → KeepsDevice (heard statuses)
+heard_keeps statuses = record { category = λ c. refl; device = λ c. refl }
+
+read_keeps : (scan : Scan) → KeepsDevice (read scan)
+read_keeps scan = record { category = λ c. category c.list.in_error c _ _; device = λ c. device c.list.in_error c _ _ }
+  where
+    category : (b : Bool) (c : Control) (list : EventList) (enabled : Bool) → (cond b c (record c { enabled = enabled; list = list })).category ≡ c.category
+    category true c list enabled = refl
+    category false c list enabled = refl
+
+    device : (b : Bool) (c : Control) (list : EventList) (enabled : Bool) → (cond b c (record c { enabled = enabled; list = list })).device ≡ c.device
+    device true c list enabled = refl
+    device false c list enabled = refl
+
+reaction_keeps : (i : Input) (t : Taken) (statuses : List Enqueued) → KeepsDevice (reaction i t statuses)
+reaction_keeps i taken.Quiet statuses = heard_keeps statuses
+reaction_keeps (input.Scan kind bytes label) taken.Scan statuses = read_keeps _
+reaction_keeps i taken.Scan statuses = record { category = λ c. refl; device = λ c. refl }
+reaction_keeps i taken.Fault statuses = record { category = λ c. refl; device = λ c. refl }
 
 -- another station at a device, of its kind
 abbrev with_after : Device → Station → Device
@@ -131,22 +159,44 @@ on_station_sound m m' at Does keeps o s =
 opens_keeps : (r : Answer) (place : ℕ) (old : List Control) (before : Station) (new : List Control) (after : Station) → DrawerOpens place r old before new after → Keeps before old after new
 opens_keeps r place old before new after (inl h) = record {
   kind = ap (λ (s : Station). s.kind) h.1.station;
-  seats = λ ds all. subst (All (HasItsDevice ds)) (sym h.1.events) (all_heard_keep ds place _ old all);
+  seats = λ ds all. subst (All (HasItsDevice ds)) (sym h.1.events) (all_listening_keep ds place _ old (heard_keeps _) all);
 }
 opens_keeps r place old before new after (inr h) = record {
   kind = ap (λ (s : Station). s.kind) h.1.station;
   seats = λ ds all. subst (All (HasItsDevice ds)) (sym h.1.controls) all;
 }
 
-takes_keeps : (input : Input) (place : ℕ) (old : List Control) (before : Station) (new : List Control) (after : Station) → TakesIn input place old before new after → Keeps before old after new
-takes_keeps input place old before new after h = record {
+takes_keeps : (i : Input) (place : ℕ) (old : List Control) (before : Station) (new : List Control) (after : Station) → TakesIn i place old before new after → Keeps before old after new
+takes_keeps i place old before new after h = record {
   kind = ap (λ (s : Station). s.kind) h.station;
-  seats = λ ds all. subst (All (HasItsDevice ds)) (sym h.events) (all_heard_keep ds place _ old all);
+  seats = λ ds all. subst (All (HasItsDevice ds)) (sym h.controls) (all_listening_keep ds place _ old (reaction_keeps i h.taken _) all);
 }
 
-drawer_keeps : (asked : Call) (r : Answer) (place : ℕ) (old : List Control) (before : Station) (new : List Control) (after : Station) → DrawerDoes asked place r old before new after → Keeps before old after new
-drawer_keeps call.OpenDrawer r place old before new after h = opens_keeps r place old before new after h
-drawer_keeps asked r place old before new after h = absurd h
+drawer_keeps : (asked : Call) (r : Answer) (number place : ℕ) (old : List Control) (before : Station) (new : List Control) (after : Station) → DrawerDoes asked number place r old before new after → Keeps before old after new
+drawer_keeps call.OpenDrawer r number place old before new after h = opens_keeps r place old before new after h
+drawer_keeps asked r number place old before new after h = absurd h
+
+-- a control that changes itself keeps its device
+itself_keeps : (change : Control → Control) (number : ℕ) (r : Answer) (old : List Control) (before : Station) (new : List Control) (after : Station) → KeepsDevice change → ChangesItself change number r old before new after → Keeps before old after new
+itself_keeps change number r old before new after keeps h = record {
+  kind = ap (λ (s : Station). s.kind) h.station;
+  seats = λ ds all. elim (match_cases (slice_get old number) _ _ h.controls) [
+    | inl x ↦ absurd x.1
+    | inr x ↦
+        let seat = subst (HasItsDevice ds) (get_or_from_slice_get old number x.0 x.0 x.1) (All-get_or (HasItsDevice ds) old number x.0 (slice_get_within old number x.0 x.1) all) in
+        subst (All (HasItsDevice ds)) (sym x.2) (All-set (HasItsDevice ds) old number (change x.0) (changed_seat ds change x.0 keeps seat) all)
+  ];
+}
+
+scanner_keeps : (asked : Call) (r : Answer) (number place : ℕ) (old : List Control) (before : Station) (new : List Control) (after : Station) → ScannerDoes asked number place r old before new after → Keeps before old after new
+scanner_keeps call.ClearInput r number place old before new after h = itself_keeps without_input number r old before new after (record { category = λ c. refl; device = λ c. refl }) h
+scanner_keeps call.ClearInputProperties r number place old before new after h = itself_keeps without_scan number r old before new after (record { category = λ c. refl; device = λ c. refl }) h
+scanner_keeps asked r number place old before new after h = absurd h
+
+device_keeps : (k : Category) (asked : Call) (r : Answer) (number place : ℕ) (old : List Control) (before : Station) (new : List Control) (after : Station) → DeviceDoes k asked number place r old before new after → Keeps before old after new
+device_keeps category.CashDrawer asked r number place old before new after h = drawer_keeps asked r number place old before new after h
+device_keeps category.Scanner asked r number place old before new after h = scanner_keeps asked r number place old before new after h
+device_keeps category.HardTotals asked r number place old before new after h = absurd h
 
 -- totals that have changed leave all else as it was
 other_totals : (m m' : Machine) → m' ≡ record m { totals = m'.totals } → IsSound m → IsSound m'
@@ -154,8 +204,8 @@ other_totals m m' e s = subst IsSound (sym e) (record { kinds = s.kinds; places 
 
 -- what a category's call does keeps the machine sound
 category_sound : (k : Category) (m m' : Machine) (n : ℕ) (c : Control) (own : Call) (r : Answer) → CategoryDoes k m n c own r m' → IsSound m → IsSound m'
-category_sound category.CashDrawer m m' n c own r h s = on_station_sound m m' c.device _ (λ place. drawer_keeps own r place) h s
 category_sound category.HardTotals m m' n c own r h s = other_totals m m' h.1 s
+category_sound k m m' n c own r h s = on_station_sound m m' c.device _ (λ place. device_keeps k own r n place) h s
 
 -- a control with a property set has its device
 set_sound : (m m' : Machine) (n : ℕ) (c : Control) (p : Property) (v : Value) (r : Answer) (b : Bool) → slice_get m.controls n ≡ Some c → MatchBool b (SetsByRecovery m n c p v r m') (Sets m n c p v r m') → IsSound m → IsSound m'
@@ -173,21 +223,20 @@ other_part : (m : Machine) (part : TotalsPart) → IsSound m → IsSound (record
 other_part m part s = record { kinds = s.kinds; places = s.places }
 
 claimed_sound : (k : Category) (m : Machine) (n : ℕ) (c : Control) → IsSound m → IsSound (claimed k m n c)
-claimed_sound category.CashDrawer m n c s = other_claims m _ s
 claimed_sound category.HardTotals m n c s = other_part m _ s
+claimed_sound k m n c s = other_claims m _ s
 
 released_sound : (k : Category) (m : Machine) (n : ℕ) (c : Control) → IsSound m → IsSound (released k m n c)
-released_sound category.CashDrawer m n c s = other_claims m _ s
 released_sound category.HardTotals m n c s = other_part m _ s
+released_sound k m n c s = other_claims m _ s
 
 dropped_sound : (k : Category) (m : Machine) (n : ℕ) (c : Control) → IsSound m → IsSound (dropped k m n c)
-dropped_sound category.CashDrawer m n c s = other_claims m _ s
 dropped_sound category.HardTotals m n c s = other_part m _ s
+dropped_sound k m n c s = other_claims m _ s
 
 -- a control that has released its device still has it open
 released_seat : (ds : List Device) (k : Category) (c : Control) → HasItsDevice ds c → HasItsDevice ds (after_release k c)
-released_seat ds category.CashDrawer c h = h
-released_seat ds category.HardTotals c h = h
+released_seat ds k c h = listening_seat ds (is_exclusive k) c (stopped c) h h
 
 called_sound : (m m' : Machine) (n : ℕ) (c : Control) (q : Call) (r : Answer) → slice_get m.controls n ≡ Some c → Called m n c q r m' → IsSound m → IsSound m'
 called_sound m m' n c (call.Open name) r e h s = decided_sound _ r m m' n _ _ (λ none. found_seat m.devices c.category (place_of m.devices name)) h s
@@ -207,7 +256,7 @@ called_sound m m' n c call.Release r e h s =
       | inr x ↦ same_machine m m' x.2.1 s
     ]
 called_sound m m' n c (call.Set p v) r e h s =
-    elim (match_cases (first_refusal (set_rows c p v)) _ _ h.outcome) [
+    elim (match_cases (first_refusal (refusals m n c (call.Set p v))) _ _ h.outcome) [
       | inl x ↦ set_sound m m' n c p v r (recovers m.totals c p v) e x.1 s
       | inr x ↦ same_machine m m' x.2.1 s
     ]
@@ -242,7 +291,7 @@ step_sound m m' (InputTo name input) OutOfMemory h s = same_machine m m' h.1 s
 step_sound m m' (Deliver n reply) (Delivered event) h s =
     elim (match_cases (slice_get m.controls n) _ _ h) [
       | inl x ↦ same_machine m m' x.1.1 s
-      | inr x ↦ same_machine (with_control m n (delivered x.0)) m' x.2.1 (with_control_sound m n (delivered x.0) (events_keep m.devices _ x.0 _ (seated m n x.0 s x.1)) s)
+      | inr x ↦ same_machine (with_control m n (delivered reply x.0)) m' x.2.1 (with_control_sound m n (delivered reply x.0) (seated m n x.0 s x.1) s)
     ]
 step_sound m m' (Snapshot name) (Shown plant) h s = same_machine m m' h.2 s
 step_sound m m' (Snapshot name) NoDevice h s = same_machine m m' h.1 s

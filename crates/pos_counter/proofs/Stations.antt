@@ -17,16 +17,16 @@ use Rattle.pos_service.specs.declared.kind.Kind.TheVariants as kind
 use Rattle.pos_service.specs.declared.memory.NoMemory.{NoMemory}
 use Rattle.pos_service.specs.Calls.{serves, is_common, own_rows, takes_memory as own_takes_memory}
 use Rattle.pos_service.specs.Controls.{Control}
-use Rattle.pos_service.specs.DrawerCalls.{drawer_rows, DrawerDoes}
 use Rattle.pos_service.specs.Peripherals.{PeripheralState, input_fits}
-use Rattle.pos_service.specs.Refusals.{first_refusal, when}
+use Rattle.pos_service.specs.Refusals.{Row, first_refusal, when}
 use Rattle.pos_service.specs.Stations.{Station, Effect, station_of, CalledAt, CalledBy, IsOpen}
 use Rattle.pos_common.specs.Held.{Held, controls_of}
 use Rattle.pos_counter.specs.declared.entry.Entry.{Entry}
 use Rattle.pos_counter.specs.Machine.{Device, Machine, Shared, station_in, station_named, device_at, place_of}
 use Rattle.pos_counter.specs.Parts.{over, machine_of, devices_of, device_of, AllUnparked}
 use Rattle.pos_counter.specs.Responses.{answered}
-use Rattle.pos_counter.specs.Steps.{OnStation, Step, CallOf, Answered, Called, Wants, Does, CategoryDoes, Stays, category_rows, refusals, takes_memory, FindsFit, IsSound, IsServed, HasItsKind}
+use Rattle.pos_counter.specs.Steps.{OnStation, Step, CallOf, Answered, Does, DeviceDoes, CategoryDoes, Stays, category_rows, device_rows, refusals, takes_memory, FindsFit, IsSound, IsServed, HasItsKind}
+use Rattle.pos_counter.specs.Totals.{is_totals}
 use Rattle.pos_counter.proofs.DeviceLists.{device_there, devices_set, devices_same, station_there}
 use Rattle.pos_counter.proofs.Lifts.{match_cases, match_at_some, match_by, match_weaker}
 use Rattle.pos_counter.proofs.Sound.{seated, Served}
@@ -135,16 +135,6 @@ finds_fit state hs es ps shared name place p input fits whole finds at fit = rec
   fit = fit;
 }
 
--- a drawer's control has a drawer
-pub drawer_kind : (c : Category) (k : Kind) → c ≡ category.CashDrawer → serves c (Some k) ≡ true → k ≡ kind.Drawer
-drawer_kind c k is h = of_drawer k (subst (λ (j : Category). serves j (Some k) ≡ true) is h)
-  where
-    of_drawer : (k : Kind) → serves category.CashDrawer (Some k) ≡ true → k ≡ kind.Drawer
-    of_drawer kind.Drawer h = refl
-    of_drawer kind.Scanner h = cc
-    of_drawer (kind.Display rows columns) h = cc
-    of_drawer (kind.Printer chars near) h = cc
-
 -- what a call of a category's own is answered first, and what it does
 own_refusals : (m : Machine) (n : ℕ) (c : Control) (asked : Call) → is_common asked ≡ false → refusals m n c asked ≡ when (is_none c.device) code.Closed ∷ own_rows c asked (category_rows c.category m n c asked)
 own_refusals m n c (call.Open name) own = cc
@@ -211,13 +201,22 @@ open_refusals m n c k asked own is device =
     is_there None h = cc
     is_there (Some i) h = refl
 
--- a call of a drawer's own on an open control is a step
-pub drawer_step : {P : Type 0} (state : P → PeripheralState) (hs gs : List Held) (es : List Entry) (ps : List P) (shared : Shared) (n place : ℕ) (p q : P) (c : Control) (asked : Call) (r : Result Answer NoMemory)
-    → is_common asked ≡ false → slice_get (controls_of hs) n ≡ Some c → c.category ≡ category.CashDrawer → c.device ≡ Some place → length (map state ps) ≤ length es → slice_get ps place ≡ Some p
-    → CalledBy (drawer_rows shared.claims n) DrawerDoes n asked r (controls_of hs) (station_of (state p)) (controls_of gs) (station_of (state q))
+-- what the categories with a peripheral ask and do
+rows_at_device : (k : Category) (m : Machine) (n : ℕ) (c : Control) (asked : Call) → is_totals k ≡ false → category_rows k m n c asked ≡ device_rows k m.claims n c asked
+rows_at_device category.HardTotals m n c asked is = cc
+rows_at_device k m n c asked is = refl
+
+does_at_device : (k : Category) (m m' : Machine) (n : ℕ) (c : Control) (asked : Call) (r : Answer) → is_totals k ≡ false → OnStation m c.device (λ place. DeviceDoes k asked n place r) m' → CategoryDoes k m n c asked r m'
+does_at_device category.HardTotals m m' n c asked r is h = cc
+does_at_device k m m' n c asked r is h = h
+
+-- a call of a category's own on an open control, at its device's station, is a step
+pub device_step : {P : Type 0} (state : P → PeripheralState) (hs gs : List Held) (es : List Entry) (ps : List P) (shared : Shared) (n place : ℕ) (p q : P) (c : Control) (asked : Call) (r : Result Answer NoMemory)
+    → is_common asked ≡ false → slice_get (controls_of hs) n ≡ Some c → is_totals c.category ≡ false → c.device ≡ Some place → length (map state ps) ≤ length es → slice_get ps place ≡ Some p
+    → CalledBy (device_rows c.category shared.claims n) (DeviceDoes c.category) n asked r (controls_of hs) (station_of (state p)) (controls_of gs) (station_of (state q))
     → Step (machine_of hs es (map state ps) shared) (CallOf n asked) (answered r) (machine_of gs es (map state (set ps place q)) shared)
-drawer_step state hs gs es ps shared n place p q c asked r own at is device whole there called =
-    let Q : Control → ℕ → Type 0 = λ control place. CalledAt asked (own_rows control asked (drawer_rows shared.claims n control asked)) (DrawerDoes asked place) r (controls_of hs) (station_of (state p)) (controls_of gs) (station_of (state q)) in
+device_step state hs gs es ps shared n place p q c asked r own at is device whole there called =
+    let Q : Control → ℕ → Type 0 = λ control place. CalledAt asked (own_rows control asked (device_rows c.category shared.claims n control asked)) (DeviceDoes c.category asked n place) r (controls_of hs) (station_of (state p)) (controls_of gs) (station_of (state q)) in
     by_outcome r (called_there _ c place Q at device called)
   where
     m : Machine
@@ -226,18 +225,24 @@ drawer_step state hs gs es ps shared n place p q c asked r own at is device whol
     m' : Machine
     m' = machine_of gs es (map state (set ps place q)) shared
 
-    by_outcome : (o : Result Answer NoMemory) → CalledAt asked (own_rows c asked (drawer_rows shared.claims n c asked)) (DrawerDoes asked place) o (controls_of hs) (station_of (state p)) (controls_of gs) (station_of (state q)) → Step m (CallOf n asked) (answered o) m'
+    rows : List Row
+    rows = own_rows c asked (device_rows c.category shared.claims n c asked)
+
+    unrefused : first_refusal (refusals m n c asked) ≡ first_refusal rows
+    unrefused = open_refusals m n c c.category asked own refl (ap is_some device) ∙ ap (λ table. first_refusal (own_rows c asked table)) (rows_at_device c.category m n c asked is)
+
+    by_outcome : (o : Result Answer NoMemory) → CalledAt asked rows (DeviceDoes c.category asked n place) o (controls_of hs) (station_of (state p)) (controls_of gs) (station_of (state q)) → Step m (CallOf n asked) (answered o) m'
     by_outcome (Ok result) h =
         match_at_some _ c _ _ at (record {
-          outcome = match_by _ _ _ _ (open_refusals m n c category.CashDrawer asked own is (ap is_some device)) (
-              match_weaker (first_refusal (own_rows c asked (drawer_rows shared.claims n c asked))) _ _ _ _
-              (λ does. own_does m n c asked result m' own (subst (λ k. CategoryDoes k m n c asked result m') (sym is) (on_station state hs gs es ps shared place p q c.device _ whole there device does)))
+          outcome = match_by _ _ _ _ unrefused (
+              match_weaker (first_refusal rows) _ _ _ _
+              (λ does. own_does m n c asked result m' own (does_at_device c.category m m' n c asked result is (on_station state hs gs es ps shared place p q c.device _ whole there device does)))
               (λ refusal y. (y.0, unchanged state hs gs es ps shared place p q there y.1.controls y.1.station))
               h.outcome);
         })
     by_outcome (Err want) h =
         match_at_some _ c _ _ at (
           own_takes m c asked own h.0,
-          open_refusals m n c category.CashDrawer asked own is (ap is_some device) ∙ h.1,
+          unrefused ∙ h.1,
           own_stays m m' c asked own (unchanged state hs gs es ps shared place p q there h.2.controls h.2.station),
         )

@@ -79,8 +79,8 @@ with_station machine controls place device station = record machine {
 -- the control that holds a device of a category, by the claims and the claim of the area: of Hard Totals, the one that
 -- holds the area
 abbrev pub holder_in : Category → List (Option ℕ) → Option ℕ → Option ℕ → Option ℕ
-holder_in category.CashDrawer claims area device = holder_at claims device
 holder_in category.HardTotals claims area device = area
+holder_in c claims area device = holder_at claims device
 
 -- the control that holds a control's device
 abbrev pub holder_of : Machine → Control → Option ℕ

@@ -18,9 +18,10 @@ use Rattle.pos_service.specs.Controls.{Control, new_control, opened, closed, del
 use Rattle.pos_service.specs.Claims.{is_own, is_foreign, holder_at, claimed_by, released_by, claim_rows, release_rows, after_release}
 use Rattle.pos_service.specs.Refusals.{Row, Decided, first_refusal, when}
 use Rattle.pos_service.specs.Calls.{takes_memory as own_takes_memory}
-use Rattle.pos_service.specs.Calls.{serves, own_rows, place_found, open_rows, close_rows, set_rows, after_set, get_rows, property_of}
+use Rattle.pos_service.specs.Calls.{serves, own_rows, place_found, open_rows, close_rows, set_rows, after_set, get_rows, is_of_bytes, property_of}
 use Rattle.pos_service.specs.Stations.{Station, Effect, TakesIn, signs_in}
 use Rattle.pos_service.specs.DrawerCalls.{drawer_rows, DrawerDoes}
+use Rattle.pos_service.specs.ScannerCalls.{scanner_rows, ScannerDoes}
 use Rattle.pos_service.specs.declared.property.Property.{Property}
 use Rattle.pos_service.specs.declared.answer.Value.{Value}
 use Rattle.pos_service.specs.declared.facts.Facts.{Facts}
@@ -83,46 +84,60 @@ takes_memory machine control call.Close = false
 takes_memory machine control (call.Claim timeout) = false
 takes_memory machine control call.Release = false
 takes_memory machine control (call.Set property v) = recovers machine.totals control property v
-takes_memory machine control (call.Get property) = false
+takes_memory machine control (call.Get property) = is_of_bytes property
 takes_memory machine control own = own_takes_memory own
+
+-- what each call at a device with a peripheral asks, in order, by who holds each device
+abbrev pub device_rows : Category → List (Option ℕ) → ℕ → Control → Call → List Row
+device_rows category.CashDrawer claims number control own = drawer_rows claims number control own
+device_rows category.Scanner claims number control own = scanner_rows claims number control own
+device_rows category.HardTotals claims number control own = []
+
+-- what it does at the device's station, where nothing refuses it
+abbrev pub DeviceDoes : Category → Call → ℕ → ℕ → Answer → Effect
+DeviceDoes category.CashDrawer own number place result old before new after =
+    DrawerDoes own number place result old before new after
+DeviceDoes category.Scanner own number place result old before new after =
+    ScannerDoes own number place result old before new after
+DeviceDoes category.HardTotals own number place result old before new after = ⊥
 
 -- what each call of a category's own asks, in order
 abbrev pub category_rows : Category → Machine → ℕ → Control → Call → List Row
-category_rows category.CashDrawer machine number control own = drawer_rows machine.claims number control own
 category_rows category.HardTotals machine number control own = totals_rows machine.totals.totals number control own
+category_rows c machine number control own = device_rows c machine.claims number control own
 
--- what each call of a category's own does, where nothing refuses it: at its device's station, or with the totals
+-- what each call of a category's own does, where nothing refuses it: with the totals, or at its device's station
 abbrev pub CategoryDoes : Category → Machine → ℕ → Control → Call → Answer → Machine → Type 0
-CategoryDoes category.CashDrawer old number control own result new =
-    OnStation old control.device (λ place. DrawerDoes own place result) new
 CategoryDoes category.HardTotals old number control own result new =
     TotalsDo (file_call own) old.totals number result new.totals × (new ≡ record old { totals = new.totals })
+CategoryDoes c old number control own result new =
+    OnStation old control.device (λ place. DeviceDoes c own number place result) new
 
 -- another control keeps a device of a category from the control with a number
 abbrev pub is_taken : Category → Machine → ℕ → Option ℕ → Bool
-is_taken category.CashDrawer machine number device = is_foreign number (holder_at machine.claims device)
 is_taken category.HardTotals machine number device = is_area_taken machine.totals.totals number
+is_taken c machine number device = is_foreign number (holder_at machine.claims device)
 
 -- the machine, once the control with a number holds its device
 abbrev pub claimed : Category → Machine → ℕ → Control → Machine
-claimed category.CashDrawer machine number control =
-    record machine { claims = claimed_by machine.claims control.device number }
 claimed category.HardTotals machine number control =
     with_totals machine (record machine.totals.totals { area = Some number })
+claimed c machine number control =
+    record machine { claims = claimed_by machine.claims control.device number }
 
 -- the machine, once the control with a number has released its device
 abbrev pub released : Category → Machine → ℕ → Control → Machine
-released category.CashDrawer machine number control =
-    record machine { claims = released_by machine.claims control.device number }
 released category.HardTotals machine number control =
     with_totals machine (record machine.totals.totals { area = None })
+released c machine number control =
+    record machine { claims = released_by machine.claims control.device number }
 
 -- the machine, once the control with a number has nothing any more
 abbrev pub dropped : Category → Machine → ℕ → Control → Machine
-dropped category.CashDrawer machine number control =
-    record machine { claims = released_by machine.claims control.device number }
 dropped category.HardTotals machine number control =
     with_totals machine (without_control machine.totals.totals number)
+dropped c machine number control =
+    record machine { claims = released_by machine.claims control.device number }
 
 -- The refusals of the call of the control with a number, in their order.
 abbrev pub refusals : Machine → ℕ → Control → Call → List Row
@@ -132,7 +147,8 @@ refusals machine number control (call.Claim timeout) =
     claim_rows control (is_taken control.category machine number control.device) timeout
 refusals machine number control call.Release =
     release_rows control (is_own number (holder_of machine control))
-refusals machine number control (call.Set property v) = set_rows control property v
+refusals machine number control (call.Set property v) =
+    set_rows number (holder_of machine control) control property v
 refusals machine number control (call.Get property) = get_rows control (facts_of machine number control) property
 refusals machine number control own =
     when (is_none control.device) code.Closed
@@ -156,12 +172,14 @@ Does old number control (call.Open name) result new =
     (result ≡ answer.Done value.Empty)
     × (new ≡ with_control old number (opened control (place_found (found_under old control.category name))))
 Does old number control call.Close result new =
-    (result ≡ answer.Done value.Empty) × (new ≡ dropped control.category (with_control old number (closed control)) number control)
+    (result ≡ answer.Done value.Empty)
+    × (new ≡ dropped control.category (with_control old number (closed control)) number control)
 Does old number control (call.Claim timeout) result new =
     (result ≡ answer.Done value.Empty) × (new ≡ claimed control.category old number control)
 Does old number control call.Release result new =
     (result ≡ answer.Done value.Empty)
-    × (new ≡ released control.category (with_control old number (after_release control.category control)) number control)
+    × (new ≡ released control.category
+    (with_control old number (after_release control.category control)) number control)
 Does old number control (call.Set property v) result new =
     MatchBool (recovers old.totals control property v) (SetsByRecovery old number control property v result new)
     (Sets old number control property v result new)
@@ -195,7 +213,9 @@ pub record FindsFit (station : Option Station) (input : Input) (fits : Bool) : T
 abbrev pub Step : Machine → Request → Response → Machine → Type 0
 Step old (NewControl category) (Made number) new =
     (length old.controls < most_controls) × (number ≡ length old.controls)
-    × (new ≡ record (with_totals old (with_place old.totals.totals)) { controls = old.controls ++ new_control category ∷ [] })
+    × (new ≡ record (with_totals old (with_place old.totals.totals)) {
+      controls = old.controls ++ new_control category ∷ [];
+    })
 Step old (NewControl category) Full new = (most_controls ≤ length old.controls) × (new ≡ old)
 Step old (NewControl category) OutOfMemory new = (length old.controls < most_controls) × (new ≡ old)
 -- a call on a control that isn't there is illegal
@@ -208,10 +228,9 @@ Step old (InputTo name input) TakenIn new = OnStation old (place_of old.devices 
 Step old (InputTo name input) NoDevice new = (station_named old name ≡ None) × (new ≡ old)
 Step old (InputTo name input) WrongInput new = FindsFit (station_named old name) input false × (new ≡ old)
 Step old (InputTo name input) OutOfMemory new = FindsFit (station_named old name) input true × (new ≡ old)
--- no event but an error looks at the reply
 Step old (Deliver number reply) (Delivered event) new =
     MatchOption (slice_get old.controls number) ((event ≡ None) × (new ≡ old))
-    (λ control. (event ≡ deliverable control) × (new ≡ with_control old number (delivered control)))
+    (λ control. (event ≡ deliverable control) × (new ≡ with_control old number (delivered reply control)))
 Step old (Snapshot name) (Shown plant) new =
     IfSome (station_named old name) (λ station. station.plant ≡ plant)
     × (is_some (station_named old name) ≡ true) × (new ≡ old)

@@ -51,8 +51,8 @@ in_doubt old changes (Ready files sequence) = before_or_after old.totals.next (R
 abbrev pub left_after : TotalsPart → List Change → Mode → List Standing
 left_after old changes now = settled now (in_doubt old changes old.totals.mode)
 
--- Changes are put on the disk as one group, or the disk fails in them; and what a crash leaves then. Without changes the
--- disk is left alone.
+-- Changes are put on the disk as one group, or the disk fails in them; and what a crash leaves then. Without changes
+-- the disk is left alone.
 pub record PutsChanges (Does : Answer → Totals → Type 0) (old : TotalsPart) (changes : List Change) (result : Answer)
     (new : TotalsPart) : Type 0 where
   pub does : Does result new.totals
@@ -67,7 +67,8 @@ put_at_once in_transaction change = if in_transaction then [] else change ∷ []
 -- A change is buffered, or refused by a number that has run out, or is done as one group, or the disk fails in it.
 abbrev pub ChangesTotals : TotalsPart → ℕ → Change → Answer → TotalsPart → Type 0
 ChangesTotals old number change result new =
-    PutsChanges (λ answer totals. DoesChange (Rises old.failures new.failures) old.totals number change answer totals) old
+    let fails = Rises old.failures new.failures in
+    PutsChanges (λ answer totals. DoesChange fails old.totals number change answer totals) old
     (put_at_once (in_transaction old.totals number) change) result new
 
 -- A commit is refused by a sequence that has run out, or what was buffered is done as one group, or the disk fails in
@@ -76,8 +77,8 @@ abbrev pub CommitsTotals : TotalsPart → ℕ → Answer → TotalsPart → Type
 CommitsTotals old number result new =
     let changes = changes_in (transaction_of old.totals number) in
     let ended = with_transaction old.totals number None in
-    PutsChanges (λ answer totals. DoesCommit (Rises old.failures new.failures) old.totals ended changes answer totals) old
-    changes result new
+    let fails = Rises old.failures new.failures in
+    PutsChanges (λ answer totals. DoesCommit fails old.totals ended changes answer totals) old changes result new
 
 -- what each call does with the totals, where nothing refuses it
 abbrev pub TotalsDo : FileCall → TotalsPart → ℕ → Answer → TotalsPart → Type 0
@@ -129,8 +130,8 @@ is_enabling property.DeviceEnabled (value.Truth is_enabled) = is_enabled
 is_enabling p v = false
 
 abbrev pub is_totals : Category → Bool
-is_totals category.CashDrawer = false
 is_totals category.HardTotals = true
+is_totals c = false
 
 -- an open control of Hard Totals, which is disabled, is to be enabled
 abbrev pub asks_recovery : Control → Property → Value → Bool

@@ -193,8 +193,6 @@ fn a_close_frees_files_and_drops_a_transaction(rt: HostRuntime) -> Result<(), Fa
         (0, Step::Commit, NOTHING),
         (0, Step::Read(1, 0, 1), Wanted::Bytes(&[7])),
         (0, Step::Begin, NOTHING),
-        (0, Step::Commit, NOTHING),
-        (0, Step::Begin, NOTHING),
         (0, Step::Close, NOTHING),
         (0, Step::Open(b"t1"), NOTHING),
         (
@@ -205,6 +203,27 @@ fn a_close_frees_files_and_drops_a_transaction(rt: HostRuntime) -> Result<(), Fa
     ];
     let (wrong, _) = play(alloc, formatted(alloc)?, &lines)?;
     assert_eq!(rt; wrong, None);
+    Ok(())
+}
+
+/// A transaction in which nothing is buffered, and the end of it.
+const EMPTY: [(usize, Step<'static>, Wanted<'static>); 5] = [
+    (0, Step::Make(Category::HardTotals), Wanted::Made(0)),
+    (0, Step::Open(b"t1"), NOTHING),
+    (0, Step::Enable(true), NOTHING),
+    (0, Step::Begin, NOTHING),
+    (0, Step::Commit, NOTHING),
+];
+
+#[test]
+fn an_empty_commit_makes_no_disk_call(rt: HostRuntime) -> Result<(), Fail> {
+    let alloc = rt.alloc();
+    let disk = FuseDisk::new(formatted(alloc)?, u64::MAX, 0);
+    let (_, before) = play(alloc, disk, &EMPTY[..4])?;
+    let disk = FuseDisk::new(formatted(alloc)?, u64::MAX, 0);
+    let (wrong, after) = play(alloc, disk, &EMPTY)?;
+    assert_eq!(rt; wrong, None);
+    assert_eq!(rt; after.calls(), before.calls());
     Ok(())
 }
 

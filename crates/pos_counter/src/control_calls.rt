@@ -11,9 +11,10 @@ ghost use Rattle.pos_counter.specs.Steps.{CallOf, Answered};
 
 use crate::devices::find_for;
 use crate::entry::Entry;
+use crate::totals_calls::is_totals;
 use pos_common::{Claims, Control};
 use pos_disk::Disk;
-use pos_service::{Answer, Category, Code, HasState, Value};
+use pos_service::{Answer, Code, HasState, Value};
 use pos_totals::Totals;
 
 /// `open`, of the first device with a name (common chapter).
@@ -51,16 +52,12 @@ pub(crate) fn close<D: Disk>(
     if device.is_none() {
         return Answer::Refused(Code::Closed, 0);
     }
-    match controls[number].category() {
-        Category::CashDrawer => {
-            claims.release(device, number);
-            controls[number].close()
-        }
-        Category::HardTotals => {
-            totals.drop_control(number);
-            controls[number].close()
-        }
+    if is_totals(&controls[number]) {
+        totals.drop_control(number);
+        return controls[number].close();
     }
+    claims.release(device, number);
+    controls[number].close()
 }
 
 /// `claim` (common chapter).
@@ -78,10 +75,10 @@ pub(crate) fn claim<D: Disk>(
         (CallOf number (call.Claim timeout)) (Answered result) controls.now claims.new states totals.new }
 {
     let control = &controls[number];
-    match control.category() {
-        Category::CashDrawer => claim_device(control, claims, number, timeout),
-        Category::HardTotals => claim_area(control, totals, number, timeout),
+    if is_totals(control) {
+        return claim_area(control, totals, number, timeout);
     }
+    claim_device(control, claims, number, timeout)
 }
 
 /// `claim` of a peripheral.
@@ -138,10 +135,10 @@ pub(crate) fn release<D: Disk>(
         (CallOf number call.Release) (Answered result) controls.new claims.new states totals.new }
 {
     let control = &mut controls[number];
-    match control.category() {
-        Category::CashDrawer => release_device(control, claims, number),
-        Category::HardTotals => release_area(control, totals, number),
+    if is_totals(control) {
+        return release_area(control, totals, number);
     }
+    release_device(control, claims, number)
 }
 
 /// `release` of a peripheral.

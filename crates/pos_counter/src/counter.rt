@@ -122,6 +122,7 @@ impl<D: Disk> Counter<D> {
         ensures sound { IsCounterSound ⟦<PeripheralBox as HasState>⟧ self.new }
     {
         device_calls::input(
+            self.desk.allocator(),
             &mut self.desk.controls,
             &self.entries,
             &mut self.boxes,

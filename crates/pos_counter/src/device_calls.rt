@@ -1,10 +1,12 @@
 //! The calls of an application, and what happens at devices.
-ghost use Rattle.std.specs.Prelude.{◌≡◌, ◌<◌, ◌≤◌, false, List, length, map};
-ghost use Rattle.pos_service.specs.Calls.{is_common};
-ghost use Rattle.pos_common.specs.Held.{Held};
+ghost use Rattle.std.specs.Prelude.{◌≡◌, ◌<◌, ◌≤◌, false, true, List, Some, length, map};
+ghost use Rattle.pos_service.specs.Calls.{is_common, serves};
+ghost use Rattle.pos_service.specs.Peripherals.{input_fits};
+ghost use Rattle.pos_service.specs.Stations.{station_of, CalledBy, IsOpen, StaysInService, TakenAt};
+ghost use Rattle.pos_common.specs.Held.{Held, controls_of};
 ghost use Rattle.pos_counter.specs.Parts.{ArePartsSound, Serves, ServesBeside, machine_of};
 ghost use Rattle.pos_counter.specs.Responses.{answered, taken_in, shown};
-ghost use Rattle.pos_counter.specs.Steps.{Step, CallOf, InputTo, Snapshot as SnapshotOf};
+ghost use Rattle.pos_counter.specs.Steps.{Step, CallOf, InputTo, Snapshot as SnapshotOf, DeviceDoes, device_rows};
 ghost use Rattle.pos_counter.specs.Machine.{Shared};
 
 use crate::control_calls::{claim, close, open, release};
@@ -12,13 +14,14 @@ use crate::devices::find;
 use crate::entry::Entry;
 use crate::faults::{InputFault, SnapshotFault};
 use crate::properties::{get, set};
-use crate::totals_calls::call_totals;
+use crate::totals_calls::{call_totals, is_totals};
 use pos_common::{Claims, Control};
 use pos_disk::Disk;
 use pos_service::{
-    Answer, Call, Category, Code, HasState, Input, NoMemory, PeripheralBox, Snapshot,
+    Answer, Call, Category, Code, HasState, Input, Kind, NoMemory, PeripheralBox, Snapshot,
 };
 use pos_totals::Totals;
+use std::alloc::Global;
 
 /// A call of an application on a control.
 pub(crate) fn call<D: Disk>(
@@ -44,8 +47,8 @@ pub(crate) fn call<D: Disk>(
         Call::Close => Ok(close(controls, claims, totals, number)),
         Call::Claim(timeout) => Ok(claim(controls, claims, totals, number, *timeout)),
         Call::Release => Ok(release(controls, claims, totals, number)),
-        Call::Set(property, value) => set(controls, totals, number, *property, value),
-        Call::Get(property) => Ok(get(controls, claims, entries, boxes, totals, number, *property)),
+        Call::Set(property, value) => set(controls, claims, totals, number, *property, value),
+        Call::Get(property) => get(controls, claims, entries, boxes, totals, number, *property),
         _ => call_category(controls, claims, entries, boxes, totals, number, call),
     }
 }
@@ -70,14 +73,42 @@ fn call_category<D: Disk>(
     let Some(place) = controls[number].device() else {
         return Ok(Answer::Refused(Code::Closed, 0));
     };
-    match controls[number].category() {
-        Category::CashDrawer => pos_drawer::call(controls, number, claims, &mut boxes[place], call),
-        Category::HardTotals => call_totals(controls, claims, totals, number, call),
+    if is_totals(&controls[number]) {
+        return call_totals(controls, claims, totals, number, call);
+    }
+    let category = controls[number].category();
+    call_device(controls, number, category, claims, &mut boxes[place], call)
+}
+
+/// A call of a category's own on an open control of a device with a peripheral, which is the device's.
+fn call_device(
+    controls: &mut [Control],
+    number: usize,
+    category: Category,
+    claims: &Claims,
+    peripheral: &mut PeripheralBox,
+    call: &Call,
+) -> Result<Answer, NoMemory>
+    requires open { IsOpen category (controls_of controls.old) number }
+    requires unparked { (⟦<PeripheralBox as HasState>⟧.state peripheral.old).is_parked ≡ false }
+    requires served { serves category (Some (⟦<PeripheralBox as HasState>⟧.state peripheral.old).kind) ≡ true }
+    ensures called { let state = ⟦<PeripheralBox as HasState>⟧.state in
+        CalledBy (device_rows category claims.now number) (DeviceDoes category) number call.now result
+        (controls_of controls.old) (station_of (state peripheral.old))
+        (controls_of controls.new) (station_of (state peripheral.new)) }
+    ensures in_service { let state = ⟦<PeripheralBox as HasState>⟧.state in
+        StaysInService (state peripheral.old) (state peripheral.new) }
+{
+    match category {
+        Category::CashDrawer => pos_drawer::call(controls, number, claims, peripheral, call),
+        Category::Scanner => pos_scanner::call(controls, number, claims, peripheral, call),
+        Category::HardTotals => unreachable!(),
     }
 }
 
 /// Something happens at the first device with a name.
 pub(crate) fn input(
+    alloc: Global,
     controls: &mut [Control],
     entries: &[Entry],
     boxes: &mut [PeripheralBox],
@@ -98,9 +129,32 @@ pub(crate) fn input(
     if !input.fits(boxes[place].kind()) {
         return Err(InputFault::WrongInput);
     }
-    match pos_drawer::take_input(controls, place, &mut boxes[place], input) {
+    match take_input(alloc, controls, place, &mut boxes[place], input) {
         Ok(()) => Ok(()),
-        Err(_) => Err(InputFault::NoMemory),
+        Err(NoMemory) => Err(InputFault::NoMemory),
+    }
+}
+
+/// Hands an input that fits to the peripheral of the device at a place. Want of memory changes nothing.
+fn take_input(
+    alloc: Global,
+    controls: &mut [Control],
+    place: usize,
+    peripheral: &mut PeripheralBox,
+    input: &Input,
+) -> Result<(), NoMemory>
+    requires unparked { (⟦<PeripheralBox as HasState>⟧.state peripheral.old).is_parked ≡ false }
+    requires fits { input_fits (⟦<PeripheralBox as HasState>⟧.state peripheral.old).kind input.now ≡ true }
+    ensures taken { let state = ⟦<PeripheralBox as HasState>⟧.state in
+        TakenAt input.now place result (controls_of controls.old) (station_of (state peripheral.old))
+        (controls_of controls.new) (station_of (state peripheral.new)) }
+    ensures in_service { let state = ⟦<PeripheralBox as HasState>⟧.state in
+        StaysInService (state peripheral.old) (state peripheral.new) }
+{
+    match peripheral.kind() {
+        Kind::Drawer => pos_drawer::take_input(controls, place, peripheral, input),
+        Kind::Scanner => pos_scanner::take_input(alloc, controls, place, peripheral, input),
+        Kind::Display { .. } | Kind::Printer { .. } => unreachable!(),
     }
 }
 

@@ -13,16 +13,21 @@ pub(crate) struct Entry {
     pub(crate) kind: Option<Kind>,
 }
 
-/// The built devices in order: the cash drawer `d1`, and the Hard Totals device `t1`.
+/// The built devices in order: the cash drawer `d1`, the scanner `s1`, and the Hard Totals device `t1`.
 pub(crate) fn build_entries(alloc: Global) -> Result<Vec<Entry>, NoMemory>
     ensures { IfOk result (λ entries. entries.items ≡ profile) }
 {
     let drawer = Bytes::from_slice(alloc, b"d1")?;
+    let scanner = Bytes::from_slice(alloc, b"s1")?;
     let totals = Bytes::from_slice(alloc, b"t1")?;
-    let mut entries = Vec::with_capacity(alloc, 2)?;
+    let mut entries = Vec::with_capacity(alloc, 3)?;
     entries.push_reserved(Entry {
         name: drawer,
         kind: Some(Kind::Drawer),
+    });
+    entries.push_reserved(Entry {
+        name: scanner,
+        kind: Some(Kind::Scanner),
     });
     entries.push_reserved(Entry {
         name: totals,

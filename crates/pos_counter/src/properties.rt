@@ -8,18 +8,19 @@ ghost use Rattle.pos_counter.specs.declared.entry.Entry.{Entry as OneEntry};
 ghost use Rattle.pos_counter.specs.Parts.{ArePartsSound, Serves, machine_with, part_of};
 ghost use Rattle.pos_counter.specs.Machine.{holder_in};
 ghost use Rattle.pos_counter.specs.Responses.{answered};
-ghost use Rattle.pos_counter.specs.Steps.{Step, CallOf, Answered, facts_of};
+ghost use Rattle.pos_counter.specs.Steps.{Step, CallOf, facts_of};
 ghost use Rattle.pos_counter.specs.Parts.{IsRecovering};
 ghost use Rattle.pos_counter.specs.Totals.{asks_recovery, file_facts};
 
 use crate::devices::signs_at;
 use crate::entry::Entry;
+use crate::totals_calls::is_totals;
 use pos_common::{Claims, Control};
 use pos_disk::Disk;
-use pos_service::{Answer, Category, Facts, FileFacts, HasState, NoMemory, Property, Value};
+use pos_service::{Answer, Facts, FileFacts, HasState, NoMemory, Property, Value};
 use pos_totals::Totals;
 
-/// Gets a property.
+/// Gets a property. Want of memory, for a copy of bytes, changes nothing.
 pub(crate) fn get<P: HasState, D: Disk>(
     controls: &[Control],
     claims: &Claims,
@@ -28,13 +29,13 @@ pub(crate) fn get<P: HasState, D: Disk>(
     totals: &Totals<D>,
     number: usize,
     property: Property,
-) -> Answer
+) -> Result<Answer, NoMemory>
     requires in_range { number < length controls.now }
     requires attached { length (map P.state peripherals.now) ≤ length entries.now }
     ensures { (left : List Standing) →
         let states = map P.state peripherals.now in
         let machine = machine_with controls.now claims.now entries.now states (part_of D.Disk totals.now left) in
-        Step machine (CallOf number (call.Get property)) (Answered result) machine }
+        Step machine (CallOf number (call.Get property)) (answered result) machine }
 {
     let control = &controls[number];
     let facts = find_facts(control, claims, entries, peripherals, totals, number);
@@ -80,10 +81,10 @@ fn is_holder(control: &Control, claims: &Claims, area: Option<usize>, number: us
 fn find_holder(control: &Control, claims: &Claims, area: Option<usize>) -> Option<usize>
     ensures { result ≡ holder_in control.now.control.category claims.now area control.now.control.device }
 {
-    match control.category() {
-        Category::CashDrawer => claims.holder(control.device()),
-        Category::HardTotals => area,
+    if is_totals(control) {
+        return area;
     }
+    claims.holder(control.device())
 }
 
 /// What is known of the files: nothing while the totals are off.
@@ -105,25 +106,28 @@ fn find_file_facts<D: Disk>(totals: &Totals<D>) -> Option<FileFacts>
 /// with E_FAILURE where it is damaged or fails, or where the handles don't suffice.
 pub(crate) fn set<D: Disk>(
     controls: &mut [Control],
+    claims: &Claims,
     totals: &mut Totals<D>,
     number: usize,
     property: Property,
     value: &Value,
 ) -> Result<Answer, NoMemory>
     requires { number < length controls.old }
-    ensures { (claims : List (Option ℕ)) (entries : List OneEntry) (states : List PeripheralState) →
-        ArePartsSound controls.old entries states → Serves D.Disk controls.old claims entries states totals.old
-        (CallOf number (call.Set property value.now)) (answered result) controls.new claims states totals.new }
+    ensures { (entries : List OneEntry) (states : List PeripheralState) → ArePartsSound controls.old entries states →
+        Serves D.Disk controls.old claims.now entries states totals.old
+        (CallOf number (call.Set property value.now)) (answered result) controls.new claims.now states totals.new }
 {
     if is_recovering(&controls[number], totals.is_ready(), property, value) {
-        return set_recovered(controls, totals, number, property, value);
+        return set_recovered(controls, claims, totals, number, property, value);
     }
-    Ok(controls[number].set(property, value))
+    let holder = find_holder(&controls[number], claims, totals.area());
+    Ok(controls[number].set(number, holder, property, value))
 }
 
 /// Enables a control of Hard Totals that are off, once they are recovered.
 fn set_recovered<D: Disk>(
     controls: &mut [Control],
+    claims: &Claims,
     totals: &mut Totals<D>,
     number: usize,
     property: Property,
@@ -131,12 +135,13 @@ fn set_recovered<D: Disk>(
 ) -> Result<Answer, NoMemory>
     requires in_range { number < length controls.old }
     requires recovers { IsRecovering controls.old number property value.now totals.old.totals.mode }
-    ensures { (claims : List (Option ℕ)) (entries : List OneEntry) (states : List PeripheralState) →
-        ArePartsSound controls.old entries states → Serves D.Disk controls.old claims entries states totals.old
-        (CallOf number (call.Set property value.now)) (answered result) controls.new claims states totals.new }
+    ensures { (entries : List OneEntry) (states : List PeripheralState) → ArePartsSound controls.old entries states →
+        Serves D.Disk controls.old claims.now entries states totals.old
+        (CallOf number (call.Set property value.now)) (answered result) controls.new claims.now states totals.new }
 {
+    let holder = find_holder(&controls[number], claims, totals.area());
     match totals.recover() {
-        Ok(()) => Ok(controls[number].set(property, value)),
+        Ok(()) => Ok(controls[number].set(number, holder, property, value)),
         Err(fault) => match fault.code() {
             Ok(code) => Ok(Answer::Refused(code, 0)),
             Err(NoMemory) => Err(NoMemory),
@@ -148,7 +153,7 @@ fn set_recovered<D: Disk>(
 fn is_recovering(control: &Control, is_ready: bool, property: Property, value: &Value) -> bool
     ensures { result ≡ (asks_recovery control.now.control property value.now && not is_ready) }
 {
-    control.category() == Category::HardTotals
+    is_totals(control)
         && control.device().is_some()
         && !control.is_enabled()
         && matches!(

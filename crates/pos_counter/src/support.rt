@@ -1,6 +1,6 @@
-//! A counter over one drawer, whose line fails as often as it is told, and a disk of the totals.
+//! A counter over a drawer, whose line fails as often as it is told, a scanner, and a disk of the totals.
 ghost use Rattle.std.specs.Prelude.{◌≡◌, false, IfOk};
-ghost use Rattle.pos_service.specs.Peripherals.{PeripheralState};
+ghost use Rattle.pos_service.specs.Peripherals.{PeripheralState, Asked, Fed};
 ghost use Rattle.pos_service.specs.declared.kind.Kind.TheVariants as kind;
 ghost use Rattle.pos_service.specs.declared.plant.Plant.TheVariants as plant;
 ghost use Rattle.pos_counter.specs.Counters.{IsCounterSound};
@@ -77,11 +77,94 @@ impl Peripheral for TestDrawer {
                 self.is_open = *is_open;
                 Ok(Taken::Quiet)
             }
+            _ => unreachable!(),
         }
     }
 
     fn snapshot(&self) -> Result<Snapshot, NoMemory> {
         Ok(Snapshot(Plant::Drawer(self.is_open)))
+    }
+
+    fn park(&mut self) {
+        self.is_parked = true;
+    }
+
+    fn is_parked(&self) -> bool {
+        self.is_parked
+    }
+}
+
+/// A scanner that finds no memory for the first inputs.
+#[derive(Drop)]
+pub struct TestScanner {
+    is_parked: bool,
+    wants_left: u32,
+    failures: u64,
+}
+
+impl TestScanner {
+    pub fn new(wants: u32) -> Self
+        ensures { result.is_parked ≡ false }
+    {
+        TestScanner {
+            is_parked: false,
+            wants_left: wants,
+            failures: 0,
+        }
+    }
+}
+
+impl Peripheral for TestScanner {
+    ghost state = { λ s.
+        let state : PeripheralState = record {
+          kind = kind.Scanner;
+          plant = plant.Scanner;
+          is_parked = s.is_parked;
+          failures = s.failures;
+        } in state };
+
+    fn kind(&self) -> Kind {
+        Kind::Scanner
+    }
+
+    fn signs(&self) -> Signs {
+        Signs {
+            drawer_open: false,
+            cover_open: false,
+            paper: PaperLevel::Good,
+        }
+    }
+
+    fn ask(&mut self, order: &Order) -> Result<Reply, NoMemory>
+        requires { (state self.old).is_parked ≡ false }
+        ensures { Asked (state self.old) order.now result (state self.new) }
+    {
+        match order {
+            Order::OpenDrawer => {
+                self.failures = self.failures.saturating_add(1);
+                Ok(Reply::LineFault)
+            }
+        }
+    }
+
+    fn feed(&mut self, input: &Input) -> Result<Taken, NoMemory> {
+        if self.wants_left > 0 {
+            self.wants_left -= 1;
+            return Err(NoMemory);
+        }
+        match input {
+            Input::Scan {
+                kind: _,
+                bytes: _,
+                label: _,
+            } => Ok(Taken::Scan),
+            Input::ScanFault => Ok(Taken::Fault),
+            _ => unreachable!(),
+        }
+    }
+
+    fn snapshot(&self) -> Result<Snapshot, NoMemory> {
+        Ok(Snapshot(Plant::Scanner))
     }
 
     fn park(&mut self) {
@@ -120,7 +203,8 @@ pub fn formatted(alloc: Global) -> Result<MemDisk, AllocError> {
     }
 }
 
-/// A counter over a closed drawer, whose line fails with so many orders, and a disk.
+/// A counter over a closed drawer, whose line fails with so many orders, a scanner that finds no memory for as many
+/// inputs, and a disk.
 pub fn counter_over<D: Disk + Drop>(
     alloc: Global,
     faults: u32,
@@ -129,9 +213,12 @@ pub fn counter_over<D: Disk + Drop>(
     ensures { IfOk result (λ counter. IsCounterSound ⟦<PeripheralBox as HasState>⟧ counter) }
 {
     let drawer = Box::new(alloc, TestDrawer::new(faults))?;
-    let mut boxes = Vec::with_capacity(alloc, 1)?;
+    let scanner = Box::new(alloc, TestScanner::new(faults))?;
+    let mut boxes = Vec::with_capacity(alloc, 2)?;
     let drawer: Box<dyn Peripheral> = drawer;
     boxes.push_reserved(PeripheralBox::new(drawer));
+    let scanner: Box<dyn Peripheral> = scanner;
+    boxes.push_reserved(PeripheralBox::new(scanner));
     match Counter::new(alloc, boxes, disk) {
         Ok(counter) => Ok(counter),
         Err((NoMemory, boxes, _)) => {

@@ -5,17 +5,25 @@ ghost use Rattle.pos_service.specs.Calls.{is_common};
 ghost use Rattle.pos_service.specs.Peripherals.{PeripheralState};
 ghost use Rattle.pos_service.specs.Stations.{IsOpen};
 ghost use Rattle.pos_service.specs.TotalsCalls.{asks_area, file_call};
-ghost use Rattle.pos_common.specs.Needs.{needs_no_other};
+ghost use Rattle.pos_common.specs.Needs.{needs_no_other, needs_holder};
 ghost use Rattle.pos_common.specs.Held.{controls_of};
 ghost use Rattle.pos_counter.specs.declared.entry.Entry.{Entry as OneEntry};
 ghost use Rattle.pos_counter.specs.Parts.{ArePartsSound, Serves, CallsFiles};
 ghost use Rattle.pos_counter.specs.Responses.{answered};
 ghost use Rattle.pos_counter.specs.Steps.{CallOf};
+ghost use Rattle.pos_counter.specs.Totals.{is_totals};
 
 use pos_common::{ClaimNeed, Claims, Control, Need};
 use pos_disk::Disk;
 use pos_service::{Answer, Call, Category, Code, NoMemory};
 use pos_totals::Totals;
+
+/// Whether a control is one of Hard Totals.
+pub(crate) fn is_totals(control: &Control) -> bool
+    ensures { result ≡ is_totals control.now.control.category }
+{
+    control.category() == Category::HardTotals
+}
 
 /// A call of the totals' own on a control of theirs that is open.
 ///
@@ -47,10 +55,11 @@ pub(crate) fn call_totals<D: Disk>(
     }
 }
 
-/// What a call asks of the claim of the area: that no other control has it, or nothing where it makes an arrangement for
-/// its own control.
+/// What a call asks of the claim of the area: that no other control has it, or nothing where it makes an arrangement
+/// for its own control.
 fn need_of(call: &Call) -> ClaimNeed
-    ensures { needs_no_other result ≡ asks_area (file_call call.now) }
+    ensures area { needs_no_other result ≡ asks_area (file_call call.now) }
+    ensures anyone { needs_holder result ≡ false }
 {
     match call {
         Call::Create(..)

@@ -5,7 +5,7 @@ ghost use Rattle.pos_service.specs.DrawerCalls.{drawer_rows, DrawerDoes};
 ghost use Rattle.pos_service.specs.Stations.{station_of, IsOpen, CalledBy, StaysInService};
 ghost use Rattle.pos_common.specs.Held.{controls_of};
 
-use pos_common::{ClaimNeed, Claims, Control, Need, hear_all, room_all};
+use pos_common::{ClaimNeed, Claims, Control, Need, SIGN_EVENTS, hear_all, room_all};
 use pos_service::{Answer, Call, Code, HasState, NoMemory, Order, PeripheralBox, Reply, Value};
 
 /// A call on a drawer's control that is open. The claims are those of all devices, the peripheral is that of the
@@ -66,7 +66,7 @@ fn open_drawer(
         return Ok(Answer::Refused(code, 0));
     }
     let place = controls[caller].place();
-    room_all(controls, place)?;
+    room_all(controls, place, SIGN_EVENTS)?;
     let old = drawer.signs();
     match drawer.ask(&Order::OpenDrawer)? {
         Reply::Done => {

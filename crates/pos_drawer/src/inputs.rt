@@ -4,7 +4,7 @@ ghost use Rattle.pos_service.specs.Peripherals.{input_fits};
 ghost use Rattle.pos_service.specs.Stations.{station_of, StaysInService, TakenAt};
 ghost use Rattle.pos_common.specs.Held.{controls_of};
 
-use pos_common::{Control, hear_all, room_all};
+use pos_common::{Control, SIGN_EVENTS, hear_all, room_all};
 use pos_service::{HasState, Input, NoMemory, PeripheralBox, Taken};
 
 /// Hands an input to the drawer at a place. Each control that has it open and enabled hears what has changed.
@@ -24,7 +24,7 @@ pub fn take_input(
     ensures in_service { let state = ⟦<PeripheralBox as HasState>⟧.state in
         StaysInService (state drawer.old) (state drawer.new) }
 {
-    room_all(controls, place)?;
+    room_all(controls, place, SIGN_EVENTS)?;
     let old = drawer.signs();
     match drawer.feed(input)? {
         Taken::Quiet => {

@@ -70,6 +70,7 @@ impl Peripheral for TestDrawer {
                 self.is_open = true;
                 Ok(Reply::Done)
             }
+            _ => unreachable!(),
         }
     }
 
@@ -79,6 +80,7 @@ impl Peripheral for TestDrawer {
                 self.is_open = *is_open;
                 Ok(Taken::Quiet)
             }
+            _ => unreachable!(),
         }
     }
 
@@ -102,7 +104,7 @@ fn control(alloc: Global, is_enabled: bool) -> Control
 {
     let mut control = Control::new(alloc, Category::CashDrawer);
     control.open(Finding::At(0));
-    control.set(Property::DeviceEnabled, &Value::Truth(is_enabled));
+    control.set(0, None, None, Property::DeviceEnabled, &Value::Truth(is_enabled));
     control
 }
 

@@ -1,7 +1,8 @@
 -- The calls and properties that every category has: the refusals of each in their order, and what it does.
-use Rattle.std.specs.Prelude.{ℕ, Bool, true, false, not, ◌&&◌, pos, List, [], ◌∷◌, Option, Some, None, is_some, is_none}
+use Rattle.std.specs.Prelude.{ℕ, nat_abs, Bool, true, false, not, ◌&&◌, pos, List, [], ◌∷◌, Option, Some, None, is_some, is_none}
 use Rattle.pos_service.specs.declared.category.Category.{Category}
 use Rattle.pos_service.specs.declared.category.Category.TheVariants as category
+use Rattle.pos_service.specs.declared.display_text.Cursor.{Cursor}
 use Rattle.pos_service.specs.declared.kind.Kind.{Kind}
 use Rattle.pos_service.specs.declared.kind.Kind.TheVariants as kind
 use Rattle.pos_service.specs.declared.property.Property.{Property}
@@ -15,7 +16,11 @@ use Rattle.pos_service.specs.declared.call.Call.TheVariants as call
 use Rattle.pos_service.specs.declared.code.Code.TheVariants as code
 use Rattle.pos_service.specs.declared.finding.Finding.{Finding}
 use Rattle.pos_service.specs.declared.finding.Finding.TheVariants as finding
-use Rattle.pos_service.specs.Controls.{Control, state_of}
+use Rattle.pos_service.specs.Claims.{is_exclusive, is_foreign}
+use Rattle.pos_service.specs.Controls.{Control, Reader, state_of}
+use Rattle.pos_service.specs.Events.{data_count}
+use Rattle.pos_service.specs.Kinds.{is_display, rows_of, columns_of}
+use Rattle.pos_service.specs.Numbers.{is_index, is_up_to}
 use Rattle.pos_service.specs.Refusals.{Row, when}
 
 -- controls of a category may open devices of its kind
@@ -25,6 +30,13 @@ serves category.CashDrawer (Some kind.Drawer) = true
 serves category.CashDrawer (Some kind.Scanner) = false
 serves category.CashDrawer (Some (kind.Display rows columns)) = false
 serves category.CashDrawer (Some (kind.Printer chars near)) = false
+serves category.Scanner None = false
+serves category.Scanner (Some kind.Drawer) = false
+serves category.Scanner (Some kind.Scanner) = true
+serves category.Scanner (Some (kind.Display rows columns)) = false
+serves category.Scanner (Some (kind.Printer chars near)) = false
+serves category.LineDisplay None = false
+serves category.LineDisplay (Some k) = is_display k
 serves category.HardTotals None = true
 serves category.HardTotals (Some k) = false
 
@@ -41,6 +53,12 @@ is_common asked = false
 -- the call is one of the category's own, besides those that every category has
 abbrev pub has_call : Category → Call → Bool
 has_call category.CashDrawer call.OpenDrawer = true
+has_call category.Scanner call.ClearInput = true
+has_call category.Scanner call.ClearInputProperties = true
+has_call category.LineDisplay (call.DisplayText text attribute) = true
+has_call category.LineDisplay (call.DisplayTextAt row column text attribute) = true
+has_call category.LineDisplay call.ClearText = true
+has_call category.LineDisplay (call.ScrollText direction units) = true
 has_call category.HardTotals (call.Create name size detection) = true
 has_call category.HardTotals (call.Delete name) = true
 has_call category.HardTotals (call.Find name) = true
@@ -59,6 +77,10 @@ has_call c asked = false
 -- the calls of a category's own that may want memory
 abbrev pub takes_memory : Call → Bool
 takes_memory call.OpenDrawer = true
+takes_memory (call.DisplayText text attribute) = true
+takes_memory (call.DisplayTextAt row column text attribute) = true
+takes_memory call.ClearText = true
+takes_memory (call.ScrollText direction units) = true
 takes_memory (call.Create name size detection) = true
 takes_memory (call.Delete name) = true
 takes_memory (call.FindByIndex index) = true
@@ -74,8 +96,21 @@ abbrev pub has_property : Category → Property → Bool
 has_property c property.State = true
 has_property c property.Claimed = true
 has_property c property.DeviceEnabled = true
+has_property c property.FreezeEvents = true
 has_property category.CashDrawer property.CapStatus = true
 has_property category.CashDrawer property.DrawerOpened = true
+has_property category.Scanner property.DataEventEnabled = true
+has_property category.Scanner property.AutoDisable = true
+has_property category.Scanner property.DataCount = true
+has_property category.Scanner property.DecodeData = true
+has_property category.Scanner property.ScanData = true
+has_property category.Scanner property.ScanDataLabel = true
+has_property category.Scanner property.ScanDataType = true
+has_property category.LineDisplay property.Rows = true
+has_property category.LineDisplay property.Columns = true
+has_property category.LineDisplay property.CursorRow = true
+has_property category.LineDisplay property.CursorColumn = true
+has_property category.LineDisplay property.CursorUpdate = true
 has_property category.HardTotals property.TotalsSize = true
 has_property category.HardTotals property.FreeData = true
 has_property category.HardTotals property.NumberOfFiles = true
@@ -120,28 +155,75 @@ close_rows control = when (is_none control.device) code.Closed ∷ []
 -- the property may be set to some values
 abbrev pub is_settable : Property → Bool
 is_settable property.DeviceEnabled = true
+is_settable property.FreezeEvents = true
+is_settable property.DataEventEnabled = true
+is_settable property.AutoDisable = true
+is_settable property.DecodeData = true
+is_settable property.CursorRow = true
+is_settable property.CursorColumn = true
+is_settable property.CursorUpdate = true
 is_settable p = false
 
--- the property may be set to this value, by its type and range
-abbrev pub takes : Property → Value → Bool
-takes property.DeviceEnabled (value.Truth is_enabled) = true
-takes p v = false
+-- The property may be set to this value, by its type, and by its range at a device of this kind: CursorRow is one of the
+-- display's rows, CursorColumn one of its columns or the place right of them.
+abbrev pub takes : Option Kind → Property → Value → Bool
+takes at property.DeviceEnabled (value.Truth is_true) = true
+takes at property.FreezeEvents (value.Truth is_true) = true
+takes at property.DataEventEnabled (value.Truth is_true) = true
+takes at property.AutoDisable (value.Truth is_true) = true
+takes at property.DecodeData (value.Truth is_true) = true
+takes at property.CursorRow (value.Number n) = is_index (rows_of at) n
+takes at property.CursorColumn (value.Number n) = is_up_to (columns_of at) n
+takes at property.CursorUpdate (value.Truth is_true) = true
+takes at p v = false
 
--- a property of another category can't be set either
-abbrev pub set_rows : Control → Property → Value → List Row
-set_rows control p v =
+-- the property may be set by the control alone that holds its device
+abbrev pub needs_claim : Category → Property → Bool
+needs_claim category property.DeviceEnabled = is_exclusive category
+needs_claim category p = false
+
+-- A property is set by the control with a number, whose device has this holder and is of this kind: a property of another
+-- category can't be set either.
+abbrev pub set_rows : ℕ → Option ℕ → Option Kind → Control → Property → Value → List Row
+set_rows number holder at control p v =
     when (is_none control.device) code.Closed
     ∷ when (not (has_property control.category p && is_settable p)) code.Illegal
-    ∷ when (not (takes p v)) code.Illegal ∷ []
+    ∷ when (needs_claim control.category p && is_foreign number holder) code.Claimed
+    ∷ when (needs_claim control.category p && is_none holder) code.NotClaimed
+    ∷ when (not (takes at p v)) code.Illegal ∷ []
 
 -- DeviceEnabled, once the property is set
 abbrev pub enabled_after : Bool → Property → Value → Bool
 enabled_after was property.DeviceEnabled (value.Truth is_enabled) = is_enabled
 enabled_after was p v = was
 
+-- FreezeEvents, once the property is set
+abbrev pub frozen_after : Bool → Property → Value → Bool
+frozen_after was property.FreezeEvents (value.Truth is_frozen) = is_frozen
+frozen_after was p v = was
+
+-- what is kept of input, once the property is set
+abbrev pub reader_after : Reader → Property → Value → Reader
+reader_after was property.DataEventEnabled (value.Truth is_true) = record was { data_enabled = is_true }
+reader_after was property.AutoDisable (value.Truth is_true) = record was { auto_disable = is_true }
+reader_after was property.DecodeData (value.Truth is_true) = record was { decode = is_true }
+reader_after was p v = was
+
+-- the cursor, once the property is set
+abbrev pub cursor_after : Cursor → Property → Value → Cursor
+cursor_after was property.CursorRow (value.Number n) = record was { place = record was.place { row = nat_abs n } }
+cursor_after was property.CursorColumn (value.Number n) = record was { place = record was.place { column = nat_abs n } }
+cursor_after was property.CursorUpdate (value.Truth is_true) = record was { update = is_true }
+cursor_after was p v = was
+
 -- the control with the property set
 abbrev pub after_set : Control → Property → Value → Control
-after_set control p v = record control { enabled = enabled_after control.enabled p v }
+after_set control p v = record control {
+  enabled = enabled_after control.enabled p v;
+  frozen = frozen_after control.frozen p v;
+  reader = reader_after control.reader p v;
+  cursor = cursor_after control.cursor p v;
+}
 
 -- the property can be read of an open control alone
 abbrev pub needs_open : Property → Bool
@@ -161,6 +243,12 @@ needs_files property.FreeData = true
 needs_files property.NumberOfFiles = true
 needs_files p = false
 
+-- the value of the property is a copy of bytes, for which memory may be wanted
+abbrev pub is_of_bytes : Property → Bool
+is_of_bytes property.ScanData = true
+is_of_bytes property.ScanDataLabel = true
+is_of_bytes p = false
+
 abbrev pub get_rows : Control → Facts → Property → List Row
 get_rows control facts p =
     when (needs_open p && is_none control.device) code.Closed
@@ -178,8 +266,21 @@ abbrev pub property_of : Control → Facts → Property → Value
 property_of control facts property.State = value.Number (pos (state_of control))
 property_of control facts property.Claimed = value.Truth facts.is_claimed
 property_of control facts property.DeviceEnabled = value.Truth control.enabled
+property_of control facts property.FreezeEvents = value.Truth control.frozen
+property_of control facts property.DataEventEnabled = value.Truth control.reader.data_enabled
+property_of control facts property.AutoDisable = value.Truth control.reader.auto_disable
+property_of control facts property.DataCount = value.Number (pos (data_count control.list))
+property_of control facts property.DecodeData = value.Truth control.reader.decode
+property_of control facts property.ScanData = value.Bytes control.reader.shown.bytes
+property_of control facts property.ScanDataLabel = value.Bytes control.reader.shown.label
+property_of control facts property.ScanDataType = value.Number (pos control.reader.shown.kind)
 property_of control facts property.CapStatus = value.Truth true
 property_of control facts property.DrawerOpened = value.Truth facts.signs.drawer_open
+property_of control facts property.Rows = value.Number (pos (rows_of facts.kind))
+property_of control facts property.Columns = value.Number (pos (columns_of facts.kind))
+property_of control facts property.CursorRow = value.Number (pos control.cursor.place.row)
+property_of control facts property.CursorColumn = value.Number (pos control.cursor.place.column)
+property_of control facts property.CursorUpdate = value.Truth control.cursor.update
 property_of control facts property.TotalsSize = value.Number (pos facts.totals_size)
 property_of control facts property.FreeData = told_of_files facts.files (λ files. files.free)
 property_of control facts property.NumberOfFiles = told_of_files facts.files (λ files. files.count)

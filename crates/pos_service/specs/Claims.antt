@@ -3,8 +3,15 @@ use Rattle.std.specs.Prelude.{ℕ, ℤ, pos, negsuc, Bool, true, false, not, nat
 use Rattle.pos_service.specs.declared.category.Category.{Category}
 use Rattle.pos_service.specs.declared.category.Category.TheVariants as category
 use Rattle.pos_service.specs.declared.code.Code.TheVariants as code
-use Rattle.pos_service.specs.Controls.{Control}
+use Rattle.pos_service.specs.Controls.{Control, stopped}
 use Rattle.pos_service.specs.Refusals.{Row, when}
+
+-- exclusive-use devices: one is enabled for the control alone that holds it. The others are sharable.
+abbrev pub is_exclusive : Category → Bool
+is_exclusive category.CashDrawer = false
+is_exclusive category.Scanner = true
+is_exclusive category.LineDisplay = true
+is_exclusive category.HardTotals = false
 
 -- The table of claims has the control that holds each device, by the devices' places; None is nobody.
 
@@ -22,6 +29,12 @@ is_own number (Some holder) = nat_eq holder number
 abbrev pub is_foreign : ℕ → Option ℕ → Bool
 is_foreign number None = false
 is_foreign number (Some holder) = not (nat_eq holder number)
+
+-- what is asked of the control with a number, where it has to hold its device: another control holds it, or nobody does
+abbrev pub held_rows : ℕ → Option ℕ → List Row
+held_rows number holder =
+    when (is_foreign number holder) code.Claimed
+    ∷ when (is_none holder) code.NotClaimed ∷ []
 
 -- the table, once the control with a number has claimed its device
 abbrev pub claimed_by : List (Option ℕ) → Option ℕ → ℕ → List (Option ℕ)
@@ -52,8 +65,8 @@ release_rows control is_held =
     when (is_none control.device) code.Closed
     ∷ when (not is_held) code.Illegal ∷ []
 
--- A control of each category, once it has released its device. A release of a sharable device changes the table alone:
--- the control is as it was, enabled or not, with its events.
+-- A control of a category, once it has released its device. A release of a sharable device changes the table alone: the
+-- control is as it was, enabled or not, with its events. One of an exclusive-use device disables it and deletes its
+-- events.
 abbrev pub after_release : Category → Control → Control
-after_release category.CashDrawer control = control
-after_release category.HardTotals control = control
+after_release category control = if is_exclusive category then stopped control else control

@@ -1,57 +1,144 @@
--- A control: its properties and its list of events (common chapter).
-use Rattle.std.specs.Prelude.{ℕ, Bool, false, List, [], ◌++◌, Option, Some, None, is_none, drop, map, nat_eq, ◌&&◌, slice_get, if◌then◌else◌}
+-- A control: its properties and its list of events (common chapter, for its reader chapter Scanner, and for its
+-- cursor chapter Line Display).
+use Rattle.std.specs.Prelude.{ℕ, Bool, false, not, ◌&&◌, ◌||◌, List, [], Option, Some, None, is_none, option_map, map, nat_eq, if◌then◌else◌}
 use Rattle.pos_service.specs.declared.category.Category.{Category}
+use Rattle.pos_service.specs.declared.display_text.Cursor.{Cursor}
+use Rattle.pos_service.specs.declared.display_text.Place.{Place}
+use Rattle.pos_service.specs.declared.event.ErrorReply.{ErrorReply}
 use Rattle.pos_service.specs.declared.event.Event.{Event}
+use Rattle.pos_service.specs.declared.scan.Scan.{Scan}
+use Rattle.pos_service.specs.Displays.{default_cursor}
+use Rattle.pos_service.specs.Events.{EventList, Enqueued, Data, no_events, event_of, scan_of, enqueued, all_enqueued, input_failed}
+use Rattle.pos_service.specs.Events.{deliverable as deliverable_in, delivered as delivered_in}
+
+-- what a control keeps of input: DataEventEnabled, AutoDisable, DecodeData, and the scan that ScanData, ScanDataLabel
+-- and ScanDataType show
+pub record Reader : Type 0 where
+  pub data_enabled : Bool
+  pub auto_disable : Bool
+  pub decode : Bool
+  pub shown : Scan
+
+-- no scan is shown: no data, no label, and the type 0
+abbrev pub no_scan : Scan
+no_scan = record { kind = 0; bytes = []; label = [] }
+
+-- the defaults of these properties
+abbrev pub default_reader : Reader
+default_reader = record { data_enabled = false; auto_disable = false; decode = false; shown = no_scan }
 
 -- a control: closed where it has no device, which is named by its place in the profile
 pub record Control : Type 0 where
   pub category : Category
   pub device : Option ℕ
   pub enabled : Bool
-  pub events : List Event
+  pub frozen : Bool
+  pub reader : Reader
+  pub cursor : Cursor
+  pub list : EventList
 
 -- a control as it is made
 abbrev pub new_control : Category → Control
-new_control category = record { category = category; device = None; enabled = false; events = [] }
+new_control category = record {
+  category = category;
+  device = None;
+  enabled = false;
+  frozen = false;
+  reader = default_reader;
+  cursor = default_cursor;
+  list = no_events;
+}
 
 -- a control that has opened the device at a place: its properties have their defaults
 abbrev pub opened : Control → Option ℕ → Control
-opened control place = record control { device = place; enabled = false; events = [] }
+opened control place = record (new_control control.category) { device = place }
 
--- a control that was closed: its device is disabled for it, and its events are deleted
+-- a control whose device is disabled, whose events are deleted, and whose input error state has ended; its other
+-- properties stay
+abbrev pub stopped : Control → Control
+stopped control = record control { enabled = false; list = no_events }
+
+-- a control that was closed
 abbrev pub closed : Control → Control
-closed control = record control { device = None; enabled = false; events = [] }
+closed control = record (stopped control) { device = None }
 
--- S_CLOSED or S_IDLE
+-- the cursor at another place
+abbrev pub moved_to : Place → Cursor → Cursor
+moved_to place cursor = record cursor { place = place }
+
+-- a control whose cursor is at another place
+abbrev pub with_place : Place → Control → Control
+with_place place control = record control { cursor = moved_to place control.cursor }
+
+-- S_CLOSED, S_ERROR or S_IDLE
 abbrev pub state_of : Control → ℕ
-state_of control = if is_none control.device then 1 else 2
+state_of control = if is_none control.device then 1 else (if control.list.in_error then 4 else 2)
 
 -- a control's device is the one at this place
 abbrev pub is_at : Option ℕ → ℕ → Bool
 is_at None place = false
 is_at (Some at) place = nat_eq at place
 
--- the control has the device at this place open and enabled
+-- a control has the device at this place open and enabled
 abbrev pub listens : ℕ → Control → Bool
 listens place control = control.enabled && is_at control.device place
 
--- the control with a device's events at the end of its list, where it has the device open and enabled
-abbrev pub heard : ℕ → List Event → Control → Control
-heard place events control =
-    if listens place control then record control { events = control.events ++ events } else control
+-- the control as something at the device changes it, where it has the device open and enabled
+abbrev pub if_listening : ℕ → (Control → Control) → Control → Control
+if_listening place change control = if listens place control then change control else control
 
--- each control that has the device open and enabled gets its events, and no other
-abbrev pub all_heard : ℕ → List Event → List Control → List Control
-all_heard place events controls = map (heard place events) controls
+-- something at the device changes each control that has it open and enabled, and no other
+abbrev pub all_listening : ℕ → (Control → Control) → List Control → List Control
+all_listening place change controls = map (if_listening place change) controls
 
--- no event may be delivered: the control is closed
+-- a control with more events at the end of its list
+abbrev pub heard : List Enqueued → Control → Control
+heard events control = record control { list = all_enqueued events control.list }
+
+-- a control for which a scan has come: it gets a DataEvent and is disabled under AutoDisable, but not in the input
+-- error state, in which the scan is ignored
+abbrev pub read : Scan → Control → Control
+read scan control =
+    if control.list.in_error then control
+    else record control {
+      enabled = control.enabled && not control.reader.auto_disable;
+      list = enqueued (Data scan) control.list;
+    }
+
+-- a control whose input has failed
+abbrev pub failed : Control → Control
+failed control = record control { list = input_failed control.list }
+
+-- no event may be delivered: the control is closed, or its events are frozen (FreezeEvents)
 abbrev pub is_held_back : Control → Bool
-is_held_back control = is_none control.device
+is_held_back control = is_none control.device || control.frozen
 
--- the event that may be delivered now: the first
+-- the event that may be delivered now
+abbrev pub next_event : Control → Option Enqueued
+next_event control = deliverable_in control.reader.data_enabled (is_held_back control) control.list
+
+-- that event as the application gets it
 abbrev pub deliverable : Control → Option Event
-deliverable control = if is_held_back control then None else slice_get control.events 0
+deliverable control = option_map event_of (next_event control)
 
--- the control without that event
-abbrev pub delivered : Control → Control
-delivered control = if is_held_back control then control else record control { events = drop 1 control.events }
+-- the scan of an event, if it is a DataEvent
+abbrev pub scan_in : Option Enqueued → Option Scan
+scan_in None = None
+scan_in (Some event) = scan_of event
+
+-- a scan as its properties show it: label and type are told by DecodeData
+abbrev pub as_shown : Bool → Scan → Scan
+as_shown decode scan = if decode then scan else record scan { kind = 0; label = [] }
+
+-- what is kept of input, once a DataEvent with this scan has been delivered: the scan is shown as DecodeData is now,
+-- and DataEventEnabled is false; another event changes nothing of it
+abbrev pub after_scan : Option Scan → Reader → Reader
+after_scan None reader = reader
+after_scan (Some scan) reader = record reader { data_enabled = false; shown = as_shown reader.decode scan }
+
+-- the control, once that event has been delivered and the application has replied
+abbrev pub delivered : ErrorReply → Control → Control
+delivered reply control = record control {
+  reader = after_scan (scan_in (next_event control)) control.reader;
+  list = delivered_in control.reader.data_enabled (is_held_back control) reply control.list;
+}

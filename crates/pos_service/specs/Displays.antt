@@ -1,5 +1,5 @@
 -- What a line display shows (UnifiedPOS 1.16, chapter Line Display).
-use Rattle.std.specs.Prelude.{◌≡◌, ℕ, ◌+◌, ◌-◌, ◌*◌, ◌/◌, ◌%◌, ◌<◌, Bool, ◌&&◌, ◌||◌, List, [], ◌∷◌, ◌++◌, length, replicate, Option, Some, None, unwrap_or, get_or, nat_le, nat_lt, ◌==◌, if◌then◌else◌}
+use Rattle.std.specs.Prelude.{◌≡◌, ℕ, ℤ, pos, negsuc, true, ◌+◌, ◌-◌, ◌*◌, ◌/◌, ◌%◌, ◌<◌, Bool, ◌&&◌, ◌||◌, List, [], ◌∷◌, ◌++◌, length, replicate, Option, Some, None, unwrap_or, get_or, nat_le, nat_lt, ◌==◌, if◌then◌else◌}
 use Rattle.std.specs.Option.{option_or, option_map}
 use Rattle.std.specs.List.{list_all}
 use Rattle.pos_service.specs.declared.display_text.Attribute.{Attribute}
@@ -7,6 +7,7 @@ use Rattle.pos_service.specs.declared.display_text.Attribute.TheVariants as attr
 use Rattle.pos_service.specs.declared.display_text.Direction.{Direction}
 use Rattle.pos_service.specs.declared.display_text.Direction.TheVariants as direction
 use Rattle.pos_service.specs.declared.display_text.DisplayCell.{DisplayCell}
+use Rattle.pos_service.specs.declared.display_text.Cursor.{Cursor}
 use Rattle.pos_service.specs.declared.display_text.Place.{Place}
 
 -- the number of an attribute in the standard
@@ -22,6 +23,40 @@ direction_number_of direction.Up = 1
 direction_number_of direction.Down = 2
 direction_number_of direction.Left = 3
 direction_number_of direction.Right = 4
+
+-- the attribute with a number
+abbrev pub attribute_numbered : ℕ → Option Attribute
+attribute_numbered n =
+    if n == 0 then Some attribute.Normal
+    else (if n == 1 then Some attribute.Blink
+    else (if n == 2 then Some attribute.Reverse
+    else (if n == 3 then Some attribute.BlinkReverse else None)))
+
+-- the attribute that an argument names
+abbrev pub attribute_of : ℤ → Option Attribute
+attribute_of (pos n) = attribute_numbered n
+attribute_of (negsuc n) = None
+
+-- the direction with a number
+abbrev pub direction_numbered : ℕ → Option Direction
+direction_numbered n =
+    if n == 1 then Some direction.Up
+    else (if n == 2 then Some direction.Down
+    else (if n == 3 then Some direction.Left
+    else (if n == 4 then Some direction.Right else None)))
+
+-- the direction that an argument names
+abbrev pub direction_of : ℤ → Option Direction
+direction_of (pos n) = direction_numbered n
+direction_of (negsuc n) = None
+
+-- the first place of a display
+abbrev pub origin : Place
+origin = record { row = 0; column = 0 }
+
+-- the defaults of CursorRow, CursorColumn and CursorUpdate
+abbrev pub default_cursor : Cursor
+default_cursor = record { place = origin; update = true }
 
 -- a display: its size, and its cells row by row
 pub record Display : Type 0 where
@@ -183,3 +218,9 @@ pub record Scrolls (old : Display) (direction : Direction) (units : ℕ) (new : 
   pub count : length new.cells ≡ old.rows * old.columns
   pub cells : (row column : ℕ) → row < old.rows → column < old.columns →
       cell_at old.columns new.cells row column ≡ scrolled_at old direction units row column
+
+-- Where a text that began at a place leaves the cursor: at the place that the text has reached, where CursorUpdate is
+-- true, and else where it began.
+abbrev pub place_left : ℕ → ℕ → Bool → Place → List ℕ → Place
+place_left rows columns update start bytes =
+    if update then place_in_window rows (text_from columns start bytes).place else start

@@ -9,7 +9,7 @@ use Rattle.pos_service.specs.declared.call.Call.TheVariants as call
 use Rattle.pos_service.specs.declared.order.Order.TheVariants as order
 use Rattle.pos_service.specs.declared.order.Reply.TheVariants as reply
 use Rattle.pos_service.specs.Claims.{holder_at, is_foreign}
-use Rattle.pos_service.specs.Controls.{Control, all_heard}
+use Rattle.pos_service.specs.Controls.{Control, heard, all_listening}
 use Rattle.pos_service.specs.Peripherals.{Performs, Rose, signs_of}
 use Rattle.pos_service.specs.Refusals.{Row, when}
 use Rattle.pos_service.specs.Stations.{Station, Effect}
@@ -28,7 +28,8 @@ pub record DrawerOpened (place : ℕ) (old : List Control) (before : Station) (n
   pub plant : Performs before.kind order.OpenDrawer before.plant reply.Done after.plant
   pub station : after ≡ record before { plant = after.plant }
   pub events : new ≡
-      all_heard place (status_events (signs_of before.kind before.plant) (signs_of after.kind after.plant)) old
+      (let statuses = status_events (signs_of before.kind before.plant) (signs_of after.kind after.plant) in
+      all_listening place (heard statuses) old)
 
 -- The line to the device fails, and nothing else changes.
 pub record LineFailed (old : List Control) (before : Station) (new : List Control) (after : Station) : Type 0 where
@@ -42,7 +43,7 @@ DrawerOpens place result old before new after =
     ((result ≡ answer.Done value.Empty) × DrawerOpened place old before new after)
     ⊎ ((result ≡ answer.Refused code.Failure 0) × LineFailed old before new after)
 
--- what each call does with the drawer at a place, where nothing refuses it
-abbrev pub DrawerDoes : Call → ℕ → Answer → Effect
-DrawerDoes call.OpenDrawer place result old before new after = DrawerOpens place result old before new after
-DrawerDoes asked place result old before new after = ⊥
+-- what each call of the control with a number does with the drawer at a place, where nothing refuses it
+abbrev pub DrawerDoes : Call → ℕ → ℕ → Answer → Effect
+DrawerDoes call.OpenDrawer number place result old before new after = DrawerOpens place result old before new after
+DrawerDoes asked number place result old before new after = ⊥

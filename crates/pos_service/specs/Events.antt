@@ -71,6 +71,10 @@ is_output_error (Complete id) = false
 abbrev pub enqueued : Enqueued → EventList → EventList
 enqueued event list = record list { events = list.events ++ event ∷ [] }
 
+-- with more events behind the others
+abbrev pub all_enqueued : List Enqueued → EventList → EventList
+all_enqueued events list = record list { events = list.events ++ events }
+
 -- a scan has come: in the input error state it is ignored
 abbrev pub scanned : Scan → EventList → EventList
 scanned scan list = if list.in_error then list else enqueued (Data scan) list

@@ -10,6 +10,7 @@ use Rattle.pos_service.specs.declared.code.Code.{Code}
 use Rattle.pos_service.specs.declared.code.Code.TheVariants as code
 use Rattle.pos_service.specs.declared.memory.NoMemory.{NoMemory}
 use Rattle.pos_service.specs.Claims.{is_own, is_foreign, is_timeout}
+pub use Rattle.pos_service.specs.Numbers.{is_natural, is_up_to}
 use Rattle.pos_service.specs.Refusals.{Row, when, first_refusal, Decided}
 
 -- How much totals may hold, which goes by the layout of their disk: the most bytes of all files in sum (TotalsSize),
@@ -86,16 +87,6 @@ is_name_byte byte = nat_le 0x20 byte && nat_le byte 0x7f
 -- a good name: 1 to 10 bytes of 0x20 to 0x7F
 abbrev pub is_name : List ℕ → Bool
 is_name name = nat_le 1 (length name) && (nat_le (length name) 10 && list_all is_name_byte name)
-
--- a number from 0 to a limit
-abbrev pub is_up_to : ℕ → ℤ → Bool
-is_up_to limit (pos n) = nat_le n limit
-is_up_to limit (negsuc n) = false
-
--- a number that isn't below 0
-abbrev pub is_natural : ℤ → Bool
-is_natural (pos n) = true
-is_natural (negsuc n) = false
 
 -- a range of bytes within a size: neither the offset nor the count is below 0
 abbrev pub is_range : ℕ → ℤ → ℤ → Bool

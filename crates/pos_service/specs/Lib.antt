@@ -1,4 +1,6 @@
 pub mod Codes
+pub mod Numbers
+pub mod Kinds
 pub mod Displays
 pub mod Receipts
 pub mod Peripherals
@@ -11,5 +13,7 @@ pub mod Calls
 pub mod Claims
 pub mod Stations
 pub mod DrawerCalls
+pub mod ScannerCalls
+pub mod DisplayCalls
 pub mod HardTotals
 pub mod TotalsCalls

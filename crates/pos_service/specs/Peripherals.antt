@@ -1,5 +1,8 @@
 -- What contracts see of a peripheral, and what its calls do.
-use Rattle.std.specs.Prelude.{◌≡◌, ℕ, ◌-◌, ◌^◌, ◌<◌, ◌≤◌, ◌⊎◌, Bool, true, false, ⊤, Result, MatchResult}
+use Rattle.std.specs.Prelude.{◌≡◌, ℕ, ◌-◌, ◌*◌, ◌^◌, ◌<◌, ◌≤◌, ◌⊎◌, nat_le, Bool, true, false, ◌&&◌, Option, Some, List, length, ⊤, Result, MatchResult}
+use Rattle.pos_service.specs.declared.display_text.Attribute.{Attribute}
+use Rattle.pos_service.specs.declared.display_text.Direction.{Direction}
+use Rattle.pos_service.specs.declared.display_text.Place.{Place}
 use Rattle.pos_service.specs.declared.kind.Kind.{Kind}
 use Rattle.pos_service.specs.declared.kind.Kind.TheVariants as kind
 use Rattle.pos_service.specs.declared.plant.Plant.{Plant}
@@ -15,6 +18,8 @@ use Rattle.pos_service.specs.declared.input.Taken.TheVariants as taken
 use Rattle.pos_service.specs.declared.signs.PaperLevel.TheVariants as paper
 use Rattle.pos_service.specs.declared.signs.Signs.{Signs}
 use Rattle.pos_service.specs.declared.memory.NoMemory.{NoMemory}
+use Rattle.pos_service.specs.Displays.{Display, ShowsText, Scrolls, blank_display, is_cursor_place, is_display_text, most_units}
+use Rattle.pos_service.specs.Kinds.{is_drawer, is_display, rows_of, columns_of}
 
 -- a peripheral: what it is, what it is physically, whether it is out of service, and how often its line has failed
 pub record PeripheralState : Type 0 where
@@ -30,49 +35,92 @@ IsInRange kind.Scanner = ⊤
 IsInRange (kind.Display rows columns) = (1 ≤ rows) × (rows ≤ 8) × (1 ≤ columns) × (columns ≤ 80)
 IsInRange (kind.Printer chars near) = (1 ≤ chars) × (chars ≤ 255) × (near ≤ 100000)
 
+-- a display has so many rows and columns, and a cell for each place
+pub record HasCells (rows columns : ℕ) (display : Display) : Type 0 where
+  pub height : display.rows ≡ rows
+  pub width : display.columns ≡ columns
+  pub count : length display.cells ≡ display.rows * display.columns
+
 -- a kind's plant
 abbrev pub IsPlantOf : Kind → Plant → Type 0
 IsPlantOf kind.Drawer (plant.Drawer is_open) = ⊤
-IsPlantOf kind.Scanner (plant.Drawer is_open) = ⊥
-IsPlantOf (kind.Display rows columns) (plant.Drawer is_open) = ⊥
-IsPlantOf (kind.Printer chars near) (plant.Drawer is_open) = ⊥
+IsPlantOf kind.Scanner plant.Scanner = ⊤
+IsPlantOf (kind.Display rows columns) (plant.Display shown) = HasCells rows columns shown
+IsPlantOf is of_another = ⊥
 
 -- what a peripheral of this kind shows of its plant
 abbrev pub signs_of : Kind → Plant → Signs
 signs_of is (plant.Drawer is_open) = record { drawer_open = is_open; cover_open = false; paper = paper.Good }
+signs_of is plant.Scanner = record { drawer_open = false; cover_open = false; paper = paper.Good }
+signs_of is (plant.Display shown) = record { drawer_open = false; cover_open = false; paper = paper.Good }
 
--- a peripheral of this kind takes the order
+-- the place at a row and a column
+abbrev pub place_at : ℕ → ℕ → Place
+place_at row column = record { row = row; column = column }
+
+-- A peripheral of this kind takes the order: drawers open, displays show a text that they take from one of their places
+-- on, are cleared, and scroll by at most as many units as they have rows or columns.
 abbrev pub order_fits : Kind → Order → Bool
-order_fits kind.Drawer order.OpenDrawer = true
-order_fits kind.Scanner order.OpenDrawer = false
-order_fits (kind.Display rows columns) order.OpenDrawer = false
-order_fits (kind.Printer chars near) order.OpenDrawer = false
+order_fits is order.OpenDrawer = is_drawer is
+order_fits is (order.ShowText row column style bytes) =
+    is_display is
+    && (is_cursor_place (rows_of (Some is)) (columns_of (Some is)) (place_at row column) && is_display_text bytes)
+order_fits is order.ClearText = is_display is
+order_fits is (order.Scroll direction units) =
+    is_display is && nat_le units (most_units (rows_of (Some is)) (columns_of (Some is)) direction)
 
--- the input can happen at a peripheral of this kind
+-- the input can happen at a peripheral of this kind: a drawer is moved, a scanner reads a bar code of the types 0 to
+-- 999, or fails to read
 abbrev pub input_fits : Kind → Input → Bool
 input_fits kind.Drawer (input.DrawerMoved is_open) = true
-input_fits kind.Scanner (input.DrawerMoved is_open) = false
-input_fits (kind.Display rows columns) (input.DrawerMoved is_open) = false
-input_fits (kind.Printer chars near) (input.DrawerMoved is_open) = false
+input_fits kind.Scanner (input.Scan number bytes label) = nat_le number 999
+input_fits kind.Scanner input.ScanFault = true
+input_fits is of_another = false
 
 -- the count rose, or it stays at its last value
 abbrev pub Rose : ℕ → ℕ → Type 0
 Rose old new = (old < new) ⊎ ((old ≡ 2 ^ 64 - 1) × (new ≡ 2 ^ 64 - 1))
 
+-- a drawer is open then
+abbrev pub Opens : Plant → Plant → Type 0
+Opens (plant.Drawer was_open) new = new ≡ plant.Drawer true
+Opens plant.Scanner new = ⊥
+Opens (plant.Display shown) new = ⊥
+
+-- a display shows a text then, from a place on
+abbrev pub Shows : Place → Attribute → List ℕ → Plant → Plant → Type 0
+Shows start style bytes (plant.Display old) (plant.Display new) = ShowsText old start style bytes new
+Shows start style bytes old new = ⊥
+
+-- a display is blank then
+abbrev pub Clears : Plant → Plant → Type 0
+Clears (plant.Display old) new = new ≡ plant.Display (blank_display old.rows old.columns)
+Clears old new = ⊥
+
+-- what a display shows has moved then
+abbrev pub Moves : Direction → ℕ → Plant → Plant → Type 0
+Moves direction units (plant.Display old) (plant.Display new) = Scrolls old direction units new
+Moves direction units old new = ⊥
+
 -- Of a kind, from the old plant, an order that reaches the peripheral may get this reply and leave the new plant: a
--- drawer opens.
+-- drawer opens, and a display shows a text, is blank, or scrolls.
 abbrev pub Performs : Kind → Order → Plant → Reply → Plant → Type 0
-Performs is order.OpenDrawer (plant.Drawer was_open) reply.Done new = new ≡ plant.Drawer true
-Performs is order.OpenDrawer (plant.Drawer was_open) reply.CoverOpen new = ⊥
-Performs is order.OpenDrawer (plant.Drawer was_open) reply.PaperEnd new = ⊥
-Performs is order.OpenDrawer (plant.Drawer was_open) reply.LineFault new = ⊥
+Performs is asked old reply.CoverOpen new = ⊥
+Performs is asked old reply.PaperEnd new = ⊥
+Performs is asked old reply.LineFault new = ⊥
+Performs is order.OpenDrawer old reply.Done new = Opens old new
+Performs is (order.ShowText row column style bytes) old reply.Done new = Shows (place_at row column) style bytes old new
+Performs is order.ClearText old reply.Done new = Clears old new
+Performs is (order.Scroll direction units) old reply.Done new = Moves direction units old new
 
 -- Of a kind, from the old plant, an input may be taken so and leave the new plant: a drawer is open or closed as it was
--- moved.
+-- moved, and nothing of a scanner or of a display changes.
 abbrev pub Takes : Kind → Input → Plant → Taken → Plant → Type 0
 Takes is (input.DrawerMoved is_open) (plant.Drawer was_open) taken.Quiet new = new ≡ plant.Drawer is_open
-Takes is (input.DrawerMoved is_open) (plant.Drawer was_open) taken.Scan new = ⊥
-Takes is (input.DrawerMoved is_open) (plant.Drawer was_open) taken.Fault new = ⊥
+Takes is (input.Scan number bytes label) plant.Scanner taken.Scan new = new ≡ plant.Scanner
+Takes is input.ScanFault plant.Scanner taken.Fault new = new ≡ plant.Scanner
+Takes is other (plant.Display shown) taken.Quiet new = new ≡ plant.Display shown
+Takes is other old taken new = ⊥
 
 -- A line fault changes nothing but the count of failures; with every other reply the line has not failed.
 abbrev pub Replies : PeripheralState → Order → Reply → PeripheralState → Type 0

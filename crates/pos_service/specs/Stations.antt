@@ -4,6 +4,8 @@ use Rattle.pos_service.specs.declared.answer.Answer.{Answer}
 use Rattle.pos_service.specs.declared.call.Call.{Call}
 use Rattle.pos_service.specs.declared.category.Category.{Category}
 use Rattle.pos_service.specs.declared.input.Input.{Input}
+use Rattle.pos_service.specs.declared.input.Input.TheVariants as input
+use Rattle.pos_service.specs.declared.input.Taken.{Taken}
 use Rattle.pos_service.specs.declared.input.Taken.TheVariants as taken
 use Rattle.pos_service.specs.declared.kind.Kind.{Kind}
 use Rattle.pos_service.specs.declared.memory.NoMemory.{NoMemory}
@@ -11,7 +13,8 @@ use Rattle.pos_service.specs.declared.plant.Plant.{Plant}
 use Rattle.pos_service.specs.declared.signs.PaperLevel.TheVariants as paper
 use Rattle.pos_service.specs.declared.signs.Signs.{Signs}
 use Rattle.pos_service.specs.Calls.{own_rows, takes_memory}
-use Rattle.pos_service.specs.Controls.{Control, all_heard}
+use Rattle.pos_service.specs.Controls.{Control, heard, read, failed, all_listening}
+use Rattle.pos_service.specs.Events.{Enqueued}
 use Rattle.pos_service.specs.Peripherals.{PeripheralState, Takes, input_fits, signs_of}
 use Rattle.pos_service.specs.Refusals.{Row, Decided, first_refusal}
 use Rattle.pos_service.specs.Statuses.{status_events}
@@ -54,26 +57,38 @@ CalledAt asked rows Does outcome old before new after = MatchResult outcome
     (λ want. IsTrue (takes_memory asked) × (first_refusal rows ≡ None) × SameStation old before new after)
 
 -- A call on the control with a number, which is open, at the station of its device: by a category's table, and by what
--- the call does there.
+-- the call of that control does there.
 abbrev pub CalledBy :
-    (Control → Call → List Row) → (Call → ℕ → Answer → Effect) → ℕ → Call → Result Answer NoMemory → Effect
+    (Control → Call → List Row) → (Call → ℕ → ℕ → Answer → Effect) → ℕ → Call → Result Answer NoMemory → Effect
 CalledBy rows Does number asked outcome old before new after =
     MatchOption (slice_get old number) ⊥ (λ control. IfSome control.device (λ place.
-    CalledAt asked (own_rows control asked (rows control asked)) (Does asked place) outcome old before new after))
+    CalledAt asked (own_rows control asked (rows control asked)) (Does asked number place)
+    outcome old before new after))
 
 -- A peripheral is in service, and of the kind that it was.
 pub record StaysInService (old new : PeripheralState) : Type 0 where
   pub unparked : new.is_parked ≡ false
   pub kind : new.kind ≡ old.kind
 
--- An input changes the plant, and each control that listens hears of it.
+-- What each control that listens does, by how an input was taken: it hears the statuses that have changed, reads the
+-- scan, or its input has failed.
+abbrev pub reaction : Input → Taken → List Enqueued → Control → Control
+reaction i taken.Quiet statuses control = heard statuses control
+reaction (input.Scan number bytes label) taken.Scan statuses control =
+    read (record { kind = number; bytes = bytes; label = label }) control
+reaction i taken.Scan statuses control = control
+reaction i taken.Fault statuses control = failed control
+
+-- An input is taken in some way, which may change the plant, and each control that listens does what it does then.
 pub record TakesIn (input : Input) (place : ℕ)
     (old : List Control) (before : Station) (new : List Control) (after : Station) : Type 0 where
+  pub taken : Taken
   pub fits : input_fits before.kind input ≡ true
-  pub plant : Takes before.kind input before.plant taken.Quiet after.plant
+  pub plant : Takes before.kind input before.plant taken after.plant
   pub station : after ≡ record before { plant = after.plant }
-  pub events : new ≡
-      all_heard place (status_events (signs_of before.kind before.plant) (signs_of after.kind after.plant)) old
+  pub controls : new ≡
+      (let statuses = status_events (signs_of before.kind before.plant) (signs_of after.kind after.plant) in
+      all_listening place (reaction input taken statuses) old)
 
 -- An input is taken in, or finds no memory and changes nothing.
 abbrev pub TakenAt : Input → ℕ → Result (Unit {0}) NoMemory → Effect

@@ -1,10 +1,9 @@
 -- The status events of a change (chapters Cash Drawer and POS Printer).
 use Rattle.std.specs.Prelude.{ℕ, Bool, true, false, nat_eq, List, [], ◌∷◌, ◌++◌, if◌then◌else◌}
-use Rattle.pos_service.specs.declared.event.Event.{Event}
-use Rattle.pos_service.specs.declared.event.Event.TheVariants as event
 use Rattle.pos_service.specs.declared.signs.PaperLevel.{PaperLevel}
 use Rattle.pos_service.specs.declared.signs.PaperLevel.TheVariants as paper
 use Rattle.pos_service.specs.declared.signs.Signs.{Signs}
+use Rattle.pos_service.specs.Events.{Enqueued, Status}
 
 -- CASH_SUE_DRAWERCLOSED and CASH_SUE_DRAWEROPEN
 abbrev pub drawer_status : Bool → ℕ
@@ -23,11 +22,11 @@ paper_status paper.NearEnd = 25
 paper_status paper.Good = 26
 
 -- the event of a status that has changed
-abbrev pub changed_status : ℕ → ℕ → List Event
-changed_status old new = if nat_eq old new then [] else event.StatusUpdate new ∷ []
+abbrev pub changed_status : ℕ → ℕ → List Enqueued
+changed_status old new = if nat_eq old new then [] else Status new ∷ []
 
 -- the events of the signs that differ, in the order drawer, cover, paper
-abbrev pub status_events : Signs → Signs → List Event
+abbrev pub status_events : Signs → Signs → List Enqueued
 status_events old new =
     changed_status (drawer_status old.drawer_open) (drawer_status new.drawer_open)
     ++ changed_status (cover_status old.cover_open) (cover_status new.cover_open)

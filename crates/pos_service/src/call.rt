@@ -20,6 +20,20 @@ pub enum Call {
     Get(Property),
     /// `openDrawer` (chapter Cash Drawer).
     OpenDrawer,
+    /// `clearInput`: the input that is held is deleted (common chapter, chapter Scanner).
+    ClearInput,
+    /// `clearInputProperties`: the properties of the last input have their defaults again (common chapter, chapter
+    /// Scanner).
+    ClearInputProperties,
+    /// `displayText` with the text and the number of its attribute: it is shown from the cursor on (chapter Line Display,
+    /// as the calls below).
+    DisplayText(Bytes, i128),
+    /// `displayTextAt` with a row, a column, the text and the number of its attribute.
+    DisplayTextAt(i128, i128, Bytes, i128),
+    /// `clearText`.
+    ClearText,
+    /// `scrollText` with the number of a direction, and by how many rows or columns.
+    ScrollText(i128, i128),
     /// `create` with the new file's name, its size in bytes, and whether errors are to be detected, which has no effect
     /// (chapter Hard Totals, as the calls below).
     Create(Bytes, i128, bool),

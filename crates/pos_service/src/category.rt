@@ -1,5 +1,6 @@
 ghost use Rattle.std.specs.Prelude.{◌≡◌};
 ghost use Rattle.pos_service.specs.Calls.{serves, has_call, has_property};
+ghost use Rattle.pos_service.specs.Claims.{is_exclusive};
 
 use crate::call::Call;
 use crate::kind::Kind;
@@ -10,6 +11,10 @@ use crate::property::Property;
 pub enum Category {
     /// Chapter Cash Drawer.
     CashDrawer,
+    /// Chapter Scanner.
+    Scanner,
+    /// Chapter Line Display.
+    LineDisplay,
     /// Chapter Hard Totals.
     HardTotals,
 }
@@ -21,7 +26,28 @@ impl Category {
     {
         match self {
             Category::CashDrawer => matches!(kind, Some(Kind::Drawer)),
+            Category::Scanner => matches!(kind, Some(Kind::Scanner)),
+            Category::LineDisplay => matches!(
+                kind,
+                Some(Kind::Display {
+                    rows: _,
+                    columns: _,
+                })
+            ),
             Category::HardTotals => kind.is_none(),
+        }
+    }
+
+    /// Whether its devices are exclusive-use: one is enabled for the control alone that holds it by a claim. The others
+    /// are sharable (common chapter).
+    pub fn is_exclusive(self) -> bool
+        ensures { result ≡ is_exclusive self }
+    {
+        match self {
+            Category::CashDrawer => false,
+            Category::Scanner => true,
+            Category::LineDisplay => true,
+            Category::HardTotals => false,
         }
     }
 
@@ -30,8 +56,23 @@ impl Category {
         ensures { result ≡ has_property self property }
     {
         match property {
-            Property::State | Property::Claimed | Property::DeviceEnabled => true,
+            Property::State
+            | Property::Claimed
+            | Property::DeviceEnabled
+            | Property::FreezeEvents => true,
             Property::CapStatus | Property::DrawerOpened => self == Category::CashDrawer,
+            Property::DataEventEnabled
+            | Property::AutoDisable
+            | Property::DataCount
+            | Property::DecodeData
+            | Property::ScanData
+            | Property::ScanDataLabel
+            | Property::ScanDataType => self == Category::Scanner,
+            Property::Rows
+            | Property::Columns
+            | Property::CursorRow
+            | Property::CursorColumn
+            | Property::CursorUpdate => self == Category::LineDisplay,
             _ => self == Category::HardTotals,
         }
     }
@@ -42,6 +83,14 @@ impl Category {
     {
         match self {
             Category::CashDrawer => matches!(call, Call::OpenDrawer),
+            Category::Scanner => matches!(call, Call::ClearInput | Call::ClearInputProperties),
+            Category::LineDisplay => matches!(
+                call,
+                Call::DisplayText(_, _)
+                    | Call::DisplayTextAt(_, _, _, _)
+                    | Call::ClearText
+                    | Call::ScrollText(_, _)
+            ),
             Category::HardTotals => matches!(
                 call,
                 Call::Create(_, _, _)

@@ -1,7 +1,9 @@
-//! Texts of a line display: their characters and attributes, and where a text leaves the cursor.
+//! Texts of a line display: their characters and attributes, the cursor, and where a text leaves it.
 ghost use Rattle.std.specs.Prelude.{◌≡◌, ◌≤◌, ◌<◌, ◌+◌, ◌-◌, ◌∷◌, [], true, min};
 ghost use Rattle.std.specs.List.{list_all};
-ghost use Rattle.pos_service.specs.Displays.{attribute_number_of, direction_number_of, blank, is_display_byte, is_display_text, is_cursor_place, MovesCursor, text_from, place_in_window};
+ghost use Rattle.pos_service.specs.Displays.{attribute_number_of, attribute_of, direction_number_of, direction_of, most_units, blank, default_cursor, is_display_byte, is_display_text, is_cursor_place, MovesCursor, text_from, place_in_window};
+
+use crate::numbers::to_natural;
 
 /// How a character is shown (chapter Line Display, the attribute of displayText).
 #[derive(Clone, Copy, Debug, PartialEq, Eq)]
@@ -27,6 +29,28 @@ impl Attribute {
             Attribute::Reverse => 2,
             Attribute::BlinkReverse => 3,
         }
+    }
+
+    /// The attribute with a number of the standard: none but for 0 to 3.
+    pub fn from_number(number: i128) -> Option<Self>
+        ensures { result ≡ attribute_of number }
+    {
+        let Some(number) = to_natural(number) else {
+            return None;
+        };
+        if number == 0 {
+            return Some(Attribute::Normal);
+        }
+        if number == 1 {
+            return Some(Attribute::Blink);
+        }
+        if number == 2 {
+            return Some(Attribute::Reverse);
+        }
+        if number == 3 {
+            return Some(Attribute::BlinkReverse);
+        }
+        None
     }
 }
 
@@ -55,6 +79,39 @@ impl Direction {
             Direction::Right => 4,
         }
     }
+
+    /// The direction with a number of the standard: none but for 1 to 4.
+    pub fn from_number(number: i128) -> Option<Self>
+        ensures { result ≡ direction_of number }
+    {
+        let Some(number) = to_natural(number) else {
+            return None;
+        };
+        if number == 1 {
+            return Some(Direction::Up);
+        }
+        if number == 2 {
+            return Some(Direction::Down);
+        }
+        if number == 3 {
+            return Some(Direction::Left);
+        }
+        if number == 4 {
+            return Some(Direction::Right);
+        }
+        None
+    }
+
+    /// The most units by which a display of so many rows and columns scrolls: its rows up and down, its columns left
+    /// and right.
+    pub fn most_units(self, rows: u32, columns: u32) -> u32
+        ensures { result ≡ most_units rows columns self }
+    {
+        match self {
+            Direction::Up | Direction::Down => rows,
+            Direction::Left | Direction::Right => columns,
+        }
+    }
 }
 
 /// A character of a display, 0x20 to 0x7E, with its attribute.
@@ -79,6 +136,31 @@ pub struct Place {
     pub row: u32,
     /// The column, from 0.
     pub column: u32,
+}
+
+/// The first place.
+pub const ORIGIN: Place = Place { row: 0, column: 0 };
+
+/// Where the texts of a control begin, and whether they move that place (chapter Line Display, CursorRow, CursorColumn
+/// and CursorUpdate).
+#[derive(Clone, Copy, Debug, PartialEq, Eq)]
+pub struct Cursor {
+    /// The place of CursorRow and CursorColumn.
+    pub place: Place,
+    /// CursorUpdate.
+    pub update: bool,
+}
+
+impl Cursor {
+    /// The cursor of a control that was just opened: at the first place, and moved by texts.
+    pub fn new() -> Self
+        ensures { result ≡ default_cursor }
+    {
+        Cursor {
+            place: ORIGIN,
+            update: true,
+        }
+    }
 }
 
 fn all_of_text(bytes: &[u8]) -> bool

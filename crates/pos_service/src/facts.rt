@@ -1,3 +1,4 @@
+use crate::kind::Kind;
 use crate::signs::Signs;
 
 /// What the properties of a control tell that the control itself doesn't keep.
@@ -7,6 +8,8 @@ pub struct Facts {
     pub is_claimed: bool,
     /// Whether the control is in a transaction of the totals.
     pub in_transaction: bool,
+    /// What the device's peripheral is, where it has one.
+    pub kind: Option<Kind>,
     /// What the device's peripheral shows of itself, each false or good where it has none.
     pub signs: Signs,
     /// TotalsSize.

@@ -1,6 +1,7 @@
 ghost use Rattle.std.specs.Prelude.{◌≡◌};
 ghost use Rattle.pos_service.specs.Peripherals.{input_fits};
 
+use crate::bytes::Bytes;
 use crate::kind::Kind;
 
 /// What happens at a peripheral from outside.
@@ -8,6 +9,14 @@ use crate::kind::Kind;
 pub enum Input {
     /// A drawer is open from now on, or closed.
     DrawerMoved(bool),
+    /// A scanner reads a bar code: its type as a number of 0 to 999, all that was read, and the label in it.
+    Scan {
+        kind: u32,
+        bytes: Bytes,
+        label: Bytes,
+    },
+    /// A scanner fails to read.
+    ScanFault,
 }
 
 impl Input {
@@ -17,15 +26,16 @@ impl Input {
     {
         match (self, kind) {
             (Input::DrawerMoved(_), Kind::Drawer) => true,
-            (Input::DrawerMoved(_), Kind::Scanner) => false,
             (
-                Input::DrawerMoved(_),
-                Kind::Display {
-                    rows: _,
-                    columns: _,
+                Input::Scan {
+                    kind: number,
+                    bytes: _,
+                    label: _,
                 },
-            ) => false,
-            (Input::DrawerMoved(_), Kind::Printer { chars: _, near: _ }) => false,
+                Kind::Scanner,
+            ) => *number <= 999,
+            (Input::ScanFault, Kind::Scanner) => true,
+            _ => false,
         }
     }
 }

@@ -1,3 +1,6 @@
+ghost use Rattle.std.specs.Prelude.{◌≡◌};
+ghost use Rattle.pos_service.specs.Kinds.{is_drawer, is_display, rows_of, columns_of};
+
 /// What a device is, with the numbers that don't change while it lives.
 #[derive(Clone, Copy, Debug, PartialEq, Eq)]
 pub enum Kind {
@@ -10,4 +13,46 @@ pub enum Kind {
     /// A receipt printer of 1 to 255 characters a line, whose paper is near its end at 1 to `near` lines, `near`
     /// being 0 to 100,000.
     Printer { chars: u32, near: u32 },
+}
+
+impl Kind {
+    /// Whether it is a cash drawer.
+    pub fn is_drawer(self) -> bool
+        ensures { result ≡ is_drawer self }
+    {
+        matches!(self, Kind::Drawer)
+    }
+
+    /// Whether it is a line display.
+    pub fn is_display(self) -> bool
+        ensures { result ≡ is_display self }
+    {
+        matches!(
+            self,
+            Kind::Display {
+                rows: _,
+                columns: _,
+            }
+        )
+    }
+}
+
+/// Rows of what stands at a device: 0 where that is no display (chapter Line Display).
+pub fn rows_of(kind: Option<Kind>) -> u32
+    ensures { result ≡ rows_of kind }
+{
+    match kind {
+        Some(Kind::Display { rows, columns: _ }) => rows,
+        _ => 0,
+    }
+}
+
+/// Columns of what stands at a device: 0 where that is no display (chapter Line Display).
+pub fn columns_of(kind: Option<Kind>) -> u32
+    ensures { result ≡ columns_of kind }
+{
+    match kind {
+        Some(Kind::Display { rows: _, columns }) => columns,
+        _ => 0,
+    }
 }

@@ -1,13 +1,28 @@
-ghost use Rattle.std.specs.Prelude.{◌≡◌};
-ghost use Rattle.pos_service.specs.Peripherals.{order_fits};
+ghost use Rattle.std.specs.Prelude.{◌≡◌, ◌&&◌, Some, nat_le};
+ghost use Rattle.pos_service.specs.Displays.{is_cursor_place, is_display_text, most_units};
+ghost use Rattle.pos_service.specs.Kinds.{columns_of, rows_of};
+ghost use Rattle.pos_service.specs.Peripherals.{order_fits, place_at};
 
-use crate::kind::Kind;
+use crate::bytes::Bytes;
+use crate::display_text::{Attribute, Direction, is_text_of_display};
+use crate::kind::{Kind, columns_of, rows_of};
 
 /// What a control asks of a peripheral.
 #[derive(Debug, Drop)]
 pub enum Order {
     /// A drawer opens.
     OpenDrawer,
+    /// A display shows a text with an attribute, from a row, and a column of which there may be one more, on.
+    ShowText {
+        row: u32,
+        column: u32,
+        attribute: Attribute,
+        bytes: Bytes,
+    },
+    /// A display is blank.
+    ClearText,
+    /// What a display shows moves in a direction by so many rows or columns, at most all.
+    Scroll { direction: Direction, units: u32 },
 }
 
 impl Order {
@@ -15,19 +30,35 @@ impl Order {
     pub fn fits(&self, kind: Kind) -> bool
         ensures { result ≡ order_fits kind self.now }
     {
-        match (self, kind) {
-            (Order::OpenDrawer, Kind::Drawer) => true,
-            (Order::OpenDrawer, Kind::Scanner) => false,
-            (
-                Order::OpenDrawer,
-                Kind::Display {
-                    rows: _,
-                    columns: _,
-                },
-            ) => false,
-            (Order::OpenDrawer, Kind::Printer { chars: _, near: _ }) => false,
+        match self {
+            Order::OpenDrawer => kind.is_drawer(),
+            Order::ShowText {
+                row,
+                column,
+                attribute: _,
+                bytes,
+            } => kind.is_display() && text_fits(kind, *row, *column, bytes.as_slice()),
+            Order::ClearText => kind.is_display(),
+            Order::Scroll { direction, units } => {
+                kind.is_display() && units_fit(kind, *direction, *units)
+            }
         }
     }
+}
+
+/// Whether a display of this kind shows such a text from a row and a column on.
+fn text_fits(kind: Kind, row: u32, column: u32, bytes: &[u8]) -> bool
+    ensures { result ≡
+        (is_cursor_place (rows_of (Some kind)) (columns_of (Some kind)) (place_at row column) && is_display_text bytes.now) }
+{
+    row < rows_of(Some(kind)) && column <= columns_of(Some(kind)) && is_text_of_display(bytes)
+}
+
+/// Whether a display of this kind scrolls so far in a direction.
+fn units_fit(kind: Kind, direction: Direction, units: u32) -> bool
+    ensures { result ≡ nat_le units (most_units (rows_of (Some kind)) (columns_of (Some kind)) direction) }
+{
+    units <= direction.most_units(rows_of(Some(kind)), columns_of(Some(kind)))
 }
 
 /// What a peripheral says to an order.

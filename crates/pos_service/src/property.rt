@@ -1,7 +1,8 @@
 ghost use Rattle.std.specs.Prelude.{◌≡◌};
-ghost use Rattle.pos_service.specs.Calls.{needs_open, needs_enabled};
+ghost use Rattle.pos_service.specs.Calls.{is_settable, needs_open, needs_enabled};
 
-/// A property of a control (common chapter, and chapters Cash Drawer and Hard Totals).
+/// A property of a control (common chapter, and chapters Cash Drawer, Scanner, Line Display and Hard
+/// Totals).
 #[derive(Clone, Copy, Debug, PartialEq, Eq)]
 pub enum Property {
     /// What the control is at: closed 1, idle 2, busy 3, in error 4.
@@ -10,10 +11,36 @@ pub enum Property {
     Claimed,
     /// Whether the device is in operation for this control.
     DeviceEnabled,
+    /// Whether no event is delivered.
+    FreezeEvents,
+    /// Whether DataEvents and errors of input are delivered.
+    DataEventEnabled,
+    /// Whether the control is disabled by the next input that comes.
+    AutoDisable,
+    /// How many DataEvents are enqueued.
+    DataCount,
+    /// Whether the label and the type of what is scanned are told.
+    DecodeData,
+    /// All that was scanned, of the last DataEvent that was delivered.
+    ScanData,
+    /// The label in it.
+    ScanDataLabel,
+    /// The type of its bar code, as a number of 0 to 999.
+    ScanDataType,
     /// Whether the drawer can tell if it is open.
     CapStatus,
     /// Whether the drawer is open.
     DrawerOpened,
+    /// How many rows the display has.
+    Rows,
+    /// How many columns the display has.
+    Columns,
+    /// The row where the next text begins, from 0.
+    CursorRow,
+    /// The column where the next text begins, from 0: at most one right of the last column.
+    CursorColumn,
+    /// Whether a text moves the cursor to its end.
+    CursorUpdate,
     /// How many bytes the files of the totals may have in sum.
     TotalsSize,
     /// How many bytes are left for new files.
@@ -31,6 +58,23 @@ pub enum Property {
 }
 
 impl Property {
+    /// Whether it can be set at all.
+    pub fn is_settable(self) -> bool
+        ensures { result ≡ is_settable self }
+    {
+        matches!(
+            self,
+            Property::DeviceEnabled
+                | Property::FreezeEvents
+                | Property::DataEventEnabled
+                | Property::AutoDisable
+                | Property::DecodeData
+                | Property::CursorRow
+                | Property::CursorColumn
+                | Property::CursorUpdate
+        )
+    }
+
     /// Whether it can be read of an open control alone.
     pub fn needs_open(self) -> bool
         ensures { result ≡ needs_open self }

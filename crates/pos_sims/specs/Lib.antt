@@ -1,3 +1,5 @@
 pub mod Drawers
+pub mod Scanners
+pub mod LineDisplays
 pub mod Windows
 pub mod Tapes

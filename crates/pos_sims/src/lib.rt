@@ -2,7 +2,9 @@
 #![tactic(auto)]
 
 mod laying;
+mod plain_display;
 mod plain_drawer;
+mod plain_scanner;
 mod printing;
 mod roll;
 mod scrolling;
@@ -11,6 +13,8 @@ mod tape;
 mod tests;
 mod window;
 
+pub use plain_display::PlainDisplay;
 pub use plain_drawer::PlainDrawer;
+pub use plain_scanner::PlainScanner;
 pub use roll::Roll;
 pub use window::Window;

@@ -1,5 +1,5 @@
-ghost use Rattle.std.specs.Prelude.{◌≡◌, false, IsOk, IfOk};
-ghost use Rattle.pos_service.specs.Peripherals.{Asked, Fed};
+ghost use Rattle.std.specs.Prelude.{◌≡◌, true, false, IsOk, IfOk};
+ghost use Rattle.pos_service.specs.Peripherals.{Asked, Fed, input_fits, order_fits};
 ghost use Rattle.pos_sims.specs.Drawers.{drawer_state, state_of};
 
 use pos_service::{
@@ -41,7 +41,8 @@ impl Peripheral for PlainDrawer {
     }
 
     fn ask(&mut self, order: &Order) -> Result<Reply, NoMemory>
-        requires { (state_of self.old).is_parked ≡ false }
+        requires unparked { (state_of self.old).is_parked ≡ false }
+        requires fits { order_fits (state_of self.old).kind order.now ≡ true }
         ensures asked { Asked (state_of self.old) order.now result (state_of self.new) }
         ensures takes_no_memory { IsOk result }
     {
@@ -50,11 +51,13 @@ impl Peripheral for PlainDrawer {
                 self.is_open = true;
                 Ok(Reply::Done)
             }
+            _ => unreachable!(),
         }
     }
 
     fn feed(&mut self, input: &Input) -> Result<Taken, NoMemory>
-        requires { (state_of self.old).is_parked ≡ false }
+        requires unparked { (state_of self.old).is_parked ≡ false }
+        requires fits { input_fits (state_of self.old).kind input.now ≡ true }
         ensures fed { Fed (state_of self.old) input.now result (state_of self.new) }
         ensures takes_no_memory { IsOk result }
     {
@@ -63,6 +66,7 @@ impl Peripheral for PlainDrawer {
                 self.is_open = *is_open;
                 Ok(Taken::Quiet)
             }
+            _ => unreachable!(),
         }
     }
 

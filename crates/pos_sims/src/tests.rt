@@ -1,7 +1,9 @@
-use crate::PlainDrawer;
+mod display;
+
+use crate::{PlainDrawer, PlainScanner};
 use pos_service::{
-    HasState, Input, Kind, NoMemory, Order, PaperLevel, Peripheral, PeripheralBox, Plant, Reply,
-    Signs, Snapshot, Taken,
+    Bytes, HasState, Input, Kind, NoMemory, Order, PaperLevel, Peripheral, PeripheralBox, Plant,
+    Reply, Signs, Snapshot, Taken,
 };
 use std::test::Fail;
 
@@ -14,8 +16,8 @@ fn signs(drawer_open: bool) -> Signs {
 }
 
 fn is_open(drawer: &PlainDrawer) -> Result<bool, NoMemory> {
-    let Snapshot(Plant::Drawer(is_open)) = drawer.snapshot()?;
-    Ok(is_open)
+    let Snapshot(plant) = drawer.snapshot()?;
+    Ok(matches!(plant, Plant::Drawer(true)))
 }
 
 #[test]
@@ -49,8 +51,8 @@ fn a_boxed_drawer_is_the_drawer_within(rt: HostRuntime) -> Result<(), Fail> {
     assert_eq!(rt; kind, Kind::Drawer);
     assert_eq!(rt; shown, signs(true));
     assert!(rt; !was_parked && is_parked);
-    let Snapshot(Plant::Drawer(is_open)) = copied?;
-    assert!(rt; is_open);
+    let Snapshot(plant) = copied?;
+    assert!(rt; matches!(plant, Plant::Drawer(true)));
     Ok(())
 }
 
@@ -61,5 +63,26 @@ fn a_drawer_that_is_parked_stays_as_it_is(rt: HostRuntime) -> Result<(), NoMemor
     drawer.park();
     assert!(rt; drawer.is_parked());
     assert!(rt; is_open(&drawer)?);
+    Ok(())
+}
+
+#[test]
+fn a_scanner_takes_scans_and_faults_and_stays_as_it_is(rt: HostRuntime) -> Result<(), NoMemory> {
+    let mut scanner = PlainScanner::new();
+    let scan = Input::Scan {
+        kind: 104,
+        bytes: Bytes::from_slice(rt.alloc(), b"A")?,
+        label: Bytes::from_slice(rt.alloc(), b"B")?,
+    };
+    assert_eq!(rt; scanner.kind(), Kind::Scanner);
+    assert!(rt; !scanner.is_parked());
+    assert_eq!(rt; scanner.feed(&scan)?, Taken::Scan);
+    assert_eq!(rt; scanner.feed(&Input::ScanFault)?, Taken::Fault);
+    assert_eq!(rt; scanner.signs(), signs(false));
+    let Snapshot(plant) = scanner.snapshot()?;
+    assert!(rt; matches!(plant, Plant::Scanner));
+    assert_eq!(rt; scanner.ask(&Order::OpenDrawer)?, Reply::LineFault);
+    scanner.park();
+    assert!(rt; scanner.is_parked());
     Ok(())
 }

@@ -1,13 +1,16 @@
 ghost use Rattle.std.specs.Prelude.{◌≡◌, ◌*◌, ◌≤◌, true, length, IfOk};
+ghost use Rattle.pos_service.specs.declared.kind.Kind.TheVariants as kind;
+ghost use Rattle.pos_service.specs.declared.plant.Plant.TheVariants as plant;
 ghost use Rattle.pos_service.specs.Displays.{ShowsText, Scrolls, blank_display, is_cursor_place, most_units};
+ghost use Rattle.pos_service.specs.Peripherals.{IsInRange, IsPlantOf};
 
 #[cfg(test)]
 mod tests;
 
 use crate::laying::{Manner, lay_text};
 use crate::scrolling::scroll_cells;
-use pos_service::NoMemory;
 use pos_service::display_text::{Attribute, BLANK, Direction, DisplayCell, Place};
+use pos_service::{Kind, NoMemory};
 use std::alloc::Global;
 use std::marker::Model;
 
@@ -61,6 +64,16 @@ impl Window {
         ensures in_range { (1 ≤ result) × (result ≤ 80) }
     {
         self.columns
+    }
+
+    /// What a display with this window is.
+    pub fn kind(&self) -> Kind
+        ensures kind { result ≡ kind.Display self.now.rows self.now.columns }
+        ensures in_range { IsInRange result }
+        ensures plant { IsPlantOf result (plant.Display self.now) }
+    {
+        let (rows, columns) = (self.rows, self.columns);
+        Kind::Display { rows, columns }
     }
 
     /// The cells row by row, from the first.

@@ -1,14 +1,21 @@
-ghost use Rattle.std.specs.Prelude.{◌≡◌, ◌≤◌, ◌+◌, ◌++◌, OnOk, OnErr};
-ghost use Rattle.pos_service.specs.Controls.{listens, heard, deliverable, delivered};
+ghost use Rattle.std.specs.Prelude.{◌≡◌, ◌≤◌, ◌+◌, OnOk, OnErr};
+ghost use Rattle.pos_service.specs.Controls.{listens, if_listening, heard, read, failed, is_held_back, deliverable, delivered};
+ghost use Rattle.pos_service.specs.ScannerCalls.{without_input, without_scan};
 ghost use Rattle.pos_service.specs.Statuses.{status_events, changed_status};
-ghost use Rattle.pos_common.specs.Held.{HasRoom, HasStatusRoom};
+ghost use Rattle.pos_common.specs.Held.{HasRoom, sign_events, scan_events, fault_events};
 
 use super::Control;
 use crate::status::{cover_status, drawer_status, paper_status};
-use pos_service::{ErrorReply, Event, NoMemory, Signs};
+use pos_service::{ErrorReply, Event, NoMemory, Scan, Signs};
 
 /// The most status events that one change of a device's signs has: drawer, cover, paper.
-pub(crate) const MOST_STATUSES: usize = 3;
+pub const SIGN_EVENTS: usize = 3;
+
+/// The most events that a scan has: a DataEvent.
+pub const SCAN_EVENTS: usize = 1;
+
+/// The most events that a failed scan has: ErrorEvents with EL_INPUT_DATA and with EL_INPUT.
+pub const FAULT_EVENTS: usize = 2;
 
 impl Control {
     /// Whether it has the device at this place open and enabled.
@@ -26,7 +33,7 @@ impl Control {
         ensures same { self.new.control ≡ self.old.control }
     {
         if self.listens(place) {
-            self.events.reserve(count)?;
+            self.events.room(count)?;
         }
         Ok(())
     }
@@ -34,8 +41,8 @@ impl Control {
     /// Enqueues the statuses that have changed, in the order drawer, cover, paper, if it has the device at this place
     /// open and enabled (common chapter, StatusUpdateEvent).
     pub fn hear(&mut self, place: usize, old: Signs, new: Signs)
-        requires { HasStatusRoom place self.old }
-        ensures { self.new.control ≡ heard place (status_events old new) self.old.control }
+        requires { HasRoom place sign_events self.old }
+        ensures { self.new.control ≡ if_listening place (heard (status_events old new)) self.old.control }
     {
         if self.listens(place) {
             self.tell(
@@ -50,24 +57,75 @@ impl Control {
     /// Enqueues a status, if it has changed.
     fn tell(&mut self, old: u32, new: u32)
         requires { 1 ≤ self.old.spare }
-        ensures told { let events = self.old.control.events ++ changed_status old new in
-            self.new.control ≡ record self.old.control { events = events } }
+        ensures told { self.new.control ≡ heard (changed_status old new) self.old.control }
         ensures room { self.old.spare ≤ self.new.spare + 1 }
     {
         if old != new {
-            self.events.push_back_reserved(Event::StatusUpdate(new));
+            self.events.status(new);
         }
     }
 
-    /// Takes the event that may be delivered now: the first, while the control is open. The reply is the
-    /// application's to an ErrorEvent, and no other event looks at it.
-    pub fn deliver(&mut self, _reply: ErrorReply) -> Option<Event>
-        ensures event { result ≡ deliverable self.old.control }
-        ensures rest { self.new.control ≡ delivered self.old.control }
+    /// A scan has come, if it has the device at this place open and enabled: a DataEvent is enqueued, and it is
+    /// disabled under AutoDisable. In the input error state the scan is ignored (common chapter, data events).
+    pub fn read(&mut self, place: usize, scan: Scan)
+        requires { HasRoom place scan_events self.old }
+        ensures { self.new.control ≡ if_listening place (read scan) self.old.control }
     {
-        if self.device.is_none() {
-            return None;
+        if !self.listens(place) || self.events.in_error() {
+            return;
         }
-        self.events.pop_front()
+        if self.reader.auto_disable() {
+            self.is_enabled = false;
+        }
+        self.events.data(scan);
+    }
+
+    /// Its input has failed, if it has the device at this place open and enabled: the input error state stands from now
+    /// on, with its ErrorEvents. In that state nothing changes (common chapter, error handling).
+    pub fn fail_input(&mut self, place: usize)
+        requires { HasRoom place fault_events self.old }
+        ensures { self.new.control ≡ if_listening place failed self.old.control }
+    {
+        if self.listens(place) {
+            self.events.input_error();
+        }
+    }
+
+    /// `clearInput`: the DataEvents and the ErrorEvents of input are deleted, and the input error state ends (common
+    /// chapter).
+    pub fn clear_input(&mut self)
+        ensures { self.new.control ≡ without_input self.old.control }
+    {
+        self.events.clear_input();
+    }
+
+    /// `clearInputProperties`: ScanData, ScanDataLabel and ScanDataType have their defaults again (common chapter,
+    /// chapter Scanner).
+    pub fn clear_input_properties(&mut self)
+        ensures { self.new.control ≡ without_scan self.old.control }
+    {
+        self.reader.clear();
+    }
+
+    /// Whether no event may be delivered: it is closed, or its events are frozen.
+    fn is_held_back(&self) -> bool
+        ensures { result ≡ is_held_back self.now.control }
+    {
+        self.device.is_none() || self.is_frozen
+    }
+
+    /// Takes the event that may be delivered now (common chapter, event queue): none while the control is closed or its
+    /// events are frozen, else the first while data events are enabled, and the first that is neither a DataEvent nor
+    /// an error of input while they aren't. The reply is the application's to an ErrorEvent of input. With a DataEvent
+    /// its scan is shown, as DecodeData says now, and data events are disabled.
+    pub fn deliver(&mut self, reply: ErrorReply) -> Option<Event>
+        ensures event { result ≡ deliverable self.old.control }
+        ensures rest { self.new.control ≡ delivered reply self.old.control }
+    {
+        let data_enabled = self.reader.data_enabled();
+        let is_held_back = self.is_held_back();
+        let delivery = self.events.deliver(data_enabled, is_held_back, reply)?;
+        self.reader.take(delivery.scan);
+        Some(delivery.event)
     }
 }

@@ -2,7 +2,7 @@ use Rattle.std.proofs.Common.{◌<◌, ◌≤◌, length, arith, All, subst, sym
 use Rattle.std.proofs.lemmas.List.{take_all}
 use Rattle.std.proofs.lemmas.List.Elements.{All-drop}
 use Rattle.std.proofs.lemmas.Result.{err_from_is_err_and}
-use Rattle.pos_common.specs.Held.{HasStatusRoom}
+use Rattle.pos_common.specs.Held.{HasRoom}
 use Rattle.pos_common.proofs.HeldLemmas.{same_control, front_after_set, first_of_rest, same_rest}
 use Rattle.pos_common.proofs.controls.room_all.Goals as goal
 
@@ -12,7 +12,7 @@ loop-control-preserved c =
     let lt : c.loop-control.control-index < length hs = omega arith in
     record {
       same = same_control hs _ c.control-item.result _ lt c.room_for.ensures.same ∙ c.loop-control.invariant.same;
-      room = front_after_set (HasStatusRoom c.args.place) hs _ _ lt c.in_ok-room_for.ensures.room c.loop-control.invariant.room;
+      room = front_after_set (HasRoom c.args.place c.args.count) hs _ _ lt c.in_ok-room_for.ensures.room c.loop-control.invariant.room;
       rest = same_rest hs c.args.controls.now _ _ c.loop-control.invariant.rest;
     }
 
@@ -26,7 +26,7 @@ pub returns-in_err-room_for-clause-full : goal.returns-in_err-room_for-clause-fu
 returns-in_err-room_for-clause-full c =
     let hs = c.loop-control.controls in
     let lt : c.loop-control.control-index < length hs = omega arith in
-    let P = HasStatusRoom c.args.place in
+    let P = HasRoom c.args.place c.args.count in
     let p = err_from_is_err_and c.from_residual.result c.from_residual.ensures.1 in
     rw p.1 (λ all. c.in_err-room_for.ensures.full (first_of_rest P hs _ c.control-item.result lt
     (subst (All P) (sym c.loop-control.invariant.rest) (All-drop P c.loop-control.control-index c.args.controls.now all))))
@@ -35,4 +35,4 @@ pub returns-clause-room : goal.returns-clause-room
 returns-clause-room c =
     let hs = c.loop-control.controls in
     let le : length hs ≤ c.loop-control.control-index = omega arith in
-    subst (All (HasStatusRoom c.args.place)) (take_all c.loop-control.control-index hs le) c.loop-control.invariant.room
+    subst (All (HasRoom c.args.place c.args.count)) (take_all c.loop-control.control-index hs le) c.loop-control.invariant.room

@@ -1,11 +1,11 @@
 use Rattle.std.proofs.Common.{◌≡◌, All, take, drop}
-use Rattle.pos_common.specs.Held.{HasStatusRoom, controls_of}
+use Rattle.pos_common.specs.Held.{HasRoom, controls_of}
 use Rattle.pos_common.proofs.controls.room_all.Given as goal
 
 -- the controls before the place have room, the others are as they were, and to the machine all are
 abbrev pub invariant-loop-control : goal.invariant-loop-control
 invariant-loop-control l = record {
   same : controls_of l.controls ≡ controls_of l.fn.controls;
-  room : All (HasStatusRoom l.place) (take l.control-index l.controls);
+  room : All (HasRoom l.place l.count) (take l.control-index l.controls);
   rest : drop l.control-index l.controls ≡ drop l.control-index l.fn.controls;
 }

@@ -9,7 +9,7 @@ use Rattle.pos_common.specs.Held.{Held}
 use Rattle.pos_counter.specs.Parts.{part_of}
 use Rattle.pos_counter.specs.Steps.{CallOf, Answered}
 use Rattle.pos_counter.specs.Totals.{settled}
-use Rattle.pos_counter.proofs.Claiming.{area_claim_mode, claim_area, claim_device, claimed_covers, covered_at}
+use Rattle.pos_counter.proofs.Claiming.{are_totals, area_claim_mode, claim_area, claim_device, claimed_covers, covered_at}
 use Rattle.pos_counter.proofs.Lifts.{control_at}
 use Rattle.pos_counter.proofs.Serving.{arranges_serve}
 use Rattle.pos_counter.proofs.control_calls.claim.Goals as goal
@@ -21,25 +21,8 @@ claim_device-requires g c =
     let held = c.index-controls-number.result in
     covered_at hs c.args.claims.now n held.control (control_at hs n held c.requires.in_range ∙ ap (λ (h : Held). Some h.control) (sym c.index-controls-number.is)) c.requires.covers
 
-pub returns-in-CashDrawer : goal.returns-in-CashDrawer
-returns-in-CashDrawer g c = λ entries states sound.
-    let hs = c.args.controls.now in
-    let n = c.args.number in
-    let held = c.index-controls-number.result in
-    let one = held.control in
-    let view = c.args.totals.now in
-    let cl = c.args.claims.now in
-    let dl = c.claim_device.new.claims in
-    let at = control_at hs n held c.requires.in_range ∙ ap (λ (h : Held). Some h.control) (sym c.index-controls-number.is) in
-    let is = sym c.category.ensures ∙ c.in-CashDrawer.is in
-    let fits : SFits w128 c.args.timeout = c.ranges.timeout in
-    let decided = simp to_z-of_z at c.claim_device.ensures in
-    arranges_serve g.D.Disk view view view.totals hs hs cl dl entries states (CallOf n (call.Claim c.args.timeout)) (Answered c.claim_device.result) (λ bytes honest since. g.met.D.Disk.only_now view.disk bytes honest since)
-    refl refl (λ left. refl) sound (claimed_covers (claim_rows one (is_foreign n (holder_at cl one.device)) c.args.timeout) c.claim_device.result cl dl one.device n decided)
-    (λ left. claim_device hs cl dl entries states (part_of g.D.Disk view left) n one c.args.timeout c.claim_device.result at is decided)
-
-pub returns-in-HardTotals : goal.returns-in-HardTotals
-returns-in-HardTotals g c = λ entries states sound.
+pub returns-then-is_totals : goal.returns-then-is_totals
+returns-then-is_totals g c = λ entries states sound.
     let hs = c.args.controls.now in
     let n = c.args.number in
     let held = c.index-controls-number.result in
@@ -48,10 +31,27 @@ returns-in-HardTotals g c = λ entries states sound.
     let cl = c.args.claims.now in
     let now = c.claim_area.new.totals in
     let at = control_at hs n held c.requires.in_range ∙ ap (λ (h : Held). Some h.control) (sym c.index-controls-number.is) in
-    let is = sym c.category.ensures ∙ c.in-HardTotals.is in
+    let is = are_totals one.category (sym c.is_totals.ensures ∙ c.if-is_totals.true) in
     let fits : SFits w128 c.args.timeout = c.ranges.timeout in
     let decided = simp to_z-of_z at c.claim_area.ensures.answer in
     let mode = area_claim_mode (claim_rows one (is_area_taken view.totals n) c.args.timeout) c.claim_area.result view.totals now.totals (Some n) decided in
     arranges_serve g.D.Disk view now now.totals hs hs cl cl entries states (CallOf n (call.Claim c.args.timeout)) (Answered c.claim_area.result) (λ bytes honest since. g.met.D.Disk.only_now view.disk bytes honest since)
     c.claim_area.ensures.disk refl (λ left. ap (λ m. settled m left) mode) sound refl
     (λ left. claim_area hs cl entries states (part_of g.D.Disk view left) n one c.args.timeout c.claim_area.result now.totals at is decided)
+
+pub returns : goal.returns
+returns g c = λ entries states sound.
+    let hs = c.args.controls.now in
+    let n = c.args.number in
+    let held = c.index-controls-number.result in
+    let one = held.control in
+    let view = c.args.totals.now in
+    let cl = c.args.claims.now in
+    let dl = c.claim_device.new.claims in
+    let at = control_at hs n held c.requires.in_range ∙ ap (λ (h : Held). Some h.control) (sym c.index-controls-number.is) in
+    let is = sym c.is_totals.ensures ∙ c.if-is_totals.false in
+    let fits : SFits w128 c.args.timeout = c.ranges.timeout in
+    let decided = simp to_z-of_z at c.claim_device.ensures in
+    arranges_serve g.D.Disk view view view.totals hs hs cl dl entries states (CallOf n (call.Claim c.args.timeout)) (Answered c.claim_device.result) (λ bytes honest since. g.met.D.Disk.only_now view.disk bytes honest since)
+    refl refl (λ left. refl) sound (claimed_covers (claim_rows one (is_foreign n (holder_at cl one.device)) c.args.timeout) c.claim_device.result cl dl one.device n decided)
+    (λ left. claim_device hs cl dl entries states (part_of g.D.Disk view left) n one c.args.timeout c.claim_device.result at is decided)

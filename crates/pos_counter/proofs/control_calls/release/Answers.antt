@@ -5,29 +5,13 @@ use Rattle.pos_service.specs.Claims.{holder_at, is_own, release_rows}
 use Rattle.pos_counter.specs.Parts.{part_of}
 use Rattle.pos_counter.specs.Steps.{CallOf, Answered}
 use Rattle.pos_counter.specs.Totals.{settled}
-use Rattle.pos_counter.proofs.Claiming.{area_release_mode, release_area, release_device, released_covers}
+use Rattle.pos_counter.proofs.Claiming.{are_totals, area_release_mode, release_area, release_device, released_covers}
 use Rattle.pos_counter.proofs.Lifts.{control_at}
 use Rattle.pos_counter.proofs.Serving.{arranges_serve}
 use Rattle.pos_counter.proofs.control_calls.release.Goals as goal
 
-pub returns-in-CashDrawer : goal.returns-in-CashDrawer
-returns-in-CashDrawer g c = λ entries states sound.
-    let hs = c.args.controls.now in
-    let n = c.args.number in
-    let h = get_or hs n c.index-controls-number.result in
-    let here = get_or_default hs n c.index-controls-number.result h c.requires in
-    let one = h.control in
-    let view = c.args.totals.now in
-    let cl = c.args.claims.now in
-    let dl = c.release_device.new.claims in
-    let at = control_at hs n c.index-controls-number.result c.requires in
-    let is = sym c.category.ensures ∙ c.in-CashDrawer.is in
-    arranges_serve g.D.Disk view view view.totals hs (set hs n c.release_device.new.control) cl dl entries states (CallOf n call.Release) (Answered c.release_device.result) (λ bytes honest since. g.met.D.Disk.only_now view.disk bytes honest since)
-    refl refl (λ left. refl) sound (released_covers (release_rows one (is_own n (holder_at cl one.device))) c.release_device.result cl dl one.device n _ _ c.release_device.ensures)
-    (λ left. release_device hs cl dl entries states (part_of g.D.Disk view left) n one h c.release_device.new.control c.release_device.result at is here c.release_device.ensures)
-
-pub returns-in-HardTotals : goal.returns-in-HardTotals
-returns-in-HardTotals g c = λ entries states sound.
+pub returns-then-is_totals : goal.returns-then-is_totals
+returns-then-is_totals g c = λ entries states sound.
     let hs = c.args.controls.now in
     let n = c.args.number in
     let h = get_or hs n c.index-controls-number.result in
@@ -37,8 +21,24 @@ returns-in-HardTotals g c = λ entries states sound.
     let cl = c.args.claims.now in
     let now = c.release_area.new.totals in
     let at = control_at hs n c.index-controls-number.result c.requires in
-    let is = sym c.category.ensures ∙ c.in-HardTotals.is in
+    let is = are_totals one.category (sym c.is_totals.ensures ∙ c.if-is_totals.true) in
     let mode = area_release_mode (release_rows one (is_own n view.totals.area)) c.release_area.result view.totals now.totals None _ _ c.release_area.ensures.answer in
     arranges_serve g.D.Disk view now now.totals hs (set hs n c.release_area.new.control) cl cl entries states (CallOf n call.Release) (Answered c.release_area.result) (λ bytes honest since. g.met.D.Disk.only_now view.disk bytes honest since)
     c.release_area.ensures.disk refl (λ left. ap (λ m. settled m left) mode) sound refl
     (λ left. release_area hs cl entries states (part_of g.D.Disk view left) n one h c.release_area.new.control c.release_area.result now.totals at is here c.release_area.ensures.answer)
+
+pub returns : goal.returns
+returns g c = λ entries states sound.
+    let hs = c.args.controls.now in
+    let n = c.args.number in
+    let h = get_or hs n c.index-controls-number.result in
+    let here = get_or_default hs n c.index-controls-number.result h c.requires in
+    let one = h.control in
+    let view = c.args.totals.now in
+    let cl = c.args.claims.now in
+    let dl = c.release_device.new.claims in
+    let at = control_at hs n c.index-controls-number.result c.requires in
+    let is = sym c.is_totals.ensures ∙ c.if-is_totals.false in
+    arranges_serve g.D.Disk view view view.totals hs (set hs n c.release_device.new.control) cl dl entries states (CallOf n call.Release) (Answered c.release_device.result) (λ bytes honest since. g.met.D.Disk.only_now view.disk bytes honest since)
+    refl refl (λ left. refl) sound (released_covers (release_rows one (is_own n (holder_at cl one.device))) c.release_device.result cl dl one.device n _ _ c.release_device.ensures)
+    (λ left. release_device hs cl dl entries states (part_of g.D.Disk view left) n one h c.release_device.new.control c.release_device.result at is here c.release_device.ensures)

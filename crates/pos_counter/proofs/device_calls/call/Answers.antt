@@ -59,7 +59,7 @@ returns-in-Set g c =
     let cl = c.args.claims.now in
     let es = c.args.entries.now in
     let ss = map boxes.state c.args.boxes.now in
-    subst (λ q. Serves g.D.Disk c.args.controls.now cl es ss c.args.totals.now (CallOf c.args.number q) (answered c.set.result) c.set.new.controls cl ss c.set.new.totals) (sym c.in-Set.is) (c.set.ensures cl es ss c.requires.sound)
+    subst (λ q. Serves g.D.Disk c.args.controls.now cl es ss c.args.totals.now (CallOf c.args.number q) (answered c.set.result) c.set.new.controls cl ss c.set.new.totals) (sym c.in-Set.is) (c.set.ensures es ss c.requires.sound)
 
 pub returns-in-Get : goal.returns-in-Get
 returns-in-Get g c =
@@ -68,5 +68,5 @@ returns-in-Get g c =
     let es = c.args.entries.now in
     let ss = map boxes.state c.args.boxes.now in
     let view = c.args.totals.now in
-    subst (λ q. Serves g.D.Disk c.args.controls.now cl es ss view (CallOf c.args.number q) (Answered c.get.result) c.args.controls.now cl ss view) (sym c.in-Get.is)
-    (looks_serve g.D.Disk view c.args.controls.now cl es ss (CallOf c.args.number (call.Get c.in-Get.property)) (Answered c.get.result) (λ bytes honest since. g.met.D.Disk.only_now view.disk bytes honest since) c.requires.sound c.get.ensures)
+    subst (λ q. Serves g.D.Disk c.args.controls.now cl es ss view (CallOf c.args.number q) (answered c.get.result) c.args.controls.now cl ss view) (sym c.in-Get.is)
+    (looks_serve g.D.Disk view c.args.controls.now cl es ss (CallOf c.args.number (call.Get c.in-Get.property)) (answered c.get.result) (λ bytes honest since. g.met.D.Disk.only_now view.disk bytes honest since) c.requires.sound c.get.ensures)

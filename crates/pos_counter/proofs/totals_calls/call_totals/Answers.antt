@@ -1,9 +1,10 @@
 use Rattle.std.proofs.Common.{◌≡◌, ◌∙◌, ◌&&◌, Bool, get_or, refl, sym, subst, ap, not, true, false}
-use Rattle.std.specs.Prelude.{Some, None, [], ◌∷◌, slice_get}
+use Rattle.std.specs.Prelude.{Some, None, [], ◌∷◌, is_none, slice_get}
 use Rattle.pos_service.specs.declared.answer.Answer.TheVariants as answer
 use Rattle.pos_service.specs.declared.code.Code.TheVariants as code
 use Rattle.pos_service.specs.Claims.{is_foreign}
 use Rattle.pos_service.specs.Refusals.{first_refusal, when}
+use Rattle.pos_common.specs.Needs.{needs_no_other}
 use Rattle.pos_service.specs.TotalsCalls.{asks_area, file_call, file_rows}
 use Rattle.pos_counter.specs.Parts.{machine_with, part_of}
 use Rattle.pos_counter.specs.Steps.{CallOf, Answered}
@@ -27,7 +28,8 @@ returns-in-Ok g c = λ entries states sound.
     let held = c.index-controls-number.result in
     let view = c.args.totals.now in
     let there = opened_here hs n held c.index-controls-number.is c.requires.open in
-    let rows = ap (λ b. first_refusal (when (b && is_foreign n c.area.result) code.Claimed ∷ when (not held.control.enabled) code.Disabled ∷ [])) (sym c.need_of.ensures)
+    let rows = ap (λ b. first_refusal (when (b && is_foreign n c.area.result) code.Claimed ∷ when (not held.control.enabled) code.Disabled ∷ [])) (sym c.need_of.ensures.area)
+    ∙ ap (λ b. first_refusal (when (needs_no_other c.need_of.result && is_foreign n c.area.result) code.Claimed ∷ when (b && is_none c.area.result) code.NotClaimed ∷ when (not held.control.enabled) code.Disabled ∷ [])) (sym c.need_of.ensures.anyone)
     ∙ c.in-Ok.ensures in
     let free = was_let (asks_area (file_call c.args.call.now) && is_foreign n c.area.result) held.control.enabled rows in
     files_serve g.D.Disk view c.call_files.new.totals hs c.args.claims.now entries states n held.control c.args.call.now c.call_files.result c.requires.own there.0 there.1 there.2
@@ -44,7 +46,8 @@ returns-in-Err g c = λ entries states sound.
     let foreign = asks_area (file_call q) && is_foreign n view.totals.area in
     let refused : first_refusal (when foreign code.Claimed ∷ when (not held.control.enabled) code.Disabled ∷ []) ≡ Some (answer.Refused c.in-Err.code 0) =
     ap (λ o. first_refusal (when (asks_area (file_call q) && is_foreign n o) code.Claimed ∷ when (not held.control.enabled) code.Disabled ∷ [])) (sym c.area.ensures)
-    ∙ ap (λ b. first_refusal (when (b && is_foreign n c.area.result) code.Claimed ∷ when (not held.control.enabled) code.Disabled ∷ [])) (sym c.need_of.ensures)
+    ∙ ap (λ b. first_refusal (when (b && is_foreign n c.area.result) code.Claimed ∷ when (not held.control.enabled) code.Disabled ∷ [])) (sym c.need_of.ensures.area)
+    ∙ ap (λ b. first_refusal (when (needs_no_other c.need_of.result && is_foreign n c.area.result) code.Claimed ∷ when (b && is_none c.area.result) code.NotClaimed ∷ when (not held.control.enabled) code.Disabled ∷ [])) (sym c.need_of.ensures.anyone)
     ∙ c.in-Err.ensures in
     looks_serve g.D.Disk view hs c.args.claims.now entries states (CallOf n q) (Answered (answer.Refused c.in-Err.code 0)) (λ bytes honest since. g.met.D.Disk.only_now view.disk bytes honest since) sound
     (λ left.

@@ -1,0 +1,38 @@
+use Rattle.std.proofs.Common.{◌<◌, ◌≤◌, ◌≡◌, length, arith, ◌∙◌, refl}
+use Rattle.std.proofs.lemmas.List.{length-map}
+use Rattle.pos_service.specs.Controls.{read, if_listening}
+use Rattle.pos_common.specs.Held.{HasRoom, controls_of, scan_events}
+use Rattle.pos_common.proofs.HeldLemmas.{mapped_more, mapped_all, first_of_rest, rest_after_set}
+use Rattle.pos_common.proofs.CopyLemmas.{copies_at, copies_behind}
+use Rattle.pos_common.proofs.controls.read_all.Goals as goal
+
+pub loop-control-init : goal.loop-control-init
+loop-control-init c = record { room = c.requires; read = λ scan are. (refl, are) }
+
+pub read_copy-requires : goal.read_copy-requires
+read_copy-requires c =
+    let hs = c.loop-control.controls in
+    let lt : c.loop-control.control-index < length hs = omega arith in
+    first_of_rest (HasRoom c.args.place scan_events) hs _ _ lt c.loop-control.invariant.room
+
+pub loop-control-preserved : goal.loop-control-preserved
+loop-control-preserved c =
+    let hs = c.loop-control.controls in
+    let place = c.args.place in
+    let lt : c.loop-control.control-index < length hs = omega arith in
+    let n : length (controls_of c.args.controls.now) ≡ length hs = length-map c.args.controls.now _ ∙ omega arith in
+    record {
+      room = rest_after_set (HasRoom place scan_events) hs _ _ lt c.loop-control.invariant.room;
+      read = λ scan are.
+          let so_far = c.loop-control.invariant.read scan are in
+          let done = c.read_copy.ensures scan (copies_at scan place hs _ _ _ lt so_far.1) in (
+            mapped_more (if_listening place (read scan)) _ hs _ c.control-item.result _ lt done.read so_far.0 n,
+            copies_behind scan place hs _ _ _ c.control-item.result _ lt done.most done.each so_far.1,
+          );
+    }
+
+pub returns : goal.returns
+returns c = λ scan are.
+    let hs = c.loop-control.controls in
+    let long : length (controls_of c.args.controls.now) ≤ c.loop-control.control-index = omega (arith, length-map c.args.controls.now (λ h. h.control)) in
+    mapped_all (if_listening c.args.place (read scan)) _ _ _ long (c.loop-control.invariant.read scan are).0

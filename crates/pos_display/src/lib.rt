@@ -1,0 +1,9 @@
+//! The calls of a line display (chapter Line Display). A display has no inputs, and gives no status events.
+#![tactic(auto)]
+
+mod calls;
+mod plans;
+#[cfg(test)]
+mod tests;
+
+pub use calls::call;

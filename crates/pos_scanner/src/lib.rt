@@ -1,0 +1,10 @@
+//! The calls of a scanner, and what its inputs do (chapter Scanner).
+#![tactic(auto)]
+
+mod calls;
+mod inputs;
+#[cfg(test)]
+mod tests;
+
+pub use calls::call;
+pub use inputs::take_input;

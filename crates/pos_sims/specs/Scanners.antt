@@ -1,0 +1,19 @@
+-- What contracts see of a simulated scanner.
+use Rattle.std.specs.Prelude.{ℕ, Bool}
+use Rattle.pos_service.specs.declared.kind.Kind.TheVariants as kind
+use Rattle.pos_service.specs.declared.plant.Plant.TheVariants as plant
+use Rattle.pos_service.specs.Peripherals.{PeripheralState}
+use Rattle.pos_sims.specs.declared.plain_scanner.PlainScanner.{PlainScanner}
+
+-- a scanner that is out of service or not, and whose line has failed so often
+abbrev pub scanner_state : Bool → ℕ → PeripheralState
+scanner_state is_parked failures = record {
+  kind = kind.Scanner;
+  plant = plant.Scanner;
+  is_parked = is_parked;
+  failures = failures;
+}
+
+-- what contracts see of a plain scanner
+abbrev pub state_of : PlainScanner → PeripheralState
+state_of scanner = scanner_state scanner.is_parked scanner.failures

@@ -1,0 +1,84 @@
+ghost use Rattle.std.specs.Prelude.{◌≡◌, true, false, IsOk, IfOk};
+ghost use Rattle.pos_service.specs.Peripherals.{Asked, Fed, input_fits};
+ghost use Rattle.pos_sims.specs.Scanners.{scanner_state, state_of};
+
+use pos_service::{
+    Input, Kind, NoMemory, Order, PaperLevel, Peripheral, Plant, Reply, Signs, Snapshot, Taken,
+};
+
+/// A scanner that takes no memory (chapter Scanner). Its line fails with orders alone, none of which a scanner takes.
+#[derive(Debug, Drop)]
+pub struct PlainScanner {
+    is_parked: bool,
+    failures: u64,
+}
+
+impl PlainScanner {
+    /// A scanner that is in service.
+    pub fn new() -> Self
+        ensures { state_of result ≡ scanner_state false 0 }
+    {
+        PlainScanner {
+            is_parked: false,
+            failures: 0,
+        }
+    }
+}
+
+impl Peripheral for PlainScanner {
+    ghost state = { λ scanner. state_of scanner };
+
+    fn kind(&self) -> Kind {
+        Kind::Scanner
+    }
+
+    fn signs(&self) -> Signs {
+        Signs {
+            drawer_open: false,
+            cover_open: false,
+            paper: PaperLevel::Good,
+        }
+    }
+
+    fn ask(&mut self, order: &Order) -> Result<Reply, NoMemory>
+        requires { (state_of self.old).is_parked ≡ false }
+        ensures asked { Asked (state_of self.old) order.now result (state_of self.new) }
+        ensures takes_no_memory { IsOk result }
+    {
+        let _ = order;
+        self.failures = self.failures.saturating_add(1);
+        Ok(Reply::LineFault)
+    }
+
+    fn feed(&mut self, input: &Input) -> Result<Taken, NoMemory>
+        requires unparked { (state_of self.old).is_parked ≡ false }
+        requires fits { input_fits (state_of self.old).kind input.now ≡ true }
+        ensures fed { Fed (state_of self.old) input.now result (state_of self.new) }
+        ensures takes_no_memory { IsOk result }
+    {
+        match input {
+            Input::Scan {
+                kind: _,
+                bytes: _,
+                label: _,
+            } => Ok(Taken::Scan),
+            Input::ScanFault => Ok(Taken::Fault),
+            _ => unreachable!(),
+        }
+    }
+
+    fn snapshot(&self) -> Result<Snapshot, NoMemory>
+        ensures shown { IfOk result (λ shown. shown.0 ≡ (state_of self.now).plant) }
+        ensures takes_no_memory { IsOk result }
+    {
+        Ok(Snapshot(Plant::Scanner))
+    }
+
+    fn park(&mut self) {
+        self.is_parked = true;
+    }
+
+    fn is_parked(&self) -> bool {
+        self.is_parked
+    }
+}
