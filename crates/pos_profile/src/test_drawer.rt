@@ -53,6 +53,7 @@ impl Peripheral for TestDrawer {
                 self.is_open = true;
                 Ok(Reply::Done)
             }
+            _ => unreachable!(),
         }
     }
 
@@ -62,6 +63,7 @@ impl Peripheral for TestDrawer {
                 self.is_open = *is_open;
                 Ok(Taken::Quiet)
             }
+            _ => unreachable!(),
         }
     }
 
