@@ -58,7 +58,8 @@ get_back [] back n k e = ap (slice_get back) (omega arith)
 get_back (x ∷ front) back n zero e = absurd (omega arith)
 get_back (x ∷ front) back n (suc k) e = get_back front back n k (omega arith)
 
-refused_front : (front back : List (Option Entry)) (n : ℕ) → n < length front → is_refused (front ++ back) n ≡ is_refused front n
+-- what is refused of the first of two lists
+pub refused_front : (front back : List (Option Entry)) (n : ℕ) → n < length front → is_refused (front ++ back) n ≡ is_refused front n
 refused_front front back n less =
     let same : slice_get (front ++ back) n ≡ slice_get front n = get_front front back n less in
     let prefix : take n (front ++ back) ≡ take n front = take-append-le n front back (omega arith) in

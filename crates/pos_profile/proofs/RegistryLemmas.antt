@@ -1,24 +1,26 @@
 -- The devices of a registry, where the peripheral of one changes.
 use Rattle.std.proofs.Common.{◌≡◌, ◌∙◌, ◌<◌, ◌≤◌, ◌+◌, ℕ, zero, suc, List, [], ◌∷◌, ◌++◌, Bool, true, false, Option, Some, None, map, length, take, drop, get_or, set, slice_get, refl, sym, ap, subst, arith}
-use Rattle.std.specs.Prelude.{is_some, option_and_then}
-use Rattle.std.specs.List.{AllByRecursion, filter_map}
+use Rattle.std.specs.Prelude.{IfSome, is_some, option_and_then}
+use Rattle.std.specs.List.{All, AllByRecursion, cons_option, filter_map}
 use Rattle.std.specs.Option.{option_map}
 use Rattle.std.proofs.lemmas.Bool.{false≢true}
 use Rattle.std.proofs.lemmas.List.{append-nil, drop_all, length-map, get_or-map, map-append, map-set, take_all, take_more}
 use Rattle.std.proofs.lemmas.List.Edits.{map_over_more}
-use Rattle.std.proofs.lemmas.List.Elements.{filter_map-append}
+use Rattle.std.proofs.lemmas.List.Elements.{filter_map-append, recursion_from_All}
 use Rattle.std.proofs.lemmas.Option.{slice_get-map, slice_get_past, slice_get_read, slice_get_within}
 use Rattle.pos_service.specs.declared.kind.Kind.{Kind}
 use Rattle.pos_service.specs.declared.peripheral_box.PeripheralBox.{PeripheralBox}
 use Rattle.pos_service.specs.declared.peripheral_box.HasState.{Ghosts}
-use Rattle.pos_service.specs.Peripherals.{PeripheralState}
+use Rattle.pos_service.specs.Peripherals.{IsInRange, PeripheralState}
 use Rattle.pos_profile.specs.declared.entry.Entry.{Entry}
 use Rattle.pos_profile.specs.declared.planning.Planned.{Planned}
 use Rattle.pos_profile.specs.declared.registry.Registry.{Registry}
+use Rattle.pos_profile.specs.declared.role.Role.TheVariants as role
 use Rattle.pos_profile.specs.declared.slot.Slot.{Slot}
 use Rattle.pos_profile.specs.Kinds.{kind_of}
 use Rattle.pos_profile.specs.Places.{IsIndexOf, found_in, place_of}
-use Rattle.pos_profile.specs.Registries.{Device, IsNamed, IsRegistrySound, IsServed, MayServe, device_of, devices, devices_of, names_of, parked, planned_for, planned_of, standing_at, vacant, with_peripheral}
+use Rattle.pos_profile.specs.Soundness.{IsSoundEntry}
+use Rattle.pos_profile.specs.Registries.{Device, HasKindInRange, IsNamed, IsRegistrySound, IsServed, MayServe, device_of, devices, devices_of, names_of, parked, planned_for, planned_of, standing_at, vacant, vacant_devices, with_peripheral}
 
 -- what one more entry plans
 planned_more : (entries : List Entry) (place : ℕ) (entry : Entry) → place < length entries → entry ≡ get_or entries place entry → planned_of (take (place + 1) entries) ≡ planned_of (take place entries) ++ planned_of (entry ∷ [])
@@ -82,11 +84,18 @@ served_with [] place x all here = tt
 served_with (device ∷ list) zero x all here = (here device refl, all.1)
 served_with (device ∷ list) (suc place) x all here = (all.0, served_with list place x all.1 here)
 
+-- the kinds stay
+kinds_with : (list : List Device) (place : ℕ) (x : Option PeripheralState) → AllByRecursion HasKindInRange list → AllByRecursion HasKindInRange (with_peripheral list place x)
+kinds_with [] place x all = tt
+kinds_with (device ∷ list) zero x all = all
+kinds_with (device ∷ list) (suc place) x all = (all.0, kinds_with list place x all.1)
+
 -- a registry stays sound, where the peripheral of a place is changed for a right one
 pub sound_with : {X : Type 0} {O : X → Type 0} (boxes : Ghosts (PeripheralBox X O)) (old new : Registry X O) (place : ℕ) (x : Option PeripheralState) → IsRegistrySound boxes old → new.places ≡ old.places → devices boxes new ≡ with_peripheral (devices boxes old) place x
     → ((device : Device) → slice_get (devices boxes old) place ≡ Some device → IsServed (record device { peripheral = x })) → IsRegistrySound boxes new
 sound_with boxes old new place x sound places is here = record {
   index = λ name. ap (λ p. found_in p name) places ∙ sound.index name ∙ ap (λ (ns : List (List ℕ)). place_of ns name) (sym (ap names_of is ∙ names_with (devices boxes old) place x));
+  kinds = subst (AllByRecursion HasKindInRange) (sym is) (kinds_with (devices boxes old) place x sound.kinds);
   served = subst (AllByRecursion IsServed) (sym is) (served_with (devices boxes old) place x sound.served here);
 }
 
@@ -119,9 +128,20 @@ served_vacant : (plan : List Planned) → AllByRecursion IsServed (map vacant pl
 served_vacant [] = tt
 served_vacant (planned ∷ plan) = (tt, served_vacant plan)
 
-pub sound_planned : {X : Type 0} {O : X → Type 0} (boxes : Ghosts (PeripheralBox X O)) (registry : Registry X O) (plan : List Planned) → devices boxes registry ≡ map vacant plan → IsIndexOf registry.places (map (λ (p : Planned). p.name) plan) → IsRegistrySound boxes registry
-sound_planned boxes registry plan is index = record {
+-- what is planned for an entry whose kind is in range
+kinds_more : (name : List ℕ) (kind : Option Kind) (plan : List Planned) → IfSome kind IsInRange → AllByRecursion HasKindInRange (map vacant plan) → AllByRecursion HasKindInRange (map vacant (cons_option (option_map (λ kind. record { name = name; kind = kind }) kind) plan))
+kinds_more name None plan here all = all
+kinds_more name (Some kind) plan here all = (here, all)
+
+-- what is planned for sound entries
+kinds_planned : (entries : List Entry) → AllByRecursion (IsSoundEntry role.Device) entries → AllByRecursion HasKindInRange (vacant_devices entries)
+kinds_planned [] sound = tt
+kinds_planned (entry ∷ entries) sound = kinds_more entry.name (kind_of entry) (planned_of entries) sound.0.kind (kinds_planned entries sound.1)
+
+pub sound_planned : {X : Type 0} {O : X → Type 0} (boxes : Ghosts (PeripheralBox X O)) (registry : Registry X O) (entries : List Entry) (plan : List Planned) → All (IsSoundEntry role.Device) entries → plan ≡ planned_of entries → devices boxes registry ≡ map vacant plan → IsIndexOf registry.places (map (λ (p : Planned). p.name) plan) → IsRegistrySound boxes registry
+sound_planned boxes registry entries plan sound planned is index = record {
   index = λ name. index name ∙ ap (λ (ns : List (List ℕ)). place_of ns name) (sym (ap names_of is ∙ names_vacant plan));
+  kinds = subst (AllByRecursion HasKindInRange) (sym (is ∙ ap (map vacant) planned)) (kinds_planned entries (recursion_from_All (IsSoundEntry role.Device) entries sound));
   served = subst (AllByRecursion IsServed) (sym is) (served_vacant plan);
 }
 

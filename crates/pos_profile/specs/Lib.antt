@@ -6,5 +6,6 @@ pub mod Tables
 pub mod Entries
 pub mod Profiles
 pub mod Mistakes
+pub mod Soundness
 pub mod Places
 pub mod Registries

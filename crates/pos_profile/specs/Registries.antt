@@ -5,7 +5,7 @@ use Rattle.std.specs.Option.{option_map}
 use Rattle.pos_service.specs.declared.kind.Kind.{Kind}
 use Rattle.pos_service.specs.declared.peripheral_box.PeripheralBox.{PeripheralBox}
 use Rattle.pos_service.specs.declared.peripheral_box.HasState.{Ghosts}
-use Rattle.pos_service.specs.Peripherals.{PeripheralState}
+use Rattle.pos_service.specs.Peripherals.{IsInRange, PeripheralState}
 use Rattle.pos_profile.specs.declared.entry.Entry.{Entry}
 use Rattle.pos_profile.specs.declared.planning.Planned.{Planned}
 use Rattle.pos_profile.specs.declared.registry.Registry.{Registry}
@@ -78,10 +78,16 @@ with_peripheral (device ∷ devices) (suc place) peripheral = device ∷ with_pe
 abbrev pub IsServed : Device → Type 0
 IsServed device = IfSome device.peripheral (λ state. (state.is_parked ≡ false) × (state.kind ≡ device.kind))
 
--- What is true of every registry: each name is found at its first place, each peripheral is in service and of its kind.
+-- a device's kind is one that a peripheral may have
+abbrev pub HasKindInRange : Device → Type 0
+HasKindInRange device = IsInRange device.kind
+
+-- What is true of every registry: each name is found at its first place, each kind is in range, each peripheral is in
+-- service and of its device's kind.
 pub record IsRegistrySound {X : Type 0} {O : X → Type 0} (boxes : Ghosts (PeripheralBox X O)) (registry : Registry X O)
     : Type 0 where
   pub index : IsIndexOf registry.places (names_of (devices boxes registry))
+  pub kinds : AllByRecursion HasKindInRange (devices boxes registry)
   pub served : AllByRecursion IsServed (devices boxes registry)
 
 -- a place is vacant, and a peripheral of this state may serve it

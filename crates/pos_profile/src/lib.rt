@@ -6,6 +6,7 @@ mod category;
 mod entry;
 mod explaining;
 mod fault;
+pub mod laws;
 mod listing;
 mod mistake;
 mod names;

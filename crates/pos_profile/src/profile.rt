@@ -1,4 +1,4 @@
-ghost use Rattle.std.specs.Prelude.{◌≡◌, All, false};
+ghost use Rattle.std.specs.Prelude.{◌≡◌};
 ghost use Rattle.toml.specs.Parse.{parse_document};
 ghost use Rattle.toml.specs.View.{table_view};
 ghost use Rattle.pos_profile.specs.Profiles.{FromDocument, Gives};
@@ -15,16 +15,19 @@ use toml::Table;
 /// The devices of a counter and its spares, each in the order of the profile (docs/PROFILE.md).
 #[derive(Debug, Drop)]
 pub struct Profile {
-    devices: Vec<Entry>,
+    pub(crate) devices: Vec<Entry>,
     spares: Vec<Entry>,
 }
 
 impl Model for Profile {
     ghost use Rattle.pos_profile.specs.Entries.{Contents};
+    ghost use Rattle.pos_profile.specs.Soundness.{IsSoundProfile};
 
     ghost Value = { Contents };
 
     ghost view = { λ profile. record { devices = profile.devices.items; spares = profile.spares.items } };
+
+    ghost invariant = { λ profile. IsSoundProfile (record { devices = profile.devices.items; spares = profile.spares.items }) };
 }
 
 /// The profile that a document is.

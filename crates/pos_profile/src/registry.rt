@@ -3,6 +3,7 @@ ghost use Rattle.std.specs.Option.{option_map};
 ghost use Rattle.pos_profile.specs.Places.{IsIndexOf, place_of};
 ghost use Rattle.pos_profile.specs.Registries.{Attaches, Detaches, IsRegistrySound, MayServe, devices, devices_of, names_of, parked, planned_of, standing_at, vacant, vacant_devices, with_peripheral};
 
+use crate::laws::is_profile;
 use crate::places::Places;
 use crate::planning::{Planned, plan};
 use crate::profile::Profile;
@@ -64,6 +65,7 @@ impl Registry {
             devices ⟦<PeripheralBox as HasState>⟧ registry ≡ vacant_devices profile.now.devices) }
         ensures sound { IfOk result (λ registry. IsRegistrySound ⟦<PeripheralBox as HasState>⟧ registry) }
     {
+        is_profile(profile);
         let Ok((plan, places)) = prepare(alloc, profile) else {
             slots.destroy_empty();
             return Err(NoMemory);

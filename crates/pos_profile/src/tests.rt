@@ -1,3 +1,6 @@
+ghost use Rattle.std.specs.Prelude.{◌≤◌, IfSome};
+
+use crate::laws::is_profile;
 use crate::{DeviceCategory, Profile, ProfileFault, find_mistake};
 use pos_service::Kind;
 use std::alloc::Global;
@@ -42,6 +45,24 @@ fn is_duplicate(alloc: Global, text: &str, wanted: &str) -> bool {
     match Profile::from_text(alloc, text) {
         Err(ProfileFault::Duplicate(name)) => is_unexplained && name.as_str() == wanted,
         _ => false,
+    }
+}
+
+/// The rows and columns of the display at a place of a profile, if there is one. Whoever makes a display of them needs
+/// them in their ranges.
+fn display_at(profile: &Profile, place: usize) -> Option<(u32, u32)>
+    ensures rows { IfSome result (λ size. (1 ≤ size.0) × (size.0 ≤ 8)) }
+    ensures columns { IfSome result (λ size. (1 ≤ size.1) × (size.1 ≤ 80)) }
+{
+    is_profile(profile);
+    let devices = profile.devices();
+    if place >= devices.len() {
+        return None;
+    }
+    let entry = &devices[place];
+    match entry.category {
+        DeviceCategory::LineDisplay => Some((entry.rows, entry.columns)),
+        _ => None,
     }
 }
 
@@ -92,6 +113,8 @@ fn built_profile(rt: HostRuntime) {
         })
     );
     assert_eq!(rt; (display.chars, display.lines, display.near), (0, 0, 0));
+    assert_eq!(rt; display_at(&profile, 2), Some((2, 4)));
+    assert_eq!(rt; display_at(&profile, 3), None);
     let printer = profile.devices().get(3).expect(&rt, "a printer");
     assert_eq!(rt; printer.name.as_bytes(), b"r1".as_slice());
     assert_eq!(rt; printer.kind(), Some(Kind::Printer { chars: 8, near: 2 }));
@@ -316,6 +339,13 @@ fn second_hard_totals(rt: HostRuntime) {
         [[device]]\nname = \"t1\"\ncategory = \"HardTotals\"\n[[device]]\nname = \"\"\n";
     let told = "device 2: a second device of category HardTotals";
     assert!(rt; is_bad(rt.alloc(), text, 2, told));
+    let text = "[[device]]\nname = \"t1\"\ncategory = \"HardTotals\"\n\
+        [[device]]\nname = \"t2\"\ncategory = \"HardTotals\"\n";
+    assert!(rt; is_bad(rt.alloc(), text, 2, told));
+    let text = "[[device]]\nname = \"d1\"\ncategory = \"CashDrawer\"\n\
+        [[spare]]\ncategory = \"HardTotals\"\n";
+    let told = format!(in rt.alloc(); "spare 1: {NO_SPARE}").expect(&rt, "ample memory");
+    assert!(rt; is_bad(rt.alloc(), text, 2, told.as_str()));
 }
 
 #[test]
@@ -329,6 +359,9 @@ fn lowest_number_wins(rt: HostRuntime) {
 
 #[test]
 fn names_that_stand_twice(rt: HostRuntime) {
+    let text = "[[device]]\nname = \"d1\"\ncategory = \"CashDrawer\"\n\
+        [[device]]\nname = \"d1\"\ncategory = \"CashDrawer\"\n";
+    assert!(rt; is_duplicate(rt.alloc(), text, "d1"));
     let text =
         "device = [{ name = \"a\", category = \"Scanner\" }, { name = \"b\", category = \"Scanner\" }, \
         { name = \"b\", category = \"CashDrawer\" }, { name = \"a\", category = \"Scanner\" }]";
