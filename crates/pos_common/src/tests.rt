@@ -28,6 +28,7 @@ fn drawer_signs(is_open: bool) -> Signs {
 fn drawer_facts(is_open: bool) -> Facts {
     Facts {
         is_claimed: false,
+        is_foreign: false,
         in_transaction: false,
         kind: None,
         signs: drawer_signs(is_open),
@@ -125,6 +126,7 @@ fn claims_ask_for_an_open_control_and_a_good_timeout(rt: HostRuntime) -> Result<
 fn what_a_control_holds_is_told(rt: HostRuntime) -> Result<(), Fail> {
     let facts = Facts {
         is_claimed: true,
+        is_foreign: false,
         in_transaction: true,
         ..drawer_facts(false)
     };
@@ -233,7 +235,12 @@ fn a_cursor_is_set_within_the_display(rt: HostRuntime) -> Result<(), Fail> {
     a.open(Finding::At(2));
     for (property, number) in [(row, 1), (Property::CursorColumn, 4)] {
         let value = Value::Number(number);
-        assert!(rt; matches!(a.set(0, None, facts.kind, property, &value), Answer::Done(Value::Empty)));
+        assert!(rt;
+            matches!(
+                a.set(0, None, facts.kind, property, &value),
+                Answer::Done(Value::Empty)
+            )
+        );
         let told = a.get(property, &facts)?;
         assert!(rt; matches!(told, Answer::Done(Value::Number(n)) if n == number));
     }
@@ -261,7 +268,13 @@ fn open_alone_gives_the_cursor_its_defaults(rt: HostRuntime) -> Result<(), Fail>
     let facts = display_facts();
     let mut a = Control::new(rt.alloc(), Category::LineDisplay);
     a.open(Finding::At(2));
-    a.set(0, None, facts.kind, Property::CursorUpdate, &Value::Truth(false));
+    a.set(
+        0,
+        None,
+        facts.kind,
+        Property::CursorUpdate,
+        &Value::Truth(false),
+    );
     a.move_cursor(Place { row: 1, column: 3 });
     a.release(0, Some(0));
     assert!(rt; a.cursor().place == Place { row: 1, column: 3 } && !a.cursor().update);

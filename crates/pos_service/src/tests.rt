@@ -85,7 +85,9 @@ const DISPLAY: Kind = Kind::Display {
 #[test]
 fn displays_are_exclusive_and_have_calls_and_a_cursor_of_their_own(rt: HostRuntime) {
     assert!(rt; Category::LineDisplay.is_exclusive());
-    assert!(rt; Category::LineDisplay.serves(Some(DISPLAY)) && !Category::Scanner.serves(Some(DISPLAY)));
+    assert!(rt;
+        Category::LineDisplay.serves(Some(DISPLAY)) && !Category::Scanner.serves(Some(DISPLAY))
+    );
     assert!(rt; Category::LineDisplay.has_call(&Call::ScrollText(1, 1)));
     assert!(rt; !Category::LineDisplay.has_call(&Call::ClearInput));
     assert!(rt; Category::LineDisplay.has_property(Property::CursorRow));
@@ -127,7 +129,13 @@ fn a_display_takes_texts_and_scrolls_that_fit_it(rt: HostRuntime) -> Result<(), 
     assert!(rt; !show(rt.alloc(), 0, 0, b"A")?.fits(Kind::Drawer));
     let (direction, units) = (Direction::Up, 2);
     assert!(rt; Order::Scroll { direction, units }.fits(DISPLAY));
-    assert!(rt; !Order::Scroll { direction, units: 3 }.fits(DISPLAY));
+    assert!(rt;
+        !Order::Scroll {
+            direction,
+            units: 3
+        }
+        .fits(DISPLAY)
+    );
     assert!(rt; Order::ClearText.fits(DISPLAY) && !Order::OpenDrawer.fits(DISPLAY));
     Ok(())
 }

@@ -196,8 +196,18 @@ fn an_exclusive_device_is_enabled_by_its_holder_and_disabled_by_its_release(
             Code::Illegal
         )
     );
-    assert!(rt; is_refused(&a.set(0, None, None, Property::DataCount, &five), Code::Illegal));
-    assert!(rt; is_refused(&a.set(0, None, None, Property::CapStatus, &on), Code::Illegal));
+    assert!(rt;
+        is_refused(
+            &a.set(0, None, None, Property::DataCount, &five),
+            Code::Illegal
+        )
+    );
+    assert!(rt;
+        is_refused(
+            &a.set(0, None, None, Property::CapStatus, &on),
+            Code::Illegal
+        )
+    );
     assert_eq!(rt; a.check(0, Some(0), need), Ok(()));
     assert!(rt; is_done(&a.set(0, Some(0), None, Property::DeviceEnabled, &on)));
     scan(rt.alloc(), &mut a, 104, b'A')?;
