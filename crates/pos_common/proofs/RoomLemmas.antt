@@ -1,5 +1,5 @@
 -- The room of a control that has heard, or that something less is asked of.
-use Rattle.std.proofs.Common.{◌≡◌, ◌∙◌, ℕ, ◌+◌, ◌≤◌, Bool, true, false, cond, List, [], ◌∷◌, All, ap, refl, subst, arith, tt}
+use Rattle.std.proofs.Common.{◌≡◌, ◌∙◌, ℕ, ◌+◌, ◌≤◌, Bool, true, false, cond, List, All, ap, refl, subst, arith}
 use Rattle.std.specs.Prelude.{IsTrue}
 use Rattle.pos_service.specs.Controls.{Control, heard, if_listening, listens}
 use Rattle.pos_service.specs.Events.{Enqueued}
@@ -19,5 +19,4 @@ room_left place count events old new is spare room = λ l.
 
 -- room for so many events is room for fewer
 pub room_for_fewer : (place few many : ℕ) (hs : List Held) → few ≤ many → All (HasRoom place many) hs → All (HasRoom place few) hs
-room_for_fewer place few many [] le all = tt
-room_for_fewer place few many (h ∷ hs) le all = (λ l. omega (arith, le, all.0 l), room_for_fewer place few many hs le all.1)
+room_for_fewer place few many hs le all = λ i d lt l. omega (arith, le, all i d lt l)

@@ -1,4 +1,5 @@
 mod input;
+mod output;
 
 use crate::{ClaimNeed, Claims, Control, Need, SIGN_EVENTS, hear_all, room_all};
 use pos_service::display_text::Place;

@@ -1,2 +1,3 @@
 pub mod ReplyLemmas
+pub mod RequestLemmas
 pub mod WorkLemmas

@@ -1,10 +1,10 @@
 //! What comes of a request of a control: it is done at once, or queued.
-ghost use Rattle.std.specs.Prelude.{◌≡◌, ◌<◌, true, false, Some, IfSome, MatchResult, length, slice_get};
+ghost use Rattle.std.specs.Prelude.{◌≡◌, ◌<◌, true, false, Some, IfSome, MatchOption, MatchResult, length, slice_get};
 ghost use Rattle.pos_service.specs.declared.category.Category.TheVariants as category;
 ghost use Rattle.pos_service.specs.Peripherals.{PrintersTake, order_fits};
-ghost use Rattle.pos_service.specs.PrinterCalls.{DoesAtOnce, Requests};
+ghost use Rattle.pos_service.specs.PrinterCalls.{DoesAtOnce, DoesLater, Requests};
 ghost use Rattle.pos_service.specs.Kinds.{is_printer};
-ghost use Rattle.pos_service.specs.Stations.{station_of, IsOpen, SameStation, StaysInService};
+ghost use Rattle.pos_service.specs.Stations.{Station, station_of, IsOpen, SameStation, StaysInService};
 ghost use Rattle.pos_common.specs.Held.{controls_of};
 
 use pos_common::{Control, SIGN_EVENTS, hear_all, room_all};
@@ -35,10 +35,24 @@ pub(crate) fn request(
         StaysInService (state printer.old) (state printer.new) }
 {
     if controls[caller].is_async() {
-        return controls[caller].queue(order);
+        return queue(controls, caller, order);
     }
     let place = controls[caller].place();
     do_at_once(controls, place, printer, &order)
+}
+
+/// A request of the control with a number is queued. Want of memory changes nothing.
+///
+/// Refused with E_FAILURE where no OutputID is left.
+fn queue(controls: &mut [Control], caller: usize, order: Order) -> Result<Answer, NoMemory>
+    requires number { caller < length controls.old }
+    requires fits { PrintersTake order }
+    ensures { (at : Station) → MatchOption (slice_get (controls_of controls.old) caller) ⊥ (λ control.
+        MatchResult result
+        (λ answer. DoesLater order caller control answer (controls_of controls.old) at (controls_of controls.new) at)
+        (λ _. SameStation (controls_of controls.old) at (controls_of controls.new) at)) }
+{
+    controls[caller].queue(order)
 }
 
 /// Gives the printer at a place the order of a request, once there is room for what the controls will hear. Each control

@@ -1,4 +1,4 @@
-use Rattle.std.proofs.Common.{◌<◌, ◌≤◌, ◌≡◌, All, length, arith, subst, ◌∙◌, refl, tt}
+use Rattle.std.proofs.Common.{◌<◌, ◌≤◌, ◌≡◌, All, length, arith, subst, ◌∙◌, refl}
 use Rattle.std.proofs.lemmas.List.{length-map, take_all}
 use Rattle.std.specs.Prelude.{◌+◌}
 use Rattle.pos_service.specs.Controls.{heard, if_listening}
@@ -9,7 +9,7 @@ use Rattle.pos_common.proofs.RoomLemmas.{room_left}
 use Rattle.pos_common.proofs.controls.hear_all.Goals as goal
 
 pub loop-control-init : goal.loop-control-init
-loop-control-init c = record { heard = refl; room = c.requires; left = λ count all. (tt, all) }
+loop-control-init c = record { heard = refl; room = c.requires; left = λ count all. (λ i d lt. absurd (omega (arith, lt)), all) }
 
 pub hear-requires : goal.hear-requires
 hear-requires c =
