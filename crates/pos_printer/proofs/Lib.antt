@@ -1,3 +1,4 @@
+pub mod OrderLemmas
 pub mod ReplyLemmas
 pub mod RequestLemmas
 pub mod WorkLemmas

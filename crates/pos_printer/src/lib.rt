@@ -7,8 +7,8 @@ mod inputs;
 mod requests;
 #[cfg(test)]
 mod tests;
-mod work;
+mod working;
 
 pub use calls::call;
 pub use inputs::take_input;
-pub use work::work;
+pub use working::work;
