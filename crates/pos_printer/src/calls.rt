@@ -140,8 +140,7 @@ fn print_immediate(
         return Ok(Answer::Refused(Code::Illegal, 0));
     }
     let bytes = Bytes::from_slice(alloc, text.as_slice())?;
-    let place = controls[caller].place();
-    do_at_once(controls, place, printer, &Order::Print { bytes })
+    do_at_once(controls, caller, printer, &Order::Print { bytes })
 }
 
 /// `cutPaper`: the paper is cut by so many percent.

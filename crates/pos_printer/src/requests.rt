@@ -37,8 +37,34 @@ pub(crate) fn request(
     if controls[caller].is_async() {
         return queue(controls, caller, order);
     }
+    do_at_once(controls, caller, printer, &order)
+}
+
+/// A request of the control with a number is done at once. Want of memory changes nothing.
+///
+/// Refused as `give` says.
+pub(crate) fn do_at_once(
+    controls: &mut [Control],
+    caller: usize,
+    printer: &mut PeripheralBox,
+    order: &Order,
+) -> Result<Answer, NoMemory>
+    requires open { IsOpen category.PosPrinter (controls_of controls.old) caller }
+    requires unparked { (⟦<PeripheralBox as HasState>⟧.state printer.old).is_parked ≡ false }
+    requires printer { is_printer (⟦<PeripheralBox as HasState>⟧.state printer.old).kind ≡ true }
+    requires fits { PrintersTake order.now }
+    ensures done { let state = ⟦<PeripheralBox as HasState>⟧.state in
+        IfSome (slice_get (controls_of controls.old) caller) (λ control. IfSome control.device (λ place.
+        MatchResult result
+        (λ answer. DoesAtOnce order.now place answer (controls_of controls.old) (station_of (state printer.old))
+        (controls_of controls.new) (station_of (state printer.new)))
+        (λ _. SameStation (controls_of controls.old) (station_of (state printer.old))
+        (controls_of controls.new) (station_of (state printer.new))))) }
+    ensures in_service { let state = ⟦<PeripheralBox as HasState>⟧.state in
+        StaysInService (state printer.old) (state printer.new) }
+{
     let place = controls[caller].place();
-    do_at_once(controls, place, printer, &order)
+    give(controls, place, printer, order)
 }
 
 /// A request of the control with a number is queued. Want of memory changes nothing.
@@ -60,7 +86,7 @@ fn queue(controls: &mut [Control], caller: usize, order: Order) -> Result<Answer
 ///
 /// Refused with E_EXTENDED 201 where the cover is open, else 203 where no line of paper is left, or fewer than the request
 /// needs; with E_FAILURE where the line to the printer fails.
-pub(crate) fn do_at_once(
+fn give(
     controls: &mut [Control],
     place: usize,
     printer: &mut PeripheralBox,
