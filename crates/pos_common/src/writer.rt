@@ -137,7 +137,8 @@ impl Writer {
     }
 
     /// An event has been delivered, and the application has replied: of an error of output the state ends; ER_CLEAR
-    /// deletes all requests, and with every other reply the first is to be tried again (common chapter, error handling).
+    /// deletes all requests, and with every other reply the first is to be tried again (common chapter, error
+    /// handling).
     pub(crate) fn take_reply(&mut self, event: Event, reply: ErrorReply)
         ensures { self.new ≡ with_output (output_after (Some event) reply self.old.output) self.old }
     {

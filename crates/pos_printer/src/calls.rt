@@ -26,11 +26,11 @@ const HELD: Need = Need {
 };
 
 /// A call on a printer's control that is open. The claims are those of all devices, the peripheral is that of the
-/// caller's device. A request gives one order at most, once its arguments are found good, its text, if any, is copied, and
-/// there is room for the events of all controls.
+/// caller's device. A request gives one order at most, once its arguments are found good, its text, if any, is copied,
+/// and there is room for the events of all controls.
 ///
-/// `printNormal` and `cutPaper` are done at once, or queued with AsyncMode true; `printImmediate` is done at once in every
-/// state; `clearOutput` deletes what is queued (chapter POS Printer).
+/// `printNormal` and `cutPaper` are done at once, or queued with AsyncMode true; `printImmediate` is done at once in
+/// every state; `clearOutput` deletes what is queued (chapter POS Printer).
 ///
 /// Refused with E_ILLEGAL for a call that printers don't have of their own, then with E_CLAIMED where another control
 /// holds the printer, E_NOTCLAIMED where nobody does, and then as each call says. Neither a refusal nor want of memory
@@ -106,7 +106,8 @@ fn print_normal(
     request(controls, caller, printer, Order::Print { bytes })
 }
 
-/// `printImmediate`: a text is printed at a station, before all that is queued, also while the first request has failed.
+/// `printImmediate`: a text is printed at a station, before all that is queued, also while the first request has
+/// failed.
 ///
 /// Refused with E_CLAIMED, E_NOTCLAIMED, E_DISABLED, E_ILLEGAL for another station than the receipt's or a text that
 /// printers don't take, and then as `do_at_once` says.
@@ -145,8 +146,8 @@ fn print_immediate(
 
 /// `cutPaper`: the paper is cut by so many percent.
 ///
-/// Refused with E_CLAIMED, E_NOTCLAIMED, E_DISABLED, E_ILLEGAL for a number that isn't 0 to 100, E_BUSY for a synchronous
-/// one while requests are queued, and then as `request` says.
+/// Refused with E_CLAIMED, E_NOTCLAIMED, E_DISABLED, E_ILLEGAL for a number that isn't 0 to 100, E_BUSY for a
+/// synchronous one while requests are queued, and then as `request` says.
 fn cut_paper(
     controls: &mut [Control],
     caller: usize,

@@ -100,7 +100,8 @@ fn asked(
 ) -> Result<Answer, NoMemory>
     requires unparked { (⟦<PeripheralBox as HasState>⟧.state printer.old).is_parked ≡ false }
     requires printer { is_printer (⟦<PeripheralBox as HasState>⟧.state printer.old).kind ≡ true }
-    ensures { let state = ⟦<PeripheralBox as HasState>⟧.state in StaysInService (state printer.old) (state printer.new) }
+    ensures { let state = ⟦<PeripheralBox as HasState>⟧.state in
+        StaysInService (state printer.old) (state printer.new) }
 {
     if controls.is_empty() || !is_open(&controls[0]) {
         return Ok(Answer::Refused(Code::Closed, 0));
@@ -126,7 +127,8 @@ fn printed(
 ) -> Result<Answer, NoMemory>
     requires unparked { (⟦<PeripheralBox as HasState>⟧.state printer.old).is_parked ≡ false }
     requires printer { is_printer (⟦<PeripheralBox as HasState>⟧.state printer.old).kind ≡ true }
-    ensures { let state = ⟦<PeripheralBox as HasState>⟧.state in StaysInService (state printer.old) (state printer.new) }
+    ensures { let state = ⟦<PeripheralBox as HasState>⟧.state in
+        StaysInService (state printer.old) (state printer.new) }
 {
     let text = Bytes::from_slice(alloc, text)?;
     asked(
@@ -142,7 +144,8 @@ fn printed(
 fn fed(controls: &mut [Control], printer: &mut PeripheralBox, input: &Input) -> Result<(), NoMemory>
     requires unparked { (⟦<PeripheralBox as HasState>⟧.state printer.old).is_parked ≡ false }
     requires printer { is_printer (⟦<PeripheralBox as HasState>⟧.state printer.old).kind ≡ true }
-    ensures { let state = ⟦<PeripheralBox as HasState>⟧.state in StaysInService (state printer.old) (state printer.new) }
+    ensures { let state = ⟦<PeripheralBox as HasState>⟧.state in
+        StaysInService (state printer.old) (state printer.new) }
 {
     if !input.fits(printer.kind()) {
         return Err(NoMemory);

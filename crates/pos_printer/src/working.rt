@@ -13,15 +13,15 @@ ghost use Rattle.pos_printer.specs.Requests.{HasRequest};
 use pos_common::{Claims, Control, WORK_EVENTS, hear_all, room_all};
 use pos_service::{Code, HasState, NoMemory, PeripheralBox, Reply, Worked};
 
-/// Works on the first request of the control that holds the printer at a place. There is nothing to do where nobody holds
-/// it, where the holder is disabled, where it has no request, and while its first one has failed (common chapter,
-/// asynchronous output).
+/// Works on the first request of the control that holds the printer at a place. There is nothing to do where nobody
+/// holds it, where the holder is disabled, where it has no request, and while its first one has failed (common
+/// chapter, asynchronous output).
 ///
-/// The room for all events is made before the order is given. Once it is done, each control that has the printer open and
-/// enabled hears the statuses that have changed; then the request is removed, and an OutputCompleteEvent enqueued. Where the
-/// printer doesn't do it, the request stays the first, the output error state stands, and an ErrorEvent with EL_OUTPUT is
-/// enqueued: with E_EXTENDED 201 where the cover is open, else 203 where the paper doesn't suffice; with E_FAILURE where the
-/// line fails. Want of memory changes nothing.
+/// The room for all events is made before the order is given. Once it is done, each control that has the printer open
+/// and enabled hears the statuses that have changed; then the request is removed, and an OutputCompleteEvent enqueued.
+/// Where the printer doesn't do it, the request stays the first, the output error state stands, and an ErrorEvent with
+/// EL_OUTPUT is enqueued: with E_EXTENDED 201 where the cover is open, else 203 where the paper doesn't suffice; with
+/// E_FAILURE where the line fails. Want of memory changes nothing.
 pub fn work(
     controls: &mut [Control],
     place: usize,
@@ -58,7 +58,8 @@ pub fn work(
 
 /// Whether the control with a number has a request that is to be done now at a place.
 fn has_work(controls: &[Control], holder: usize, place: usize) -> bool
-    ensures work { result ≡ is_some (option_and_then (first_request place) (slice_get (controls_of controls.now) holder)) }
+    ensures work { let held = slice_get (controls_of controls.now) holder in
+        result ≡ is_some (option_and_then (first_request place) held) }
     ensures within { result ≡ true → holder < length controls.now }
 {
     match controls.get(holder) {
@@ -67,7 +68,8 @@ fn has_work(controls: &[Control], holder: usize, place: usize) -> bool
     }
 }
 
-/// Gives the printer at a place the order of the request that a control has to be done now. Want of memory changes nothing.
+/// Gives the printer at a place the order of the request that a control has to be done now. Want of memory changes
+/// nothing.
 fn ask_for(control: &Control, place: usize, printer: &mut PeripheralBox) -> Result<Reply, NoMemory>
     requires unparked { (⟦<PeripheralBox as HasState>⟧.state printer.old).is_parked ≡ false }
     requires printer { is_printer (⟦<PeripheralBox as HasState>⟧.state printer.old).kind ≡ true }

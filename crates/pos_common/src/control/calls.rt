@@ -55,7 +55,8 @@ impl Control {
         self.events.clear();
     }
 
-    /// `close`: it is for no device any more. It is disabled, and its events and its output are deleted (common chapter).
+    /// `close`: it is for no device any more. It is disabled, and its events and its output are deleted (common
+    /// chapter).
     ///
     /// Refused with E_CLOSED where it is closed.
     pub fn close(&mut self) -> Answer

@@ -17,8 +17,8 @@ pub const SCAN_EVENTS: usize = 1;
 /// The most events that a failed scan has: ErrorEvents with EL_INPUT_DATA and with EL_INPUT.
 pub const FAULT_EVENTS: usize = 2;
 
-/// The most events that a request of output has which is worked on: those of a change of signs, and one that it is done, or
-/// has failed.
+/// The most events that a request of output has which is worked on: those of a change of signs, and one that it is
+/// done, or has failed.
 pub const WORK_EVENTS: usize = 4;
 
 impl Control {

@@ -24,7 +24,8 @@ impl Control {
         self.writer.is_outstanding()
     }
 
-    /// Queues a request, which gets the next OutputID (common chapter, asynchronous output). Want of memory changes nothing.
+    /// Queues a request, which gets the next OutputID (common chapter, asynchronous output). Want of memory changes
+    /// nothing.
     ///
     /// Refused with E_FAILURE where no OutputID is left.
     pub fn queue(&mut self, order: Order) -> Result<Answer, NoMemory>
@@ -43,7 +44,8 @@ impl Control {
     /// The request that is to be done now, with its OutputID: the first, if it has the device at this place open and
     /// enabled and no output error stands. Every printer takes its order.
     pub fn first_request(&self, place: usize) -> Option<(u64, &Order)>
-        ensures request { option_map (λ request. (request.0, request.1.now)) result ≡ first_request place self.now.control }
+        ensures request { let told = option_map (λ request. (request.0, request.1.now)) result in
+            told ≡ first_request place self.now.control }
         ensures fits { IfSome result (λ request. PrintersTake request.1.now) }
     {
         if !self.listens(place) {

@@ -21,8 +21,8 @@ const HELD: Need = Need {
 
 impl Control {
     /// Sets a property, by the control's number, the number of the control that holds its device, if any, and what its
-    /// device's peripheral is, where it has one (common chapter, chapter Line Display). The value that it has is checked
-    /// like any other.
+    /// device's peripheral is, where it has one (common chapter, chapter Line Display). The value that it has is
+    /// checked like any other.
     ///
     /// Refused with E_CLOSED where the control is closed, E_ILLEGAL where its category doesn't have the property or it
     /// can't be set; for DeviceEnabled of an exclusive-use device with E_CLAIMED where another control holds the
@@ -116,13 +116,13 @@ impl Control {
         }
     }
 
-    /// A property, by what is known of the control's device (common chapter, chapters Cash Drawer, Scanner, Line Display,
-    /// POS Printer and Hard Totals). Bytes are copied, for which memory may be wanted.
+    /// A property, by what is known of the control's device (common chapter, chapters Cash Drawer, Scanner, Line
+    /// Display, POS Printer and Hard Totals). Bytes are copied, for which memory may be wanted.
     ///
-    /// Refused with E_CLOSED where the control is closed, but for State; with E_ILLEGAL where its category doesn't have
-    /// the property; with E_CLAIMED where the property is one for the control that holds the device, and another one does,
-    /// E_NOTCLAIMED where nobody does; with E_DISABLED where it is one of an enabled device and the device is disabled; with
-    /// E_FAILURE where the property is one of the files and the totals are off.
+    /// Refused with E_CLOSED where the control is closed, but for State; with E_ILLEGAL where its category doesn't
+    /// have the property; with E_CLAIMED where the property is one for the control that holds the device, and another
+    /// one does, E_NOTCLAIMED where nobody does; with E_DISABLED where it is one of an enabled device and the device
+    /// is disabled; with E_FAILURE where the property is one of the files and the totals are off.
     pub fn get(&self, property: Property, facts: &Facts) -> Result<Answer, NoMemory>
         ensures { Gets (get_rows self.now.control facts.now property) property
             (property_of self.now.control facts.now property) result }
