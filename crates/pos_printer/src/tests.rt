@@ -8,11 +8,11 @@ ghost use Rattle.pos_sims.specs.ReceiptPrinters.{state_of};
 
 use crate::{call, take_input, work};
 use pos_common::{Claims, Control};
-use pos_service::receipt_text::{Alignment, Mark};
+use pos_service::receipt_text::{Alignment, Mark, PrintedCharacter};
 use pos_service::{
     Answer, Bytes, Call, Category, Code, ErrorReply, Event, Facts, Finding, HasState, Input, Kind,
-    Locus, NoMemory, Order, Peripheral, PeripheralBox, Plant, Property, Reply, Signs, Snapshot,
-    Taken, Value, Worked,
+    Locus, NoMemory, Order, PaperLevel, Peripheral, PeripheralBox, Plant, Property, Reply, Signs,
+    Snapshot, Taken, Value, Worked,
 };
 use pos_sims::RollPrinter;
 use std::alloc::Global;
@@ -178,7 +178,7 @@ fn number(control: &Control, property: Property) -> Option<i128> {
         signs: Signs {
             drawer_open: false,
             cover_open: false,
-            paper: pos_service::PaperLevel::Good,
+            paper: PaperLevel::Good,
         },
         totals_size: 0,
         files: None,
@@ -196,7 +196,10 @@ fn shows(shown: &Result<Snapshot, NoMemory>, left: u32, marks: &[Mark], bytes: &
             let (told, characters) = receipt.printed();
             receipt.lines_left() == left
                 && told == marks
-                && characters.iter().map(|c| c.byte).eq(bytes.iter().copied())
+                && characters
+                    .iter()
+                    .map(|c: &PrintedCharacter| c.byte)
+                    .eq(bytes.iter().copied())
         }
         _ => false,
     }

@@ -1,5 +1,5 @@
--- A control: its properties, its list of events, and its output (common chapter, for its reader chapter Scanner, for its
--- cursor chapter Line Display, and for its writer chapter POS Printer).
+-- A control: its properties, its list of events, and its output (common chapter, for its reader chapter Scanner, for
+-- its cursor chapter Line Display, and for its writer chapter POS Printer).
 use Rattle.std.specs.Prelude.{ℕ, ◌+◌, Bool, false, not, ◌&&◌, ◌||◌, List, [], Option, Some, None, is_none, option_map, map, nat_eq, if◌then◌else◌}
 use Rattle.pos_service.specs.declared.category.Category.{Category}
 use Rattle.pos_service.specs.declared.display_text.Cursor.{Cursor}
@@ -150,7 +150,8 @@ queued_by order writer = record writer { output_id = writer.output.next; output 
 abbrev pub queued : Order → Control → Control
 queued order control = record control { writer = queued_by order control.writer }
 
--- a control whose first request, with this OutputID, is done: the request is removed, and an OutputCompleteEvent enqueued
+-- a control whose first request, with this OutputID, is done: the request is removed, and an OutputCompleteEvent
+-- enqueued
 abbrev pub completed : ℕ → Control → Control
 completed id control = record control {
   writer = with_output (request_done control.writer.output) control.writer;

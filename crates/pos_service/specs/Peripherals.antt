@@ -67,9 +67,9 @@ signs_of is (plant.Printer printed) = record {
 abbrev pub place_at : ℕ → ℕ → Place
 place_at row column = record { row = row; column = column }
 
--- A peripheral of this kind takes the order: drawers open, displays show a text that they take from one of their places
--- on, are cleared, and scroll by at most as many units as they have rows or columns, and printers print a text that they
--- take, and cut the paper by 0 to 100 percent.
+-- A peripheral of this kind takes the order: drawers open, displays show a text that they take from one of their
+-- places on, are cleared, and scroll by at most as many units as they have rows or columns, and printers print a text
+-- that they take, and cut the paper by 0 to 100 percent.
 abbrev pub order_fits : Kind → Order → Bool
 order_fits is order.OpenDrawer = is_drawer is
 order_fits is (order.ShowText row column style bytes) =
@@ -85,8 +85,8 @@ order_fits is (order.Cut percentage) = is_printer is && nat_le percentage 100
 abbrev pub PrintersTake : Order → Type 0
 PrintersTake asked = (is : Kind) → is_printer is ≡ true → order_fits is asked ≡ true
 
--- the input can happen at a peripheral of this kind: a drawer is moved; a scanner reads a bar code of the types 0 to 999,
--- or fails to read; a printer's cover is moved, or it is loaded with paper of at most 100,000 lines
+-- the input can happen at a peripheral of this kind: a drawer is moved; a scanner reads a bar code of the types 0 to
+-- 999, or fails to read; a printer's cover is moved, or it is loaded with paper of at most 100,000 lines
 abbrev pub input_fits : Kind → Input → Bool
 input_fits kind.Drawer (input.DrawerMoved is_open) = true
 input_fits kind.Scanner (input.Scan number bytes label) = nat_le number 999
@@ -129,7 +129,8 @@ PrintsOut ps (plant.Printer old) reply.PaperEnd (plant.Printer new) = Prints old
 PrintsOut ps old told new = ⊥
 
 -- Of a kind, from the old plant, an order that reaches the peripheral may get this reply and leave the new plant: a
--- drawer opens; a display shows a text, is blank, or scrolls; a printer prints, or its cover is open, or its paper ends.
+-- drawer opens; a display shows a text, is blank, or scrolls; a printer prints, or its cover is open, or its paper
+-- ends.
 abbrev pub Performs : Kind → Order → Plant → Reply → Plant → Type 0
 Performs is (order.Print bytes) old told new = PrintsOut (pieces bytes) old told new
 Performs is (order.Cut percentage) old told new = PrintsOut (cut_pieces percentage) old told new
@@ -139,8 +140,9 @@ Performs is order.ClearText old reply.Done new = Clears old new
 Performs is (order.Scroll direction units) old reply.Done new = Moves direction units old new
 Performs is asked old told new = ⊥
 
--- Of a kind, from the old plant, an input may be taken so and leave the new plant: a drawer is open or closed as it was
--- moved, so is a printer's cover, or it has so many lines of paper left, and nothing of a scanner or of a display changes.
+-- Of a kind, from the old plant, an input may be taken so and leave the new plant: a drawer is open or closed as it
+-- was moved, so is a printer's cover, or it has so many lines of paper left, and nothing of a scanner or of a display
+-- changes.
 abbrev pub Takes : Kind → Input → Plant → Taken → Plant → Type 0
 Takes is (input.DrawerMoved is_open) (plant.Drawer was_open) taken.Quiet new = new ≡ plant.Drawer is_open
 Takes is (input.Scan number bytes label) plant.Scanner taken.Scan new = new ≡ plant.Scanner

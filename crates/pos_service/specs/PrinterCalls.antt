@@ -1,5 +1,5 @@
--- The calls of a receipt printer, and the work on the output that waits for it (chapter POS Printer, and common chapter,
--- asynchronous output and error handling).
+-- The calls of a receipt printer, and the work on the output that waits for it (chapter POS Printer, and common
+-- chapter, asynchronous output and error handling).
 use Rattle.std.specs.Bool.{MatchBool}
 use Rattle.std.specs.Prelude.{◌≡◌, ℕ, ℤ, pos, negsuc, nat_abs, Bool, true, false, not, ◌&&◌, ◌==◌, List, [], ◌∷◌, Option, Some, None, is_none, Result, Ok, MatchOption, MatchResult, slice_get, slice_set, if◌then◌else◌}
 use Rattle.std.specs.Option.{option_map, option_and_then}

@@ -25,8 +25,8 @@ pub enum Call {
     /// `clearInputProperties`: the properties of the last input have their defaults again (common chapter, chapter
     /// Scanner).
     ClearInputProperties,
-    /// `displayText` with the text and the number of its attribute: it is shown from the cursor on (chapter Line Display,
-    /// as the calls below).
+    /// `displayText` with the text and the number of its attribute: it is shown from the cursor on (chapter Line
+    /// Display, as the calls below).
     DisplayText(Bytes, i128),
     /// `displayTextAt` with a row, a column, the text and the number of its attribute.
     DisplayTextAt(i128, i128, Bytes, i128),
@@ -34,8 +34,8 @@ pub enum Call {
     ClearText,
     /// `scrollText` with the number of a direction, and by how many rows or columns.
     ScrollText(i128, i128),
-    /// `printNormal` with the number of a station and the text: it is printed, at once or later, as AsyncMode says (chapter
-    /// POS Printer, as the calls below).
+    /// `printNormal` with the number of a station and the text: it is printed, at once or later, as AsyncMode says
+    /// (chapter POS Printer, as the calls below).
     PrintNormal(i128, Bytes),
     /// `printImmediate` with the number of a station and the text: it is printed before all that is queued.
     PrintImmediate(i128, Bytes),

@@ -107,8 +107,8 @@ impl Model for Receipt {
 }
 
 impl Receipt {
-    /// What is printed on lines of so many characters, in two flat lists without a copy: the lines and the cuts, and all
-    /// characters, those of the line buffer last; so many lines of paper are left, and the cover is open or not.
+    /// What is printed on lines of so many characters, in two flat lists without a copy: the lines and the cuts, and
+    /// all characters, those of the line buffer last; so many lines of paper are left, and the cover is open or not.
     pub fn new(
         chars: u32,
         marks: Vec<Mark>,

@@ -2,7 +2,7 @@ ghost use Rattle.std.specs.Prelude.{◌≡◌, false};
 ghost use Rattle.pos_sims.specs.ReceiptPrinters.{state_of};
 
 use crate::RollPrinter;
-use pos_service::receipt_text::{Alignment, Mark};
+use pos_service::receipt_text::{Alignment, Mark, PrintedCharacter};
 use pos_service::{
     Bytes, Input, Kind, NoMemory, Order, PaperLevel, Peripheral, Plant, Receipt, Reply, Snapshot,
     Taken,
@@ -55,7 +55,10 @@ fn is(receipt: &Receipt, left: u32, marks: &[Mark], bytes: &[u8]) -> bool {
     receipt.chars() == 8
         && receipt.lines_left() == left
         && told == marks
-        && characters.iter().map(|c| c.byte).eq(bytes.iter().copied())
+        && characters
+            .iter()
+            .map(|c: &PrintedCharacter| c.byte)
+            .eq(bytes.iter().copied())
 }
 
 #[test]
