@@ -9,14 +9,14 @@ work=$(mktemp -d)
 trap 'rm -rf "$work"' EXIT
 
 mkdir "$work/crates"
-for crate in pos_service pos_events pos_common pos_sims pos_display; do
+for crate in pos_service pos_events pos_output pos_common pos_sims pos_display; do
   cp -r "$top/crates/$crate" "$work/crates/$crate"
   rm -rf "$work/crates/$crate/must-fail"
 done
 mkdir -p "$work/crates/display_bench/src"
 cp "$top/bench/display.rt.in" "$work/crates/display_bench/src/main.rt"
 cp "$top/HANDLES" "$work/HANDLES"
-grep -E '^pos_(service|events|common|sims|display):' "$top/crates.txt" > "$work/crates.txt"
+grep -E '^pos_(service|events|output|common|sims|display):' "$top/crates.txt" > "$work/crates.txt"
 echo 'display_bench: pos_service pos_common pos_sims pos_display anyhow' >> "$work/crates.txt"
 rustc -O -o "$work/plain" "$top/bench/display.rs"
 echo 'plain Rust'

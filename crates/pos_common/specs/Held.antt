@@ -32,6 +32,10 @@ scan_events = 1
 abbrev pub fault_events : ℕ
 fault_events = 2
 
+-- a request that is worked on has at most so many events: a change of signs, and OutputCompleteEvent or EL_OUTPUT
+abbrev pub work_events : ℕ
+work_events = 4
+
 -- a control that has the device at a place open and enabled has room for so many events
 abbrev pub HasRoom : ℕ → ℕ → Held → Type 0
 HasRoom place count held = IsTrue (listens place held.control) → count ≤ held.spare

@@ -3,10 +3,12 @@ ghost use Rattle.pos_service.specs.Controls.{new_control, with_place};
 
 mod calls;
 mod events;
+mod output;
 mod properties;
 
 use crate::reader::Reader;
-pub use events::{FAULT_EVENTS, SCAN_EVENTS, SIGN_EVENTS};
+use crate::writer::Writer;
+pub use events::{FAULT_EVENTS, SCAN_EVENTS, SIGN_EVENTS, WORK_EVENTS};
 use pos_events::EventQueue;
 use pos_service::Category;
 use pos_service::display_text::{Cursor, Place};
@@ -23,6 +25,7 @@ pub struct Control {
     is_frozen: bool,
     reader: Reader,
     cursor: Cursor,
+    writer: Writer,
     events: EventQueue,
 }
 
@@ -39,6 +42,7 @@ impl Model for Control {
         frozen = a.is_frozen;
         reader = a.reader;
         cursor = a.cursor;
+        writer = a.writer;
         list = a.events.list;
       };
       spare = a.events.spare;
@@ -57,6 +61,7 @@ impl Control {
             is_frozen: false,
             reader: Reader::new(alloc),
             cursor: Cursor::new(),
+            writer: Writer::new(alloc),
             events: EventQueue::new(alloc),
         }
     }

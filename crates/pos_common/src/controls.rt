@@ -1,4 +1,4 @@
-ghost use Rattle.std.specs.Prelude.{◌≡◌, [], ◌∷◌, All, OnOk, OnErr, IfOk};
+ghost use Rattle.std.specs.Prelude.{◌≡◌, [], ◌∷◌, ℕ, ◌+◌, All, OnOk, OnErr, IfOk};
 ghost use Rattle.pos_service.specs.declared.scan.Scan.{Scan};
 ghost use Rattle.pos_service.specs.Controls.{all_listening, heard, read, failed};
 ghost use Rattle.pos_service.specs.Statuses.{status_events};
@@ -25,8 +25,10 @@ pub fn room_all(controls: &mut [Control], place: usize, count: usize) -> Result<
 /// no other, in the order drawer, cover, paper (common chapter, StatusUpdateEvent).
 pub fn hear_all(controls: &mut [Control], place: usize, old: Signs, new: Signs)
     requires { All (HasRoom place sign_events) controls.old }
-    ensures { let events = status_events old new in
+    ensures heard { let events = status_events old new in
         controls_of controls.new ≡ all_listening place (heard events) (controls_of controls.old) }
+    ensures room { (count : ℕ) → All (HasRoom place (sign_events + count)) controls.old →
+        All (HasRoom place count) controls.new }
 {
     for control in controls.iter_mut() {
         control.hear(place, old, new);

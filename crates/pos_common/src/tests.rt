@@ -1,4 +1,5 @@
 mod input;
+mod output;
 mod steps;
 
 use crate::{ClaimNeed, Claims, Control, Need, SIGN_EVENTS, hear_all, room_all};
@@ -33,6 +34,7 @@ fn drawer_signs(is_open: bool) -> Signs {
 fn drawer_facts(is_open: bool) -> Facts {
     Facts {
         is_claimed: false,
+        is_foreign: false,
         in_transaction: false,
         kind: None,
         signs: drawer_signs(is_open),
@@ -128,6 +130,7 @@ fn claims_ask_for_an_open_control_and_a_good_timeout(rt: HostRuntime) -> Result<
 fn what_a_control_holds_is_told(rt: HostRuntime) -> Result<(), Fail> {
     let facts = Facts {
         is_claimed: true,
+        is_foreign: false,
         in_transaction: true,
         ..drawer_facts(false)
     };

@@ -1,7 +1,7 @@
-pub mod Pieces
 pub mod NameLemmas
-pub mod WriteLemmas
+pub mod SpareLemmas
 pub mod Sessions
 pub mod Serving
 pub mod Starting
-pub mod Readings
+pub mod Filling
+pub mod Profiling

@@ -4,46 +4,47 @@ use Rattle.std.specs.Prelude.{◌⊎◌, is_some, MatchOption, codes, Result, Ok
 use Rattle.std.specs.Bool.{MatchBool}
 use Rattle.std.specs.Io.KnownBytes.{Appends}
 use Rattle.pos_counter.specs.Steps.{Request, Response}
-use Rattle.pos_console.specs.Lines.{lines_of, is_quiet}
-use Rattle.pos_console.specs.Arguments.{Reading}
-use Rattle.pos_console.specs.Commands.{Asking, asked_by}
-use Rattle.pos_console.specs.Text.{response_text}
-use Rattle.pos_console.specs.Writing.{Writes}
+use Rattle.pos_script.specs.Lines.{lines_of, is_quiet}
+use Rattle.pos_script.specs.Arguments.{Reading}
+use Rattle.pos_script.specs.Commands.{Asking, asked_by}
+use Rattle.pos_script.specs.Text.{printed}
+use Rattle.pos_script.specs.Writing.{Writes}
 use Rattle.pos_console.specs.Names.{ControlNames}
-use Rattle.pos_console.specs.Transcript.{Leads, Outcome, RequestBecomes, AskingBecomes, ReadingBecomes, LineBecomes, CarriesOut, LinesPrint, Transcript, request_of, names_after, gives_name, passed_over, turned_down, responded, printed}
+use Rattle.pos_console.specs.Spares.{SpareStates}
+use Rattle.pos_console.specs.Transcript.{Leads, Session, Outcome, RequestBecomes, AskingBecomes, ReadingBecomes, LineBecomes, CarriesOut, LinesPrint, Transcript, request_of, session_after, gives_name, rebuke, session_with, passed_over, turned_down, responded, response_text}
 
 -- an unknown control, or a name in use
-pub asks_none : {C : Type 0} (Runs : Leads C) (state : C) (names : ControlNames) (asking : Asking) → request_of names asking ≡ None → Runs state [] state → CarriesOut Runs state (AskingBecomes names asking) (Some (codes "bad control")) names state
-asks_none Runs state names asking e none = record {
+pub asks_none : {C : Type 0} (Runs : Leads C) (state : C) (session : Session) (asking : Asking) → request_of session asking ≡ None → Runs state [] state → CarriesOut Runs state (AskingBecomes session asking) (Some (rebuke asking)) session state
+asks_none Runs state session asking e none = record {
   steps = [];
   run = none;
-  becomes = subst (λ o. MatchOption o (turned_down names (codes "bad control") ≡ turned_down names (codes "bad control")) (λ request. RequestBecomes names asking request (turned_down names (codes "bad control")))) (sym e) refl;
+  becomes = subst (λ o. MatchOption o (turned_down session (rebuke asking) ≡ turned_down session (rebuke asking)) (λ request. RequestBecomes session asking request (turned_down session (rebuke asking)))) (sym e) refl;
 }
 
 -- no memory for the name that a line keeps
-pub asks_unkept : {C : Type 0} (Runs : Leads C) (state : C) (names : ControlNames) (asking : Asking) (request : Request) → request_of names asking ≡ Some request → IsTrue (gives_name asking) → Runs state [] state → CarriesOut Runs state (AskingBecomes names asking) (Some (codes "memory")) names state
-asks_unkept Runs state names asking request e keeps none = record {
+pub asks_unkept : {C : Type 0} (Runs : Leads C) (state : C) (session : Session) (asking : Asking) (request : Request) → request_of session asking ≡ Some request → IsTrue (gives_name asking) → Runs state [] state → CarriesOut Runs state (AskingBecomes session asking) (Some (codes "memory")) session state
+asks_unkept Runs state session asking request e keeps none = record {
   steps = [];
   run = none;
-  becomes = subst (λ o. MatchOption o (turned_down names (codes "memory") ≡ turned_down names (codes "bad control")) (λ request. RequestBecomes names asking request (turned_down names (codes "memory")))) (sym e) (inl (keeps, refl));
+  becomes = subst (λ o. MatchOption o (turned_down session (codes "memory") ≡ turned_down session (rebuke asking)) (λ request. RequestBecomes session asking request (turned_down session (codes "memory")))) (sym e) (inl (keeps, refl));
 }
 
 -- a request and its response
-pub asks_request : {C : Type 0} (Runs : Leads C) (old : C) (names : ControlNames) (asking : Asking) (request : Request) (response : Response) (new : C) → request_of names asking ≡ Some request → Runs old ((request, response) ∷ []) new → CarriesOut Runs old (AskingBecomes names asking) (Some (response_text response)) (names_after names asking response) new
-asks_request Runs old names asking request response new e run =
-    let outcome = responded names asking request response in
+pub asks_request : {C : Type 0} (Runs : Leads C) (old : C) (session : Session) (asking : Asking) (request : Request) (response : Response) (new : C) → request_of session asking ≡ Some request → Runs old ((request, response) ∷ []) new → CarriesOut Runs old (AskingBecomes session asking) (Some (response_text response)) (session_after session asking response) new
+asks_request Runs old session asking request response new e run =
+    let outcome = responded session asking request response in
     record {
       steps = (request, response) ∷ [];
       run = run;
-      becomes = subst (λ o. MatchOption o (outcome ≡ turned_down names (codes "bad control")) (λ request. RequestBecomes names asking request outcome)) (sym e) (inr (response, refl));
+      becomes = subst (λ o. MatchOption o (outcome ≡ turned_down session (rebuke asking)) (λ request. RequestBecomes session asking request outcome)) (sym e) (inr (response, refl));
     }
 
 -- a line that prints nothing
-pub becomes_quiet : {C : Type 0} (Runs : Leads C) (state : C) (names : ControlNames) (line : List ℕ) → is_quiet line ≡ true → Runs state [] state → CarriesOut Runs state (LineBecomes names line) None names state
-becomes_quiet Runs state names line e none = record {
+pub becomes_quiet : {C : Type 0} (Runs : Leads C) (state : C) (session : Session) (line : List ℕ) → is_quiet line ≡ true → Runs state [] state → CarriesOut Runs state (LineBecomes session line) None session state
+becomes_quiet Runs state session line e none = record {
   steps = [];
   run = none;
-  becomes = subst (λ b. MatchBool b (passed_over names ≡ passed_over names) (ReadingBecomes names (asked_by line) (passed_over names))) (sym e) refl;
+  becomes = subst (λ b. MatchBool b (passed_over session ≡ passed_over session) (ReadingBecomes session (asked_by line) (passed_over session))) (sym e) refl;
 }
 
 -- a value that is there
@@ -52,51 +53,51 @@ some_of None e = cc
 some_of (Some a) e = (a, refl)
 
 -- what becomes of a line that isn't quiet
-becomes_loud : (names : ControlNames) (line : List ℕ) (outcome : Outcome) → is_quiet line ≡ false → ReadingBecomes names (asked_by line) outcome → LineBecomes names line outcome
-becomes_loud names line outcome e h = subst (λ b. MatchBool b (outcome ≡ passed_over names) (ReadingBecomes names (asked_by line) outcome)) (sym e) h
+becomes_loud : (session : Session) (line : List ℕ) (outcome : Outcome) → is_quiet line ≡ false → ReadingBecomes session (asked_by line) outcome → LineBecomes session line outcome
+becomes_loud session line outcome e h = subst (λ b. MatchBool b (outcome ≡ passed_over session) (ReadingBecomes session (asked_by line) outcome)) (sym e) h
 
 -- what becomes of a line whose shape is right
-read_becomes : (names : ControlNames) (reading : Reading Asking) (asking : Asking) (outcome : Outcome) → reading.value ≡ Some asking → (IsTrue reading.is_kept × (outcome ≡ turned_down names (codes "memory"))) ⊎ AskingBecomes names asking outcome → ReadingBecomes names reading outcome
-read_becomes names reading asking outcome e h =
-    subst (λ o. MatchOption o (outcome ≡ turned_down names (codes "bad line")) (λ asking. (IsTrue reading.is_kept × (outcome ≡ turned_down names (codes "memory"))) ⊎ AskingBecomes names asking outcome)) (sym e) h
+read_becomes : (session : Session) (reading : Reading Asking) (asking : Asking) (outcome : Outcome) → reading.value ≡ Some asking → (IsTrue reading.is_kept × (outcome ≡ turned_down session (codes "memory"))) ⊎ AskingBecomes session asking outcome → ReadingBecomes session reading outcome
+read_becomes session reading asking outcome e h =
+    subst (λ o. MatchOption o (outcome ≡ turned_down session (codes "bad line")) (λ asking. (IsTrue reading.is_kept × (outcome ≡ turned_down session (codes "memory"))) ⊎ AskingBecomes session asking outcome)) (sym e) h
 
 -- a line of a wrong shape
-pub becomes_bad : {C : Type 0} (Runs : Leads C) (state : C) (names : ControlNames) (line : List ℕ) → is_quiet line ≡ false → (asked_by line).value ≡ None → Runs state [] state → CarriesOut Runs state (LineBecomes names line) (Some (codes "bad line")) names state
-becomes_bad Runs state names line e f none =
-    let outcome = turned_down names (codes "bad line") in
+pub becomes_bad : {C : Type 0} (Runs : Leads C) (state : C) (session : Session) (line : List ℕ) → is_quiet line ≡ false → (asked_by line).value ≡ None → Runs state [] state → CarriesOut Runs state (LineBecomes session line) (Some (codes "bad line")) session state
+becomes_bad Runs state session line e f none =
+    let outcome = turned_down session (codes "bad line") in
     record {
       steps = [];
       run = none;
-      becomes = becomes_loud names line outcome e (subst (λ o. MatchOption o (outcome ≡ turned_down names (codes "bad line")) (λ asking. (IsTrue (asked_by line).is_kept × (outcome ≡ turned_down names (codes "memory"))) ⊎ AskingBecomes names asking outcome)) (sym f) refl);
+      becomes = becomes_loud session line outcome e (subst (λ o. MatchOption o (outcome ≡ turned_down session (codes "bad line")) (λ asking. (IsTrue (asked_by line).is_kept × (outcome ≡ turned_down session (codes "memory"))) ⊎ AskingBecomes session asking outcome)) (sym f) refl);
     }
 
 -- a line of which something is kept, for which there was no memory
-pub becomes_unkept : {C : Type 0} (Runs : Leads C) (state : C) (names : ControlNames) (line : List ℕ) → is_quiet line ≡ false → is_some (asked_by line).value ≡ true → (asked_by line).is_kept ≡ true → Runs state [] state → CarriesOut Runs state (LineBecomes names line) (Some (codes "memory")) names state
-becomes_unkept Runs state names line e f keeps none =
-    let outcome = turned_down names (codes "memory") in
+pub becomes_unkept : {C : Type 0} (Runs : Leads C) (state : C) (session : Session) (line : List ℕ) → is_quiet line ≡ false → is_some (asked_by line).value ≡ true → (asked_by line).is_kept ≡ true → Runs state [] state → CarriesOut Runs state (LineBecomes session line) (Some (codes "memory")) session state
+becomes_unkept Runs state session line e f keeps none =
+    let outcome = turned_down session (codes "memory") in
     let (asking, is) = some_of (asked_by line).value f in
     record {
       steps = [];
       run = none;
-      becomes = becomes_loud names line outcome e (read_becomes names (asked_by line) asking outcome is (inl (keeps, refl)));
+      becomes = becomes_loud session line outcome e (read_becomes session (asked_by line) asking outcome is (inl (keeps, refl)));
     }
 
 -- a line that asks something
-pub becomes_asked : {C : Type 0} (Runs : Leads C) (old : C) (names : ControlNames) (line : List ℕ) (asking : Asking) (reply : Option (List ℕ)) (after : ControlNames) (new : C) → is_quiet line ≡ false → (asked_by line).value ≡ Some asking → CarriesOut Runs old (AskingBecomes names asking) reply after new → CarriesOut Runs old (LineBecomes names line) reply after new
-becomes_asked Runs old names line asking reply after new e f asks =
-    let outcome : Outcome = record { reply = reply; steps = asks.steps; names = after } in
+pub becomes_asked : {C : Type 0} (Runs : Leads C) (old : C) (session : Session) (line : List ℕ) (asking : Asking) (reply : Option (List ℕ)) (after : Session) (new : C) → is_quiet line ≡ false → (asked_by line).value ≡ Some asking → CarriesOut Runs old (AskingBecomes session asking) reply after new → CarriesOut Runs old (LineBecomes session line) reply after new
+becomes_asked Runs old session line asking reply after new e f asks =
+    let outcome : Outcome = record { reply = reply; steps = asks.steps; session = after } in
     record {
       steps = asks.steps;
       run = asks.run;
-      becomes = becomes_loud names line outcome e (read_becomes names (asked_by line) asking outcome f (inr asks.becomes));
+      becomes = becomes_loud session line outcome e (read_becomes session (asked_by line) asking outcome f (inr asks.becomes));
     }
 
 -- one more line
-pub prints_more : (names : ControlNames) (lines : List (List ℕ)) (steps : List (Request × Response)) (text : List ℕ) (mid : ControlNames) (line : List ℕ) (outcome : Outcome) → LinesPrint names lines steps text mid → LineBecomes mid line outcome → LinesPrint names (lines ++ line ∷ []) (steps ++ outcome.steps) (text ++ printed outcome.reply) outcome.names
-prints_more names [] steps text mid line outcome t b =
+pub prints_more : (session : Session) (lines : List (List ℕ)) (steps : List (Request × Response)) (text : List ℕ) (mid : Session) (line : List ℕ) (outcome : Outcome) → LinesPrint session lines steps text mid → LineBecomes mid line outcome → LinesPrint session (lines ++ line ∷ []) (steps ++ outcome.steps) (text ++ printed outcome.reply) outcome.session
+prints_more session [] steps text mid line outcome t b =
     (outcome, [], [], subst (λ ns. LineBecomes ns line outcome) t.2 b, (refl, refl, refl), ap (λ x. x ++ outcome.steps) t.0 ∙ sym (append-nil outcome.steps), ap (λ x. x ++ printed outcome.reply) t.1 ∙ sym (append-nil (printed outcome.reply)))
-prints_more names (first ∷ lines) steps text mid line outcome t b =
-    (t.0, t.1 ++ outcome.steps, t.2 ++ printed outcome.reply, t.3, prints_more t.0.names lines t.1 t.2 mid line outcome t.4 b, ap (λ x. x ++ outcome.steps) t.5 ∙ append_assoc t.0.steps t.1 outcome.steps, ap (λ x. x ++ printed outcome.reply) t.6 ∙ append_assoc (printed t.0.reply) t.2 (printed outcome.reply))
+prints_more session (first ∷ lines) steps text mid line outcome t b =
+    (t.0, t.1 ++ outcome.steps, t.2 ++ printed outcome.reply, t.3, prints_more t.0.session lines t.1 t.2 mid line outcome t.4 b, ap (λ x. x ++ outcome.steps) t.5 ∙ append_assoc t.0.steps t.1 outcome.steps, ap (λ x. x ++ printed outcome.reply) t.6 ∙ append_assoc (printed t.0.reply) t.2 (printed outcome.reply))
 
 -- one more line read
 pub lines_more : (all done : List (List ℕ)) (text line rest : List ℕ) → all ≡ done ++ lines_of text → lines_of text ≡ line ∷ lines_of rest → all ≡ (done ++ line ∷ []) ++ lines_of rest
@@ -116,17 +117,25 @@ writes_done a b s (Ok u) w e = w
 writes_done a b s (Err x) w e = cc
 
 -- a line more
-pub session_more : {C : Type 0} (Runs : Leads C) → ((a b c : C) (s t : List (Request × Response)) → Runs a s b → Runs b t c → Runs a (s ++ t) c) → (old : C) (lines : List (List ℕ)) (text : List ℕ) (names : ControlNames) (mid : C) (line : List ℕ) (reply : Option (List ℕ)) (after : ControlNames) (new : C) → Transcript Runs old lines text names mid → CarriesOut Runs mid (LineBecomes names line) reply after new → Transcript Runs old (lines ++ line ∷ []) (text ++ printed reply) after new
-session_more Runs join old lines text names mid line reply after new session carried = record {
-  steps = session.steps ++ carried.steps;
-  run = join old mid new session.steps carried.steps session.run carried.run;
-  prints = prints_more [] lines session.steps text names line (record { reply = reply; steps = carried.steps; names = after }) session.prints carried.becomes;
+pub session_more : {C : Type 0} (Runs : Leads C) → ((a b c : C) (s t : List (Request × Response)) → Runs a s b → Runs b t c → Runs a (s ++ t) c) → (old : C) (spares : SpareStates) (lines : List (List ℕ)) (text : List ℕ) (session : Session) (mid : C) (line : List ℕ) (reply : Option (List ℕ)) (after : Session) (new : C) → Transcript Runs old spares lines text session mid → CarriesOut Runs mid (LineBecomes session line) reply after new → Transcript Runs old spares (lines ++ line ∷ []) (text ++ printed reply) after new
+session_more Runs join old spares lines text session mid line reply after new transcript carried = record {
+  steps = transcript.steps ++ carried.steps;
+  run = join old mid new transcript.steps carried.steps transcript.run carried.run;
+  prints = prints_more (session_with [] spares) lines transcript.steps text session line (record { reply = reply; steps = carried.steps; session = after }) transcript.prints carried.becomes;
 }
 
 -- no line yet
-pub session_start : {C : Type 0} (Runs : Leads C) (state : C) → Runs state [] state → Transcript Runs state [] [] [] state
-session_start Runs state none = record { steps = []; run = none; prints = (refl, refl, refl) }
+pub session_start : {C : Type 0} (Runs : Leads C) (state : C) (spares : SpareStates) → Runs state [] state → Transcript Runs state spares [] [] (session_with [] spares) state
+session_start Runs state spares none = record { steps = []; run = none; prints = (refl, refl, refl) }
+
+-- the same session, written another way
+pub resumed : {C : Type 0} (Runs : Leads C) (old : C) (becomes : Outcome → Type 0) (reply : Option (List ℕ)) (session after : Session) (new : C) → after ≡ session → CarriesOut Runs old becomes reply session new → CarriesOut Runs old becomes reply after new
+resumed Runs old becomes reply session after new e carried = subst (λ s. CarriesOut Runs old becomes reply s new) (sym e) carried
 
 -- the same names, written another way
-pub renamed : {C : Type 0} (Runs : Leads C) (old : C) (becomes : Outcome → Type 0) (reply : Option (List ℕ)) (names after : ControlNames) (new : C) → after ≡ names → CarriesOut Runs old becomes reply names new → CarriesOut Runs old becomes reply after new
-renamed Runs old becomes reply names after new e carried = subst (λ ns. CarriesOut Runs old becomes reply ns new) (sym e) carried
+pub renamed : {C : Type 0} (Runs : Leads C) (old : C) (becomes : Outcome → Type 0) (reply : Option (List ℕ)) (spares : SpareStates) (names after : ControlNames) (new : C) → after ≡ names → CarriesOut Runs old becomes reply (session_with names spares) new → CarriesOut Runs old becomes reply (session_with after spares) new
+renamed Runs old becomes reply spares names after new e carried = resumed Runs old becomes reply (session_with names spares) (session_with after spares) new (ap (λ ns. session_with ns spares) e) carried
+
+-- the same spares, written another way
+pub respared : {C : Type 0} (Runs : Leads C) (old : C) (becomes : Outcome → Type 0) (reply : Option (List ℕ)) (names : ControlNames) (spares after : SpareStates) (new : C) → after ≡ spares → CarriesOut Runs old becomes reply (session_with names spares) new → CarriesOut Runs old becomes reply (session_with names after) new
+respared Runs old becomes reply names spares after new e carried = resumed Runs old becomes reply (session_with names spares) (session_with names after) new (ap (λ ss. session_with names ss) e) carried

@@ -1,11 +1,6 @@
-pub mod Lines
-pub mod Arguments
-pub mod Words
-pub mod Methods
-pub mod Commands
 pub mod Names
-pub mod Text
+pub mod Spares
 pub mod Transcript
-pub mod Writing
 pub mod Running
 pub mod Carried
+pub mod Simulating

@@ -1,63 +1,74 @@
 -- What a run of a script leaves (docs/CONSOLE.md, "The program").
-use Rattle.std.specs.Prelude.{◌≡◌, ◌++◌, ◌<◌, ◌∷◌, [], ℕ, false, length, replicate, List, Option, None, Result, Ok, Err, IfSome}
+use Rattle.std.specs.Prelude.{◌≡◌, ◌++◌, ◌<◌, ◌∷◌, [], ℕ, false, length, replicate, List, Option, Some, None, Result, Ok, Err, IfSome, codes, option_map}
 use Rattle.std.specs.Io.KnownBytes.{Appends, Keeps}
-use Rattle.pos_counter.specs.Machine.{Machine}
+use Rattle.pos_counter.specs.Machine.{Device, Machine, kind_named, station_named}
 use Rattle.pos_sims.specs.Drawers.{drawer_state}
 use Rattle.pos_sims.specs.LineDisplays.{display_state}
+use Rattle.pos_sims.specs.ReceiptPrinters.{printer_state}
 use Rattle.pos_sims.specs.Scanners.{scanner_state}
 use Rattle.pos_disk.specs.Memory.{Memory, state_of}
 use Rattle.pos_disk.specs.State.{IsAtRest}
 use Rattle.pos_image.specs.NewDisk.{no_files}
 use Rattle.pos_image.specs.Standing.{HasNewImage}
+use Rattle.pos_service.specs.declared.kind.Kind.{Kind}
+use Rattle.pos_service.specs.declared.kind.Kind.TheVariants as kind
 use Rattle.pos_service.specs.Displays.{blank_display}
 use Rattle.pos_service.specs.HardTotals.{Off}
 use Rattle.pos_service.specs.Peripherals.{PeripheralState}
-use Rattle.pos_store.specs.Standing.{Stands}
+use Rattle.pos_service.specs.Receipts.{empty_roll}
+use Rattle.pos_service.specs.Stations.{station_of}
+use Rattle.pos_store.specs.Standing.{Standing, Stands}
 use Rattle.pos_counter.specs.Parts.{machine_with}
-use Rattle.pos_counter.specs.Profile.{profile}
 use Rattle.pos_counter.specs.Steps.{Run}
+use Rattle.pos_counter.specs.Totals.{TotalsPart}
 use Rattle.pos_console.specs.declared.run.RunFault.{RunFault}
 use Rattle.pos_console.specs.declared.run.RunFault.TheVariants as fault
-use Rattle.pos_console.specs.Lines.{lines_of}
+use Rattle.pos_script.specs.Lines.{lines_of}
+use Rattle.pos_script.specs.Text.{printed}
 use Rattle.pos_console.specs.Names.{ControlNames}
-use Rattle.pos_console.specs.Transcript.{Leads, Transcript, CarriesOut, LineBecomes, printed}
+use Rattle.pos_console.specs.Spares.{SpareStates}
+use Rattle.pos_console.specs.Transcript.{Leads, Session, Transcript, CarriesOut, LineBecomes, session_with}
 
--- All lines were carried out, and their text is written.
-pub record Finishes {C : Type 0} (Runs : Leads C) (old : C) (lines : List (List ℕ)) (before after : Option (List ℕ))
-    (new : C) : Type 0 where
+-- All lines were carried out, and their text is written. The spares were these, and are those that are left.
+pub record Finishes {C : Type 0} (Runs : Leads C) (old : C) (spares : SpareStates) (lines : List (List ℕ))
+    (before after : Option (List ℕ)) (left : SpareStates) (new : C) : Type 0 where
   pub text : List ℕ
   pub names : ControlNames
-  pub transcript : Transcript Runs old lines text names new
+  pub transcript : Transcript Runs old spares lines text (session_with names left) new
   pub written : Appends before after text
 
 -- A write failed at a line: the earlier lines were carried out and their text is written; the line was carried out too,
 -- and of what it prints a front is written, but not all; no later line was carried out.
-pub record Stops {C : Type 0} (Runs : Leads C) (old : C) (lines : List (List ℕ)) (before after : Option (List ℕ))
-    (new : C) : Type 0 where
+pub record Stops {C : Type 0} (Runs : Leads C) (old : C) (spares : SpareStates) (lines : List (List ℕ))
+    (before after : Option (List ℕ)) (left : SpareStates) (new : C) : Type 0 where
   pub earlier : List (List ℕ)
   pub line : List ℕ
   pub later : List (List ℕ)
   pub text : List ℕ
-  pub names : ControlNames
+  pub session : Session
   pub mid : C
   pub reply : Option (List ℕ)
   pub names_after : ControlNames
   pub front : List ℕ
   pub back : List ℕ
   pub split : lines ≡ earlier ++ line ∷ later
-  pub transcript : Transcript Runs old earlier text names mid
-  pub carried : CarriesOut Runs mid (LineBecomes names line) reply names_after new
+  pub transcript : Transcript Runs old spares earlier text session mid
+  pub carried : CarriesOut Runs mid (LineBecomes session line) reply (session_with names_after left) new
   pub cut : printed reply ≡ front ++ back
   pub unwritten : 0 < length back
   pub written : Appends before after (text ++ front)
 
--- what a run over these bytes leaves, by its result
-abbrev pub ScriptLeaves : {C : Type 0} → Leads C → C → List ℕ → Option (List ℕ) → Option (List ℕ)
-    → Result (Unit {0}) RunFault → C → Type 0
-ScriptLeaves Runs old bytes before after (Ok u) new = Finishes Runs old (lines_of bytes) before after new
-ScriptLeaves Runs old bytes before after (Err fault.Read) new = (new ≡ old) × Keeps before after
-ScriptLeaves Runs old bytes before after (Err fault.Write) new = Stops Runs old (lines_of bytes) before after new
-ScriptLeaves Runs old bytes before after (Err fault.NoMemory) new = (new ≡ old) × Keeps before after
+-- what a run over these bytes leaves, by its result: of the spares these are left
+abbrev pub ScriptLeaves : {C : Type 0} → Leads C → C → SpareStates → List ℕ → Option (List ℕ) → Option (List ℕ)
+    → Result (Unit {0}) RunFault → SpareStates → C → Type 0
+ScriptLeaves Runs old spares bytes before after (Ok u) left new =
+    Finishes Runs old spares (lines_of bytes) before after left new
+ScriptLeaves Runs old spares bytes before after (Err fault.Read) left new =
+    (new ≡ old) × (left ≡ spares) × Keeps before after
+ScriptLeaves Runs old spares bytes before after (Err fault.Write) left new =
+    Stops Runs old spares (lines_of bytes) before after left new
+ScriptLeaves Runs old spares bytes before after (Err fault.NoMemory) left new =
+    (new ≡ old) × (left ≡ spares) × Keeps before after
 
 -- A run that wasn't stopped while it read has read all bytes that the reader is known to have had left.
 abbrev pub ReadsWhole : Option (List ℕ) → List ℕ → Result (Unit {0}) RunFault → Type 0
@@ -66,60 +77,104 @@ ReadsWhole left bytes (Err fault.Read) = Unit {0}
 ReadsWhole left bytes (Err fault.Write) = IfSome left (λ known. known ≡ bytes)
 ReadsWhole left bytes (Err fault.NoMemory) = Unit {0}
 
--- What a run leaves of a state and a writer, by the bytes that the reader had left.
-pub record RunsScript {C : Type 0} (Runs : Leads C) (old : C) (left before after : Option (List ℕ))
-    (result : Result (Unit {0}) RunFault) (new : C) : Type 0 where
+-- What a run leaves of a state, of the spares and of a writer, by the bytes that the reader had left.
+pub record RunsScript {C : Type 0} (Runs : Leads C) (old : C) (spares : SpareStates)
+    (unread before after : Option (List ℕ)) (result : Result (Unit {0}) RunFault) (left : SpareStates) (new : C)
+    : Type 0 where
   pub input : List ℕ
-  pub whole : ReadsWhole left input result
-  pub run : ScriptLeaves Runs old input before after result new
+  pub whole : ReadsWhole unread input result
+  pub run : ScriptLeaves Runs old spares input before after result left new
 
--- the program's peripherals, in service: the closed drawer `d1`, the scanner `s1`, and the display `p1`, which is blank
--- and has 2 rows of 4 columns
-abbrev pub peripherals : List PeripheralState
-peripherals = drawer_state false false ∷ scanner_state false 0 ∷ display_state (blank_display 2 4) false ∷ []
+-- a device of this name that is of a kind and has this peripheral, or none
+abbrev pub device_with : List ℕ → Kind → Option PeripheralState → Device
+device_with name kind state = record { name = name; kind = Some kind; station = option_map station_of state }
 
--- the machine as the program begins: no control, no claim, its peripherals, and the totals off over a disk that was
+-- the device of Hard Totals, which has no peripheral
+abbrev pub totals_device : Device
+totals_device = record { name = codes "t1"; kind = None; station = None }
+
+-- the devices of the built profile, with these peripherals: the drawer `d1`, the scanner `s1`, the display `p1` of 2
+-- rows of 4 columns, and the printer `r1` of 8 characters a line, whose paper is near its end at 2 lines
+abbrev pub devices_with : Option PeripheralState → Option PeripheralState → Option PeripheralState
+    → Option PeripheralState → List Device
+devices_with drawer scanner display printer =
+    device_with (codes "d1") kind.Drawer drawer ∷ device_with (codes "s1") kind.Scanner scanner
+    ∷ device_with (codes "p1") (kind.Display 2 4) display ∷ device_with (codes "r1") (kind.Printer 8 2) printer
+    ∷ totals_device ∷ []
+
+-- those devices, each vacant
+abbrev pub vacant_devices : List Device
+vacant_devices = devices_with None None None None
+
+-- those devices with the program's peripherals in service: a closed drawer, a scanner, a blank display, and a printer
+-- with 5 lines of paper
+abbrev pub start_devices : List Device
+start_devices =
+    devices_with (Some (drawer_state false false)) (Some (scanner_state false 0))
+    (Some (display_state (blank_display 2 4) false)) (Some (printer_state (empty_roll 8 5) 2 false))
+
+-- the program's spares in service: a closed drawer
+abbrev pub start_spares : SpareStates
+start_spares = Some (drawer_state false false) ∷ []
+
+-- the device of this name is vacant and of this kind
+pub record IsVacantFor (machine : Machine) (name : List ℕ) (wanted : Kind) : Type 0 where
+  pub kind : kind_named machine name ≡ Some wanted
+  pub vacant : station_named machine name ≡ None
+
+-- the machine with these devices, no control and no claim
+abbrev pub begun_with : List Device → TotalsPart → Machine
+begun_with devices part = machine_with [] (replicate (length devices) None) devices part
+
+-- totals that are off, over a disk that may leave these and has failed so often
+abbrev pub new_totals : List Standing → ℕ → TotalsPart
+new_totals left failures = record {
+  totals = record { mode = Off; next = 1; area = None; transactions = [] };
+  left = left;
+  failures = failures;
+}
+
+-- the machine as the program begins: no control, no claim, its devices, and the totals off over a disk that was
 -- formatted
 abbrev pub start : Machine
-start = machine_with [] (replicate (length profile) None) profile peripherals (record {
-  totals = record { mode = Off; next = 1; area = None; transactions = [] };
-  left = Stands [] 1 ∷ [];
-  failures = 0;
-})
+start = begun_with start_devices (new_totals (Stands [] 1 ∷ []) 0)
 
 -- A disk in memory that was formatted: at rest, with no files and sequence 1.
 pub record IsNewDisk (disk : Memory) : Type 0 where
   pub at_rest : IsAtRest (state_of disk)
   pub image : HasNewImage no_files 1 (state_of disk).reading
 
--- What a run over the program's counter leaves of a writer.
-pub record RunsFromStart (left before after : Option (List ℕ)) (result : Result (Unit {0}) RunFault) : Type 0 where
+-- What a run over the program's counter and its spares leaves of a writer.
+pub record RunsFromStart (unread before after : Option (List ℕ)) (result : Result (Unit {0}) RunFault) : Type 0 where
   pub end : Machine
-  pub run : RunsScript Run start left before after result end
+  pub left : SpareStates
+  pub run : RunsScript Run start start_spares unread before after result left end
 
 -- A front of the lines was carried out, and a front of their text is written.
-pub record ReachesFront (old : Machine) (lines : List (List ℕ)) (before after : Option (List ℕ)) : Type 0 where
+pub record ReachesFront (old : Machine) (spares : SpareStates) (lines : List (List ℕ))
+    (before after : Option (List ℕ)) : Type 0 where
   pub done : List (List ℕ)
   pub later : List (List ℕ)
   pub front : List ℕ
   pub back : List ℕ
-  pub names : ControlNames
+  pub session : Session
   pub end : Machine
   pub split : lines ≡ done ++ later
-  pub transcript : Transcript Run old done (front ++ back) names end
+  pub transcript : Transcript Run old spares done (front ++ back) session end
   pub written : Appends before after front
 
 -- what the program leaves of its writer, with what that holds back, for a script of these bytes
 abbrev pub ServeLeaves : List ℕ → Option (List ℕ) → Option (List ℕ) → Result (Unit {0}) RunFault → Type 0
-ServeLeaves bytes before after (Ok u) = (end : Machine) × Finishes Run start (lines_of bytes) before after end
+ServeLeaves bytes before after (Ok u) =
+    (end : Machine) × (left : SpareStates) × Finishes Run start start_spares (lines_of bytes) before after left end
 ServeLeaves bytes before after (Err fault.Read) = Keeps before after
-ServeLeaves bytes before after (Err fault.Write) = ReachesFront start (lines_of bytes) before after
+ServeLeaves bytes before after (Err fault.Write) = ReachesFront start start_spares (lines_of bytes) before after
 ServeLeaves bytes before after (Err fault.NoMemory) = Keeps before after
 
 -- What the program does with a script: a run from where it begins.
-pub record Serves (left before after : Option (List ℕ)) (result : Result (Unit {0}) RunFault) : Type 0 where
+pub record Serves (unread before after : Option (List ℕ)) (result : Result (Unit {0}) RunFault) : Type 0 where
   pub input : List ℕ
-  pub whole : ReadsWhole left input result
+  pub whole : ReadsWhole unread input result
   pub leaves : ServeLeaves input before after result
 
 -- the status that the program ends with

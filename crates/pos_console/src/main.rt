@@ -1,73 +1,42 @@
-//! Runs a script of requests to the devices of a shop counter: it reads the script from standard input and writes what
-//! each line prints to standard output (docs/CONSOLE.md).
+//! The program: it runs a script of requests to the devices of a shop counter, which it reads from standard input, and
+//! writes what each line prints to standard output; or it formats a disk for one (docs/CONSOLE.md).
 #![tactic(auto)]
 
-ghost use Rattle.std.specs.Prelude.{◌≡◌, ◌≤◌, false, [], map, vec_capacity, OnOk};
+ghost use Rattle.std.specs.Prelude.{◌≡◌, [], OnOk};
 ghost use Rattle.std.specs.Io.Buffered.{writer_buffer, writer_contents};
-ghost use Rattle.pos_service.specs.Displays.{blank_display};
-ghost use Rattle.pos_sims.specs.Drawers.{drawer_state};
-ghost use Rattle.pos_sims.specs.LineDisplays.{display_state};
-ghost use Rattle.pos_sims.specs.Scanners.{scanner_state};
-ghost use Rattle.pos_console.specs.Running.{RunsFromStart, Serves, peripherals, status};
+ghost use Rattle.pos_program.specs.Faults.{status_of};
+ghost use Rattle.pos_console.specs.Running.{RunsFromStart, Serves, status};
 
-mod arguments;
-mod command;
+mod devices;
 mod disk;
-mod lines;
-mod methods;
 mod names;
-mod print;
+mod profiled;
 mod read;
-mod reply;
 mod run;
 mod session;
+mod simulated;
+mod simulation;
+mod spares;
 #[cfg(test)]
 mod tests;
-mod words;
-mod write;
 
+use devices::{end_counter, fill, keep_spare};
 use disk::format_disk;
-use pos_counter::{Counter, Ended};
-use pos_service::{HasState, Peripheral, PeripheralBox};
-use pos_sims::{PlainDisplay, PlainDrawer, PlainScanner};
+use pos_counter::Counter;
+use pos_disk::Disk;
+use pos_profile::Profile;
+use pos_program::{Fault, Task, choice, format_file, open_run, read_words, status_of};
+use pos_service::PeripheralBox;
+use profiled::run_over_profile;
 use run::{RunFault, run};
+use simulated::{Simulated, simulate};
 use std::alloc::Global;
 use std::io::{BufWriter, Read, Write};
 use std::process::ExitCode;
 
-/// Takes peripherals out of service, and ends them.
-fn park_all(mut boxes: Vec<PeripheralBox>)
-    requires { Unit {0} }
-{
-    while let Some(mut peripheral) = boxes.pop() {
-        peripheral.park();
-    }
-    boxes.destroy_empty();
-}
-
-/// Puts the program's peripherals into an empty list with room for them, in the order of their devices: a closed
-/// drawer, a scanner, and a blank display of 2 rows of 4 columns, in service.
-fn fill(
-    boxes: &mut Vec<PeripheralBox>,
-    drawer: Box<dyn Peripheral>,
-    scanner: Box<dyn Peripheral>,
-    display: Box<dyn Peripheral>,
-)
-    requires empty { boxes.old.items ≡ [] }
-    requires room { 3 ≤ vec_capacity boxes.old }
-    requires drawer { state drawer ≡ drawer_state false false }
-    requires scanner { state scanner ≡ scanner_state false 0 }
-    requires display { state display ≡ display_state (blank_display 2 4) false }
-    ensures { map ⟦<PeripheralBox as HasState>⟧.state boxes.new.items ≡ peripherals }
-{
-    boxes.push_reserved(PeripheralBox::new(drawer));
-    boxes.push_reserved(PeripheralBox::new(scanner));
-    boxes.push_reserved(PeripheralBox::new(display));
-}
-
-/// Runs a script over a counter of a simulated cash drawer, the device `d1`, a simulated scanner, the device `s1`, a
-/// simulated line display of 2 rows of 4 columns, the device `p1`, and Hard Totals, the device `t1`, on a disk in
-/// memory.
+/// Runs a script over a counter of the built profile, whose devices are a simulated cash drawer, `d1`, a simulated
+/// scanner, `s1`, a simulated line display of 2 rows of 4 columns, `p1`, a simulated receipt printer, `r1`, and Hard
+/// Totals, `t1`, on a disk in memory; with a simulated cash drawer as a spare.
 fn run_over_devices<R: Read, W: Write>(
     alloc: Global,
     reader: &mut R,
@@ -75,36 +44,39 @@ fn run_over_devices<R: Read, W: Write>(
 ) -> Result<(), RunFault>
     ensures { RunsFromStart (R.remaining reader.old) (W.contents writer.old) (W.contents writer.new) result }
 {
-    let Ok(drawer) = Box::new(alloc, PlainDrawer::new()) else {
+    let Ok(made) = simulate(alloc) else {
         return Err(RunFault::NoMemory);
     };
-    let Ok(scanner) = Box::new(alloc, PlainScanner::new()) else {
-        return Err(RunFault::NoMemory);
-    };
-    let Ok(display) = PlainDisplay::new(alloc, 2, 4) else {
-        return Err(RunFault::NoMemory);
-    };
-    let Ok(display) = Box::new(alloc, display) else {
-        return Err(RunFault::NoMemory);
-    };
-    let Ok(mut boxes) = Vec::with_capacity(alloc, 3) else {
+    let Ok(profile) = Profile::built(alloc) else {
         return Err(RunFault::NoMemory);
     };
     let Ok(disk) = format_disk(alloc) else {
-        boxes.destroy_empty();
         return Err(RunFault::NoMemory);
     };
-    fill(&mut boxes, drawer, scanner, display);
-    let mut counter = match Counter::new(alloc, boxes, disk) {
-        Ok(counter) => counter,
-        Err((_, boxes, _)) => {
-            park_all(boxes);
-            return Err(RunFault::NoMemory);
-        }
+    let Ok(mut counter) = Counter::new(alloc, &profile, Vec::new(alloc), disk) else {
+        return Err(RunFault::NoMemory);
     };
-    let result = run(alloc, reader, writer, &mut counter);
-    let Ended { disk: _, boxes } = counter.shutdown();
-    park_all(boxes);
+    let Ok(boxes) = Vec::with_capacity(alloc, 1) else {
+        end_counter(counter);
+        return Err(RunFault::NoMemory);
+    };
+    let Simulated {
+        drawer,
+        scanner,
+        display,
+        printer,
+        spare,
+    } = made;
+    let drawer = PeripheralBox::new(drawer);
+    let scanner = PeripheralBox::new(scanner);
+    let display = PeripheralBox::new(display);
+    let printer = PeripheralBox::new(printer);
+    let spare = PeripheralBox::new(spare);
+    fill(&mut counter, drawer, scanner, display, printer);
+    let mut spares = keep_spare(boxes, spare);
+    let result = run(alloc, reader, writer, &mut counter, &mut spares);
+    end_counter(counter);
+    spares.park_all();
     result
 }
 
@@ -127,31 +99,79 @@ fn serve<R: Read, W: Write + Drop>(
     }
 }
 
-/// Runs the script on standard input, and writes its text to standard output.
-fn serve_streams(rt: &HostRuntime) -> Result<(), RunFault> {
-    let alloc = rt.alloc();
-    let Ok(mut writer) = BufWriter::new(alloc, rt.stdout()) else {
-        return Err(RunFault::NoMemory);
-    };
-    serve(alloc, &mut rt.stdin(), &mut writer)
+/// Runs a script over a counter of a profile's simulated devices and a disk, and writes what the writer holds back of
+/// its text.
+fn serve_profile<R: Read, W: Write + Drop, D: Disk + Drop>(
+    alloc: Global,
+    reader: &mut R,
+    writer: &mut BufWriter<W>,
+    profile: &Profile,
+    disk: D,
+) -> Result<(), RunFault> {
+    run_over_profile(alloc, reader, writer, profile, disk)?;
+    writer.flush().map_err(|_| RunFault::Write)
 }
 
-/// The status that the program ends with (docs/CONSOLE.md, "The program").
-fn status_of(outcome: Result<(), RunFault>) -> u8
-    ensures { result ≡ status outcome }
+/// What a run's end is to the program.
+fn ended<'a>(outcome: Result<(), RunFault>) -> Result<(), Fault<'a>>
+    ensures { status_of result ≡ status outcome }
 {
     match outcome {
-        Ok(()) => 0,
-        Err(RunFault::Read) | Err(RunFault::Write) => 5,
-        Err(RunFault::NoMemory) => 6,
+        Ok(()) => Ok(()),
+        Err(RunFault::Read) => Err(Fault::Read),
+        Err(RunFault::Write) => Err(Fault::Write),
+        Err(RunFault::NoMemory) => Err(Fault::NoMemory),
+    }
+}
+
+/// Runs the script on standard input over the built profile and a disk in memory.
+fn run_demo(rt: &HostRuntime) -> Result<(), Fault<'static>> {
+    let alloc = rt.alloc();
+    let Ok(mut writer) = BufWriter::new(alloc, rt.stdout()) else {
+        return Err(Fault::NoMemory);
+    };
+    ended(serve(alloc, &mut rt.stdin(), &mut writer))
+}
+
+/// Runs the script on standard input over the profile in one file and the disk in another.
+fn run_files<'a>(rt: &HostRuntime, profile: &'a str, disk: &'a str) -> Result<(), Fault<'a>> {
+    let (profile, disk) = open_run(rt, profile, disk)?;
+    let alloc = rt.alloc();
+    let Ok(mut writer) = BufWriter::new(alloc, rt.stdout()) else {
+        return Err(Fault::NoMemory);
+    };
+    ended(serve_profile(alloc, &mut rt.stdin(), &mut writer, &profile, disk))
+}
+
+/// Formats the disk in a file.
+fn format<'a>(rt: &HostRuntime, path: &'a str) -> Result<(), Fault<'a>> {
+    match format_file(rt, path) {
+        Ok(()) => Ok(()),
+        Err(cause) => Err(Fault::Disk { path, cause }),
+    }
+}
+
+/// Does what the words of the command line ask for.
+fn carry_out<'a>(rt: &HostRuntime, words: &'a [String]) -> Result<(), Fault<'a>> {
+    match choice(rt.alloc(), words)? {
+        Task::Demo => run_demo(rt),
+        Task::Run { profile, disk } => run_files(rt, profile, disk),
+        Task::Format { disk } => format(rt, disk),
     }
 }
 
 /// Ends with a status, and tells a fault in one line on standard error, if that can be written.
-fn main(rt: HostRuntime) -> ExitCode {
-    let outcome = serve_streams(&rt);
+fn end(rt: &HostRuntime, outcome: Result<(), Fault<'_>>) -> ExitCode {
+    let status = status_of(&outcome);
     if let Err(fault) = outcome {
         let _ = eprintln!(rt; "pos_console: {fault}");
     }
-    ExitCode::from(status_of(outcome))
+    ExitCode::from(status)
+}
+
+fn main(rt: HostRuntime) -> ExitCode {
+    match read_words(&rt) {
+        Ok(words) => end(&rt, carry_out(&rt, words.as_slice())),
+        Err(fault) => end(&rt, Err(Fault::from(fault))),
+    }
 }

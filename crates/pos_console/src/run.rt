@@ -1,21 +1,17 @@
-ghost use Rattle.std.specs.Prelude.{◌≡◌, option_map};
+ghost use Rattle.std.specs.Prelude.{◌≡◌};
 ghost use Rattle.pos_console.specs.declared.run.RunFault.TheVariants as run_fault;
 ghost use Rattle.pos_counter.specs.Counters.{IsRun, IsCounterSound};
 ghost use Rattle.pos_console.specs.Running.{RunsScript};
 ghost use Rattle.pos_console.specs.Carried.{CarriesOutLines};
-ghost use Rattle.pos_console.specs.Transcript.{printed};
-ghost use Rattle.pos_console.specs.Text.{reply_text};
-ghost use Rattle.pos_console.specs.Writing.{Writes};
+ghost use Rattle.pos_console.specs.Spares.{AreSparesSound, spares_in};
 
-use crate::lines::next_line;
 use crate::names::Names;
-use crate::print::print_reply;
 use crate::read::{ReadFault, read_input};
-use crate::reply::Reply;
 use crate::session::carry_out_line;
-use crate::write::WriteFault;
+use crate::spares::Spares;
 use pos_counter::Counter;
 use pos_disk::Disk;
+use pos_script::{WriteFault, next_line, print_line};
 use pos_service::{HasState, NoMemory, PeripheralBox};
 use std::alloc::Global;
 use std::io::{Read, Write};
@@ -51,33 +47,27 @@ impl From<NoMemory> for RunFault {
     }
 }
 
-/// Writes the reply to a line, if there is one.
-fn print_line<W: Write>(writer: &mut W, reply: Option<Reply>) -> Result<(), WriteFault>
-    ensures { Writes (W.contents writer.old) (W.contents writer.new) (printed (option_map reply_text reply)) result }
-{
-    match reply {
-        Some(reply) => print_reply(writer, reply),
-        None => Ok(()),
-    }
-}
-
 /// Carries out the lines of a script.
 fn carry_out_lines<W: Write, D: Disk>(
     alloc: Global,
     input: &[u8],
     writer: &mut W,
     counter: &mut Counter<D>,
+    spares: &mut Spares,
 ) -> Result<(), WriteFault>
     requires sound { IsCounterSound ⟦<PeripheralBox as HasState>⟧ counter.old }
-    ensures lines { CarriesOutLines D.Disk ⟦<PeripheralBox as HasState>⟧ counter.old input.now
-        (W.contents writer.old) (W.contents writer.new) result counter.new }
+    requires spares { AreSparesSound ⟦<PeripheralBox as HasState>⟧ spares.old }
+    ensures lines { let boxes = ⟦<PeripheralBox as HasState>⟧ in
+        CarriesOutLines D.Disk boxes counter.old (spares_in boxes spares.old) input.now
+        (W.contents writer.old) (W.contents writer.new) result (spares_in boxes spares.new) counter.new }
     ensures sound { IsCounterSound ⟦<PeripheralBox as HasState>⟧ counter.new }
+    ensures spares { AreSparesSound ⟦<PeripheralBox as HasState>⟧ spares.new }
 {
     let mut names = Names::new(alloc);
     let mut rest = input;
     while !rest.is_empty() {
         let (line, after) = next_line(rest);
-        let reply = carry_out_line(alloc, counter, &mut names, line);
+        let reply = carry_out_line(alloc, counter, &mut names, spares, line);
         if print_line(writer, reply).is_err() {
             return Err(WriteFault);
         }
@@ -96,14 +86,18 @@ pub fn run<R: Read, W: Write, D: Disk>(
     reader: &mut R,
     writer: &mut W,
     counter: &mut Counter<D>,
+    spares: &mut Spares,
 ) -> Result<(), RunFault>
     requires sound { IsCounterSound ⟦<PeripheralBox as HasState>⟧ counter.old }
-    ensures script { RunsScript (IsRun D.Disk ⟦<PeripheralBox as HasState>⟧) counter.old (R.remaining reader.old)
-        (W.contents writer.old) (W.contents writer.new) result counter.new }
+    requires spares { AreSparesSound ⟦<PeripheralBox as HasState>⟧ spares.old }
+    ensures script { let boxes = ⟦<PeripheralBox as HasState>⟧ in
+        RunsScript (IsRun D.Disk boxes) counter.old (spares_in boxes spares.old) (R.remaining reader.old)
+        (W.contents writer.old) (W.contents writer.new) result (spares_in boxes spares.new) counter.new }
     ensures sound { IsCounterSound ⟦<PeripheralBox as HasState>⟧ counter.new }
+    ensures spares { AreSparesSound ⟦<PeripheralBox as HasState>⟧ spares.new }
 {
     let input = read_input(alloc, reader)?;
-    match carry_out_lines(alloc, input.as_slice(), writer, counter) {
+    match carry_out_lines(alloc, input.as_slice(), writer, counter, spares) {
         Ok(()) => Ok(()),
         Err(WriteFault) => Err(RunFault::Write),
     }

@@ -1,13 +1,16 @@
 //! Whole scripts over the program's devices, with readers and writers that cut and fail.
 ghost use Rattle.std.specs.Prelude.{None};
 
-use crate::arguments::{LineFault, read_four, read_three, read_two};
+use crate::devices::{end_counter, fill, keep_spare};
 use crate::disk::format_disk;
+use crate::profiled::run_over_profile;
 use crate::run::{RunFault, run};
-use crate::{fill, park_all, run_over_devices, serve};
-use pos_counter::{Counter, Ended};
-use pos_service::{Bytes, Plant, Snapshot};
-use pos_sims::{PlainDisplay, PlainDrawer, PlainScanner};
+use crate::simulated::{Simulated, simulate};
+use crate::{run_over_devices, serve};
+use pos_counter::Counter;
+use pos_profile::Profile;
+use pos_script::{Command, LineFault, read_command};
+use pos_service::{Bytes, Call, PeripheralBox, Plant, Snapshot};
 use std::alloc::{AllocError, Global};
 use std::io;
 use std::io::{BufWriter, Read, Write};
@@ -287,6 +290,116 @@ const UNSHOWN_TEXT: &[u8] =
     bad line\nbad line\nbad line\nerr 106\nerr 106\nerr 106\nbad input\nbad input\nbad input\nbad line\n\
     bad line\nnone\nok\nerr 101\nerr 109\nerr 109\nok\nerr 106\nerr 106\n";
 
+/// Requests that wait: one that is done, its event frozen; one that fails as the cover is open, and is tried again.
+const RECEIPTS: &[u8] =
+    b"new a POSPrinter\nopen a r1\nclaim a 0\nset a DeviceEnabled true\nset a AsyncMode true\nget a OutputID\n\
+    call a printNormal 2 41420a\nget a OutputID\nget a State\nwork r1\nget a State\nset a FreezeEvents true\n\
+    deliver a\nset a FreezeEvents false\ndeliver a\ninput r1 cover open\ndeliver a\n\
+    call a printNormal 2 430a\nwork r1\nget a State\nwork r1\ninput r1 cover closed\ndeliver a retry\n\
+    deliver a\nwork r1\ndeliver a\nshow r1\n";
+
+const RECEIPTS_TEXT: &[u8] =
+    b"ok\nok\nok\nok\nok\nok 0\nok\nok 1\nok 3\ndone 1\nok 2\nok\nnone\nok\nevent OutputCompleteEvent 1\n\
+    ok\nevent StatusUpdateEvent 11\nok\nfailed 114 201\nok 4\nidle\nok\nevent ErrorEvent 114 201 1\n\
+    event StatusUpdateEvent 12\ndone 2\nevent OutputCompleteEvent 2\nok closed 3 -:- l:4142:00 l:43:0\n";
+
+/// A line that overflows, bold and aligned ones, and a cut; and paper that comes to its end.
+const PAPER: &[u8] =
+    b"new a POSPrinter\nopen a r1\nclaim a 0\nset a DeviceEnabled true\nget a RecLineChars\n\
+    call a printNormal 2 4142434445464748491b7c63410a1b7c353050\nshow r1\ncall a printNormal 2 580a\ndeliver a\n\
+    get a RecNearEnd\nget a RecEmpty\ncall a printNormal 2 0a0a0a\ncall a printNormal 2 0a0a\ndeliver a\n\
+    get a RecEmpty\nget a RecNearEnd\ncall a cutPaper 100\nshow r1\ninput r1 paper 003\ndeliver a\n\
+    call a printNormal 2 411b7c6243421b7c72410a431b7c4e440a\ncall a cutPaper 7\ncall a cutPaper 0\n\
+    call a printNormal 2 1b7c6243451b7c4e46\nshow r1\ncall a cutPaper 101\ncall a cutPaper -1\ninput r1 paper 0\n\
+    deliver a\ndeliver a\ncall a printNormal 2 -\nget a CoverOpen\n";
+
+const PAPER_TEXT: &[u8] =
+    b"ok\nok\nok\nok\nok 8\nok\nok closed 3 -:- l:4142434445464748:00000000 c:49:0 x:50\nok\n\
+    event StatusUpdateEvent 25\nok true\nok false\nerr 114 203\nok\nevent StatusUpdateEvent 24\nok true\nok true\n\
+    err 114 203\nok closed 0 -:- l:4142434445464748:00000000 c:49:0 x:50 l:58:0 l:-:- l:-:-\nok\n\
+    event StatusUpdateEvent 26\nok\nok\nok\nok\n\
+    ok closed 1 4546:10 l:4142434445464748:00000000 c:49:0 x:50 l:58:0 l:-:- l:-:- r:4142:01 l:4344:10 x:7\n\
+    err 106\nerr 106\nok\nevent StatusUpdateEvent 25\nevent StatusUpdateEvent 24\nerr 114 203\nok false\n";
+
+/// Data and stations that a printer doesn't take; a request at once while others wait, and output that is cleared.
+const STATIONS: &[u8] =
+    b"new a POSPrinter\nopen a r1\ncall a printNormal 4 09\nget a RecLineChars\nset a RecLineChars 5\nclaim a 0\n\
+    get a CoverOpen\ncall a printNormal 2 41\nset a DeviceEnabled true\ncall a printNormal 4 41\n\
+    call a printImmediate 1 41\ncall a printNormal 2 09\ncall a printNormal 2 1b7c31303150\nset a AsyncMode true\n\
+    call a cutPaper 100\nset a AsyncMode false\ncall a printNormal 2 41\ncall a printImmediate 2 410d0a0d42\n\
+    show r1\ncall a clearOutput\nget a State\nwork r1\nnew b POSPrinter\nopen b r1\nclaim b 0\n\
+    call b clearOutput\ncall b cutPaper 5\nset a AsyncMode 1\ncall a clearInput\ncall a openDrawer\nget a Rows\n";
+
+const STATIONS_TEXT: &[u8] =
+    b"ok\nok\nerr 103\nerr 103\nerr 106\nok\nerr 105\nerr 105\nok\nerr 106\nerr 106\nerr 106\nerr 106\nok\n\
+    ok\nok\nerr 113\nok\nok closed 4 42:0 l:41:0\nok\nok 2\nidle\nok\nok\nerr 112\nerr 102\nerr 102\nerr 106\n\
+    err 106\nerr 106\nerr 106\n";
+
+/// Requests that fail and are cleared by the reply, or by their control's release.
+const CLEARED: &[u8] =
+    b"new a POSPrinter\nopen a r1\nclaim a 0\nset a DeviceEnabled true\nset a AsyncMode true\n\
+    call a printNormal 2 410a\ncall a printNormal 2 420a\ninput r1 cover open\nshow r1\nwork r1\ndeliver a\n\
+    deliver a clear\nget a State\nwork r1\nget a OutputID\nget a CoverOpen\ncall a printNormal 2 43\nrelease a\n\
+    get a State\nwork r1\nclaim a 0\nset a DeviceEnabled true\nwork r1\ndeliver a\ninput r1 cover closed\n\
+    call a cutPaper 33\nset a DeviceEnabled false\nwork r1\nset a DeviceEnabled true\nwork r1\nshow r1\n";
+
+const CLEARED_TEXT: &[u8] =
+    b"ok\nok\nok\nok\nok\nok\nok\nok\nok open 5 -:-\nfailed 114 201\nevent StatusUpdateEvent 11\n\
+    event ErrorEvent 114 201 1\nok 2\nidle\nok 2\nok true\nok\nok\nok 2\nidle\nok\nok\nidle\nnone\nok\nok\nok\n\
+    idle\nok\ndone 4\nok closed 5 -:- x:33\n";
+
+/// Inputs and lines of printers, of a wrong shape and of other devices.
+const UNPRINTED: &[u8] =
+    b"new a POSPrinter\nnew b PosPrinter\nopen a p1\nopen a r1\nwork\nwork r1 2\nwork r9\nwork t1\nwork d1\nwork r1\n\
+    work r!\ninput r1 cover\ninput r1 cover shut\ninput r1 cover open now\ninput r1 cover open\n\
+    input r1 cover closed\ninput r1 paper\ninput r1 paper -1\ninput r1 paper x\ninput r1 paper 7 2\n\
+    input r1 paper 100000\nshow r1\ninput r1 paper 100001\ninput r1 paper 999999999999999999\n\
+    input r9 paper 999999999999999999\ninput r1 paper -0\nshow r1\ninput r1 open\ninput r1 fault\n\
+    input d1 cover open\ninput p1 paper 9\ninput s1 cover closed\ninput d9 cover open\ninput t1 paper 8\n\
+    call a printNormal 2\ncall a printNormal 41 22\ncall a printNormal two 41\ncall a printNormal 2 41 42\n\
+    call a printNormal 2 4\ncall a printImmediate -\ncall a cutPaper\ncall a cutPaper 41 -\ncall a cutPaper -\n\
+    call a clearOutput 1\ncall a printnormal 2 41\nget a OutputId\nget a outputID\nset a AsyncMode on\n\
+    set a OutputID 1\nget a AsyncMode\ndeliver a\nset a DeviceEnabled true\nnew d CashDrawer\nopen d r1\n\
+    open d d1\ncall d printNormal 2 41\nget d CoverOpen\n";
+
+const UNPRINTED_TEXT: &[u8] =
+    b"ok\nbad line\nerr 109\nok\nbad line\nbad line\nbad device\nbad device\nidle\nidle\nbad line\nbad line\n\
+    bad line\nbad line\nok\nok\nbad line\nbad line\nbad line\nbad line\nok\nok closed 100000 -:-\nbad input\n\
+    bad input\nbad device\nok\nok closed 0 -:-\nbad input\nbad input\nbad input\nbad input\nbad input\n\
+    bad device\nbad device\nbad line\nerr 103\nbad line\nbad line\nbad line\nbad line\nbad line\nbad line\n\
+    bad line\nbad line\nbad line\nbad line\nbad line\nbad line\nerr 106\nok false\nnone\nerr 103\nok\nerr 109\nok\n\
+    err 106\nerr 106\n";
+
+/// Devices that are detached, and a spare that is attached to one of them, after it was refused.
+const EXCHANGES: &[u8] =
+    b"detach r1\nshow r1\nattach r1 1\nattach t1 1\ndetach d1\ndetach d1\ninput d1 open\nattach d1 1\nshow d1\n\
+    attach d1 1\nwork r1\ndetach s1\ninput s1 fault\ndetach p1\nshow p1\n";
+
+const EXCHANGES_TEXT: &[u8] =
+    b"ok\nbad device\nrefused KindDiffers\nrefused Unknown\nok\nrefused Vacant\nbad device\nok\nok closed\n\
+    bad spare\nbad device\nok\nbad device\nok\nbad device\n";
+
+/// A drawer that is open to a control is neither detached nor served by a spare; once it is vacant it can't be opened.
+const OPEN_DEVICES: &[u8] =
+    b"new a CashDrawer\nopen a d1\ndetach d1\nattach d1 1\nclose a\ninput d1 open\nattach d1 1\ndetach d1\nopen a d1\n\
+    attach s1 1\nattach r1 1\nattach d1 1\nopen a d1\nset a DeviceEnabled true\nget a DrawerOpened\n\
+    call a openDrawer\ndeliver a\nshow d1\ndetach d1\nattach d1 1\n";
+
+const OPEN_DEVICES_TEXT: &[u8] =
+    b"ok\nok\nrefused InUse\nrefused InUse\nok\nok\nrefused InUse\nok\nerr 104\nrefused InUse\nrefused InUse\nok\n\
+    ok\nok\nok false\nok\nevent StatusUpdateEvent 1\nok open\nrefused InUse\nbad spare\n";
+
+/// Numbers of no spare, names of no device, and lines of a wrong shape.
+const UNEXCHANGED: &[u8] =
+    b"attach zz 99\nattach zz 1\nattach d1 0\nattach d1 -0\nattach d1 2\nattach d1 4294967295\nattach d1 4294967297\n\
+    attach d1 999999999999999999\nattach d1 -1\nattach d1\nattach d1 1 1\nattach d1 x\nattach d! 1\nattach\n\
+    detach zz\ndetach t1\ndetach d1 1\ndetach d!\ndetach\nDetach d1\nattach d1 1\nshow d1\n";
+
+const UNEXCHANGED_TEXT: &[u8] =
+    b"bad spare\nrefused Unknown\nbad spare\nbad spare\nbad spare\nbad spare\nbad spare\nbad spare\nbad line\n\
+    bad line\nbad line\nbad line\nbad line\nbad line\nrefused Unknown\nrefused Unknown\nbad line\nbad line\n\
+    bad line\nbad line\nrefused InUse\nok closed\n";
+
 /// Blanks, comments, and wrong shapes.
 const SHAPES: &[u8] =
     b"# \xff a comment\r\n\n   \n  new   - CashDrawer  \r\n show d1\r\r\n #x\nfrob\nnew a Drawer\n\
@@ -319,6 +432,14 @@ fn scripts_print_their_answers(rt: HostRuntime) -> Result<(), Fail> {
         (SHOWN, SHOWN_TEXT),
         (CURSORS, CURSORS_TEXT),
         (UNSHOWN, UNSHOWN_TEXT),
+        (RECEIPTS, RECEIPTS_TEXT),
+        (PAPER, PAPER_TEXT),
+        (STATIONS, STATIONS_TEXT),
+        (CLEARED, CLEARED_TEXT),
+        (UNPRINTED, UNPRINTED_TEXT),
+        (EXCHANGES, EXCHANGES_TEXT),
+        (OPEN_DEVICES, OPEN_DEVICES_TEXT),
+        (UNEXCHANGED, UNEXCHANGED_TEXT),
         (SHAPES, SHAPES_TEXT),
         (b"".as_slice(), b"".as_slice()),
     ];
@@ -326,6 +447,62 @@ fn scripts_print_their_answers(rt: HostRuntime) -> Result<(), Fail> {
         let text = text_of(rt.alloc(), script)?;
         assert_eq!(rt; text.as_slice(), want);
     }
+    Ok(())
+}
+
+/// What a script prints over the devices of a profile.
+fn text_over(alloc: Global, profile: &Profile, script: &[u8]) -> Result<Vec<u8>, RunFault> {
+    let disk = format_disk(alloc)?;
+    let mut text = Vec::new(alloc);
+    let mut reader = script;
+    run_over_profile(alloc, &mut reader, &mut text, profile, disk)?;
+    Ok(text)
+}
+
+#[test]
+fn scripts_run_over_a_profile(rt: HostRuntime) -> Result<(), Fail> {
+    let alloc = rt.alloc();
+    let profile = Profile::built(alloc)?;
+    let rows = [
+        (FIRST, FIRST_TEXT),
+        (ONE_FILE, ONE_FILE_TEXT),
+        (RECEIPTS, RECEIPTS_TEXT),
+        (EXCHANGES, EXCHANGES_TEXT),
+        (OPEN_DEVICES, OPEN_DEVICES_TEXT),
+    ];
+    for (script, want) in rows {
+        let text = text_over(alloc, &profile, script)?;
+        assert_eq!(rt; text.as_slice(), want);
+    }
+    Ok(())
+}
+
+/// Another profile: a display of another size, a device of each kind of spare, and no Hard Totals.
+const OTHER_PROFILE: &str =
+    "[[device]]\nname = \"front\"\ncategory = \"LineDisplay\"\nrows = 1\ncolumns = 3\n\
+    [[device]]\nname = \"till-2\"\ncategory = \"CashDrawer\"\n\
+    [[device]]\nname = \"slip\"\ncategory = \"POSPrinter\"\nchars = 4\nlines = 9\nnear = 1\n\
+    [[spare]]\ncategory = \"LineDisplay\"\nrows = 3\ncolumns = 1\n\
+    [[spare]]\ncategory = \"POSPrinter\"\nchars = 4\nlines = 7\nnear = 1\n\
+    [[spare]]\ncategory = \"Scanner\"\n\
+    [[spare]]\ncategory = \"LineDisplay\"\nrows = 1\ncolumns = 3\n";
+
+const OTHER: &[u8] =
+    b"show front\nshow till-2\nshow slip\nshow d1\ndetach front\nattach front 1\nattach front 4\nattach front 4\n\
+    show front\ndetach slip\nattach slip 3\nattach slip 2\nshow slip\nattach slip 5\ndetach t1\n";
+
+const OTHER_TEXT: &[u8] =
+    b"ok 202020 000\nok closed\nok closed 9 -:-\nbad device\nok\nrefused KindDiffers\nok\nbad spare\n\
+    ok 202020 000\nok\nrefused KindDiffers\nok\nok closed 7 -:-\nbad spare\nrefused Unknown\n";
+
+#[test]
+fn a_profile_has_its_own_devices(rt: HostRuntime) -> Result<(), Fail> {
+    let alloc = rt.alloc();
+    let Ok(profile) = Profile::from_text(alloc, OTHER_PROFILE) else {
+        return Err(Fail::new("no profile"));
+    };
+    let text = text_over(alloc, &profile, OTHER)?;
+    assert_eq!(rt; text.as_slice(), OTHER_TEXT);
     Ok(())
 }
 
@@ -482,32 +659,58 @@ fn faults_have_texts(rt: HostRuntime) -> Result<(), Fail> {
     Ok(())
 }
 
+/// The arguments of a line that calls `create`, if it does.
+fn created(alloc: Global, line: &[u8]) -> Result<Option<(Bytes, i128, bool)>, LineFault> {
+    match read_command(alloc, line) {
+        Ok(Command::Call(_, Call::Create(name, size, detection))) => Ok(Some((
+            name, size, detection,
+        ))),
+        Ok(_) => Ok(None),
+        Err(fault) => Err(fault),
+    }
+}
+
+/// The arguments of a line that calls `displayTextAt`, if it does.
+fn shown_at(alloc: Global, line: &[u8]) -> Result<Option<(i128, i128, Bytes, i128)>, LineFault> {
+    match read_command(alloc, line) {
+        Ok(Command::Call(_, Call::DisplayTextAt(row, column, bytes, attribute))) => {
+            Ok(Some((row, column, bytes, attribute)))
+        }
+        Ok(_) => Ok(None),
+        Err(fault) => Err(fault),
+    }
+}
+
 #[test]
 fn arguments_are_read_by_their_shapes(rt: HostRuntime) -> Result<(), Fail> {
     let alloc = rt.alloc();
-    let (bytes, (number, truth)) = read_three::<Bytes, i128, bool>(alloc, b" 4aFf  -20 false ")?;
-    assert_eq!(rt; bytes.as_slice(), b"\x4a\xff".as_slice());
-    assert_eq!(rt; number, -20);
-    assert_eq!(rt; truth, false);
-    let (row, (column, (bytes, truth))) = read_four::<i128, i128, Bytes, bool>(
-        alloc,
-        b"1 -0 7E true",
-    )?;
-    assert_eq!(rt; (row, column, truth), (1, 0, true));
+    let Some((name, size, detection)) = created(alloc, b"call a create  4aFf  -20 false ")? else {
+        return Err(Fail::new("no create"));
+    };
+    assert_eq!(rt; name.as_slice(), b"\x4a\xff".as_slice());
+    assert_eq!(rt; size, -20);
+    assert_eq!(rt; detection, false);
+    let line = b"call a displayTextAt 1 -0 7E 999999999999999999";
+    let Some((row, column, bytes, attribute)) = shown_at(alloc, line)? else {
+        return Err(Fail::new("no displayTextAt"));
+    };
+    assert_eq!(rt; (row, column, attribute), (1, 0, 999_999_999_999_999_999));
     assert_eq!(rt; bytes.as_slice(), b"~".as_slice());
-    let (none, largest) = read_two::<Bytes, i128>(alloc, b"- 999999999999999999")?;
+    let Some((none, _, detection)) = created(alloc, b"call a create - 1 true")? else {
+        return Err(Fail::new("no create"));
+    };
     assert_eq!(rt; none.as_slice(), b"".as_slice());
-    assert_eq!(rt; largest, 999_999_999_999_999_999);
+    assert_eq!(rt; detection, true);
     let rows = [
-        b"4 1 true".as_slice(),
-        b"4g 1 true".as_slice(),
-        b"41 1".as_slice(),
-        b"41 1 true x".as_slice(),
-        b"41 - true".as_slice(),
-        b"- 1 True".as_slice(),
+        b"call a create 4 1 true".as_slice(),
+        b"call a create 4g 1 true".as_slice(),
+        b"call a create 41 1".as_slice(),
+        b"call a create 41 1 true x".as_slice(),
+        b"call a create 41 - true".as_slice(),
+        b"call a create - 1 True".as_slice(),
     ];
-    for words in rows {
-        let fault = read_three::<Bytes, i128, bool>(alloc, words).err();
+    for line in rows {
+        let fault = created(alloc, line).err();
         assert_eq!(rt; fault, Some(LineFault::WrongShape));
     }
     Ok(())
@@ -566,24 +769,34 @@ fn drawer_after(
     script: &[u8],
     writes_left: u32,
 ) -> Result<(Result<(), RunFault>, Option<bool>), AllocError> {
+    let made = simulate(alloc)?;
+    let Ok(profile) = Profile::built(alloc) else {
+        return Err(AllocError);
+    };
     let Ok(disk) = format_disk(alloc) else {
         return Err(AllocError);
     };
-    let drawer = Box::new(alloc, PlainDrawer::new())?;
-    let scanner = Box::new(alloc, PlainScanner::new())?;
-    let Ok(display) = PlainDisplay::new(alloc, 2, 4) else {
+    let Ok(mut counter) = Counter::new(alloc, &profile, Vec::new(alloc), disk) else {
         return Err(AllocError);
     };
-    let display = Box::new(alloc, display)?;
-    let mut boxes = Vec::with_capacity(alloc, 3)?;
-    fill(&mut boxes, drawer, scanner, display);
-    let mut counter = match Counter::new(alloc, boxes, disk) {
-        Ok(counter) => counter,
-        Err((_, boxes, _)) => {
-            park_all(boxes);
-            return Err(AllocError);
-        }
+    let Ok(boxes) = Vec::with_capacity(alloc, 1) else {
+        end_counter(counter);
+        return Err(AllocError);
     };
+    let Simulated {
+        drawer,
+        scanner,
+        display,
+        printer,
+        spare,
+    } = made;
+    let drawer = PeripheralBox::new(drawer);
+    let scanner = PeripheralBox::new(scanner);
+    let display = PeripheralBox::new(display);
+    let printer = PeripheralBox::new(printer);
+    let spare = PeripheralBox::new(spare);
+    fill(&mut counter, drawer, scanner, display, printer);
+    let mut spares = keep_spare(boxes, spare);
     let mut writer = Narrow {
         taken: Vec::new(alloc),
         size: 1,
@@ -591,13 +804,13 @@ fn drawer_after(
         end: End::Fails,
     };
     let mut reader = script;
-    let result = run(alloc, &mut reader, &mut writer, &mut counter);
+    let result = run(alloc, &mut reader, &mut writer, &mut counter, &mut spares);
     let is_open = match counter.snapshot(b"d1") {
         Ok(Snapshot(Plant::Drawer(is_open))) => Some(is_open),
         _ => None,
     };
-    let Ended { disk: _, boxes } = counter.shutdown();
-    park_all(boxes);
+    end_counter(counter);
+    spares.park_all();
     Ok((result, is_open))
 }
 

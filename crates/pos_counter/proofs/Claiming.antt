@@ -15,42 +15,34 @@ use Rattle.pos_service.specs.Calls.{close_rows}
 use Rattle.pos_service.specs.Claims.{is_own, is_foreign, holder_at, claim_rows, claimed_by, release_rows, released_by, after_release}
 use Rattle.pos_service.specs.Controls.{Control, closed}
 use Rattle.pos_service.specs.HardTotals.{Totals, is_area_taken, without_control}
-use Rattle.pos_service.specs.Peripherals.{PeripheralState}
 use Rattle.pos_service.specs.Refusals.{Row, Decided, first_refusal, when}
 use Rattle.pos_common.specs.Held.{Held, TurnsInto, controls_of}
-use Rattle.pos_counter.specs.declared.entry.Entry.{Entry}
-use Rattle.pos_counter.specs.Machine.{Machine, Shared, holder_in, with_control}
-use Rattle.pos_counter.specs.Parts.{machine_with, devices_of, AreCovered, ArePartsSound}
+use Rattle.pos_counter.specs.Machine.{Device, Machine, Shared, holder_in, with_control}
+use Rattle.pos_counter.specs.Parts.{machine_with, AreCovered, ArePartsSound}
 use Rattle.pos_counter.specs.Steps.{CallOf, Answered, Step, claimed, dropped, released, is_taken, refusals, HasItsDevice}
 use Rattle.pos_counter.specs.Totals.{TotalsPart, is_totals}
 use Rattle.pos_counter.proofs.Lifts.{match_at_some, match_at_none, match_by, match_cases, match_weaker}
 use Rattle.pos_counter.proofs.Sound.{Served}
 
--- there are as many devices as entries
-length_devices : (es : List Entry) (ss : List PeripheralState) → length (devices_of es ss) ≡ length es
-length_devices [] ss = refl
-length_devices (e ∷ es) [] = ap suc (length_devices es [])
-length_devices (e ∷ es) (s ∷ ss) = ap suc (length_devices es ss)
-
 -- where there is a claim for each device, the device of each open control has one
-pub covered : (hs : List Held) (es : List Entry) (ss : List PeripheralState) (cl : List (Option ℕ)) (shared : Shared) → ArePartsSound hs es ss → length cl ≡ length es → AreCovered hs cl
-covered hs es ss cl shared sound covers =
-    All-weaker (HasItsDevice (devices_of es ss)) (λ control. IfSome control.device (λ place. place < length cl)) (λ control seat. by_place control control.device seat) (controls_of hs) (sound.machine shared).places
+pub covered : (hs : List Held) (ds : List Device) (cl : List (Option ℕ)) (shared : Shared) → ArePartsSound hs ds → length cl ≡ length ds → AreCovered hs cl
+covered hs ds cl shared sound covers =
+    All-weaker (HasItsDevice ds) (λ control. IfSome control.device (λ place. place < length cl)) (λ control seat. by_place control control.device seat) (controls_of hs) (sound.machine shared).places
   where
-    within : (control : Control) (place : ℕ) → Served control.category control.cursor.place (slice_get (devices_of es ss) place) → place < length cl
-    within control place served = elim (match_cases (slice_get (devices_of es ss) place) _ _ served) [
+    within : (control : Control) (place : ℕ) → Served control.category control.cursor.place (slice_get ds place) → place < length cl
+    within control place served = elim (match_cases (slice_get ds place) _ _ served) [
       | inl x ↦ absurd x.1
-      | inr x ↦ let there = slice_get_within (devices_of es ss) place x.0 x.1 in omega (arith, there, length_devices es ss, covers)
+      | inr x ↦ let there = slice_get_within ds place x.0 x.1 in omega (arith, there, covers)
     ]
 
-    by_place : (control : Control) (o : Option ℕ) → IfSome o (λ place. Served control.category control.cursor.place (slice_get (devices_of es ss) place)) → IfSome o (λ place. place < length cl)
+    by_place : (control : Control) (o : Option ℕ) → IfSome o (λ place. Served control.category control.cursor.place (slice_get ds place)) → IfSome o (λ place. place < length cl)
     by_place control None seat = tt
     by_place control (Some place) seat = within control place seat
 
 -- the machine with one control in the place of another, and other claims
-pub claims_machine : (hs : List Held) (cl dl : List (Option ℕ)) (es : List Entry) (ss : List PeripheralState) (n : ℕ) (g : Held) (c : Control) (part : TotalsPart) → g.control ≡ c → machine_with (set hs n g) dl es ss part ≡ record (with_control (machine_with hs cl es ss part) n c) { claims = dl }
-claims_machine hs cl dl es ss n g c part e =
-    ap (λ (cs : List Control). let m : Machine = record { controls = cs; devices = devices_of es ss; claims = dl; totals = part } in m) (map-set (λ (h : Held). h.control) hs n g ∙ ap (set (controls_of hs) n) e)
+pub claims_machine : (hs : List Held) (cl dl : List (Option ℕ)) (ds : List Device) (n : ℕ) (g : Held) (c : Control) (part : TotalsPart) → g.control ≡ c → machine_with (set hs n g) dl ds part ≡ record (with_control (machine_with hs cl ds part) n c) { claims = dl }
+claims_machine hs cl dl ds n g c part e =
+    ap (λ (cs : List Control). let m : Machine = record { controls = cs; devices = ds; claims = dl; totals = part } in m) (map-set (λ (h : Held). h.control) hs n g ∙ ap (set (controls_of hs) n) e)
 
 -- there is a claim for each device still
 pub length_released : (cl : List (Option ℕ)) (o : Option ℕ) (n : ℕ) → length (released_by cl o n) ≡ length cl
@@ -154,47 +146,47 @@ done_by : (rows : List Row) (r : Answer) (h g : Held) (c : Control) → first_re
 done_by rows r h g c none turns = subst (λ o. MatchOption o ((r ≡ answer.Done value.Empty) × (g.control ≡ c)) (λ refusal. (r ≡ refusal) × (g ≡ h))) none turns.outcome
 
 -- a close of a control of a device with a peripheral frees what it holds
-pub close_device : (hs : List Held) (cl dl : List (Option ℕ)) (es : List Entry) (ss : List PeripheralState) (part : TotalsPart) (n : ℕ) (c : Control) (h g : Held) (r : Answer)
+pub close_device : (hs : List Held) (cl dl : List (Option ℕ)) (ds : List Device) (part : TotalsPart) (n : ℕ) (c : Control) (h g : Held) (r : Answer)
     → slice_get (controls_of hs) n ≡ Some c → is_totals c.category ≡ false → is_none c.device ≡ false → TurnsInto (close_rows c) r h g (closed c) → dl ≡ released_by cl c.device n
-    → Step (machine_with hs cl es ss part) (CallOf n call.Close) (Answered r) (machine_with (set hs n g) dl es ss part)
-close_device hs cl dl es ss part n c h g r at is there turns free =
+    → Step (machine_with hs cl ds part) (CallOf n call.Close) (Answered r) (machine_with (set hs n g) dl ds part)
+close_device hs cl dl ds part n c h g r at is there turns free =
     let none : first_refusal (close_rows c) ≡ None = ap (λ b. first_refusal (when b code.Closed ∷ [])) there in
     let done = done_by (close_rows c) r h g (closed c) none turns in
-    let m : Machine = machine_with hs cl es ss part in
+    let m : Machine = machine_with hs cl ds part in
     match_at_some _ c _ _ at (record {
       outcome = match_at_none (first_refusal (close_rows c)) _ _ none (
         done.0,
-        claims_machine hs cl dl es ss n g (closed c) part done.1
+        claims_machine hs cl dl ds n g (closed c) part done.1
             ∙ ap (λ claims. let o : Machine = record (with_control m n (closed c)) { claims = claims } in o) free
             ∙ sym (dropped_of c.category (with_control m n (closed c)) n c is),
       );
     })
 
 -- a close of a control of Hard Totals frees what it holds, and drops its transaction
-pub close_area : (hs : List Held) (cl : List (Option ℕ)) (es : List Entry) (ss : List PeripheralState) (part : TotalsPart) (n : ℕ) (c : Control) (h g : Held) (r : Answer)
+pub close_area : (hs : List Held) (cl : List (Option ℕ)) (ds : List Device) (part : TotalsPart) (n : ℕ) (c : Control) (h g : Held) (r : Answer)
     → slice_get (controls_of hs) n ≡ Some c → c.category ≡ category.HardTotals → is_none c.device ≡ false → TurnsInto (close_rows c) r h g (closed c)
-    → Step (machine_with hs cl es ss part) (CallOf n call.Close) (Answered r) (machine_with (set hs n g) cl es ss (record part { totals = without_control part.totals n }))
-close_area hs cl es ss part n c h g r at is there turns =
+    → Step (machine_with hs cl ds part) (CallOf n call.Close) (Answered r) (machine_with (set hs n g) cl ds (record part { totals = without_control part.totals n }))
+close_area hs cl ds part n c h g r at is there turns =
     let none : first_refusal (close_rows c) ≡ None = ap (λ b. first_refusal (when b code.Closed ∷ [])) there in
     let done = done_by (close_rows c) r h g (closed c) none turns in
-    let m : Machine = machine_with hs cl es ss part in
+    let m : Machine = machine_with hs cl ds part in
     let now : TotalsPart = record part { totals = without_control part.totals n } in
     match_at_some _ c _ _ at (record {
       outcome = match_at_none (first_refusal (close_rows c)) _ _ none (
         done.0,
-        subst (λ k. machine_with (set hs n g) cl es ss now ≡ dropped k (with_control m n (closed c)) n c) (sym is) (claims_machine hs cl cl es ss n g (closed c) now done.1),
+        subst (λ k. machine_with (set hs n g) cl ds now ≡ dropped k (with_control m n (closed c)) n c) (sym is) (claims_machine hs cl cl ds n g (closed c) now done.1),
       );
     })
 
 -- ---- claim and release
 
 -- a claim of a device with a peripheral
-pub claim_device : (hs : List Held) (cl dl : List (Option ℕ)) (es : List Entry) (ss : List PeripheralState) (part : TotalsPart) (n : ℕ) (c : Control) (timeout : ℤ) (r : Answer)
+pub claim_device : (hs : List Held) (cl dl : List (Option ℕ)) (ds : List Device) (part : TotalsPart) (n : ℕ) (c : Control) (timeout : ℤ) (r : Answer)
     → slice_get (controls_of hs) n ≡ Some c → is_totals c.category ≡ false
     → Decided (claim_rows c (is_foreign n (holder_at cl c.device)) timeout) r (dl ≡ cl) ((r ≡ answer.Done value.Empty) × (dl ≡ claimed_by cl c.device n))
-    → Step (machine_with hs cl es ss part) (CallOf n (call.Claim timeout)) (Answered r) (machine_with hs dl es ss part)
-claim_device hs cl dl es ss part n c timeout r at is d =
-    let m : Machine = machine_with hs cl es ss part in
+    → Step (machine_with hs cl ds part) (CallOf n (call.Claim timeout)) (Answered r) (machine_with hs dl ds part)
+claim_device hs cl dl ds part n c timeout r at is d =
+    let m : Machine = machine_with hs cl ds part in
     let rows = ap (λ b. first_refusal (claim_rows c b timeout)) (taken_of c.category m n c.device is) in
     match_at_some _ c _ _ at (record {
       outcome = match_by (first_refusal (refusals m n c (call.Claim timeout))) _ _ _ rows
@@ -205,33 +197,33 @@ claim_device hs cl dl es ss part n c timeout r at is d =
     })
 
 -- a release of a device with a peripheral
-pub release_device : (hs : List Held) (cl dl : List (Option ℕ)) (es : List Entry) (ss : List PeripheralState) (part : TotalsPart) (n : ℕ) (c : Control) (h g : Held) (r : Answer)
+pub release_device : (hs : List Held) (cl dl : List (Option ℕ)) (ds : List Device) (part : TotalsPart) (n : ℕ) (c : Control) (h g : Held) (r : Answer)
     → slice_get (controls_of hs) n ≡ Some c → is_totals c.category ≡ false → h ≡ get_or hs n h
     → Decided (release_rows c (is_own n (holder_at cl c.device))) r ((g ≡ h) × (dl ≡ cl)) ((r ≡ answer.Done value.Empty) × (g.control ≡ after_release c.category c) × (dl ≡ released_by cl c.device n))
-    → Step (machine_with hs cl es ss part) (CallOf n call.Release) (Answered r) (machine_with (set hs n g) dl es ss part)
-release_device hs cl dl es ss part n c h g r at is here d =
-    let m : Machine = machine_with hs cl es ss part in
+    → Step (machine_with hs cl ds part) (CallOf n call.Release) (Answered r) (machine_with (set hs n g) dl ds part)
+release_device hs cl dl ds part n c h g r at is here d =
+    let m : Machine = machine_with hs cl ds part in
     let rows = ap (λ o. first_refusal (release_rows c (is_own n o))) (holder_in_table c.category cl part.totals.area c.device is) in
     match_at_some _ c _ _ at (record {
       outcome = match_by (first_refusal (refusals m n c call.Release)) _ _ _ rows
           (match_weaker (first_refusal (release_rows c (is_own n (holder_at cl c.device)))) _ _ _ _
           (λ y. (
             y.0,
-            claims_machine hs cl dl es ss n g (after_release c.category c) part y.1
+            claims_machine hs cl dl ds n g (after_release c.category c) part y.1
                 ∙ ap (λ claims. let o : Machine = record (with_control m n (after_release c.category c)) { claims = claims } in o) y.2
                 ∙ sym (released_of c.category (with_control m n (after_release c.category c)) n c is),
           ))
-          (λ refusal y. (y.0, ap (λ (ks : List Held). machine_with ks dl es ss part) (ap (set hs n) (y.1.0 ∙ here) ∙ set-get_or hs n h) ∙ ap (λ claims. let o : Machine = record m { claims = claims } in o) y.1.1))
+          (λ refusal y. (y.0, ap (λ (ks : List Held). machine_with ks dl ds part) (ap (set hs n) (y.1.0 ∙ here) ∙ set-get_or hs n h) ∙ ap (λ claims. let o : Machine = record m { claims = claims } in o) y.1.1))
           d.outcome);
     })
 
 -- a claim of the area
-pub claim_area : (hs : List Held) (cl : List (Option ℕ)) (es : List Entry) (ss : List PeripheralState) (part : TotalsPart) (n : ℕ) (c : Control) (timeout : ℤ) (r : Answer) (totals : Totals)
+pub claim_area : (hs : List Held) (cl : List (Option ℕ)) (ds : List Device) (part : TotalsPart) (n : ℕ) (c : Control) (timeout : ℤ) (r : Answer) (totals : Totals)
     → slice_get (controls_of hs) n ≡ Some c → c.category ≡ category.HardTotals
     → Decided (claim_rows c (is_area_taken part.totals n) timeout) r (totals ≡ part.totals) ((r ≡ answer.Done value.Empty) × (totals ≡ record part.totals { area = Some n }))
-    → Step (machine_with hs cl es ss part) (CallOf n (call.Claim timeout)) (Answered r) (machine_with hs cl es ss (record part { totals = totals }))
-claim_area hs cl es ss part n c timeout r totals at is d =
-    let m : Machine = machine_with hs cl es ss part in
+    → Step (machine_with hs cl ds part) (CallOf n (call.Claim timeout)) (Answered r) (machine_with hs cl ds (record part { totals = totals }))
+claim_area hs cl ds part n c timeout r totals at is d =
+    let m : Machine = machine_with hs cl ds part in
     let rows = subst (λ k. first_refusal (refusals m n c (call.Claim timeout)) ≡ first_refusal (claim_rows c (taken k) timeout)) is refl in
     match_at_some _ c _ _ at (record {
       outcome = match_by (first_refusal (refusals m n c (call.Claim timeout))) _ _ _ rows
@@ -242,18 +234,18 @@ claim_area hs cl es ss part n c timeout r totals at is d =
     })
   where
     taken : Category → Bool
-    taken k = is_taken k (machine_with hs cl es ss part) n c.device
+    taken k = is_taken k (machine_with hs cl ds part) n c.device
 
     over_totals : Totals → Machine
-    over_totals t = machine_with hs cl es ss (record part { totals = t })
+    over_totals t = machine_with hs cl ds (record part { totals = t })
 
 -- a release of the area
-pub release_area : (hs : List Held) (cl : List (Option ℕ)) (es : List Entry) (ss : List PeripheralState) (part : TotalsPart) (n : ℕ) (c : Control) (h g : Held) (r : Answer) (totals : Totals)
+pub release_area : (hs : List Held) (cl : List (Option ℕ)) (ds : List Device) (part : TotalsPart) (n : ℕ) (c : Control) (h g : Held) (r : Answer) (totals : Totals)
     → slice_get (controls_of hs) n ≡ Some c → c.category ≡ category.HardTotals → h ≡ get_or hs n h
     → Decided (release_rows c (is_own n part.totals.area)) r ((g ≡ h) × (totals ≡ part.totals)) ((r ≡ answer.Done value.Empty) × (g.control ≡ after_release c.category c) × (totals ≡ record part.totals { area = None }))
-    → Step (machine_with hs cl es ss part) (CallOf n call.Release) (Answered r) (machine_with (set hs n g) cl es ss (record part { totals = totals }))
-release_area hs cl es ss part n c h g r totals at is here d =
-    let m : Machine = machine_with hs cl es ss part in
+    → Step (machine_with hs cl ds part) (CallOf n call.Release) (Answered r) (machine_with (set hs n g) cl ds (record part { totals = totals }))
+release_area hs cl ds part n c h g r totals at is here d =
+    let m : Machine = machine_with hs cl ds part in
     let now : TotalsPart = record part { totals = totals } in
     let rows = subst (λ k. first_refusal (refusals m n c call.Release) ≡ first_refusal (release_rows c (is_own n (holder_in k cl part.totals.area c.device)))) is refl in
     match_at_some _ c _ _ at (record {
@@ -261,10 +253,10 @@ release_area hs cl es ss part n c h g r totals at is here d =
           (match_weaker (first_refusal (release_rows c (is_own n part.totals.area))) _ _ _ _
           (λ y. (
             y.0,
-            subst (λ k. machine_with (set hs n g) cl es ss now ≡ released k (with_control m n (after_release c.category c)) n c) (sym is)
-                (claims_machine hs cl cl es ss n g (after_release c.category c) now y.1
+            subst (λ k. machine_with (set hs n g) cl ds now ≡ released k (with_control m n (after_release c.category c)) n c) (sym is)
+                (claims_machine hs cl cl ds n g (after_release c.category c) now y.1
                 ∙ ap (λ (t : Totals). let o : Machine = record (with_control m n (after_release c.category c)) { totals = record part { totals = t } } in o) y.2),
           ))
-          (λ refusal y. (y.0, ap (λ (ks : List Held). machine_with ks cl es ss now) (ap (set hs n) (y.1.0 ∙ here) ∙ set-get_or hs n h) ∙ ap (λ (t : Totals). machine_with hs cl es ss (record part { totals = t })) y.1.1))
+          (λ refusal y. (y.0, ap (λ (ks : List Held). machine_with ks cl ds now) (ap (set hs n) (y.1.0 ∙ here) ∙ set-get_or hs n h) ∙ ap (λ (t : Totals). machine_with hs cl ds (record part { totals = t })) y.1.1))
           d.outcome);
     })

@@ -1,70 +1,102 @@
--- A machine's devices by the parts of a counter.
-use Rattle.std.proofs.Common.{◌≡◌, ◌∷◌, [], ℕ, ◌<◌, ◌≤◌, zero, suc, List, Option, Some, None, length, set, ap, ◌∙◌, refl, arith}
-use Rattle.std.specs.Prelude.{Bool, cond, ◌||◌, is_none, is_some, slice_get, option_map, option_and_then}
-use Rattle.pos_service.specs.declared.category.Category.{Category}
-use Rattle.pos_service.specs.declared.finding.Finding.TheVariants as finding
-use Rattle.pos_service.specs.Calls.{serves}
-use Rattle.pos_service.specs.Peripherals.{PeripheralState}
+-- The devices of a machine, by the registry of a counter.
+use Rattle.std.proofs.Common.{◌≡◌, ◌∷◌, [], ℕ, ◌+◌, zero, suc, List, Option, Some, None, Bool, true, false, length, map, set, ap, sym, ◌∙◌, subst, refl, arith}
+use Rattle.std.specs.Prelude.{slice_get, option_map, is_some, IfSome, IsSome, All, filter, ◌++◌}
+use Rattle.std.specs.List.{AllByRecursion}
+use Rattle.pos_service.specs.declared.input.Input.{Input}
+use Rattle.pos_service.specs.Peripherals.{PeripheralState, input_fits}
 use Rattle.pos_service.specs.Stations.{station_of}
-use Rattle.pos_counter.specs.Machine.{station_in, device_at, kind_in, found_at}
-use Rattle.pos_counter.specs.declared.entry.Entry.{Entry}
-use Rattle.pos_counter.specs.Parts.{device_of, devices_of, kind_at, standing_at}
+use Rattle.pos_profile.specs.Registries.{Device as Registered, IsServed, kind_at, parked, standing_at, with_peripheral}
+use Rattle.pos_counter.specs.Machine.{Device, device_at, kind_in, station_in}
+use Rattle.pos_counter.specs.Steps.{FindsFit}
+use Rattle.pos_counter.specs.Parts.{device_of, devices_of, has_kind, totals_devices}
 
--- the device at a place is the profile's there, with what stands there
-pub device_there : (es : List Entry) (ss : List PeripheralState) (i : ℕ) → slice_get (devices_of es ss) i ≡ option_map (λ e. device_of e (option_map station_of (slice_get ss i))) (slice_get es i)
-device_there [] ss i = refl
-device_there (e ∷ es) [] zero = refl
-device_there (e ∷ es) [] (suc i) = device_there es [] i
-device_there (e ∷ es) (s ∷ ss) zero = refl
-device_there (e ∷ es) (s ∷ ss) (suc i) = device_there es ss i
+-- what the device at a place is
+pub kind_there : (list : List Registered) (totals : Option (List ℕ)) (place : ℕ) → kind_in (slice_get (devices_of list totals) place) ≡ kind_at list place
+kind_there [] None zero = refl
+kind_there [] None (suc place) = refl
+kind_there [] (Some name) zero = refl
+kind_there [] (Some name) (suc place) = refl
+kind_there (d ∷ list) totals zero = refl
+kind_there (d ∷ list) totals (suc place) = kind_there list totals place
 
--- what a device is, its entry says
-pub kind_there : (es : List Entry) (ss : List PeripheralState) (place : Option ℕ) → kind_in (device_at (devices_of es ss) place) ≡ kind_at es place
-kind_there es ss None = refl
-kind_there es ss (Some i) = ap kind_in (device_there es ss i) ∙ by (slice_get es i)
-  where
-    by : (o : Option Entry) → kind_in (option_map (λ e. device_of e (option_map station_of (slice_get ss i))) o) ≡ option_and_then (λ entry. entry.kind) o
-    by None = refl
-    by (Some e) = refl
+-- what stands at it
+pub station_there : (list : List Registered) (totals : Option (List ℕ)) (place : ℕ) → station_in (slice_get (devices_of list totals) place) ≡ option_map station_of (standing_at list place)
+station_there [] None zero = refl
+station_there [] None (suc place) = refl
+station_there [] (Some name) zero = refl
+station_there [] (Some name) (suc place) = refl
+station_there (d ∷ list) totals zero = refl
+station_there (d ∷ list) totals (suc place) = station_there list totals place
 
--- where each peripheral has a device, what stands at a device is what the peripheral is
-pub station_there : (es : List Entry) (ss : List PeripheralState) (place : Option ℕ) → length ss ≤ length es → station_in (device_at (devices_of es ss) place) ≡ standing_at ss place
-station_there es ss None same = refl
-station_there es ss (Some i) same = at es ss i same
-  where
-    at : (es : List Entry) (ss : List PeripheralState) (i : ℕ) → length ss ≤ length es → station_in (slice_get (devices_of es ss) i) ≡ option_map station_of (slice_get ss i)
-    at [] [] i same = refl
-    at [] (s ∷ ss) i same = absurd (omega arith)
-    at (e ∷ es) [] zero same = refl
-    at (e ∷ es) [] (suc i) same = at es [] i (omega arith)
-    at (e ∷ es) (s ∷ ss) zero same = refl
-    at (e ∷ es) (s ∷ ss) (suc i) same = at es ss i (omega arith)
+-- what is at a place of the registry is at that place of the machine
+pub registered_there : (list : List Registered) (totals : Option (List ℕ)) (place : ℕ) (d : Registered) → slice_get list place ≡ Some d → slice_get (devices_of list totals) place ≡ Some (device_of d)
+registered_there [] totals zero d at = cc
+registered_there [] totals (suc place) d at = cc
+registered_there (x ∷ list) totals zero d at = let same : x ≡ d = cc in ap (λ (y : Registered). Some (device_of y)) same
+registered_there (x ∷ list) totals (suc place) d at = registered_there list totals place d at
 
--- a peripheral that has changed changes its device's station
-pub devices_set : (es : List Entry) (ss : List PeripheralState) (i : ℕ) (e : Entry) (s : PeripheralState) → slice_get es i ≡ Some e → i < length ss → devices_of es (set ss i s) ≡ set (devices_of es ss) i (device_of e (Some (station_of s)))
-devices_set [] ss i e s at lt = cc
-devices_set (x ∷ es) [] i e s at lt = absurd (omega arith)
-devices_set (x ∷ es) (y ∷ ss) zero e s at lt =
-    let same : x ≡ e = cc in
-    ap (λ k. device_of k (Some (station_of s)) ∷ devices_of es ss) same
-devices_set (x ∷ es) (y ∷ ss) (suc i) e s at lt = ap (λ ds. device_of x (Some (station_of y)) ∷ ds) (devices_set es ss i e s at (omega arith))
+-- another peripheral, or none, at a device is another station, or none
+pub devices_with : (list : List Registered) (totals : Option (List ℕ)) (place : ℕ) (d : Registered) (x : Option PeripheralState) → slice_get list place ≡ Some d → devices_of (with_peripheral list place x) totals ≡ set (devices_of list totals) place (record (device_of d) { station = option_map station_of x })
+devices_with [] totals zero d x at = cc
+devices_with [] totals (suc place) d x at = cc
+devices_with (y ∷ list) totals zero d x at =
+    let same : y ≡ d = cc in
+    ap (λ (z : Registered). let first : Device = record (device_of z) { station = option_map station_of x } in first ∷ devices_of list totals) same
+devices_with (y ∷ list) totals (suc place) d x at = ap (λ ds. device_of y ∷ ds) (devices_with list totals place d x at)
 
--- a peripheral that is to the machine as it was changes no device
-pub devices_same : (es : List Entry) (ss : List PeripheralState) (i : ℕ) (s t : PeripheralState) → slice_get ss i ≡ Some s → station_of t ≡ station_of s → devices_of es (set ss i t) ≡ devices_of es ss
-devices_same [] ss i s t at same = refl
-devices_same (e ∷ es) [] i s t at same = refl
-devices_same (e ∷ es) (y ∷ ss) zero s t at same =
-    let is : s ≡ y = cc in
-    ap (λ st. device_of e (Some st) ∷ devices_of es ss) (same ∙ ap station_of is)
-devices_same (e ∷ es) (y ∷ ss) (suc i) s t at same = ap (λ ds. device_of e (Some (station_of y)) ∷ ds) (devices_same es ss i s t at same)
+-- What is out at a place of a registry: what it is to the machine, and what the devices are once it is back.
+pub record IsOut (list : List Registered) (totals : Option (List ℕ)) (place : ℕ) (was : PeripheralState) : Type 0 where
+  pub device : Device
+  pub is_device : slice_get (devices_of list totals) place ≡ Some device
+  pub is_attached : device.station ≡ Some (station_of was)
+  pub kind : device.kind ≡ Some was.kind
+  pub back : (now : PeripheralState) → devices_of (with_peripheral (with_peripheral list place None) place (Some now)) totals ≡ set (devices_of list totals) place (record device { station = Some (station_of now) })
 
--- what a control of a category finds at a place, by the device there and what stands at it
-pub found_there : (category : Category) (es : List Entry) (ss : List PeripheralState) (place : ℕ) (e : Entry) (served attached : Bool) → slice_get es place ≡ Some e → serves category e.kind ≡ served → (is_none e.kind || is_some (slice_get ss place)) ≡ attached → found_at category (Some place) (device_at (devices_of es ss) (Some place)) ≡ cond served (cond attached (finding.At place) finding.Vacant) finding.NotThere
-found_there category es ss place e served attached at is has =
-    ap (found_at category (Some place)) (device_there es ss place ∙ ap (option_map (λ e. device_of e (option_map station_of (slice_get ss place)))) at)
-    ∙ ap (λ b. cond b (cond (is_none e.kind || is_some (option_map station_of (slice_get ss place))) (finding.At place) finding.Vacant) finding.NotThere) is
-    ∙ ap (λ b. cond served (cond b (finding.At place) finding.Vacant) finding.NotThere) (ap (λ b. is_none e.kind || b) (still (slice_get ss place)) ∙ has)
-  where
-    still : (o : Option PeripheralState) → is_some (option_map station_of o) ≡ is_some o
-    still None = refl
-    still (Some s) = refl
+served_kind : (d : Registered) (was : PeripheralState) → IsServed d → Some was ≡ d.peripheral → d.kind ≡ was.kind
+served_kind d was served is = sym (subst (λ (o : Option PeripheralState). IfSome o (λ state. (state.is_parked ≡ false) × (state.kind ≡ d.kind))) (sym is) served).1
+
+pub is_out : (list : List Registered) (totals : Option (List ℕ)) (place : ℕ) (was : PeripheralState) → AllByRecursion IsServed list → Some was ≡ standing_at list place → IsOut list totals place was
+is_out [] totals zero was served is = cc
+is_out [] totals (suc place) was served is = cc
+is_out (d ∷ list) totals zero was served is = record {
+  device = device_of d;
+  is_device = refl;
+  is_attached = ap (option_map station_of) (sym is);
+  kind = ap Some (served_kind d was served.0 is);
+  back = λ now. refl;
+}
+is_out (d ∷ list) totals (suc place) was served is =
+    let rest = is_out list totals place was served.1 is in record {
+      device = rest.device;
+      is_device = rest.is_device;
+      is_attached = rest.is_attached;
+      kind = rest.kind;
+      back = λ now. ap (λ ds. device_of d ∷ ds) (rest.back now);
+    }
+
+-- a device whose peripheral isn't found has none
+pub vacant_there : {B : Type 0} (list : List Registered) (totals : Option (List ℕ)) (place : ℕ) (found : Option B) (f : B → PeripheralState) → option_map f found ≡ standing_at list place → is_some found ≡ false → station_in (slice_get (devices_of list totals) place) ≡ None
+vacant_there list totals place None f is none = station_there list totals place ∙ ap (option_map station_of) (sym is)
+vacant_there list totals place (Some x) f is none = cc
+
+pub missing_there : (list : List Registered) (totals : Option (List ℕ)) (place : ℕ) → None ≡ standing_at list place → station_in (slice_get (devices_of list totals) place) ≡ None
+missing_there list totals place none = station_there list totals place ∙ ap (option_map station_of) (sym none)
+
+-- an input fits what is found, or doesn't
+pub found_fit : (list : List Registered) (totals : Option (List ℕ)) (place : ℕ) (state : PeripheralState) (given : Input) (fits : Bool) → Some state ≡ standing_at list place → input_fits state.kind given ≡ fits → FindsFit (station_in (slice_get (devices_of list totals) place)) given fits
+found_fit list totals place state given fits is fit = record {
+  before = station_of state;
+  is_attached = station_there list totals place ∙ ap (option_map station_of) (sym is);
+  fit = fit;
+}
+
+-- one whose peripheral is found has one
+pub attached_there : {B : Type 0} (list : List Registered) (totals : Option (List ℕ)) (place : ℕ) (found : Option B) (f : B → PeripheralState) → option_map f found ≡ standing_at list place → is_some found ≡ true → IsSome (station_in (slice_get (devices_of list totals) place))
+attached_there list totals place None f is some = cc
+attached_there list totals place (Some x) f is some = subst IsSome (sym (station_there list totals place ∙ ap (option_map station_of) (sym is))) refl
+
+-- nothing is taken where nothing stands
+pub none_out : (list : List Registered) (totals : Option (List ℕ)) (place : ℕ) → None ≡ standing_at list place → IsSome (station_in (slice_get (devices_of list totals) place)) → ⊥
+none_out list totals place none some =
+    let gone : station_in (slice_get (devices_of list totals) place) ≡ None = station_there list totals place ∙ ap (option_map station_of) (sym none) in
+    let bad = subst IsSome gone some in cc

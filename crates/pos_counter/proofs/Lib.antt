@@ -7,6 +7,8 @@ pub mod Stations
 pub mod Runs
 pub mod Parking
 pub mod Serving
+pub mod Exchanging
+pub mod Beginning
 pub mod Claiming
 pub mod FileCalls
 pub mod TotalsSteps

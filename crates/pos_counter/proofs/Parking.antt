@@ -1,33 +1,33 @@
 -- Peripherals are taken out of service, and stand as they stood.
-use Rattle.std.proofs.Common.{◌≡◌, ℕ, ◌+◌, ◌<◌, ◌≤◌, [], ◌∷◌, ◌++◌, List, true, get_or, set, map, take, drop, length, ap, sym, ◌∙◌, refl, arith}
-use Rattle.std.specs.Prelude.{All}
-use Rattle.std.specs.List.{filter_map}
-use Rattle.std.proofs.lemmas.List.{map-set, get_or-map, take_all, drop_all, append-nil}
-use Rattle.std.proofs.lemmas.List.Edits.{map_over_more}
+use Rattle.std.proofs.Common.{◌≡◌, [], ◌∷◌, ℕ, List, Option, Some, None, true, get_or, map, ap, sym, ◌∙◌, refl}
+use Rattle.std.specs.Prelude.{All, IfSome, filter, option_map, ◌++◌}
 use Rattle.std.proofs.lemmas.List.Elements.{All-map}
 use Rattle.pos_service.specs.Peripherals.{PeripheralState}
 use Rattle.pos_service.specs.Stations.{Station, station_of}
+use Rattle.pos_profile.specs.Registries.{Device as Registered, parked, parked_state}
 use Rattle.pos_counter.specs.Machine.{Device}
-use Rattle.pos_counter.specs.declared.entry.Entry.{Entry}
-use Rattle.pos_counter.specs.Parts.{devices_of, parked}
+use Rattle.pos_counter.specs.Parts.{device_of, devices_of, has_kind, totals_devices}
 
--- one more is out of service
-pub parked_more : {P : Type 0} (state : P → PeripheralState) (ps : List P) (olds : List PeripheralState) (i : ℕ) (p q : P) → i < length olds → length ps ≡ length olds → map state ps ≡ map parked (take i olds) ++ drop i olds → p ≡ get_or ps i p → state q ≡ parked (state p) → map state (set ps i q) ≡ map parked (take (i + 1) olds) ++ drop (i + 1) olds
-parked_more state ps olds i p q lt same front is parks =
-    map-set state ps i q ∙ ap (set (map state ps) i) parks
-    ∙ map_over_more parked olds (map state ps) i (state p) lt front (ap state is ∙ sym (get_or-map state ps i p (state p) (omega arith)))
+-- a device whose peripheral is out of service is to the machine as it was
+still : (o : Option PeripheralState) → option_map station_of (option_map parked_state o) ≡ option_map station_of o
+still None = refl
+still (Some state) = refl
 
--- once the place is behind the last, all are out of service
-pub parked_whole : (states olds : List PeripheralState) (i : ℕ) → length olds ≤ i → states ≡ map parked (take i olds) ++ drop i olds → states ≡ map parked olds
-parked_whole states olds i le front = front ∙ ap (λ xs. map parked xs ++ drop i olds) (take_all i olds le) ∙ ap (λ xs. map parked olds ++ xs) (drop_all i olds le) ∙ append-nil (map parked olds)
+parked_device : (d : Registered) → device_of (parked d) ≡ device_of d
+parked_device d = ap (λ (o : Option Station). let x : Device = record { name = d.name; kind = Some d.kind; station = o } in x) (still d.peripheral)
 
--- what stands at the devices is as it stood
-pub stations_stay : (es : List Entry) (ss : List PeripheralState) → length ss ≤ length es → map station_of (map parked ss) ≡ filter_map (λ (d : Device). d.station) (devices_of es ss)
-stations_stay [] [] same = refl
-stations_stay [] (s ∷ ss) same = absurd (omega arith)
-stations_stay (e ∷ es) [] same = stations_stay es [] (omega arith)
-stations_stay (e ∷ es) (s ∷ ss) same = ap (λ (xs : List Station). station_of s ∷ xs) (stations_stay es ss (omega arith))
+-- so are the devices that may have a peripheral
+pub devices_stay : (list : List Registered) (totals : Option (List ℕ)) → map device_of (map parked list) ≡ filter has_kind (devices_of list totals)
+devices_stay [] None = refl
+devices_stay [] (Some name) = refl
+devices_stay (d ∷ list) totals =
+    ap (λ (x : Device). x ∷ map device_of (map parked list)) (parked_device d)
+    ∙ ap (λ (xs : List Device). device_of d ∷ xs) (devices_stay list totals)
 
 -- what was taken out of service is out of service
-pub all_parked : (ss : List PeripheralState) → All (λ (s : PeripheralState). s.is_parked ≡ true) (map parked ss)
-all_parked ss = All-map (λ (s : PeripheralState). s.is_parked ≡ true) parked ss (λ k d lt. refl)
+out_of_service : (o : Option PeripheralState) → IfSome (option_map parked_state o) (λ state. state.is_parked ≡ true)
+out_of_service None = tt
+out_of_service (Some state) = refl
+
+pub all_parked : (list : List Registered) → All (λ (d : Registered). IfSome d.peripheral (λ state. state.is_parked ≡ true)) (map parked list)
+all_parked list = All-map (λ (d : Registered). IfSome d.peripheral (λ state. state.is_parked ≡ true)) parked list (λ k d lt. out_of_service (get_or list k d).peripheral)

@@ -1,28 +1,61 @@
--- Finding a device's place: names alone decide, and the code looks at one after another.
-use Rattle.std.proofs.Common.{◌≡◌, ◌∷◌, [], ℕ, ◌+◌, ◌<◌, ◌≤◌, List, Some, None, get_or, map, drop, length, cond, Bool, ap, sym, ◌∙◌, refl, arith}
-use Rattle.std.specs.Prelude.{bytes_eq}
-use Rattle.std.proofs.lemmas.List.{drop_more, get_or-map, length-map, drop_all}
-use Rattle.pos_service.specs.Peripherals.{PeripheralState}
-use Rattle.pos_counter.specs.Machine.{Device, place_from}
-use Rattle.pos_counter.specs.declared.entry.Entry.{Entry}
-use Rattle.pos_counter.specs.Parts.{device_of, devices_of}
+-- Finding a device's place: names alone decide.
+use Rattle.std.proofs.Common.{◌≡◌, ◌∷◌, [], ℕ, ◌+◌, zero, suc, List, Option, Some, None, map, length, cond, Bool, true, false, ap, sym, ◌∙◌, subst, refl, arith}
+use Rattle.std.specs.Prelude.{bytes_eq, slice_get, IsSome, ◌++◌}
+use Rattle.pos_profile.specs.Places.{first_of, place_from as registered_from, place_of as registered_place}
+use Rattle.pos_profile.specs.Registries.{Device as Registered, names_of}
+use Rattle.pos_counter.specs.Machine.{Device, device_at, kind_in, place_from, place_of}
+use Rattle.pos_counter.specs.Parts.{devices_of, totals_devices, totals_place}
 
--- a device with no peripheral
-abbrev pub vacant : Entry → Device
-vacant entry = device_of entry None
+-- the place of the Hard Totals device
+totals_from : (at : ℕ) (name : List ℕ) (totals : Option (List ℕ)) → place_from at name (totals_devices totals) ≡ totals_place at name totals
+totals_from at name None = refl
+totals_from at name (Some totals) = refl
 
--- what stands at the devices has no part in finding one
-pub place_vacant : (i : ℕ) (name : List ℕ) (es : List Entry) (ss : List PeripheralState) → place_from i name (devices_of es ss) ≡ place_from i name (map vacant es)
-place_vacant i name [] ss = refl
-place_vacant i name (e ∷ es) [] = ap (cond (bytes_eq e.name name) (Some i)) (place_vacant (i + 1) name es [])
-place_vacant i name (e ∷ es) (s ∷ ss) = ap (cond (bytes_eq e.name name) (Some i)) (place_vacant (i + 1) name es ss)
+-- the first place of the registry that has the name, else that of the Hard Totals device
+place_found : (at : ℕ) (name : List ℕ) (list : List Registered) (totals : Option (List ℕ)) → place_from at name (devices_of list totals) ≡ first_of (registered_from at name (names_of list)) (totals_place (at + length list) name totals)
+place_found at name [] totals = totals_from at name totals ∙ ap (λ k. totals_place k name totals) (omega arith)
+place_found at name (d ∷ list) totals = by (bytes_eq name d.name) (place_found (at + 1) name list totals)
+  where
+    by : (b : Bool) → place_from (at + 1) name (devices_of list totals) ≡ first_of (registered_from (at + 1) name (names_of list)) (totals_place ((at + 1) + length list) name totals) → cond b (Some at) (place_from (at + 1) name (devices_of list totals)) ≡ first_of (cond b (Some at) (registered_from (at + 1) name (names_of list))) (totals_place (at + suc (length list)) name totals)
+    by true rest = refl
+    by false rest = rest ∙ ap (λ k. first_of (registered_from (at + 1) name (names_of list)) (totals_place k name totals)) (omega arith)
 
--- behind the last device no device has the name
-pub place_end : (es : List Entry) (name : List ℕ) (i : ℕ) → length es ≤ i → place_from i name (drop i (map vacant es)) ≡ None
-place_end es name i le = ap (place_from i name) (drop_all i (map vacant es) (omega (arith, length-map es vacant)))
+pub found_under_name : (name : List ℕ) (list : List Registered) (totals : Option (List ℕ)) → place_of (devices_of list totals) name ≡ first_of (registered_place (names_of list) name) (totals_place (length list) name totals)
+found_under_name name list totals = place_found 0 name list totals ∙ ap (λ k. first_of (registered_place (names_of list) name) (totals_place k name totals)) (omega arith)
 
--- the next device has the name or not
-pub place_next : (es : List Entry) (name : List ℕ) (i : ℕ) (e : Entry) (b : Bool) → i < length es → e ≡ get_or es i e → bytes_eq e.name name ≡ b → place_from i name (drop i (map vacant es)) ≡ cond b (Some i) (place_from (i + 1) name (drop (i + 1) (map vacant es)))
-place_next es name i e b lt is t =
-    ap (place_from i name) (drop_more (map vacant es) i (vacant e) (omega (arith, length-map es vacant)) ∙ ap (λ d. d ∷ drop (i + 1) (map vacant es)) (get_or-map vacant es i e (vacant e) lt))
-    ∙ ap (λ x. cond x (Some i) (place_from (i + 1) name (drop (i + 1) (map vacant es)))) (ap (λ (x : Entry). bytes_eq x.name name) (sym is) ∙ t)
+-- a device of the registry is found
+pub found_first : (name : List ℕ) (list : List Registered) (totals : Option (List ℕ)) (place : ℕ) → registered_place (names_of list) name ≡ Some place → place_of (devices_of list totals) name ≡ Some place
+found_first name list totals place is = found_under_name name list totals ∙ ap (λ o. first_of o (totals_place (length list) name totals)) is
+
+-- no other device has that name but that of Hard Totals
+pub found_last : (name : List ℕ) (list : List Registered) (totals : Option (List ℕ)) → registered_place (names_of list) name ≡ None → place_of (devices_of list totals) name ≡ totals_place (length list) name totals
+found_last name list totals is = found_under_name name list totals ∙ ap (λ o. first_of o (totals_place (length list) name totals)) is
+
+-- that device has no peripheral
+totals_kind : (list : List Registered) (totals : List ℕ) → kind_in (slice_get (devices_of list (Some totals)) (length list)) ≡ None
+totals_kind [] totals = refl
+totals_kind (d ∷ list) totals = totals_kind list totals
+
+-- so a name that isn't registered has none
+pub kind_last : (name : List ℕ) (list : List Registered) (totals : Option (List ℕ)) → registered_place (names_of list) name ≡ None → kind_in (device_at (devices_of list totals) (place_of (devices_of list totals) name)) ≡ None
+kind_last name list None is = ap (λ o. kind_in (device_at (devices_of list None) o)) (found_last name list None is)
+kind_last name list (Some totals) is = ap (λ o. kind_in (device_at (devices_of list (Some totals)) o)) (found_last name list (Some totals) is) ∙ by (bytes_eq name totals)
+  where
+    by : (b : Bool) → kind_in (device_at (devices_of list (Some totals)) (cond b (Some (length list)) None)) ≡ None
+    by true = totals_kind list totals
+    by false = refl
+
+-- what is found is there
+found_from : (at : ℕ) (name : List ℕ) (ds : List Device) (place : ℕ) → place_from at name ds ≡ Some place → (k : ℕ) × (place ≡ at + k) × IsSome (slice_get ds k)
+found_from at name [] place is = cc
+found_from at name (d ∷ ds) place is = by (bytes_eq name d.name) is (found_from (at + 1) name ds place)
+  where
+    by : (b : Bool) → cond b (Some at) (place_from (at + 1) name ds) ≡ Some place → (place_from (at + 1) name ds ≡ Some place → (k : ℕ) × (place ≡ (at + 1) + k) × IsSome (slice_get ds k)) → (k : ℕ) × (place ≡ at + k) × IsSome (slice_get (d ∷ ds) k)
+    by true is rest = let same : at ≡ place = cc in (zero, omega (arith, same), refl)
+    by false is rest = let there = rest is in (suc there.0, omega (arith, there.1), there.2)
+
+pub found_there : (name : List ℕ) (ds : List Device) (place : ℕ) → place_of ds name ≡ Some place → IsSome (slice_get ds place)
+found_there name ds place is =
+    let there = found_from 0 name ds place is in
+    let same : there.0 ≡ place = omega (arith, there.1) in
+    subst (λ k. IsSome (slice_get ds k)) same there.2

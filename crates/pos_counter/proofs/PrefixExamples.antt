@@ -36,7 +36,7 @@ abbrev both : List Standing
 both = Stands [] 1 ∷ Stands (a_file ∷ []) 2 ∷ []
 
 abbrev one_opened : Control
-one_opened = opened (new_control category.HardTotals) (Some 3)
+one_opened = opened (new_control category.HardTotals) (Some 0)
 
 abbrev one_set : Control → Bool → Control
 one_set control enabled = after_set control property.DeviceEnabled (value.Truth enabled)

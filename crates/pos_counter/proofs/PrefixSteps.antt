@@ -23,6 +23,7 @@ use Rattle.pos_service.specs.Controls.{Control, closed}
 use Rattle.pos_service.specs.DisplayCalls.{DisplayDoes, argument_rows}
 use Rattle.pos_service.specs.HardTotals.{File, Totals, Mode, Off, Ready, Change, Create, Delete, Rename, Write, SetAll, Question, Find, FindByIndex, Read, Done, DoesCommit, DoesTogether, IsAmong, sequences_after, mode_after, files_after_all, files_of, is_called, is_last, is_own_claim, is_ready, question_rows, change_rows, commit_rows, while_ready, with_each, with_files, with_transaction, claimed as claimed_file, changes_in, in_transaction, spent_by, transaction_of, layout_1, number_rows, after_disk_fault}
 use Rattle.pos_service.specs.HardTotals.{Arrangement, ClaimFile, ReleaseFile, BeginTrans, Rollback, after_arrangement, arrangement_rows}
+use Rattle.pos_service.specs.PrinterCalls.{request_rows}
 use Rattle.pos_service.specs.Refusals.{Row, Decided, first_refusal, when}
 use Rattle.pos_service.specs.Stations.{Effect, Station}
 use Rattle.pos_service.specs.TotalsCalls.{FileCall, Arranges, Asks, Commits, Makes, Nothing, file_call, file_rows}
@@ -35,7 +36,7 @@ use Rattle.pos_totals.specs.Recoveries.{numbered}
 use Rattle.pos_totals.specs.Views.{plain, stored}
 use Rattle.pos_counter.specs.History.{NothingDone, changes_asked, event_between, event_of}
 use Rattle.pos_counter.specs.Machine.{Machine, kind_of, with_control}
-use Rattle.pos_counter.specs.Steps.{Request, NewControl, CallOf, InputTo, Deliver, Snapshot, Response, Made, Full, Answered, TakenIn, NoDevice, WrongInput, Delivered, Shown, OutOfMemory, OnStation, Step, Called, Does, CategoryDoes, Stays, Sets, SetsByRecovery, refusals, category_rows, device_rows, claimed, dropped, released}
+use Rattle.pos_counter.specs.Steps.{Request, NewControl, CallOf, InputTo, WorkOn, Deliver, Snapshot, Attach, Detach, Response, Made, Full, Answered, TakenIn, NoDevice, WrongInput, Worked, Delivered, Shown, Attached, NotAttached, Detached, NotDetached, OutOfMemory, OnStation, Step, Called, Does, CategoryDoes, Stays, Sets, SetsByRecovery, refusals, category_rows, device_rows, claimed, dropped, released}
 use Rattle.pos_counter.specs.Totals.{TotalsPart, ChangesTotals, CommitsTotals, TotalsDo, Recovered, Rests, asks_recovery, in_doubt, left_after, put_at_once, recovers, settled}
 use Rattle.pos_counter.proofs.FileCalls.{kept_left, plain_claimed}
 use Rattle.pos_counter.proofs.Lifts.{match_cases}
@@ -160,6 +161,12 @@ arguments_refuse at (call.DisplayTextAt row column text attribute) = (tt, (tt, (
 arguments_refuse at (call.ScrollText direction units) = (tt, (tt, tt))
 arguments_refuse at own = tt
 
+requests_refuse : (c : Control) (own : Call) → AllRefuse (request_rows c own)
+requests_refuse c (call.PrintNormal station text) = (tt, (tt, (tt, (tt, tt))))
+requests_refuse c (call.PrintImmediate station text) = (tt, (tt, (tt, tt)))
+requests_refuse c (call.CutPaper percentage) = (tt, (tt, (tt, tt)))
+requests_refuse c own = tt
+
 device_refuse : (k : Category) (claims : List (Option ℕ)) (n : ℕ) (at : Option Kind) (c : Control) (own : Call) → AllRefuse (device_rows k claims n at c own)
 device_refuse category.CashDrawer claims n at c call.OpenDrawer = (tt, (tt, tt))
 device_refuse category.CashDrawer claims n at c own = tt
@@ -167,6 +174,7 @@ device_refuse category.Scanner claims n at c call.ClearInput = (tt, (tt, tt))
 device_refuse category.Scanner claims n at c call.ClearInputProperties = (tt, (tt, tt))
 device_refuse category.Scanner claims n at c own = tt
 device_refuse category.LineDisplay claims n at c own = (tt, (tt, (tt, arguments_refuse at own)))
+device_refuse category.PosPrinter claims n at c own = (tt, (tt, requests_refuse c own))
 device_refuse category.HardTotals claims n at c own = tt
 
 category_refuse : (k : Category) (m : Machine) (n : ℕ) (c : Control) (own : Call) → AllRefuse (category_rows k m n c own)
@@ -179,7 +187,7 @@ all_refuse m n c call.Close = (tt, tt)
 all_refuse m n c (call.Claim timeout) = (tt, (tt, (tt, tt)))
 all_refuse m n c call.Release = (tt, (tt, tt))
 all_refuse m n c (call.Set p v) = (tt, (tt, (tt, (tt, (tt, tt)))))
-all_refuse m n c (call.Get p) = (tt, (tt, (tt, (tt, tt))))
+all_refuse m n c (call.Get p) = (tt, (tt, (tt, (tt, (tt, (tt, tt))))))
 all_refuse m n c own = (tt, (tt, category_refuse c.category m n c own))
 
 -- ---- changes
@@ -355,6 +363,11 @@ category_told category.Scanner old new n c own result is h = absurd h.does
 category_told category.LineDisplay old new n c own result is h =
     subst (λ asked. Told (changes_asked old.totals.totals n asked) old.totals (Answered result) new.totals) (sym (display_asks own result n h.place old.controls h.before h.controls h.after h.does))
     (rest_unasked old.totals new.totals (Answered result) (station_same old new c.device _ h))
+category_told category.PosPrinter old new n c (call.PrintNormal station text) result is h = rest_unasked old.totals new.totals (Answered result) (station_same old new c.device _ h)
+category_told category.PosPrinter old new n c (call.PrintImmediate station text) result is h = rest_unasked old.totals new.totals (Answered result) (station_same old new c.device _ h)
+category_told category.PosPrinter old new n c (call.CutPaper percentage) result is h = rest_unasked old.totals new.totals (Answered result) (station_same old new c.device _ h)
+category_told category.PosPrinter old new n c call.ClearOutput result is h = rest_unasked old.totals new.totals (Answered result) (station_same old new c.device _ h)
+category_told category.PosPrinter old new n c own result is h = absurd h.does
 category_told category.HardTotals old new n c own result is h = files_told (file_call own) old.totals new.totals n result is h.0
 
 -- what a control's claim, its release and its end leave of the files
@@ -418,6 +431,9 @@ step_told old (InputTo name input) TakenIn new is h = rest_unasked old.totals ne
 step_told old (InputTo name input) NoDevice new is h = same_machine old new old NoDevice h.1 refl
 step_told old (InputTo name input) WrongInput new is h = same_machine old new old WrongInput h.1 refl
 step_told old (InputTo name input) OutOfMemory new is h = same_machine old new old OutOfMemory h.1 refl
+step_told old (WorkOn name) (Worked result) new is h = rest_unasked old.totals new.totals (Worked result) (station_same old new _ _ h)
+step_told old (WorkOn name) NoDevice new is h = same_machine old new old NoDevice h.1 refl
+step_told old (WorkOn name) OutOfMemory new is h = same_machine old new old OutOfMemory h.1 refl
 step_told old (Deliver n reply) (Delivered event) new is h =
     elim (match_cases (slice_get old.controls n) _ _ h) [
       | inl x ↦ same_machine old new old (Delivered event) x.1.1 refl
@@ -426,4 +442,8 @@ step_told old (Deliver n reply) (Delivered event) new is h =
 step_told old (Snapshot name) (Shown plant) new is h = same_machine old new old (Shown plant) h.2 refl
 step_told old (Snapshot name) NoDevice new is h = same_machine old new old NoDevice h.1 refl
 step_told old (Snapshot name) OutOfMemory new is h = same_machine old new old OutOfMemory h.1 refl
+step_told old (Attach name station) Attached new is h = same_machine old new _ Attached h.machine refl
+step_told old (Attach name station) (NotAttached fault) new is h = same_machine old new old (NotAttached fault) h.1 refl
+step_told old (Detach name) (Detached station) new is h = same_machine old new _ (Detached station) h.machine refl
+step_told old (Detach name) (NotDetached fault) new is h = same_machine old new old (NotDetached fault) h.1 refl
 step_told old q r new is h = absurd h

@@ -21,7 +21,6 @@ use Rattle.pos_service.specs.declared.property.Property.TheVariants as property
 use Rattle.pos_service.specs.Calls.{set_rows, after_set, has_property, takes}
 use Rattle.pos_service.specs.Controls.{Control}
 use Rattle.pos_service.specs.HardTotals.{Mode, Off, Ready, Totals, is_ready}
-use Rattle.pos_service.specs.Peripherals.{PeripheralState}
 use Rattle.pos_service.specs.Claims.{is_exclusive, is_foreign}
 use Rattle.pos_service.specs.Refusals.{Row, first_refusal, when}
 use Rattle.pos_common.specs.Held.{Held, TurnsInto, controls_of}
@@ -30,9 +29,8 @@ use Rattle.pos_totals.specs.declared.fault.RecoveryFault.{RecoveryFault}
 use Rattle.pos_totals.specs.declared.fault.RecoveryFault.TheVariants as fault
 use Rattle.pos_totals.specs.Recoveries.{Recovers as DiskRecovers, RecoversOneOf, FindsFiles, ReadsAs, code_of}
 use Rattle.pos_totals.specs.Views.{TotalsView, WhenOff, LeavesTheirFiles}
-use Rattle.pos_counter.specs.declared.entry.Entry.{Entry}
-use Rattle.pos_counter.specs.Machine.{Machine, device_at, holder_in, holder_of, kind_in, kind_of, with_control}
-use Rattle.pos_counter.specs.Parts.{machine_of, machine_with, devices_of, part_of, ArePartsSound, IsRecovering, IsLeft, Leaves, Serves, SparesDisk}
+use Rattle.pos_counter.specs.Machine.{Device, Machine, device_at, holder_in, holder_of, kind_in, kind_of, with_control}
+use Rattle.pos_counter.specs.Parts.{over, machine_with, part_of, ArePartsSound, IsRecovering, IsLeft, Leaves, Serves, SparesDisk}
 use Rattle.pos_counter.specs.Steps.{CallOf, Answered, IsSound, Step, Sets, SetsByRecovery}
 use Rattle.pos_counter.specs.Totals.{TotalsPart, Recovers, asks_recovery, recovers, is_enabling, is_totals, settled}
 use Rattle.pos_counter.proofs.Lifts.{control_at, decided_at, match_at_none, match_at_some, match_cases, match_weaker}
@@ -86,9 +84,9 @@ enabling_unrefused n holder at c p v e =
         by_parts (Some i) k d is = subst (λ (j : Category). first_refusal (Rows (Some i) j) ≡ None) (sym is) refl
 
 -- the machine with one control in the place of another, and other totals
-set_machine : (hs : List Held) (cl : List (Option ℕ)) (es : List Entry) (ss : List PeripheralState) (n : ℕ) (g : Held) (c : Control) (old new : TotalsPart) → g.control ≡ c → machine_with (set hs n g) cl es ss new ≡ record (with_control (machine_with hs cl es ss old) n c) { totals = new }
-set_machine hs cl es ss n g c old new e =
-    ap (λ (cs : List Control). let m : Machine = record { controls = cs; devices = devices_of es ss; claims = cl; totals = new } in m) (map-set (λ (h : Held). h.control) hs n g ∙ ap (set (controls_of hs) n) e)
+set_machine : (hs : List Held) (cl : List (Option ℕ)) (ds : List Device) (n : ℕ) (g : Held) (c : Control) (old new : TotalsPart) → g.control ≡ c → machine_with (set hs n g) cl ds new ≡ record (with_control (machine_with hs cl ds old) n c) { totals = new }
+set_machine hs cl ds n g c old new e =
+    ap (λ (cs : List Control). let m : Machine = record { controls = cs; devices = ds; claims = cl; totals = new } in m) (map-set (λ (h : Held). h.control) hs n g ∙ ap (set (controls_of hs) n) e)
 
 -- and DeviceEnabled takes it
 enabling_taken : (at : Option Kind) (c : Control) (p : Property) (v : Value) → asks_recovery c p v ≡ true → takes at p v ≡ true
@@ -97,27 +95,25 @@ enabling_taken at c p v e =
     subst (λ q. takes at q v ≡ true) (sym asks.0) (subst (λ u. takes at property.DeviceEnabled u ≡ true) (sym asks.1) refl)
 
 -- a control that is to be enabled keeps the parts sound
-set_sound : (hs : List Held) (es : List Entry) (ss : List PeripheralState) (n : ℕ) (g : Held) (c : Control) (p : Property) (v : Value) → slice_get (controls_of hs) n ≡ Some c → asks_recovery c p v ≡ true → g.control ≡ after_set c p v → ArePartsSound hs es ss → ArePartsSound (set hs n g) es ss
-set_sound hs es ss n g c p v at asks e sound = record {
+set_sound : (hs : List Held) (ds : List Device) (n : ℕ) (g : Held) (c : Control) (p : Property) (v : Value) → slice_get (controls_of hs) n ≡ Some c → asks_recovery c p v ≡ true → g.control ≡ after_set c p v → ArePartsSound hs ds → ArePartsSound (set hs n g) ds
+set_sound hs ds n g c p v at asks e sound = record {
   machine = λ shared.
-      let m = machine_of hs es ss shared in
+      let m = over hs ds shared in
       let seat = set_seat m.devices c p v (enabling_taken (kind_of m c) c p v asks) (seated m n c (sound.machine shared) at) in
       let there = with_control_sound m n (after_set c p v) seat (sound.machine shared) in
-      subst IsSound (sym (set_machine hs shared.claims es ss n g (after_set c p v) shared.totals shared.totals e)) (record { kinds = there.kinds; places = there.places });
-  unparked = sound.unparked;
-  attached = sound.attached;
+      subst IsSound (sym (set_machine hs shared.claims ds n g (after_set c p v) shared.totals shared.totals e)) (record { kinds = there.kinds; places = there.places });
 }
 
 -- a property is set, and nothing is recovered
-pub plain_set : (hs : List Held) (cl : List (Option ℕ)) (es : List Entry) (ss : List PeripheralState) (part : TotalsPart) (n : ℕ) (g h : Held) (p : Property) (v : Value) (r : Answer) → n < length hs → h ≡ get_or hs n h → recovers part h.control p v ≡ false
-    → TurnsInto (set_rows n (holder_in h.control.category cl part.totals.area h.control.device) (kind_in (device_at (devices_of es ss) h.control.device)) h.control p v) r h g (after_set h.control p v)
-    → Step (machine_with hs cl es ss part) (CallOf n (call.Set p v)) (Answered r) (machine_with (set hs n g) cl es ss part)
-plain_set hs cl es ss part n g h p v r lt is plain turns =
-    let rows = set_rows n (holder_in h.control.category cl part.totals.area h.control.device) (kind_in (device_at (devices_of es ss) h.control.device)) h.control p v in
-    let d = decided_at hs (devices_of es ss) (record { claims = cl; totals = part }) n g h rows r _ (after_set h.control p v) is turns in
+pub plain_set : (hs : List Held) (cl : List (Option ℕ)) (ds : List Device) (part : TotalsPart) (n : ℕ) (g h : Held) (p : Property) (v : Value) (r : Answer) → n < length hs → h ≡ get_or hs n h → recovers part h.control p v ≡ false
+    → TurnsInto (set_rows n (holder_in h.control.category cl part.totals.area h.control.device) (kind_in (device_at ds h.control.device)) h.control p v) r h g (after_set h.control p v)
+    → Step (machine_with hs cl ds part) (CallOf n (call.Set p v)) (Answered r) (machine_with (set hs n g) cl ds part)
+plain_set hs cl ds part n g h p v r lt is plain turns =
+    let rows = set_rows n (holder_in h.control.category cl part.totals.area h.control.device) (kind_in (device_at ds h.control.device)) h.control p v in
+    let d = decided_at hs ds (record { claims = cl; totals = part }) n g h rows r _ (after_set h.control p v) is turns in
     match_at_some _ h.control _ _ (control_at hs n h lt ∙ ap (λ (k : Held). Some k.control) (sym is)) (record {
       outcome = match_weaker (first_refusal rows) _ _ _ _
-          (λ y. subst (λ b. MatchBool b (SetsByRecovery (machine_with hs cl es ss part) n h.control p v r (machine_with (set hs n g) cl es ss part)) (Sets (machine_with hs cl es ss part) n h.control p v r (machine_with (set hs n g) cl es ss part))) (sym plain) y)
+          (λ y. subst (λ b. MatchBool b (SetsByRecovery (machine_with hs cl ds part) n h.control p v r (machine_with (set hs n g) cl ds part)) (Sets (machine_with hs cl ds part) n h.control p v r (machine_with (set hs n g) cl ds part))) (sym plain) y)
           (λ refusal y. y)
           d.outcome;
     })
@@ -148,9 +144,9 @@ module _ {D : Type 0} (bound : Ghosts D) (old new : TotalsView D) (off : old.tot
   settled_twice left Off = refl
   settled_twice left (Ready files q) = refl
 
-  module _ (hs : List Held) (cl : List (Option ℕ)) (es : List Entry) (ss : List PeripheralState) (sound : ArePartsSound hs es ss) (n : ℕ) (c : Control) (p : Property) (v : Value) (at : slice_get (controls_of hs) n ≡ Some c) (asks : asks_recovery c p v ≡ true) (recovering : (asks_recovery c p v && not (is_ready old.totals.mode)) ≡ true) where
+  module _ (hs : List Held) (cl : List (Option ℕ)) (ds : List Device) (sound : ArePartsSound hs ds) (n : ℕ) (c : Control) (p : Property) (v : Value) (at : slice_get (controls_of hs) n ≡ Some c) (asks : asks_recovery c p v ≡ true) (recovering : (asks_recovery c p v && not (is_ready old.totals.mode)) ≡ true) where
     abbrev before : List Standing → Machine
-    before left = machine_with hs cl es ss (part_of bound old left)
+    before left = machine_with hs cl ds (part_of bound old left)
 
     abbrev holder : List Standing → Option ℕ
     holder left = holder_of (before left) c
@@ -163,7 +159,7 @@ module _ {D : Type 0} (bound : Ghosts D) (old new : TotalsView D) (off : old.tot
         none
 
     -- the totals are recovered, and the control is enabled
-    pub recovered_serves : (g : Held) (r : Answer) → DiskRecovers bound old (Ok tt) new → r ≡ answer.Done value.Empty → g.control ≡ after_set c p v → Serves bound hs cl es ss old (CallOf n (call.Set p v)) (Answered r) (set hs n g) cl ss new
+    pub recovered_serves : (g : Held) (r : Answer) → DiskRecovers bound old (Ok tt) new → r ≡ answer.Done value.Empty → g.control ≡ after_set c p v → Serves bound hs cl ds old (CallOf n (call.Set p v)) (Answered r) (set hs n g) cl ds new
     recovered_serves g r recovers done is = record {
       steps = λ left leaves.
           let f = found_one (Ok tt) left recovers leaves in
@@ -177,13 +173,14 @@ module _ {D : Type 0} (bound : Ghosts D) (old new : TotalsView D) (off : old.tot
             };
             step = match_at_some _ c _ _ at (record {
               outcome = match_at_none (first_refusal (set_rows n (holder left) (kind_of (before left) c) c p v)) _ _ (enabling_unrefused n (holder left) (kind_of (before left) c) c p v asks)
-                  (subst (λ b. MatchBool b (SetsByRecovery (before left) n c p v r (machine_with (set hs n g) cl es ss (part_of bound new after))) (Sets (before left) n c p v r (machine_with (set hs n g) cl es ss (part_of bound new after)))) (sym recovering)
-                  (inl (done, record { found = f.found; left = refl; later = recovers.kept.later leaves.honest }, set_machine hs cl es ss n g (after_set c p v) (part_of bound old left) (part_of bound new after) is)));
+                  (subst (λ b. MatchBool b (SetsByRecovery (before left) n c p v r (machine_with (set hs n g) cl ds (part_of bound new after))) (Sets (before left) n c p v r (machine_with (set hs n g) cl ds (part_of bound new after)))) (sym recovering)
+                  (inl (done, record { found = f.found; left = refl; later = recovers.kept.later leaves.honest }, set_machine hs cl ds n g (after_set c p v) (part_of bound old left) (part_of bound new after) is)));
             });
             any_moment = weaker (bound.state old.disk) (bound.state new.disk) (StandsForOneOf left) (IsLeft left after) (λ b q. inl q) f.any_moment;
           };
-      sound = set_sound hs es ss n g c p v at asks is sound;
+      sound = set_sound hs ds n g c p v at asks is sound;
       covers = refl;
+      places = refl;
       alone = λ spares. absurd (uses spares);
       kept = recovers.kept;
     }
@@ -216,7 +213,7 @@ module _ {D : Type 0} (bound : Ghosts D) (old new : TotalsView D) (off : old.tot
         by_fault fault.Device h = h
 
     -- the recovery fails, and the control stays as it is
-    pub failed_serves : (x : RecoveryFault) (k : Code) → DiskRecovers bound old (Err x) new → Some k ≡ code_of x → Serves bound hs cl es ss old (CallOf n (call.Set p v)) (Answered (answer.Refused k 0)) hs cl ss new
+    pub failed_serves : (x : RecoveryFault) (k : Code) → DiskRecovers bound old (Err x) new → Some k ≡ code_of x → Serves bound hs cl ds old (CallOf n (call.Set p v)) (Answered (answer.Refused k 0)) hs cl ds new
     failed_serves x k recovers is = record {
       steps = λ left leaves.
           let same = kept_totals x recovers in
@@ -225,13 +222,14 @@ module _ {D : Type 0} (bound : Ghosts D) (old new : TotalsView D) (off : old.tot
             leaves = failed_leaves (Err x) left recovers leaves same;
             step = match_at_some _ c _ _ at (record {
               outcome = match_at_none (first_refusal (set_rows n (holder left) (kind_of (before left) c) c p v)) _ _ (enabling_unrefused n (holder left) (kind_of (before left) c) c p v asks)
-                  (subst (λ b. MatchBool b (SetsByRecovery (before left) n c p v (answer.Refused k 0) (machine_with hs cl es ss (part_of bound new left))) (Sets (before left) n c p v (answer.Refused k 0) (machine_with hs cl es ss (part_of bound new left)))) (sym recovering)
+                  (subst (λ b. MatchBool b (SetsByRecovery (before left) n c p v (answer.Refused k 0) (machine_with hs cl ds (part_of bound new left))) (Sets (before left) n c p v (answer.Refused k 0) (machine_with hs cl ds (part_of bound new left)))) (sym recovering)
                   (inr (why left x k recovers leaves is same, refl)));
             });
             any_moment = failed_moments (Err x) left recovers leaves;
           };
       sound = sound;
       covers = refl;
+      places = refl;
       alone = λ spares. absurd (uses spares);
       kept = recovers.kept;
     }

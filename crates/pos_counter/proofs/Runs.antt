@@ -11,8 +11,8 @@ use Rattle.pos_store.specs.Standing.{Standing, StandsForOneOf}
 use Rattle.pos_disk.specs.Keeps.{KeepsDisk}
 use Rattle.pos_totals.specs.Views.{TotalsView}
 use Rattle.pos_counter.specs.declared.counter.Counter.{Counter}
-use Rattle.pos_counter.specs.Counters.{machine as machine_of_counter, states_of, IsLeftDuring, IsRun, IsStep, IsStepBeside, RunsFrom}
-use Rattle.pos_counter.specs.Parts.{devices_of, machine_with, part_of, IsLeft, Leaves, MakesControl, Stepped}
+use Rattle.pos_counter.specs.Counters.{machine as machine_of_counter, IsLeftDuring, IsRun, IsStep, IsStepBeside, RunsFrom}
+use Rattle.pos_counter.specs.Parts.{devices_in, machine_with, part_of, IsLeft, Leaves, MakesControl, Stepped}
 use Rattle.pos_counter.specs.Steps.{Step, Run}
 use Rattle.pos_counter.specs.declared.request.Request.{Request}
 use Rattle.pos_counter.specs.declared.request.Response.{Response}
@@ -68,12 +68,12 @@ module _ {D X : Type 0} {O : X → Type 0} (bound : DiskGhosts D) (boxes : Ghost
 
   -- a new control is a step for all that the disk may leave
   pub control_is_step : (old new : Counter D X O) (k : Category) (outcome : Result ℕ ControlFault) → ((bytes : List ℕ) → bound.honest old.totals.disk → (bound.state old.totals.disk).left_since (bound.state old.totals.disk).moment bytes → MayLeave (bound.state old.totals.disk) bytes)
-      → MakesControl old.desk old.totals k outcome new.desk new.totals → ((part : TotalsPart) → machine_of_counter boxes new part ≡ machine_with new.desk old.claims old.entries.items (states_of boxes old.boxes.items) part) → IsStep bound boxes old (machine.NewControl k) (made outcome) new
+      → MakesControl old.desk old.totals k outcome new.desk new.totals → ((part : TotalsPart) → machine_of_counter boxes new part ≡ machine_with new.desk old.claims (devices_in boxes old.devices) part) → IsStep bound boxes old (machine.NewControl k) (made outcome) new
   control_is_step old new k outcome only makes same = record {
     steps = λ left leaves. subst (λ (v : TotalsView D). Stepped bound left (machine_of_counter boxes old) old.totals (machine.NewControl k) (made outcome) (machine_of_counter boxes new) v) (sym (same_view old.totals new.totals new.totals.totals makes.disk refl))
         (arranges_stepped bound old.totals new.totals.totals (machine_of_counter boxes old) (machine_of_counter boxes new) (machine.NewControl k) (made outcome) left only (ap (λ mode. settled mode left) makes.mode) leaves
         (subst (λ m. Step (machine_of_counter boxes old (part_of bound old.totals left)) (machine.NewControl k) (made outcome) m) (sym (same (now left)))
-        (makes.step (devices_of old.entries.items (states_of boxes old.boxes.items)) old.claims left (bound.state old.totals.disk).failures)));
+        (makes.step (devices_in boxes old.devices) old.claims left (bound.state old.totals.disk).failures)));
     alone = λ spares. makes.disk;
     kept = subst (λ (d : D). KeepsDisk bound old.totals.disk d) (sym makes.disk) (kept_disk bound old.totals.disk);
   }

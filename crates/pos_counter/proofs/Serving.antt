@@ -1,55 +1,45 @@
 -- A step from sound parts of a counter leads to sound ones.
-use Rattle.std.proofs.Common.{◌≡◌, ◌∙◌, ℕ, List, [], Option, false, inl, set, map, length, ap, sym, subst, refl, arith}
-use Rattle.std.proofs.lemmas.List.{length-map, length-set}
+use Rattle.std.proofs.Common.{◌≡◌, ◌∙◌, ℕ, List, [], Option, inl, length, ap, sym, subst, refl, arith}
 use Rattle.pos_disk.specs.State.{MayLeave}
 use Rattle.pos_disk.specs.declared.device.Disk.{Ghosts}
 use Rattle.pos_disk.proofs.Moments.{started}
-use Rattle.pos_service.specs.Peripherals.{PeripheralState}
 use Rattle.pos_common.specs.Held.{Held}
 use Rattle.pos_store.specs.Standing.{Standing}
 use Rattle.pos_disk.specs.Keeps.{KeepsDisk}
 use Rattle.pos_service.specs.HardTotals.{Totals}
 use Rattle.pos_totals.specs.Views.{TotalsView}
-use Rattle.pos_counter.specs.declared.entry.Entry.{Entry}
-use Rattle.pos_counter.specs.Machine.{Machine, Shared}
-use Rattle.pos_counter.specs.Parts.{machine_of, machine_with, part_of, ArePartsSound, IsLeft, Leaves, Serves, ServesBeside, Stepped}
+use Rattle.pos_counter.specs.Machine.{Device, Machine, Shared}
+use Rattle.pos_counter.specs.Parts.{over, machine_with, part_of, ArePartsSound, IsLeft, Leaves, Serves, ServesBeside, ServesUnder, Stepped}
 use Rattle.pos_counter.specs.Steps.{Request, Response, Step, IsSound}
 use Rattle.pos_counter.specs.Totals.{TotalsPart, settled}
 use Rattle.pos_counter.proofs.Sound.{step_sound}
-use Rattle.pos_counter.proofs.Stations.{unparked_set}
-
--- where the controls alone have changed
-pub controls_serve : (hs gs : List Held) (es : List Entry) (ss : List PeripheralState) (q : Request) (r : Response) → ArePartsSound hs es ss → ((shared : Shared) → Step (machine_of hs es ss shared) q r (machine_of gs es ss shared)) → ServesBeside hs es ss q r gs ss
-controls_serve hs gs es ss q r sound step = record {
-  step = λ claims part. step (record { claims = claims; totals = part });
-  sound = record {
-    machine = λ shared. step_sound (machine_of hs es ss shared) (machine_of gs es ss shared) q r (step shared) (sound.machine shared);
-    unparked = sound.unparked;
-    attached = sound.attached;
-  };
-}
 
 -- a machine is sound whatever its claims and totals
-pub any_shared : (hs : List Held) (es : List Entry) (ss : List PeripheralState) (one other : Shared) → IsSound (machine_of hs es ss one) → IsSound (machine_of hs es ss other)
-any_shared hs es ss one other sound = record { kinds = sound.kinds; places = sound.places }
+pub any_shared : (hs : List Held) (ds : List Device) (one other : Shared) → IsSound (over hs ds one) → IsSound (over hs ds other)
+any_shared hs ds one other sound = record { kinds = sound.kinds; places = sound.places }
 
--- parts are sound where a peripheral that stays in service has changed in a step
-pub station_sound : {P : Type 0} (state : P → PeripheralState) (hs gs : List Held) (es : List Entry) (ps : List P) (place : ℕ) (p : P) (shared : Shared) (q : Request) (r : Response) → ArePartsSound hs es (map state ps) → (state p).is_parked ≡ false → Step (machine_of hs es (map state ps) shared) q r (machine_of gs es (map state (set ps place p)) shared) → ArePartsSound gs es (map state (set ps place p))
-station_sound state hs gs es ps place p shared q r sound unparked step = record {
-  machine = λ other. any_shared gs es (map state (set ps place p)) shared other (step_sound (machine_of hs es (map state ps) shared) (machine_of gs es (map state (set ps place p)) shared) q r step (sound.machine shared));
-  unparked = unparked_set state ps place p unparked sound.unparked;
-  attached = omega (arith, length-map (set ps place p) state, length-set ps place p, length-map ps state, sound.attached);
+-- a step is one that claims and totals have no part in
+pub step_serves : (hs gs : List Held) (ds es : List Device) (q : Request) (r : Response) → ArePartsSound hs ds → length es ≡ length ds → ((shared : Shared) → Step (over hs ds shared) q r (over gs es shared)) → ServesBeside hs ds q r gs es
+step_serves hs gs ds es q r sound places step = record {
+  step = λ claims part. step (record { claims = claims; totals = part });
+  sound = record { machine = λ shared. step_sound (over hs ds shared) (over gs es shared) q r (step shared) (sound.machine shared) };
+  places = places;
 }
 
--- where a peripheral that stays in service has changed too
-pub station_serves : {P : Type 0} (state : P → PeripheralState) (hs gs : List Held) (es : List Entry) (ps : List P) (place : ℕ) (p : P) (q : Request) (r : Response) → ArePartsSound hs es (map state ps) → (state p).is_parked ≡ false → ((shared : Shared) → Step (machine_of hs es (map state ps) shared) q r (machine_of gs es (map state (set ps place p)) shared)) → ServesBeside hs es (map state ps) q r gs (map state (set ps place p))
-station_serves state hs gs es ps place p q r sound unparked step = record {
-  step = λ claims part. step (record { claims = claims; totals = part });
+-- where the controls alone have changed
+pub controls_serve : (hs gs : List Held) (ds : List Device) (q : Request) (r : Response) → ArePartsSound hs ds → ((shared : Shared) → Step (over hs ds shared) q r (over gs ds shared)) → ServesBeside hs ds q r gs ds
+controls_serve hs gs ds q r sound step = step_serves hs gs ds ds q r sound refl step
+
+-- the same under claims that have a part in it
+pub step_serves_under : (cl : List (Option ℕ)) (hs gs : List Held) (ds es : List Device) (q : Request) (r : Response) → ArePartsSound hs ds → length es ≡ length ds → ((part : TotalsPart) → Step (machine_with hs cl ds part) q r (machine_with gs cl es part)) → ServesUnder cl hs ds q r gs es
+step_serves_under cl hs gs ds es q r sound places step = record {
+  step = step;
   sound = record {
-    machine = λ shared. (station_sound state hs gs es ps place p shared q r sound unparked (step shared)).machine shared;
-    unparked = unparked_set state ps place p unparked sound.unparked;
-    attached = omega (arith, length-map (set ps place p) state, length-set ps place p, length-map ps state, sound.attached);
+    machine = λ shared.
+        let under : Shared = record { claims = cl; totals = shared.totals } in
+        any_shared gs es under shared (step_sound (over hs ds under) (over gs es under) q r (step shared.totals) (sound.machine under));
   };
+  places = places;
 }
 
 -- a disk that isn't touched is as it was
@@ -81,47 +71,53 @@ pub same_view : {D : Type 0} (old new : TotalsView D) (totals : Totals) → new.
 same_view {D = D} old new totals d t = ap (λ (x : D). let v : TotalsView D = record { disk = x; totals = new.totals } in v) d ∙ ap (λ (x : Totals). let v : TotalsView D = record { disk = old.disk; totals = x } in v) t
 
 -- parts are sound after a step in which the peripherals stay
-pub stepped_sound : (hs gs : List Held) (es : List Entry) (ss : List PeripheralState) (one other : Shared) (q : Request) (r : Response) → ArePartsSound hs es ss → Step (machine_of hs es ss one) q r (machine_of gs es ss other) → ArePartsSound gs es ss
-stepped_sound hs gs es ss one other q r sound step = record {
-  machine = λ shared. any_shared gs es ss other shared (step_sound (machine_of hs es ss one) (machine_of gs es ss other) q r step (sound.machine one));
-  unparked = sound.unparked;
-  attached = sound.attached;
+pub stepped_sound : (hs gs : List Held) (ds : List Device) (one other : Shared) (q : Request) (r : Response) → ArePartsSound hs ds → Step (over hs ds one) q r (over gs ds other) → ArePartsSound gs ds
+stepped_sound hs gs ds one other q r sound step = record {
+  machine = λ shared. any_shared gs ds other shared (step_sound (over hs ds one) (over gs ds other) q r step (sound.machine one));
 }
 
 -- parts that serve a request in which the disk has no part, over totals that know the same files
-pub arranges_serve : {D : Type 0} (bound : Ghosts D) (view new : TotalsView D) (totals : Totals) (hs gs : List Held) (cl dl : List (Option ℕ)) (es : List Entry) (ss : List PeripheralState) (q : Request) (r : Response) → OnlyNow bound view.disk
-    → new.disk ≡ view.disk → new.totals ≡ totals → ((left : List Standing) → settled totals.mode left ≡ settled view.totals.mode left) → ArePartsSound hs es ss → length dl ≡ length cl
-    → ((left : List Standing) → Step (machine_with hs cl es ss (part_of bound view left)) q r (machine_with gs dl es ss (part_of bound (record { disk = view.disk; totals = totals }) left)))
-    → Serves bound hs cl es ss view q r gs dl ss new
-arranges_serve {D = D} bound view new totals hs gs cl dl es ss q r only disk is same sound covers step =
+pub arranges_serve : {D : Type 0} (bound : Ghosts D) (view new : TotalsView D) (totals : Totals) (hs gs : List Held) (cl dl : List (Option ℕ)) (ds : List Device) (q : Request) (r : Response) → OnlyNow bound view.disk
+    → new.disk ≡ view.disk → new.totals ≡ totals → ((left : List Standing) → settled totals.mode left ≡ settled view.totals.mode left) → ArePartsSound hs ds → length dl ≡ length cl
+    → ((left : List Standing) → Step (machine_with hs cl ds (part_of bound view left)) q r (machine_with gs dl ds (part_of bound (record { disk = view.disk; totals = totals }) left)))
+    → Serves bound hs cl ds view q r gs dl ds new
+arranges_serve {D = D} bound view new totals hs gs cl dl ds q r only disk is same sound covers step =
     let after : TotalsView D = record { disk = view.disk; totals = totals } in
-    subst (λ (v : TotalsView D). Serves bound hs cl es ss view q r gs dl ss v) (sym (same_view view new totals disk is)) (record {
-      steps = λ left leaves. arranges_stepped bound view totals (machine_with hs cl es ss) (machine_with gs dl es ss) q r left only (same left) leaves (step left);
-      sound = stepped_sound hs gs es ss (record { claims = cl; totals = part_of bound view [] }) (record { claims = dl; totals = part_of bound after [] }) q r sound (step []);
+    subst (λ (v : TotalsView D). Serves bound hs cl ds view q r gs dl ds v) (sym (same_view view new totals disk is)) (record {
+      steps = λ left leaves. arranges_stepped bound view totals (machine_with hs cl ds) (machine_with gs dl ds) q r left only (same left) leaves (step left);
+      sound = stepped_sound hs gs ds (record { claims = cl; totals = part_of bound view [] }) (record { claims = dl; totals = part_of bound after [] }) q r sound (step []);
       covers = covers;
+      places = refl;
       alone = λ spares. refl;
       kept = kept_disk bound view.disk;
     })
 
--- parts that serve a request, whatever the totals, serve it for all that the disk may leave
-pub parts_serve : {D : Type 0} (bound : Ghosts D) (view : TotalsView D) (hs gs : List Held) (cl dl : List (Option ℕ)) (es : List Entry) (ss ts : List PeripheralState) (q : Request) (r : Response) → OnlyNow bound view.disk
-    → ArePartsSound gs es ts → length dl ≡ length cl → ((left : List Standing) → Step (machine_with hs cl es ss (part_of bound view left)) q r (machine_with gs dl es ts (part_of bound view left)))
-    → Serves bound hs cl es ss view q r gs dl ts view
-parts_serve bound view hs gs cl dl es ss ts q r only sound covers step = record {
-  steps = λ left leaves. rests_stepped bound view (machine_with hs cl es ss) (machine_with gs dl es ts) q r left only leaves (step left);
-  sound = sound;
-  covers = covers;
+-- a step in which the totals have no part is one for all that the disk may leave
+pub under_serves : {D : Type 0} (bound : Ghosts D) (view : TotalsView D) (hs gs : List Held) (cl : List (Option ℕ)) (ds es : List Device) (q : Request) (r : Response) → OnlyNow bound view.disk
+    → ServesUnder cl hs ds q r gs es → Serves bound hs cl ds view q r gs cl es view
+under_serves bound view hs gs cl ds es q r only serves = record {
+  steps = λ left leaves. rests_stepped bound view (machine_with hs cl ds) (machine_with gs cl es) q r left only leaves (serves.step (part_of bound view left));
+  sound = serves.sound;
+  covers = refl;
+  places = serves.places;
   alone = λ spares. refl;
   kept = kept_disk bound view.disk;
 }
 
--- a step in which claims and totals have no part is one for all that the disk may leave
-pub beside_serves : {D : Type 0} (bound : Ghosts D) (view : TotalsView D) (hs gs : List Held) (cl : List (Option ℕ)) (es : List Entry) (ss ts : List PeripheralState) (q : Request) (r : Response) → OnlyNow bound view.disk
-    → ServesBeside hs es ss q r gs ts → Serves bound hs cl es ss view q r gs cl ts view
-beside_serves bound view hs gs cl es ss ts q r only serves =
-    parts_serve bound view hs gs cl cl es ss ts q r only serves.sound refl (λ left. serves.step cl (part_of bound view left))
+-- nor the claims
+pub beside_serves : {D : Type 0} (bound : Ghosts D) (view : TotalsView D) (hs gs : List Held) (cl : List (Option ℕ)) (ds es : List Device) (q : Request) (r : Response) → OnlyNow bound view.disk
+    → ServesBeside hs ds q r gs es → Serves bound hs cl ds view q r gs cl es view
+beside_serves bound view hs gs cl ds es q r only serves =
+    under_serves bound view hs gs cl ds es q r only (record { step = λ part. serves.step cl part; sound = serves.sound; places = serves.places })
 
 -- the same where nothing changes
-pub looks_serve : {D : Type 0} (bound : Ghosts D) (view : TotalsView D) (hs : List Held) (cl : List (Option ℕ)) (es : List Entry) (ss : List PeripheralState) (q : Request) (r : Response) → OnlyNow bound view.disk
-    → ArePartsSound hs es ss → ((left : List Standing) → Step (machine_with hs cl es ss (part_of bound view left)) q r (machine_with hs cl es ss (part_of bound view left))) → Serves bound hs cl es ss view q r hs cl ss view
-looks_serve bound view hs cl es ss q r only sound step = parts_serve bound view hs hs cl cl es ss ss q r only sound refl step
+pub looks_serve : {D : Type 0} (bound : Ghosts D) (view : TotalsView D) (hs : List Held) (cl : List (Option ℕ)) (ds : List Device) (q : Request) (r : Response) → OnlyNow bound view.disk
+    → ArePartsSound hs ds → ((left : List Standing) → Step (machine_with hs cl ds (part_of bound view left)) q r (machine_with hs cl ds (part_of bound view left))) → Serves bound hs cl ds view q r hs cl ds view
+looks_serve bound view hs cl ds q r only sound step = record {
+  steps = λ left leaves. rests_stepped bound view (machine_with hs cl ds) (machine_with hs cl ds) q r left only leaves (step left);
+  sound = sound;
+  covers = refl;
+  places = refl;
+  alone = λ spares. refl;
+  kept = kept_disk bound view.disk;
+}

@@ -1,8 +1,9 @@
 -- Every step keeps the machine sound.
-use Rattle.std.proofs.Common.{◌≡◌, ℕ, ◌∷◌, inl, inr, zero, suc, List, [], Option, Some, None, Bool, true, false, cond, set, ap, sym, ◌∙◌, subst, refl}
+use Rattle.std.proofs.Common.{◌≡◌, ℕ, ◌∷◌, inl, inr, zero, suc, List, [], Option, Some, None, Bool, true, false, cond, set, ap, sym, ◌∙◌, subst, refl, arith}
 use Rattle.std.specs.Bool.{MatchBool}
-use Rattle.std.specs.Prelude.{MatchOption, IfSome, IsTrue, All, ◌++◌, ◌||◌, slice_get, is_some, is_none}
-use Rattle.std.proofs.lemmas.List.Elements.{All-push, All-set, All-weaker, All-map, All-get_or}
+use Rattle.std.specs.Prelude.{MatchOption, MatchResult, IfSome, IsTrue, All, Result, Ok, Err, ◌++◌, ◌||◌, slice_get, slice_set, is_some, is_none}
+use Rattle.std.proofs.lemmas.Bool.{eq-eqb, false≢true}
+use Rattle.std.proofs.lemmas.List.Elements.{All-cons, All-nil, All-push, All-set, All-weaker, All-map, All-get_or}
 use Rattle.std.proofs.lemmas.Option.{slice_get_within, get_or_from_slice_get}
 use Rattle.pos_service.specs.declared.category.Category.{Category}
 use Rattle.pos_service.specs.declared.category.Category.TheVariants as category
@@ -17,27 +18,33 @@ use Rattle.pos_service.specs.declared.scan.Scan.{Scan}
 use Rattle.pos_service.specs.declared.display_text.Cursor.{Cursor}
 use Rattle.pos_service.specs.declared.display_text.Place.{Place}
 use Rattle.pos_service.specs.declared.kind.Kind.{Kind}
+use Rattle.pos_service.specs.declared.memory.NoMemory.{NoMemory}
 use Rattle.pos_service.specs.declared.order.Order.{Order}
+use Rattle.pos_service.specs.declared.order.Order.TheVariants as order
+use Rattle.pos_service.specs.declared.order.Reply.{Reply}
+use Rattle.pos_service.specs.declared.order.Reply.TheVariants as reply
+use Rattle.pos_service.specs.declared.worked.Worked.{Worked as WorkResult}
 use Rattle.pos_service.specs.declared.property.Property.{Property}
 use Rattle.pos_service.specs.declared.call.Call.{Call}
 use Rattle.pos_service.specs.declared.call.Call.TheVariants as call
-use Rattle.pos_service.specs.Controls.{Control, new_control, closed, stopped, delivered, heard, read, listens, if_listening, all_listening, with_place as moved}
+use Rattle.pos_service.specs.Controls.{Control, new_control, closed, stopped, delivered, heard, queued, read, without_output, listens, if_listening, all_listening, with_place as moved}
 use Rattle.pos_service.specs.Events.{EventList, Enqueued}
 use Rattle.pos_service.specs.Refusals.{Row, Decided, first_refusal}
 use Rattle.pos_service.specs.Calls.{serves, takes, place_found, after_set, cursor_after, close_rows, get_rows}
 use Rattle.pos_service.specs.DisplayCalls.{DisplayDoes, OrdersDisplay, argument_rows, display_order, place_after_call}
 use Rattle.pos_service.specs.Displays.{origin}
 use Rattle.pos_service.specs.Peripherals.{IsInRange}
-use Rattle.pos_service.specs.Claims.{after_release, is_exclusive}
+use Rattle.pos_service.specs.PrinterCalls.{DoesAtOnce, DoesLater, Ordered, Printed, PrinterDoes, Queued, Requests, Work, WorksAt, WorksOn, after_work, id_rows, work_at}
+use Rattle.pos_service.specs.Claims.{after_release, holder_at, is_exclusive}
 use Rattle.pos_service.specs.ScannerCalls.{ChangesItself, ScannerDoes, without_input, without_scan}
-use Rattle.pos_service.specs.Stations.{Station, Effect, TakesIn, reaction}
+use Rattle.pos_service.specs.Stations.{Station, Effect, SameStation, TakesIn, reaction}
 use Rattle.pos_service.specs.DrawerCalls.{DrawerOpens, DrawerDoes, LineFailed}
 use Rattle.pos_service.specs.HardTotals.{with_control as with_place}
 use Rattle.pos_counter.specs.Machine.{Device, Machine, device_at, kind_in, kind_of, place_of, found_at, with_control, with_totals}
-use Rattle.pos_counter.specs.Steps.{Request, NewControl, CallOf, InputTo, Deliver, Snapshot, Response, Made, Full, Answered, TakenIn, NoDevice, WrongInput, Delivered, Shown, OutOfMemory, OnStation, Step, Called, Stays, Sets, SetsByRecovery, CategoryDoes, DeviceDoes, category_rows, claimed, released, dropped, facts_of, refusals, IsSound, IsPlaceOn, HasItsKind, HasItsDevice}
+use Rattle.pos_counter.specs.Steps.{Request, NewControl, CallOf, InputTo, WorkOn, Deliver, Snapshot, Attach, Detach, Response, Made, Full, Answered, TakenIn, NoDevice, WrongInput, Worked, Delivered, Shown, Attached, NotAttached, Detached, NotDetached, OutOfMemory, IsAttached, IsDetached, has_open, is_open_at, is_place, OnStation, Step, Called, Stays, Sets, SetsByRecovery, CategoryDoes, DeviceDoes, category_rows, claimed, released, dropped, facts_of, refusals, IsSound, IsPlaceOn, HasItsKind, HasItsDevice}
 use Rattle.pos_counter.specs.Totals.{TotalsPart, recovers}
 use Rattle.pos_counter.proofs.Cursors.{NoneApplies, none_applies, place_called, place_opened, place_set, unless_not}
-use Rattle.pos_counter.proofs.Lifts.{match_cases}
+use Rattle.pos_counter.proofs.Lifts.{match_at_some, match_cases}
 
 -- the device is there, and serves a control of the category whose cursor is at a place
 abbrev pub Served : Category → Place → Option Device → Type 0
@@ -219,14 +226,18 @@ drawer_keeps : (ds : List Device) (asked : Call) (r : Answer) (number place : �
 drawer_keeps ds call.OpenDrawer r number place old before new after h = opens_keeps ds r place old before new after h
 drawer_keeps ds asked r number place old before new after h = absurd h
 
+-- a control that changes keeps its device
+one_keeps : (ds : List Device) (change : Control → Control) (number : ℕ) (old new : List Control) → KeepsDevice change → MatchOption (slice_get old number) ⊥ (λ control. new ≡ slice_set old number (change control)) → All (HasItsDevice ds) old → All (HasItsDevice ds) new
+one_keeps ds change number old new keeps h all = elim (match_cases (slice_get old number) _ _ h) [
+  | inl x ↦ absurd x.1
+  | inr x ↦ subst (All (HasItsDevice ds)) (sym x.2) (All-set (HasItsDevice ds) old number (change x.0) (changed_seat ds change x.0 keeps (seat_of ds old number x.0 x.1 all)) all)
+]
+
 -- a control that changes itself keeps its device
 itself_keeps : (ds : List Device) (change : Control → Control) (number : ℕ) (r : Answer) (old : List Control) (before : Station) (new : List Control) (after : Station) → KeepsDevice change → ChangesItself change number r old before new after → Keeps ds before old after new
 itself_keeps ds change number r old before new after keeps h = record {
   kind = ap (λ (s : Station). s.kind) h.station;
-  seats = λ all. elim (match_cases (slice_get old number) _ _ h.controls) [
-    | inl x ↦ absurd x.1
-    | inr x ↦ subst (All (HasItsDevice ds)) (sym x.2) (All-set (HasItsDevice ds) old number (change x.0) (changed_seat ds change x.0 keeps (seat_of ds old number x.0 x.1 all)) all)
-  ];
+  seats = one_keeps ds change number old new keeps h.controls;
 }
 
 scanner_keeps : (ds : List Device) (asked : Call) (r : Answer) (number place : ℕ) (old : List Control) (before : Station) (new : List Control) (after : Station) → ScannerDoes asked number place r old before new after → Keeps ds before old after new
@@ -255,10 +266,77 @@ display_keeps ds asked r number place c old before new after e stands allowed h 
     }
     by given (inr g) = failed_keeps ds old before new after g.1
 
+-- where nothing has changed
+same_keeps : (ds : List Device) (old : List Control) (before : Station) (new : List Control) (after : Station) → SameStation old before new after → Keeps ds before old after new
+same_keeps ds old before new after h = record {
+  kind = ap (λ (s : Station). s.kind) h.station;
+  seats = λ all. subst (All (HasItsDevice ds)) (sym h.controls) all;
+}
+
+printed_keeps : (ds : List Device) (given : Order) (place : ℕ) (old : List Control) (before : Station) (new : List Control) (after : Station) → Printed given place old before new after → Keeps ds before old after new
+printed_keeps ds given place old before new after h = record {
+  kind = ap (λ (s : Station). s.kind) h.station;
+  seats = λ all. subst (All (HasItsDevice ds)) (sym h.controls) (all_listening_keep ds place _ old (heard_keeps _) all);
+}
+
+-- whatever a printer says to an order
+ordered_keeps : (ds : List Device) (given : Order) (place : ℕ) (told : Reply) (old : List Control) (before : Station) (new : List Control) (after : Station) → Ordered given place told old before new after → Keeps ds before old after new
+ordered_keeps ds given place reply.Done old before new after h = printed_keeps ds given place old before new after h
+ordered_keeps ds given place reply.CoverOpen old before new after h = same_keeps ds old before new after h.same
+ordered_keeps ds given place reply.PaperEnd old before new after h = same_keeps ds old before new after h.same
+ordered_keeps ds given place reply.LineFault old before new after h = failed_keeps ds old before new after h
+
+queued_keeps : (ds : List Device) (given : Order) (number : ℕ) (c : Control) (r : Answer) (old : List Control) (before : Station) (new : List Control) (after : Station) → slice_get old number ≡ Some c → Queued given number c r old before new after → Keeps ds before old after new
+queued_keeps ds given number c r old before new after e h = record {
+  kind = ap (λ (s : Station). s.kind) h.station;
+  seats = one_keeps ds (queued given) number old new (record { category = λ c. refl; device = λ c. refl; cursor = λ c. refl }) (match_at_some (slice_get old number) c ⊥ _ e h.controls);
+}
+
+-- a request is queued, or done at once
+requests_keep : (ds : List Device) (given : Order) (r : Answer) (number place : ℕ) (old : List Control) (before : Station) (new : List Control) (after : Station) → Requests given number place r old before new after → Keeps ds before old after new
+requests_keep ds given r number place old before new after h = elim (match_cases (slice_get old number) _ _ h) [ inl x ↦ absurd x.1 | inr x ↦ by x.0 x.1 x.0.writer.is_async x.2 ]
+  where
+    by : (c : Control) → slice_get old number ≡ Some c → (b : Bool) → MatchBool b (DoesLater given number c r old before new after) (DoesAtOnce given place r old before new after) → Keeps ds before old after new
+    by c e true h = elim (match_cases (first_refusal (id_rows c)) _ _ h.outcome) [
+      | inl x ↦ queued_keeps ds given number c r old before new after e x.1
+      | inr x ↦ same_keeps ds old before new after x.2.1
+    ]
+    by c e false h = ordered_keeps ds given place h.told old before new after h.ordered
+
+printer_keeps : (ds : List Device) (asked : Call) (r : Answer) (number place : ℕ) (old : List Control) (before : Station) (new : List Control) (after : Station) → PrinterDoes asked number place r old before new after → Keeps ds before old after new
+printer_keeps ds (call.PrintNormal station text) r number place old before new after h = requests_keep ds (order.Print text) r number place old before new after h
+printer_keeps ds (call.PrintImmediate station text) r number place old before new after h = ordered_keeps ds (order.Print text) place h.told old before new after h.ordered
+printer_keeps ds (call.CutPaper percentage) r number place old before new after h = requests_keep ds _ r number place old before new after h
+printer_keeps ds call.ClearOutput r number place old before new after h = itself_keeps ds without_output number r old before new after (record { category = λ c. refl; device = λ c. refl; cursor = λ c. refl }) h
+printer_keeps ds asked r number place old before new after h = absurd h
+
+-- the control that is told what has come of its request
+work_keeps : (id : ℕ) (told : Reply) → KeepsDevice (after_work id told)
+work_keeps id reply.Done = record { category = λ c. refl; device = λ c. refl; cursor = λ c. refl }
+work_keeps id reply.CoverOpen = record { category = λ c. refl; device = λ c. refl; cursor = λ c. refl }
+work_keeps id reply.PaperEnd = record { category = λ c. refl; device = λ c. refl; cursor = λ c. refl }
+work_keeps id reply.LineFault = record { category = λ c. refl; device = λ c. refl; cursor = λ c. refl }
+
+worked_keeps : (ds : List Device) (work : Work) (place : ℕ) (r : WorkResult) (old : List Control) (before : Station) (new : List Control) (after : Station) → WorksOn work place r old before new after → Keeps ds before old after new
+worked_keeps ds work place r old before new after h =
+    let done = ordered_keeps ds work.given place h.told old before h.controls after h.ordered in record {
+      kind = done.kind;
+      seats = λ all. one_keeps ds (after_work work.id h.told) work.holder h.controls new (work_keeps work.id h.told) h.worked (done.seats all);
+    }
+
+-- work, or nothing to do
+works_keep : (ds : List Device) (holder : Option ℕ) (place : ℕ) (outcome : Result WorkResult NoMemory) (old : List Control) (before : Station) (new : List Control) (after : Station) → WorksAt holder place outcome old before new after → Keeps ds before old after new
+works_keep ds holder place outcome old before new after h = elim (match_cases (work_at before.kind place holder old) _ _ h) [ inl x ↦ same_keeps ds old before new after x.1.1 | inr x ↦ by x.0 outcome x.2 ]
+  where
+    by : (work : Work) (outcome : Result WorkResult NoMemory) → MatchResult outcome (λ r. WorksOn work place r old before new after) (λ want. SameStation old before new after) → Keeps ds before old after new
+    by work (Ok r) h = worked_keeps ds work place r old before new after h
+    by work (Err want) h = same_keeps ds old before new after h
+
 device_keeps : (k : Category) (m : Machine) (asked : Call) (r : Answer) (n place : ℕ) (c : Control) (before : Station) (new : List Control) (after : Station) → slice_get m.controls n ≡ Some c → NoneApplies (category_rows k m n c asked) → StandsAt m.devices c.device before → DeviceDoes k asked n place r m.controls before new after → Keeps m.devices before m.controls after new
 device_keeps category.CashDrawer m asked r n place c before new after e allowed stands h = drawer_keeps m.devices asked r n place m.controls before new after h
 device_keeps category.Scanner m asked r n place c before new after e allowed stands h = scanner_keeps m.devices asked r n place m.controls before new after h
 device_keeps category.LineDisplay m asked r n place c before new after e allowed stands h = display_keeps m.devices asked r n place c m.controls before new after e stands allowed.1.1.1 h
+device_keeps category.PosPrinter m asked r n place c before new after e allowed stands h = printer_keeps m.devices asked r n place m.controls before new after h
 device_keeps category.HardTotals m asked r n place c before new after e allowed stands h = absurd h
 
 -- totals that have changed leave all else as it was
@@ -340,6 +418,51 @@ stays_sound : (m m' : Machine) (c : Control) (q : Call) → Stays m c q m' → I
 stays_sound m m' c (call.Set p v) h s = other_totals m m' h.1 s
 stays_sound m m' c other h s = same_machine m m' h s
 
+-- a device that gets a peripheral of its kind keeps each control's device
+attached_sound : (m m' : Machine) (name : List ℕ) (station : Station) → IsAttached m name station m' → IsSound m → IsSound m'
+attached_sound m m' name station o s =
+    let here : HasItsKind o.device = kind_of_device m.devices o.place o.device o.is_device s.kinds in
+    same_machine _ m' o.machine (record {
+      kinds = All-set HasItsKind m.devices o.place (with_after o.device station) (here.0, o.kind) s.kinds;
+      places = All-weaker (HasItsDevice m.devices) (HasItsDevice (set m.devices o.place (with_after o.device station))) (seat_stays m.devices o.place o.device station o.is_device) m.controls s.places;
+    })
+
+-- a device without its peripheral
+abbrev emptied : Device → Device
+emptied device = record device { station = None }
+
+-- each other device serves whom it served
+served_elsewhere : (ds : List Device) (i k : ℕ) (d : Device) (category : Category) (cursor : Place) → (k ≡ i → ⊥) → Served category cursor (slice_get ds k) → Served category cursor (slice_get (set ds i (emptied d)) k)
+served_elsewhere [] i k d category cursor other h = absurd h
+served_elsewhere (x ∷ ds) zero zero d category cursor other h = absurd (other refl)
+served_elsewhere (x ∷ ds) zero (suc k) d category cursor other h = h
+served_elsewhere (x ∷ ds) (suc i) zero d category cursor other h = h
+served_elsewhere (x ∷ ds) (suc i) (suc k) d category cursor other h = served_elsewhere ds i k d category cursor (λ e. other (ap suc e)) h
+
+seat_elsewhere : (ds : List Device) (i : ℕ) (d : Device) (category : Category) (cursor : Place) (device : Option ℕ) → is_place i device ≡ false → Seat ds category cursor device → Seat (set ds i (emptied d)) category cursor device
+seat_elsewhere ds i d category cursor None other h = tt
+seat_elsewhere ds i d category cursor (Some k) other h = served_elsewhere ds i k d category cursor (λ e. false≢true (sym other ∙ eq-eqb k i e)) h
+
+-- where no control has the device at a place open, each has another
+seats_elsewhere : (ds : List Device) (i : ℕ) (d : Device) (cs : List Control) → is_open_at i cs ≡ false → All (HasItsDevice ds) cs → All (HasItsDevice (set ds i (emptied d))) cs
+seats_elsewhere ds i d [] none all = All-nil (HasItsDevice (set ds i (emptied d)))
+seats_elsewhere ds i d (c ∷ cs) none all =
+    let each = neither (has_open i c) (is_open_at i cs) none in
+    All-cons (HasItsDevice (set ds i (emptied d))) c cs (seat_elsewhere ds i d c.category c.cursor.place c.device each.0 (all 0 c (omega arith))) (seats_elsewhere ds i d cs each.1 (λ k e lt. all (suc k) e (omega arith)))
+  where
+    neither : (a b : Bool) → (a || b) ≡ false → (a ≡ false) × (b ≡ false)
+    neither true b h = cc
+    neither false b h = (refl, h)
+
+-- a device that no control has open may lose its peripheral
+detached_sound : (m m' : Machine) (name : List ℕ) (station : Station) → IsDetached m name station m' → IsSound m → IsSound m'
+detached_sound m m' name station o s =
+    let here : HasItsKind o.device = kind_of_device m.devices o.place o.device o.is_device s.kinds in
+    same_machine _ m' o.machine (record {
+      kinds = All-set HasItsKind m.devices o.place (emptied o.device) (here.0, tt) s.kinds;
+      places = seats_elsewhere m.devices o.place o.device m.controls o.is_closed s.places;
+    })
+
 -- every step from a sound machine leads to a sound one
 pub step_sound : (m m' : Machine) (q : Request) (r : Response) → Step m q r m' → IsSound m → IsSound m'
 step_sound m m' (NewControl category) (Made number) h s =
@@ -356,6 +479,9 @@ step_sound m m' (InputTo name input) TakenIn h s = on_station_sound m m' _ _ (λ
 step_sound m m' (InputTo name input) NoDevice h s = same_machine m m' h.1 s
 step_sound m m' (InputTo name input) WrongInput h s = same_machine m m' h.1 s
 step_sound m m' (InputTo name input) OutOfMemory h s = same_machine m m' h.1 s
+step_sound m m' (WorkOn name) (Worked result) h s = on_station_sound m m' _ _ (λ place before new after stands. works_keep m.devices (holder_at m.claims (Some place)) place (Ok result) m.controls before new after) h s
+step_sound m m' (WorkOn name) NoDevice h s = same_machine m m' h.1 s
+step_sound m m' (WorkOn name) OutOfMemory h s = same_machine m m' h.1 s
 step_sound m m' (Deliver n reply) (Delivered event) h s =
     elim (match_cases (slice_get m.controls n) _ _ h) [
       | inl x ↦ same_machine m m' x.1.1 s
@@ -364,4 +490,8 @@ step_sound m m' (Deliver n reply) (Delivered event) h s =
 step_sound m m' (Snapshot name) (Shown plant) h s = same_machine m m' h.2 s
 step_sound m m' (Snapshot name) NoDevice h s = same_machine m m' h.1 s
 step_sound m m' (Snapshot name) OutOfMemory h s = same_machine m m' h.1 s
+step_sound m m' (Attach name station) Attached h s = attached_sound m m' name station h s
+step_sound m m' (Attach name station) (NotAttached fault) h s = same_machine m m' h.1 s
+step_sound m m' (Detach name) (Detached station) h s = detached_sound m m' name station h s
+step_sound m m' (Detach name) (NotDetached fault) h s = same_machine m m' h.1 s
 step_sound m m' q r h s = absurd h

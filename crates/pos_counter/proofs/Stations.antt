@@ -1,9 +1,7 @@
--- What stands at a device: by a counter's parts, where a peripheral has changed.
+-- What is done at a device, and the steps that it makes.
 use Rattle.std.proofs.Common.{◌≡◌, ℕ, ◌<◌, ◌≤◌, inl, inr, [], ◌∷◌, zero, suc, List, Option, Some, None, Result, Ok, Err, Bool, true, false, get_or, set, map, length, ap, sym, ◌∙◌, subst, refl, arith}
-use Rattle.std.specs.Prelude.{slice_get, option_map, is_some, is_none, ◌||◌, IfSome, IsTrue, MatchOption}
-use Rattle.std.proofs.lemmas.List.{map-set}
-use Rattle.std.proofs.lemmas.List.Elements.{All-get_or, All-set}
-use Rattle.std.proofs.lemmas.Option.{slice_get-map, slice_get_within, get_or_from_slice_get}
+use Rattle.std.specs.Prelude.{slice_get, option_map, is_some, is_none, ◌||◌, IfSome, IsSome, IsTrue, MatchOption}
+use Rattle.std.proofs.lemmas.List.{length-set}
 use Rattle.pos_service.specs.declared.answer.Answer.{Answer}
 use Rattle.pos_service.specs.declared.answer.Answer.TheVariants as answer
 use Rattle.pos_service.specs.declared.call.Call.{Call}
@@ -14,130 +12,114 @@ use Rattle.pos_service.specs.declared.code.Code.TheVariants as code
 use Rattle.pos_service.specs.declared.input.Input.{Input}
 use Rattle.pos_service.specs.declared.kind.Kind.{Kind}
 use Rattle.pos_service.specs.declared.memory.NoMemory.{NoMemory}
+use Rattle.pos_service.specs.declared.worked.Worked.TheVariants as worked
 use Rattle.pos_service.specs.Calls.{serves, is_common, own_rows, takes_memory as own_takes_memory}
+use Rattle.pos_service.specs.Claims.{holder_at}
 use Rattle.pos_service.specs.Controls.{Control}
-use Rattle.pos_service.specs.Peripherals.{PeripheralState, input_fits}
+use Rattle.pos_service.specs.DisplayCalls.{HasCursor}
+use Rattle.pos_service.specs.Kinds.{is_display}
+use Rattle.pos_service.specs.PrinterCalls.{WorksAt, work_at}
 use Rattle.pos_service.specs.Refusals.{Row, first_refusal, when}
-use Rattle.pos_service.specs.Stations.{Station, Effect, station_of, CalledAt, CalledBy, IsOpen}
+use Rattle.pos_service.specs.Stations.{Station, Effect, CalledAt, IsOpen, SameStation}
 use Rattle.pos_common.specs.Held.{Held, controls_of}
-use Rattle.pos_counter.specs.declared.entry.Entry.{Entry}
 use Rattle.pos_counter.specs.Machine.{Device, Machine, Shared, station_in, station_named, device_at, kind_in, kind_of, place_of}
-use Rattle.pos_counter.specs.Parts.{over, machine_of, devices_of, device_of, AllUnparked}
+use Rattle.pos_counter.specs.Parts.{over, CallsAt, IsDoneAt, MayBeCalled}
 use Rattle.pos_counter.specs.Responses.{answered}
-use Rattle.pos_counter.specs.Steps.{OnStation, Step, CallOf, Answered, Does, DeviceDoes, CategoryDoes, Stays, category_rows, device_rows, refusals, takes_memory, FindsFit, IsPlaceOn, IsSound}
+use Rattle.pos_counter.specs.Steps.{OnStation, Step, CallOf, Answered, Does, DeviceDoes, CategoryDoes, Stays, category_rows, device_rows, refusals, takes_memory, FindsFit, FindsWork, IsPlaceOn, IsSound}
 use Rattle.pos_counter.specs.Totals.{is_totals}
-use Rattle.pos_counter.proofs.DeviceLists.{device_there, devices_set, devices_same, station_there}
 use Rattle.pos_counter.proofs.Lifts.{match_cases, match_at_some, match_by, match_weaker}
-use Rattle.pos_counter.proofs.Sound.{kind_of_device, seated, Served}
+use Rattle.pos_counter.proofs.Sound.{seated, Served}
 
-entry_within : (es : List Entry) (i : ℕ) → i < length es → (e : Entry) × (slice_get es i ≡ Some e)
-entry_within [] i lt = absurd (omega arith)
-entry_within (e ∷ es) zero lt = (e, refl)
-entry_within (e ∷ es) (suc i) lt = entry_within es i (omega arith)
+-- what stands at the device that a name finds
+pub named : (hs : List Held) (ds : List Device) (shared : Shared) (name : List ℕ) (place : ℕ) → Some place ≡ place_of ds name → station_named (over hs ds shared) name ≡ station_in (device_at ds (Some place))
+named hs ds shared name place finds = ap (λ o. station_in (device_at ds o)) (sym finds)
 
--- what a list of peripherals is at a place
-state_at : {P : Type 0} (state : P → PeripheralState) (ps : List P) (place : ℕ) (p : P) → slice_get ps place ≡ Some p → slice_get (map state ps) place ≡ Some (state p)
-state_at state ps place p at = slice_get-map state ps place ∙ ap (option_map state) at
+-- a name that finds no device finds no station
+pub unnamed : (hs : List Held) (ds : List Device) (shared : Shared) (name : List ℕ) → None ≡ place_of ds name → station_named (over hs ds shared) name ≡ None
+unnamed hs ds shared name finds = ap (λ o. station_in (device_at ds o)) (sym finds)
 
--- the station of a device that a name finds
-pub named_there : {P : Type 0} (state : P → PeripheralState) (hs : List Held) (es : List Entry) (ps : List P) (shared : Shared) (name : List ℕ) (place : ℕ) (p : P) → length (map state ps) ≤ length es → Some place ≡ place_of (devices_of es (map state ps)) name → slice_get ps place ≡ Some p → station_named (machine_of hs es (map state ps) shared) name ≡ Some (station_of (state p))
-named_there state hs es ps shared name place p whole finds at =
-    ap (λ o. station_in (device_at (devices_of es (map state ps)) o)) (sym finds)
-    ∙ station_there es (map state ps) (Some place) whole
-    ∙ ap (option_map station_of) (state_at state ps place p at)
+-- what is done with what stands at a place is done at the device's station
+pub on_station : (hs gs : List Held) (ds es : List Device) (shared : Shared) (place : ℕ) (o : Option ℕ) (Does : ℕ → Effect) → o ≡ Some place → IsDoneAt ds place (Does place) hs gs es → OnStation (over hs ds shared) o Does (over gs es shared)
+on_station hs gs ds es shared place o Does is done = record {
+  place = place;
+  device = done.device;
+  before = done.before;
+  controls = controls_of gs;
+  after = done.after;
+  is_at = is;
+  is_device = done.is_device;
+  is_attached = done.is_attached;
+  does = done.does;
+  machine = ap (λ xs. over gs xs shared) done.changed;
+}
 
--- behind the last peripheral nothing stands at the device that a name finds
-pub nothing_named : (hs : List Held) (es : List Entry) (ss : List PeripheralState) (shared : Shared) (name : List ℕ) (place : ℕ) → length ss ≤ length es → Some place ≡ place_of (devices_of es ss) name → length ss ≤ place → station_named (machine_of hs es ss shared) name ≡ None
-nothing_named hs es ss shared name place whole finds beyond =
-    ap (λ o. station_in (device_at (devices_of es ss) o)) (sym finds)
-    ∙ station_there es ss (Some place) whole
-    ∙ ap (option_map station_of) (behind ss place beyond)
-  where
-    behind : (ss : List PeripheralState) (place : ℕ) → length ss ≤ place → slice_get ss place ≡ None
-    behind [] zero le = refl
-    behind [] (suc i) le = refl
-    behind (s ∷ ss) zero le = absurd (omega arith)
-    behind (s ∷ ss) (suc i) le = behind ss i (omega arith)
+-- there are as many devices as before
+pub done_places : {Does : Effect} {hs gs : List Held} {ds es : List Device} {place : ℕ} → IsDoneAt ds place Does hs gs es → length es ≡ length ds
+done_places {ds = ds} {place = place} done = ap length done.changed ∙ length-set ds place _
 
--- what is done with the peripheral at a place is done at the device's station
-pub on_station : {P : Type 0} (state : P → PeripheralState) (hs gs : List Held) (es : List Entry) (ps : List P) (shared : Shared) (place : ℕ) (p q : P) (o : Option ℕ) (Does : ℕ → Effect) → length (map state ps) ≤ length es → slice_get ps place ≡ Some p → o ≡ Some place → Does place (controls_of hs) (station_of (state p)) (controls_of gs) (station_of (state q)) → OnStation (machine_of hs es (map state ps) shared) o Does (machine_of gs es (map state (set ps place q)) shared)
-on_station state hs gs es ps shared place p q o Does whole at is does =
-    let within : place < length (map state ps) = slice_get_within (map state ps) place (state p) (state_at state ps place p at) in
-    let entry = entry_within es place (omega arith) in record {
-      place = place;
-      device = device_of entry.0 (Some (station_of (state p)));
-      before = station_of (state p);
-      controls = controls_of gs;
-      after = station_of (state q);
-      is_at = is;
-      is_device = device_there es (map state ps) place ∙ ap (option_map (λ e. device_of e (option_map station_of (slice_get (map state ps) place)))) entry.1 ∙ ap (λ s. Some (device_of entry.0 (option_map station_of s))) (state_at state ps place p at);
-      is_attached = refl;
-      does = does;
-      machine = ap (λ ds. over gs ds shared) (ap (devices_of es) (map-set state ps place q) ∙ devices_set es (map state ps) place entry.0 (state q) entry.1 within);
-    }
+-- a device whose station is as it was
+same_device : (ds : List Device) (place : ℕ) (d : Device) (before after : Station) → slice_get ds place ≡ Some d → d.station ≡ Some before → after ≡ before → set ds place (record d { station = Some after }) ≡ ds
+same_device [] place d before after at is same = refl
+same_device (x ∷ ds) zero d before after at is same =
+    let here : x ≡ d = cc in
+    ap (λ (o : Option Station). let y : Device = record d { station = o } in y ∷ ds) (ap Some same ∙ sym is) ∙ ap (λ (y : Device). y ∷ ds) (sym here)
+same_device (x ∷ ds) (suc place) d before after at is same = ap (λ (xs : List Device). x ∷ xs) (same_device ds place d before after at is same)
 
--- a peripheral that did nothing leaves the machine as it was
-pub unchanged : {P : Type 0} (state : P → PeripheralState) (hs gs : List Held) (es : List Entry) (ps : List P) (shared : Shared) (place : ℕ) (p q : P) → slice_get ps place ≡ Some p → controls_of gs ≡ controls_of hs → station_of (state q) ≡ station_of (state p) → machine_of gs es (map state (set ps place q)) shared ≡ machine_of hs es (map state ps) shared
-unchanged state hs gs es ps shared place p q at controls station =
-    ap (λ (cs : List Control). let m : Machine = record { controls = cs; devices = devices_of es (map state (set ps place q)); claims = shared.claims; totals = shared.totals } in m) controls
-    ∙ ap (λ ds. over hs ds shared) (ap (devices_of es) (map-set state ps place q) ∙ devices_same es (map state ps) place (state p) (state q) (state_at state ps place p at) station)
+-- what did nothing leaves the machine as it was
+pub unchanged : (hs gs : List Held) (ds es : List Device) (shared : Shared) (place : ℕ) (d : Device) (before after : Station) → slice_get ds place ≡ Some d → d.station ≡ Some before → es ≡ set ds place (record d { station = Some after }) → SameStation (controls_of hs) before (controls_of gs) after → over gs es shared ≡ over hs ds shared
+unchanged hs gs ds es shared place d before after at is changed same =
+    ap (λ (cs : List Control). let m : Machine = record { controls = cs; devices = es; claims = shared.claims; totals = shared.totals } in m) same.controls
+    ∙ ap (λ xs. over hs xs shared) (changed ∙ same_device ds place d before after at is same.station)
 
--- all peripherals are in service, so the one at a place is
-pub unparked_at : {P : Type 0} (state : P → PeripheralState) (ps : List P) (place : ℕ) (p : P) → slice_get ps place ≡ Some p → AllUnparked (map state ps) → (state p).is_parked ≡ false
-unparked_at state ps place p at all =
-    let there = state_at state ps place p at in
-    subst (λ (s : PeripheralState). s.is_parked ≡ false) (get_or_from_slice_get (map state ps) place (state p) (state p) there) (All-get_or (λ (s : PeripheralState). s.is_parked ≡ false) (map state ps) place (state p) (slice_get_within (map state ps) place (state p) there) all)
-
--- all stay in service where one is changed for one in service
-pub unparked_set : {P : Type 0} (state : P → PeripheralState) (ps : List P) (place : ℕ) (q : P) → (state q).is_parked ≡ false → AllUnparked (map state ps) → AllUnparked (map state (set ps place q))
-unparked_set state ps place q unparked all = subst AllUnparked (sym (map-set state ps place q)) (All-set (λ (s : PeripheralState). s.is_parked ≡ false) (map state ps) place (state q) unparked all)
-
--- At this place there is a peripheral, which is of the device's kind and serves the control.
-pub record ServedAt {P : Type 0} (state : P → PeripheralState) (es : List Entry) (ps : List P) (control : Control) (place : ℕ) : Type 0 where
-  pub within : place < length ps
-  pub kind : (d : P) → kind_in (device_at (devices_of es (map state ps)) (Some place)) ≡ Some (state (get_or ps place d)).kind
-  pub is_served : (d : P) → serves control.category (Some (state (get_or ps place d)).kind) ≡ true
-  pub cursor : (d : P) → IsPlaceOn (Some (state (get_or ps place d)).kind) control.cursor.place
-
--- an open control's device has a peripheral, where its category serves no device without one
-pub served_there : {P : Type 0} (state : P → PeripheralState) (hs : List Held) (es : List Entry) (ps : List P) (shared : Shared) (n : ℕ) (c : Control) (place : ℕ) → IsSound (machine_of hs es (map state ps) shared) → length (map state ps) ≤ length es → slice_get (controls_of hs) n ≡ Some c → c.device ≡ Some place → serves c.category None ≡ false → ServedAt state es ps c place
-served_there {P = P} state hs es ps shared n c place sound whole at is peripheral =
-    let ds = devices_of es (map state ps) in
-    let seat = subst (λ (o : Option ℕ). IfSome o (λ k. Served c.category c.cursor.place (slice_get ds k))) is (seated (machine_of hs es (map state ps) shared) n c sound at) in
+-- an open control's device has a peripheral, where its category serves no device without one, and may be called
+pub served_there : (hs : List Held) (ds : List Device) (shared : Shared) (n : ℕ) (c : Control) (place : ℕ) → IsSound (over hs ds shared) → slice_get (controls_of hs) n ≡ Some c → c.device ≡ Some place → serves c.category None ≡ false → MayBeCalled ds place c.category (controls_of hs) n
+served_there hs ds shared n c place sound at is peripheral =
+    let seat = subst (λ (o : Option ℕ). IfSome o (λ k. Served c.category c.cursor.place (slice_get ds k))) is (seated (over hs ds shared) n c sound at) in
     elim (match_cases (slice_get ds place) _ _ seat) [
       | inl x ↦ absurd x.1
-      | inr x ↦ by_peripheral x.0 x.1 x.2.0 x.2.1 x.2.2 (slice_get ps place) refl
+      | inr x ↦ by x.0 x.1 x.2.0 x.2.1 x.2.2
     ]
   where
-    stands : (d : Device) → slice_get (devices_of es (map state ps)) place ≡ Some d → d.station ≡ option_map station_of (option_map state (slice_get ps place))
-    stands d there = ap station_in (sym there) ∙ station_there es (map state ps) (Some place) whole ∙ ap (option_map station_of) (slice_get-map state ps place)
+    stands : (o : Option Kind) (s : Option Station) → serves c.category o ≡ true → IsTrue (is_none o || is_some s) → IsSome s
+    stands None s served attached = let bad = sym peripheral ∙ served in cc
+    stands (Some k) None served attached = cc
+    stands (Some k) (Some s) served attached = refl
 
-    nothing : (o : Option Kind) (s : Option Station) → serves c.category o ≡ true → IsTrue (is_none o || is_some s) → s ≡ None → ⊥
-    nothing None s served attached none = let bad = sym peripheral ∙ served in cc
-    nothing (Some k) None served attached none = cc
-    nothing (Some k) (Some s) served attached none = cc
+    cursor : (o : Option Kind) → IsPlaceOn o c.cursor.place → IfSome o (λ kind. is_display kind ≡ true → HasCursor kind (controls_of hs) n)
+    cursor None h = tt
+    cursor (Some k) h = λ display. match_at_some _ c _ _ at (h display)
 
-    by_peripheral : (d : Device) → slice_get (devices_of es (map state ps)) place ≡ Some d → serves c.category d.kind ≡ true → IsTrue (is_none d.kind || is_some d.station) → IsPlaceOn d.kind c.cursor.place → (o : Option P) → slice_get ps place ≡ o → ServedAt state es ps c place
-    by_peripheral d there served attached cursor None none =
-        absurd (nothing d.kind d.station served attached (stands d there ∙ ap (λ o. option_map station_of (option_map state o)) none))
-    by_peripheral d there served attached cursor (Some p) some =
-        let its = (kind_of_device (devices_of es (map state ps)) place d there sound.kinds).1 in
-        let same : d.kind ≡ Some (state p).kind = subst (λ (o : Option Station). IfSome o (λ station. d.kind ≡ Some station.kind)) (stands d there ∙ ap (λ o. option_map station_of (option_map state o)) some) its in
-        let here : (e : P) → d.kind ≡ Some (state (get_or ps place e)).kind = λ e. same ∙ ap (λ q. Some (state q).kind) (sym (get_or_from_slice_get ps place p e some)) in
-        record {
-          within = slice_get_within ps place p some;
-          kind = λ e. ap kind_in there ∙ here e;
-          is_served = λ e. ap (serves c.category) (sym (here e)) ∙ served;
-          cursor = λ e. subst (λ (k : Option Kind). IsPlaceOn k c.cursor.place) (here e) cursor;
-        }
+    by : (d : Device) → slice_get ds place ≡ Some d → serves c.category d.kind ≡ true → IsTrue (is_none d.kind || is_some d.station) → IsPlaceOn d.kind c.cursor.place → MayBeCalled ds place c.category (controls_of hs) n
+    by d there served attached on = record {
+      attached = subst (λ (o : Option Device). IsSome (station_in o)) (sym there) (stands d.kind d.station served attached);
+      served = subst (λ (o : Option Device). serves c.category (kind_in o) ≡ true) (sym there) served;
+      cursor = subst (λ (o : Option Device). IfSome (kind_in o) (λ kind. is_display kind ≡ true → HasCursor kind (controls_of hs) n)) (sym there) (cursor d.kind on);
+    }
 
 -- a name finds a device whose peripheral has an input, or hasn't
-pub finds_fit : {P : Type 0} (state : P → PeripheralState) (hs : List Held) (es : List Entry) (ps : List P) (shared : Shared) (name : List ℕ) (place : ℕ) (p : P) (input : Input) (fits : Bool) → length (map state ps) ≤ length es → Some place ≡ place_of (devices_of es (map state ps)) name → slice_get ps place ≡ Some p → input_fits (state p).kind input ≡ fits → FindsFit (station_named (machine_of hs es (map state ps) shared) name) input fits
-finds_fit state hs es ps shared name place p input fits whole finds at fit = record {
-  before = station_of (state p);
-  is_attached = named_there state hs es ps shared name place p whole finds at;
-  fit = fit;
-}
+pub finds_fit : (hs : List Held) (ds : List Device) (shared : Shared) (name : List ℕ) (place : ℕ) (given : Input) (fits : Bool) → Some place ≡ place_of ds name → FindsFit (station_in (device_at ds (Some place))) given fits → FindsFit (station_named (over hs ds shared) name) given fits
+finds_fit hs ds shared name place given fits finds fit = subst (λ o. FindsFit o given fits) (sym (named hs ds shared name place finds)) fit
+
+-- where work finds no memory, there is a request that is to be done, and nothing has changed
+wants_work : (holder : Option ℕ) (place : ℕ) (want : NoMemory) (old : List Control) (before : Station) (new : List Control) (after : Station) → WorksAt holder place (Err want) old before new after → IsSome (work_at before.kind place holder old) × SameStation old before new after
+wants_work holder place want old before new after h = elim (match_cases (work_at before.kind place holder old) _ _ h) [
+  | inl x ↦ absurd (let no : Err want ≡ Ok worked.Idle = x.1.0 in cc)
+  | inr x ↦ (subst IsSome (sym x.1) refl, x.2)
+]
+
+-- so a name finds such a request, and the machine is as it was
+pub want_finds_work : (hs gs : List Held) (ds es : List Device) (shared : Shared) (name : List ℕ) (place : ℕ) (want : NoMemory) → Some place ≡ place_of ds name → IsDoneAt ds place (WorksAt (holder_at shared.claims (Some place)) place (Err want)) hs gs es → FindsWork (over hs ds shared) name × (over gs es shared ≡ over hs ds shared)
+want_finds_work hs gs ds es shared name place want finds done =
+    let wants = wants_work (holder_at shared.claims (Some place)) place want (controls_of hs) done.before (controls_of gs) done.after done.does in (
+      record {
+        place = place;
+        before = done.before;
+        is_at = sym finds;
+        is_attached = named hs ds shared name place finds ∙ ap station_in done.is_device ∙ done.is_attached;
+        work = wants.0;
+      },
+      unchanged hs gs ds es shared place done.device done.before done.after done.is_device done.is_attached done.changed wants.1,
+    )
 
 -- what a call of a category's own is answered first, and what it does
 own_refusals : (m : Machine) (n : ℕ) (c : Control) (asked : Call) → is_common asked ≡ false → refusals m n c asked ≡ when (is_none c.device) code.Closed ∷ own_rows c asked (category_rows c.category m n c asked)
@@ -215,42 +197,55 @@ does_at_device category.HardTotals m m' n c asked r is h = cc
 does_at_device k m m' n c asked r is h = h
 
 -- a call of a category's own on an open control, at its device's station, is a step
-pub device_step : {P : Type 0} (state : P → PeripheralState) (hs gs : List Held) (es : List Entry) (ps : List P) (shared : Shared) (n place : ℕ) (p q : P) (c : Control) (asked : Call) (r : Result Answer NoMemory)
-    → is_common asked ≡ false → slice_get (controls_of hs) n ≡ Some c → is_totals c.category ≡ false → c.device ≡ Some place → length (map state ps) ≤ length es → slice_get ps place ≡ Some p
-    → kind_in (device_at (devices_of es (map state ps)) (Some place)) ≡ Some (state p).kind
-    → CalledBy (device_rows c.category shared.claims n (Some (state p).kind)) (DeviceDoes c.category) n asked r (controls_of hs) (station_of (state p)) (controls_of gs) (station_of (state q))
-    → Step (machine_of hs es (map state ps) shared) (CallOf n asked) (answered r) (machine_of gs es (map state (set ps place q)) shared)
-device_step state hs gs es ps shared n place p q c asked r own at is device whole there kind called =
-    let Q : Control → ℕ → Type 0 = λ control place. CalledAt asked (own_rows control asked (device_rows c.category shared.claims n (Some (state p).kind) control asked)) (DeviceDoes c.category asked n place) r (controls_of hs) (station_of (state p)) (controls_of gs) (station_of (state q)) in
-    by_outcome r (called_there _ c place Q at device called)
+pub device_step : (hs gs : List Held) (ds es : List Device) (shared : Shared) (n place : ℕ) (c : Control) (asked : Call) (r : Result Answer NoMemory)
+    → is_common asked ≡ false → slice_get (controls_of hs) n ≡ Some c → is_totals c.category ≡ false → c.device ≡ Some place
+    → IsDoneAt ds place (CallsAt c.category shared.claims n asked r) hs gs es → Step (over hs ds shared) (CallOf n asked) (answered r) (over gs es shared)
+device_step hs gs ds es shared n place c asked r own at is device done =
+    let Q : Control → ℕ → Type 0 = λ control place. CalledAt asked (own_rows control asked (device_rows c.category shared.claims n (Some done.before.kind) control asked)) (DeviceDoes c.category asked n place) r (controls_of hs) done.before (controls_of gs) done.after in
+    by_outcome r (called_there _ c place Q at device done.does)
   where
     m : Machine
-    m = machine_of hs es (map state ps) shared
+    m = over hs ds shared
 
     m' : Machine
-    m' = machine_of gs es (map state (set ps place q)) shared
+    m' = over gs es shared
 
     rows : List Row
-    rows = own_rows c asked (device_rows c.category shared.claims n (Some (state p).kind) c asked)
+    rows = own_rows c asked (device_rows c.category shared.claims n (Some done.before.kind) c asked)
 
     unrefused : first_refusal (refusals m n c asked) ≡ first_refusal rows
     unrefused =
         open_refusals m n c c.category asked own refl (ap is_some device)
         ∙ ap (λ table. first_refusal (own_rows c asked table)) (rows_at_device c.category m n c asked is)
-        ∙ ap (λ at. first_refusal (own_rows c asked (device_rows c.category shared.claims n at c asked))) (ap (λ o. kind_in (device_at m.devices o)) device ∙ kind)
+        ∙ ap (λ at. first_refusal (own_rows c asked (device_rows c.category shared.claims n at c asked))) (ap (λ o. kind_in (device_at m.devices o)) device ∙ ap kind_in done.is_device ∙ done.kind)
 
-    by_outcome : (o : Result Answer NoMemory) → CalledAt asked rows (DeviceDoes c.category asked n place) o (controls_of hs) (station_of (state p)) (controls_of gs) (station_of (state q)) → Step m (CallOf n asked) (answered o) m'
+    same : SameStation (controls_of hs) done.before (controls_of gs) done.after → m' ≡ m
+    same s = unchanged hs gs ds es shared place done.device done.before done.after done.is_device done.is_attached done.changed s
+
+    at_station : (result : Answer) → DeviceDoes c.category asked n place result (controls_of hs) done.before (controls_of gs) done.after → OnStation m c.device (λ k. DeviceDoes c.category asked n k result) m'
+    at_station result does = on_station hs gs ds es shared place c.device (λ k. DeviceDoes c.category asked n k result) device (record {
+      device = done.device;
+      before = done.before;
+      after = done.after;
+      is_device = done.is_device;
+      is_attached = done.is_attached;
+      kind = done.kind;
+      does = does;
+      changed = done.changed;
+    })
+
+    by_outcome : (o : Result Answer NoMemory) → CalledAt asked rows (DeviceDoes c.category asked n place) o (controls_of hs) done.before (controls_of gs) done.after → Step m (CallOf n asked) (answered o) m'
     by_outcome (Ok result) h =
         match_at_some _ c _ _ at (record {
           outcome = match_by _ _ _ _ unrefused (
               match_weaker (first_refusal rows) _ _ _ _
-              (λ does. own_does m n c asked result m' own (does_at_device c.category m m' n c asked result is (on_station state hs gs es ps shared place p q c.device _ whole there device does)))
-              (λ refusal y. (y.0, unchanged state hs gs es ps shared place p q there y.1.controls y.1.station))
+              (λ does. own_does m n c asked result m' own (does_at_device c.category m m' n c asked result is (at_station result does)))
+              (λ refusal y. (y.0, same y.1))
               h.outcome);
         })
     by_outcome (Err want) h =
         match_at_some _ c _ _ at (
           own_takes m c asked own h.0,
           unrefused ∙ h.1,
-          own_stays m m' c asked own (unchanged state hs gs es ps shared place p q there h.2.controls h.2.station),
+          own_stays m m' c asked own (same h.2),
         )

@@ -14,15 +14,13 @@ use Rattle.pos_service.specs.declared.code.Code.TheVariants as code
 use Rattle.pos_service.specs.declared.memory.NoMemory.{NoMemory}
 use Rattle.pos_service.specs.Calls.{is_common, has_call}
 use Rattle.pos_service.specs.Controls.{Control}
-use Rattle.pos_service.specs.Peripherals.{PeripheralState}
 use Rattle.pos_service.specs.Refusals.{Row, first_refusal, when}
 use Rattle.pos_service.specs.Stations.{IsOpen}
 use Rattle.pos_service.specs.Claims.{is_foreign}
 use Rattle.pos_service.specs.TotalsCalls.{asks_area, file_call, file_rows}
 use Rattle.pos_common.specs.Held.{Held, controls_of}
 use Rattle.pos_totals.specs.Views.{TotalsView}
-use Rattle.pos_counter.specs.declared.entry.Entry.{Entry}
-use Rattle.pos_counter.specs.Machine.{Machine}
+use Rattle.pos_counter.specs.Machine.{Device, Machine}
 use Rattle.pos_counter.specs.Parts.{machine_with, part_of, ArePartsSound, CallsFiles, Serves}
 use Rattle.pos_counter.specs.Responses.{answered}
 use Rattle.pos_counter.specs.Steps.{CallOf, Answered, Step, CategoryDoes, refusals}
@@ -83,20 +81,21 @@ spares_own c asked own is spares = by_call asked own (subst (λ k. uses_disk (re
     by_call asked own spares = spares
 
 -- a call of the totals' own on an enabled control
-pub files_serve : {D : Type 0} (bound : Ghosts D) (view new : TotalsView D) (hs : List Held) (cl : List (Option ℕ)) (es : List Entry) (ss : List PeripheralState) (n : ℕ) (c : Control) (asked : Call) (outcome : Result Answer NoMemory)
+pub files_serve : {D : Type 0} (bound : Ghosts D) (view new : TotalsView D) (hs : List Held) (cl : List (Option ℕ)) (ds : List Device) (n : ℕ) (c : Control) (asked : Call) (outcome : Result Answer NoMemory)
     → is_common asked ≡ false → slice_get (controls_of hs) n ≡ Some c → c.category ≡ category.HardTotals → IsTrue (is_some c.device) → (asks_area (file_call asked) && is_foreign n view.totals.area) ≡ false → c.enabled ≡ true
-    → CallsFiles bound view n asked outcome new → ArePartsSound hs es ss → Serves bound hs cl es ss view (CallOf n asked) (answered outcome) hs cl ss new
-files_serve {D = D} bound view new hs cl es ss n c asked outcome own at is device area able calls sound = record {
+    → CallsFiles bound view n asked outcome new → ArePartsSound hs ds → Serves bound hs cl ds view (CallOf n asked) (answered outcome) hs cl ds new
+files_serve {D = D} bound view new hs cl ds n c asked outcome own at is device area able calls sound = record {
   steps = λ left leaves.
       let f = calls.steps left leaves in
       record {
         after = f.after;
         leaves = f.leaves;
-        step = called_step (machine_with hs cl es ss (part_of bound view left)) (part_of bound new f.after) n c asked outcome own at is device area able f.answer;
+        step = called_step (machine_with hs cl ds (part_of bound view left)) (part_of bound new f.after) n c asked outcome own at is device area able f.answer;
         any_moment = f.any_moment;
       };
   sound = sound;
   covers = refl;
+  places = refl;
   alone = λ spares. calls.alone (spares_own c asked own is (subst (λ (o : Option Control). MatchOption o ⊤ (λ control. uses_disk control asked ≡ false)) at spares));
   kept = calls.kept;
 }

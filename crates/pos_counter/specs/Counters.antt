@@ -1,35 +1,30 @@
 -- The machine that a counter over boxes and a disk stands for.
-use Rattle.std.specs.Prelude.{◌≡◌, ◌⊎◌, ℕ, List, [], ◌∷◌, None, length, map, replicate}
+use Rattle.std.specs.Prelude.{◌≡◌, ◌⊎◌, ℕ, List, [], ◌∷◌, None, length, replicate}
 use Rattle.pos_disk.specs.State.{LeavesOnly}
 use Rattle.pos_disk.specs.declared.device.Disk.{Ghosts as DiskGhosts}
 use Rattle.pos_service.specs.declared.peripheral_box.PeripheralBox.{PeripheralBox}
 use Rattle.pos_service.specs.declared.peripheral_box.HasState.{Ghosts}
 use Rattle.pos_service.specs.HardTotals.{Off}
-use Rattle.pos_service.specs.Peripherals.{PeripheralState}
 use Rattle.pos_store.specs.Standing.{Standing, StandsForOneOf}
 use Rattle.pos_disk.specs.Keeps.{KeepsDisk}
 use Rattle.pos_counter.specs.declared.counter.Counter.{Counter}
 use Rattle.pos_counter.specs.Machine.{Machine}
-use Rattle.pos_counter.specs.Parts.{machine_with, part_of, ArePartsSound, Leaves, SparesDisk, Stepped}
-use Rattle.pos_counter.specs.Profile.{profile}
+use Rattle.pos_counter.specs.Parts.{devices_in, machine_with, part_of, profile_devices, AreDevicesSound, ArePartsSound, Leaves, SparesDisk, Stepped}
+use Rattle.pos_profile.specs.declared.entry.Entry.{Entry}
 use Rattle.pos_counter.specs.Steps.{Request, Response, Step, Run}
 use Rattle.pos_counter.specs.Totals.{TotalsPart}
-
--- what the boxed peripherals are, in order
-abbrev pub states_of : {X : Type 0} {O : X → Type 0}
-    → Ghosts (PeripheralBox X O) → List (PeripheralBox X O) → List PeripheralState
-states_of boxes list = map boxes.state list
 
 -- the machine that a counter stands for, by what its totals are
 abbrev pub machine : {D X : Type 0} {O : X → Type 0} → Ghosts (PeripheralBox X O) → Counter D X O → TotalsPart → Machine
 machine boxes counter part =
-    machine_with counter.desk counter.claims counter.entries.items (states_of boxes counter.boxes.items) part
+    machine_with counter.desk counter.claims (devices_in boxes counter.devices) part
 
--- A counter as it begins over these boxed peripherals and a disk: no control, the built devices, totals that are off.
+-- A counter as it begins over the devices of a profile and a disk: no control, each device vacant and held by nobody,
+-- totals that are off.
 pub record Begins {D X : Type 0} {O : X → Type 0} (boxes : Ghosts (PeripheralBox X O))
-    (list : List (PeripheralBox X O)) (disk : D) (counter : Counter D X O) : Type 0 where
+    (entries : List Entry) (disk : D) (counter : Counter D X O) : Type 0 where
   pub machine : (part : TotalsPart) → machine boxes counter part
-      ≡ machine_with [] (replicate (length profile) None) profile (states_of boxes list) part
+      ≡ machine_with [] (replicate (length (profile_devices entries)) None) (profile_devices entries) part
   pub totals : counter.totals
       ≡ record { disk = disk; totals = record { mode = Off; next = 1; area = None; transactions = [] } }
 
@@ -81,11 +76,12 @@ pub record Stays {D X : Type 0} {O : X → Type 0} (boxes : Ghosts (PeripheralBo
   pub machine : (part : TotalsPart) → machine boxes new part ≡ machine boxes old part
   pub totals : new.totals ≡ old.totals
 
--- What is true of every counter: its parts are sound, and there is a claim for each device.
+-- What is true of every counter: its parts are sound, its devices are, and there is a claim for each of them.
 pub record IsCounterSound {D X : Type 0} {O : X → Type 0} (boxes : Ghosts (PeripheralBox X O))
     (counter : Counter D X O) : Type 0 where
-  pub parts : ArePartsSound counter.desk counter.entries.items (states_of boxes counter.boxes.items)
-  pub covers : length counter.claims ≡ length counter.entries.items
+  pub parts : ArePartsSound counter.desk (devices_in boxes counter.devices)
+  pub devices : AreDevicesSound boxes counter.devices
+  pub covers : length counter.claims ≡ length (devices_in boxes counter.devices)
 
 -- the boxes of a counter that is sound
 abbrev pub boxes_of : {D X : Type 0} {O : X → Type 0} {boxes : Ghosts (PeripheralBox X O)} {counter : Counter D X O}

@@ -3,6 +3,7 @@ use Rattle.std.specs.Prelude.{◌≡◌, ◌++◌, ℕ, List, [], ◌∷◌}
 use Rattle.pos_dir.specs.declared.file.File.{File as PlainFile}
 use Rattle.pos_disk.specs.State.{IsAtRest, MayLeave}
 use Rattle.pos_disk.specs.declared.device.Disk.{Ghosts as DiskGhosts}
+use Rattle.pos_profile.specs.declared.entry.Entry.{Entry}
 use Rattle.pos_service.specs.declared.peripheral_box.HasState.{Ghosts}
 use Rattle.pos_service.specs.declared.peripheral_box.PeripheralBox.{PeripheralBox}
 use Rattle.pos_store.specs.Standing.{Standing, Stands, StandsFor}
@@ -17,9 +18,9 @@ use Rattle.pos_counter.specs.Steps.{Request, Response, Step, Run}
 -- A counter as it begins over a disk that is honest, at rest, and stands for these files with this sequence.
 pub record BeginsOver {D X : Type 0} {O : X → Type 0} (bound : DiskGhosts D) (boxes : Ghosts (PeripheralBox X O))
     (start : List PlainFile) (sequence : ℕ) (counter : Counter D X O) : Type 0 where
-  pub list : List (PeripheralBox X O)
+  pub entries : List Entry
   pub disk : D
-  pub begins : Begins boxes list disk counter
+  pub begins : Begins boxes entries disk counter
   pub honest : bound.honest disk
   pub at_rest : IsAtRest (bound.state disk)
   pub stands : StandsFor (Stands start sequence) (bound.state disk).reading

@@ -1,5 +1,5 @@
 -- An example of a run, and of its history: the disk fails in a group.
-use Rattle.std.specs.Prelude.{◌≡◌, pos, Bool, false, true, List, [], ◌∷◌, ◌++◌, None, length, replicate}
+use Rattle.std.specs.Prelude.{◌≡◌, pos, Bool, false, true, List, [], ◌∷◌, ◌++◌, Some, None}
 use Rattle.pos_dir.specs.declared.change.Change.TheVariants as file
 use Rattle.pos_dir.specs.declared.file.File.{File as PlainFile}
 use Rattle.pos_service.specs.declared.answer.Answer.TheVariants as answer
@@ -12,8 +12,7 @@ use Rattle.pos_service.specs.HardTotals.{Off}
 use Rattle.pos_store.specs.Standing.{Stands}
 use Rattle.pos_counter.specs.History.{Group, History, history_of}
 use Rattle.pos_counter.specs.Machine.{Machine}
-use Rattle.pos_counter.specs.Parts.{machine_with}
-use Rattle.pos_counter.specs.Profile.{profile}
+use Rattle.pos_counter.specs.Parts.{machine_with, totals_devices}
 use Rattle.pos_counter.specs.Steps.{Request, NewControl, CallOf, Response, Made, Answered, Run}
 
 -- From a machine whose disk stands for these files, these steps may be run through so that they have this history.
@@ -23,9 +22,9 @@ pub record MayHave (first : Machine) (start : List PlainFile) (steps : List (Req
   pub run : Run first steps last
   pub is : history_of start first steps last run ≡ history
 
--- a machine as it begins, over a disk that stands for no files
+-- a machine as it begins, with the Hard Totals device t1 alone, over a disk that stands for no files
 abbrev pub new_machine : Machine
-new_machine = machine_with [] (replicate (length profile) None) profile [] (record {
+new_machine = machine_with [] (None ∷ []) (totals_devices (Some (116 ∷ 49 ∷ []))) (record {
   totals = record { mode = Off; next = 1; area = None; transactions = [] };
   left = Stands [] 1 ∷ [];
   failures = 0;

@@ -34,7 +34,7 @@ pub record Machine : Type 0 where
 abbrev pub place_from : ℕ → List ℕ → List Device → Option ℕ
 place_from place name [] = None
 place_from place name (device ∷ devices) =
-    if bytes_eq device.name name then Some place else place_from (place + 1) name devices
+    if bytes_eq name device.name then Some place else place_from (place + 1) name devices
 
 abbrev pub place_of : List Device → List ℕ → Option ℕ
 place_of devices name = place_from 0 name devices
@@ -55,6 +55,10 @@ kind_in (Some device) = device.kind
 -- what stands at the device of this name
 abbrev pub station_named : Machine → List ℕ → Option Station
 station_named machine name = station_in (device_at machine.devices (place_of machine.devices name))
+
+-- what the device of this name is, where it has a peripheral
+abbrev pub kind_named : Machine → List ℕ → Option Kind
+kind_named machine name = kind_in (device_at machine.devices (place_of machine.devices name))
 
 -- what a control of a category finds at a place: a device of its kind, with a peripheral where there are such
 abbrev pub found_at : Category → Option ℕ → Option Device → Finding
@@ -79,6 +83,12 @@ abbrev pub with_station : Machine → List Control → ℕ → Device → Statio
 with_station machine controls place device station = record machine {
   controls = controls;
   devices = slice_set machine.devices place (record device { station = Some station });
+}
+
+-- the machine, where a device has this station or none
+abbrev pub with_standing : Machine → ℕ → Device → Option Station → Machine
+with_standing machine place device station = record machine {
+  devices = slice_set machine.devices place (record device { station = station });
 }
 
 -- the control that holds a device of a category, by the claims and the claim of the area: of Hard Totals, the one that

@@ -1,13 +1,16 @@
 -- The machine that a counter's parts stand for.
-use Rattle.std.specs.Prelude.{◌≡◌, ◌≤◌, ◌<◌, ◌⊎◌, ◌&&◌, not, ℕ, true, false, List, [], ◌∷◌, Option, Some, None, MatchOption, IfSome, Result, All, length, map, option_map, option_and_then, slice_get, ⊤}
-use Rattle.std.specs.List.{filter_map}
+use Rattle.std.specs.Prelude.{◌≡◌, ◌≤◌, ◌<◌, ◌⊎◌, ◌&&◌, not, ℕ, true, false, List, [], ◌∷◌, Option, Some, None, MatchOption, IfSome, Result, All, length, map, option_map, slice_get, slice_set, is_some, IsSome, ⊤, ◌++◌, Bool, bytes_eq, if◌then◌else◌}
+use Rattle.std.specs.List.{filter, find}
 use Rattle.pos_service.specs.declared.answer.Answer.{Answer}
 use Rattle.pos_service.specs.declared.call.Call.{Call}
-use Rattle.pos_service.specs.declared.kind.Kind.{Kind}
 use Rattle.pos_service.specs.declared.memory.NoMemory.{NoMemory}
 use Rattle.pos_service.specs.HardTotals.{Mode, is_ready}
-use Rattle.pos_service.specs.Peripherals.{PeripheralState}
-use Rattle.pos_service.specs.Stations.{Station, station_of}
+use Rattle.pos_service.specs.Calls.{serves}
+use Rattle.pos_service.specs.Controls.{Control}
+use Rattle.pos_service.specs.DisplayCalls.{HasCursor}
+use Rattle.pos_service.specs.Kinds.{is_display}
+use Rattle.pos_service.specs.declared.input.Input.{Input}
+use Rattle.pos_service.specs.Stations.{CalledBy, Effect, Station, station_of}
 use Rattle.pos_service.specs.TotalsCalls.{file_call}
 use Rattle.pos_common.specs.Held.{Held, controls_of}
 use Rattle.pos_disk.specs.State.{LeavesOnly}
@@ -16,24 +19,63 @@ use Rattle.pos_store.specs.Standing.{Standing, LeavesOneOf, StandsForOneOf}
 use Rattle.pos_disk.specs.Keeps.{KeepsDisk}
 use Rattle.pos_totals.specs.Views.{TotalsView}
 use Rattle.pos_service.specs.declared.category.Category.{Category}
-use Rattle.pos_counter.specs.Machine.{Device, Machine, Shared}
+use Rattle.pos_counter.specs.Machine.{Device, Machine, Shared, device_at, kind_in, station_in}
 use Rattle.pos_counter.specs.Responses.{made}
 use Rattle.pos_counter.specs.declared.faults.ControlFault.{ControlFault}
-use Rattle.pos_counter.specs.Steps.{Request, NewControl, CallOf, Response, Step, IsSound}
+use Rattle.pos_counter.specs.Steps.{Request, NewControl, CallOf, Response, Step, DeviceDoes, FindsFit, IsSound, device_rows}
 use Rattle.pos_service.specs.declared.answer.Value.{Value}
 use Rattle.pos_service.specs.declared.property.Property.{Property}
 use Rattle.pos_counter.specs.Totals.{TotalsPart, settled, FilesCalled, asks_recovery, is_change, uses_disk}
-use Rattle.pos_counter.specs.declared.entry.Entry.{Entry}
+use Rattle.pos_counter.specs.declared.devices.Devices.{Devices}
+use Rattle.pos_profile.specs.declared.entry.Entry.{Entry}
+use Rattle.pos_profile.specs.Categories.{is_totals}
+use Rattle.pos_profile.specs.Registries.{Device as Registered, IsRegistrySound, devices as registered, vacant_devices}
+use Rattle.pos_service.specs.declared.peripheral_box.HasState.{Ghosts as Boxes}
+use Rattle.pos_service.specs.declared.peripheral_box.PeripheralBox.{PeripheralBox}
 
--- a device of the profile, and what stands at it
-abbrev pub device_of : Entry → Option Station → Device
-device_of entry station = record { name = entry.name; kind = entry.kind; station = station }
+-- a device that may have a peripheral, and what stands at it
+abbrev pub device_of : Registered → Device
+device_of device = record {
+  name = device.name;
+  kind = Some device.kind;
+  station = option_map station_of device.peripheral;
+}
 
--- the devices of a profile in order, each with its peripheral, or without one where there are fewer
-abbrev pub devices_of : List Entry → List PeripheralState → List Device
-devices_of [] states = []
-devices_of (entry ∷ entries) [] = device_of entry None ∷ devices_of entries []
-devices_of (entry ∷ entries) (state ∷ states) = device_of entry (Some (station_of state)) ∷ devices_of entries states
+-- the Hard Totals device of a name, which has no peripheral; none where there is no name
+abbrev pub totals_devices : Option (List ℕ) → List Device
+totals_devices None = []
+totals_devices (Some name) = record { name = name; kind = None; station = None } ∷ []
+
+-- the devices of a counter: those that may have a peripheral, in order, and the Hard Totals device
+abbrev pub devices_of : List Registered → Option (List ℕ) → List Device
+devices_of list totals = map device_of list ++ totals_devices totals
+
+-- the place of the Hard Totals device, behind so many others, where it has the name
+abbrev pub totals_place : ℕ → List ℕ → Option (List ℕ) → Option ℕ
+totals_place count name None = None
+totals_place count name (Some totals) = if bytes_eq name totals then Some count else None
+
+-- the name of the Hard Totals device of a profile
+abbrev pub totals_name : List Entry → Option (List ℕ)
+totals_name entries = option_map (λ entry. entry.name) (find (λ entry. is_totals entry.category) entries)
+
+-- the devices of a profile, each vacant
+abbrev pub profile_devices : List Entry → List Device
+profile_devices entries = devices_of (vacant_devices entries) (totals_name entries)
+
+-- the devices that a counter keeps
+abbrev pub devices_in : {X : Type 0} {O : X → Type 0} → Boxes (PeripheralBox X O) → Devices X O → List Device
+devices_in boxes devices = devices_of (registered boxes devices.registry) devices.totals
+
+-- What is true of the devices of every counter: their registry is sound.
+pub record AreDevicesSound {X : Type 0} {O : X → Type 0} (boxes : Boxes (PeripheralBox X O)) (devices : Devices X O)
+    : Type 0 where
+  pub registry : IsRegistrySound boxes devices.registry
+
+-- the boxes of devices that are sound
+abbrev pub boxes_in : {X : Type 0} {O : X → Type 0} {boxes : Boxes (PeripheralBox X O)} {devices : Devices X O}
+    → AreDevicesSound boxes devices → Boxes (PeripheralBox X O)
+boxes_in {boxes = boxes} sound = boxes
 
 -- the machine of these controls over any devices, claims and totals
 abbrev pub over : List Held → List Device → Shared → Machine
@@ -44,56 +86,82 @@ over helds devices shared = record {
   totals = shared.totals;
 }
 
--- the machine of these controls and devices, over any claims and totals
-abbrev pub machine_of : List Held → List Entry → List PeripheralState → Shared → Machine
-machine_of helds entries states shared = over helds (devices_of entries states) shared
-
 -- the machine of these controls, claims and devices, over any totals
-abbrev pub machine_with : List Held → List (Option ℕ) → List Entry → List PeripheralState → TotalsPart → Machine
-machine_with helds claims entries states part =
-    machine_of helds entries states (record { claims = claims; totals = part })
+abbrev pub machine_with : List Held → List (Option ℕ) → List Device → TotalsPart → Machine
+machine_with helds claims devices part = over helds devices (record { claims = claims; totals = part })
 
--- what the device at a place is
-abbrev pub kind_at : List Entry → Option ℕ → Option Kind
-kind_at entries None = None
-kind_at entries (Some place) = option_and_then (λ entry. entry.kind) (slice_get entries place)
+-- something stands at the device at a place
+abbrev pub IsAttachedAt : List Device → ℕ → Type 0
+IsAttachedAt devices place = IsSome (station_in (device_at devices (Some place)))
 
--- what stands at a place
-abbrev pub standing_at : List PeripheralState → Option ℕ → Option Station
-standing_at states None = None
-standing_at states (Some place) = option_map station_of (slice_get states place)
+-- An input fits what stands at the device at a place.
+abbrev pub FitsAt : List Device → ℕ → Input → Type 0
+FitsAt devices place given = FindsFit (station_in (device_at devices (Some place))) given true
+
+-- A call of the control with a number may be handed to what stands at the device at a place: the control's category
+-- serves it; where it is a display, the control's cursor is at one of its places.
+pub record MayBeCalled (devices : List Device) (place : ℕ) (category : Category) (controls : List Control) (number : ℕ)
+    : Type 0 where
+  pub attached : IsAttachedAt devices place
+  pub served : serves category (kind_in (device_at devices (Some place))) ≡ true
+  pub cursor : IfSome (kind_in (device_at devices (Some place)))
+      (λ kind. is_display kind ≡ true → HasCursor kind controls number)
+
+-- Something is done with what stands at the device at a place, and with the controls, and nothing else changes.
+pub record IsDoneAt (devices : List Device) (place : ℕ) (Does : Effect) (helds new_helds : List Held)
+    (new_devices : List Device) : Type 0 where
+  pub device : Device
+  pub before : Station
+  pub after : Station
+  pub is_device : slice_get devices place ≡ Some device
+  pub is_attached : device.station ≡ Some before
+  pub kind : device.kind ≡ Some before.kind
+  pub does : Does (controls_of helds) before (controls_of new_helds) after
+  pub changed : new_devices ≡ slice_set devices place (record device { station = Some after })
+
+-- what a call of the control with a number does at a device of a category
+abbrev pub CallsAt : Category → List (Option ℕ) → ℕ → Call → Result Answer NoMemory → Effect
+CallsAt category claims number asked outcome old before new after =
+    CalledBy (device_rows category claims number (Some before.kind)) (DeviceDoes category) number asked outcome
+    old before new after
 
 -- the device of each open control has its place among the claims
 abbrev pub AreCovered : List Held → List (Option ℕ) → Type 0
 AreCovered helds claims = All (λ control. IfSome control.device (λ place. place < length claims)) (controls_of helds)
 
--- no peripheral is out of service
-abbrev pub AllUnparked : List PeripheralState → Type 0
-AllUnparked states = All (λ state. state.is_parked ≡ false) states
+-- the device may have a peripheral
+abbrev pub has_kind : Device → Bool
+has_kind device = is_some device.kind
 
--- a peripheral that was taken out of service, and else is as it was
-abbrev pub parked : PeripheralState → PeripheralState
-parked state = record state { is_parked = true }
+-- The devices of a machine that may have a peripheral are handed over, each once, in order, with what stands there,
+-- which is out of service.
+pub record HandsOver (machine : Machine) (handed : List Registered) : Type 0 where
+  pub devices : map device_of handed ≡ filter has_kind machine.devices
+  pub parked : All (λ device. IfSome device.peripheral (λ state. state.is_parked ≡ true)) handed
 
--- What stands at a machine's devices, in order, is handed over: out of service, and else as it stands there.
-pub record HandsOver (machine : Machine) (states : List PeripheralState) : Type 0 where
-  pub stations : map station_of states ≡ filter_map (λ device. device.station) machine.devices
-  pub parked : All (λ state. state.is_parked ≡ true) states
-
--- What is true of the parts of every counter: their machine is sound, each peripheral has a device and is in service.
-pub record ArePartsSound (helds : List Held) (entries : List Entry) (states : List PeripheralState) : Type 0 where
-  pub machine : (shared : Shared) → IsSound (machine_of helds entries states shared)
-  pub unparked : AllUnparked states
-  pub attached : length states ≤ length entries
+-- What is true of the controls and the devices of every counter: their machine is sound.
+pub record ArePartsSound (helds : List Held) (devices : List Device) : Type 0 where
+  pub machine : (shared : Shared) → IsSound (over helds devices shared)
 
 -- From some parts of a counter to others, the request gets this response, whatever the claims and totals, which have
 -- no part in it. The parts are sound again.
-pub record ServesBeside (helds : List Held) (entries : List Entry) (states : List PeripheralState) (request : Request)
-    (response : Response) (new_helds : List Held) (new_states : List PeripheralState) : Type 0 where
+pub record ServesBeside (helds : List Held) (devices : List Device) (request : Request) (response : Response)
+    (new_helds : List Held) (new_devices : List Device) : Type 0 where
   pub step : (claims : List (Option ℕ)) (part : TotalsPart) →
-      Step (machine_with helds claims entries states part) request response
-      (machine_with new_helds claims entries new_states part)
-  pub sound : ArePartsSound new_helds entries new_states
+      Step (machine_with helds claims devices part) request response
+      (machine_with new_helds claims new_devices part)
+  pub sound : ArePartsSound new_helds new_devices
+  pub places : length new_devices ≡ length devices
+
+-- From some parts of a counter to others under these claims, which stay, the request gets this response, whatever the
+-- totals, which have no part in it. The parts are sound again.
+pub record ServesUnder (claims : List (Option ℕ)) (helds : List Held) (devices : List Device) (request : Request)
+    (response : Response) (new_helds : List Held) (new_devices : List Device) : Type 0 where
+  pub step : (part : TotalsPart) →
+      Step (machine_with helds claims devices part) request response
+      (machine_with new_helds claims new_devices part)
+  pub sound : ArePartsSound new_helds new_devices
+  pub places : length new_devices ≡ length devices
 
 -- what totals and their disk are to the machine, where a crash may leave bytes that stand for these
 abbrev pub part_of : {D : Type 0} → Ghosts D → TotalsView D → List Standing → TotalsPart
@@ -128,15 +196,16 @@ SparesDisk helds other = ⊤
 
 -- From some parts of a counter to others, the request gets this response, for all that the disk may leave. A request
 -- that doesn't use the disk leaves it alone.
-pub record Serves {D : Type 0} (bound : Ghosts D) (helds : List Held) (claims : List (Option ℕ)) (entries : List Entry)
-    (states : List PeripheralState) (before : TotalsView D) (request : Request) (response : Response)
-    (new_helds : List Held) (new_claims : List (Option ℕ)) (new_states : List PeripheralState) (now : TotalsView D)
+pub record Serves {D : Type 0} (bound : Ghosts D) (helds : List Held) (claims : List (Option ℕ))
+    (devices : List Device) (before : TotalsView D) (request : Request) (response : Response)
+    (new_helds : List Held) (new_claims : List (Option ℕ)) (new_devices : List Device) (now : TotalsView D)
     : Type 0 where
   pub steps : (left : List Standing) → Leaves bound before left → Stepped bound left
-      (machine_with helds claims entries states) before request response
-      (machine_with new_helds new_claims entries new_states) now
-  pub sound : ArePartsSound new_helds entries new_states
+      (machine_with helds claims devices) before request response
+      (machine_with new_helds new_claims new_devices) now
+  pub sound : ArePartsSound new_helds new_devices
   pub covers : length new_claims ≡ length claims
+  pub places : length new_devices ≡ length devices
   pub alone : SparesDisk helds request → now.disk ≡ before.disk
   pub kept : KeepsDisk bound before.disk now.disk
 

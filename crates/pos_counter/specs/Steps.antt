@@ -1,6 +1,7 @@
 -- The steps of the device machine, and its runs.
 use Rattle.std.specs.Bool.{MatchBool}
-use Rattle.std.specs.Prelude.{◌≡◌, ◌⊎◌, ℕ, ◌++◌, ◌∷◌, Bool, true, false, List, [], Option, Some, None, MatchOption, IfSome, All, IsTrue, length, ◌<◌, ◌≤◌, ◌||◌, slice_get, is_some, is_none}
+use Rattle.std.specs.List.{list_any}
+use Rattle.std.specs.Prelude.{◌≡◌, ◌⊎◌, ℕ, ◌++◌, ◌∷◌, Bool, true, false, List, [], Option, Some, None, Ok, MatchOption, IfSome, IsSome, All, IsTrue, length, ◌<◌, ◌≤◌, ◌||◌, slice_get, is_some, is_none, nat_eq}
 use Rattle.pos_service.specs.declared.category.Category.{Category}
 use Rattle.pos_service.specs.declared.category.Category.TheVariants as category
 use Rattle.pos_service.specs.declared.call.Call.{Call}
@@ -15,6 +16,7 @@ use Rattle.pos_service.specs.declared.answer.Answer.{Answer}
 use Rattle.pos_service.specs.declared.answer.Answer.TheVariants as answer
 use Rattle.pos_service.specs.declared.answer.Value.TheVariants as value
 use Rattle.pos_service.specs.declared.code.Code.TheVariants as code
+use Rattle.pos_service.specs.declared.worked.Worked.{Worked as WorkResult}
 use Rattle.pos_service.specs.Displays.{is_cursor_place}
 use Rattle.pos_service.specs.Kinds.{is_display, rows_of, columns_of}
 use Rattle.pos_service.specs.Peripherals.{IsInRange, input_fits}
@@ -26,22 +28,31 @@ use Rattle.pos_service.specs.Calls.{serves, own_rows, place_found, open_rows, cl
 use Rattle.pos_service.specs.Stations.{Station, Effect, TakesIn, signs_in}
 use Rattle.pos_service.specs.DisplayCalls.{display_rows, DisplayDoes}
 use Rattle.pos_service.specs.DrawerCalls.{drawer_rows, DrawerDoes}
+use Rattle.pos_service.specs.PrinterCalls.{printer_rows, work_at, PrinterDoes, WorksAt}
 use Rattle.pos_service.specs.ScannerCalls.{scanner_rows, ScannerDoes}
 use Rattle.pos_service.specs.declared.property.Property.{Property}
 use Rattle.pos_service.specs.declared.answer.Value.{Value}
 use Rattle.pos_service.specs.declared.facts.Facts.{Facts}
+use Rattle.pos_profile.specs.declared.registry_fault.AttachFault.{AttachFault}
+use Rattle.pos_profile.specs.declared.registry_fault.AttachFault.TheVariants as attach
+use Rattle.pos_profile.specs.declared.registry_fault.DetachFault.{DetachFault}
+use Rattle.pos_profile.specs.declared.registry_fault.DetachFault.TheVariants as detach
 use Rattle.pos_service.specs.HardTotals.{layout_1, in_transaction, is_area_taken, without_control, with_control as with_place}
 use Rattle.pos_service.specs.TotalsCalls.{file_call, totals_rows}
 use Rattle.pos_counter.specs.Totals.{TotalsDo, Recovered, Recovers, Rests, recovers, file_facts}
-use Rattle.pos_counter.specs.Machine.{Device, Machine, place_of, device_at, station_in, station_named, found_under, holder_of, kind_of, with_control, with_station, with_totals}
+use Rattle.pos_counter.specs.Machine.{Device, Machine, place_of, device_at, station_in, station_named, kind_named, found_under, holder_of, kind_of, with_control, with_station, with_standing, with_totals}
 
--- what may be asked of the machine: controls by their numbers, devices by their names
+-- what may be asked of the machine: controls by their numbers, devices by their names; a peripheral that is to be
+-- attached by what would stand at the device
 pub data Request : Type 0 where
   NewControl : Category → Request
   CallOf : ℕ → Call → Request
   InputTo : List ℕ → Input → Request
+  WorkOn : List ℕ → Request
   Deliver : ℕ → ErrorReply → Request
   Snapshot : List ℕ → Request
+  Attach : List ℕ → Station → Request
+  Detach : List ℕ → Request
 
 -- what it may answer
 pub data Response : Type 0 where
@@ -51,8 +62,13 @@ pub data Response : Type 0 where
   TakenIn : Response
   NoDevice : Response
   WrongInput : Response
+  Worked : WorkResult → Response
   Delivered : Option Event → Response
   Shown : Plant → Response
+  Attached : Response
+  NotAttached : AttachFault → Response
+  Detached : Station → Response
+  NotDetached : DetachFault → Response
   OutOfMemory : Response
 
 -- what is known of the control with a number and of its device, as properties tell it
@@ -63,6 +79,7 @@ facts_of machine number control = record {
   totals_size = layout_1.bytes;
   files = file_facts machine.totals.totals.mode;
   is_claimed = is_own number (holder_of machine control);
+  is_foreign = is_foreign number (holder_of machine control);
   in_transaction = in_transaction machine.totals.totals number;
 }
 
@@ -98,6 +115,7 @@ abbrev pub device_rows : Category → List (Option ℕ) → ℕ → Option Kind 
 device_rows category.CashDrawer claims number at control own = drawer_rows claims number control own
 device_rows category.Scanner claims number at control own = scanner_rows claims number control own
 device_rows category.LineDisplay claims number at control own = display_rows claims number at control own
+device_rows category.PosPrinter claims number at control own = printer_rows claims number control own
 device_rows category.HardTotals claims number at control own = []
 
 -- what it does at the device's station, where nothing refuses it
@@ -108,6 +126,8 @@ DeviceDoes category.Scanner own number place result old before new after =
     ScannerDoes own number place result old before new after
 DeviceDoes category.LineDisplay own number place result old before new after =
     DisplayDoes own number place result old before new after
+DeviceDoes category.PosPrinter own number place result old before new after =
+    PrinterDoes own number place result old before new after
 DeviceDoes category.HardTotals own number place result old before new after = ⊥
 
 -- what each call of a category's own asks, in order
@@ -219,6 +239,76 @@ pub record FindsFit (station : Option Station) (input : Input) (fits : Bool) : T
   pub is_attached : station ≡ Some before
   pub fit : input_fits before.kind input ≡ fits
 
+-- There is a request that is to be done now at the device of this name.
+pub record FindsWork (machine : Machine) (name : List ℕ) : Type 0 where
+  pub place : ℕ
+  pub before : Station
+  pub is_at : place_of machine.devices name ≡ Some place
+  pub is_attached : station_named machine name ≡ Some before
+  pub work : IsSome (work_at before.kind place (holder_at machine.claims (Some place)) machine.controls)
+
+-- The device of this name, which is vacant, has a peripheral of its kind from now on.
+pub record IsAttached (old : Machine) (name : List ℕ) (station : Station) (new : Machine) : Type 0 where
+  pub place : ℕ
+  pub device : Device
+  pub is_at : place_of old.devices name ≡ Some place
+  pub is_device : slice_get old.devices place ≡ Some device
+  pub is_vacant : device.station ≡ None
+  pub kind : device.kind ≡ Some station.kind
+  pub machine : new ≡ with_standing old place device (Some station)
+
+-- The device of this name is vacant, and of another kind than the peripheral.
+pub record IsOfAnotherKind (machine : Machine) (name : List ℕ) (station : Station) : Type 0 where
+  pub kind : Kind
+  pub named : kind_named machine name ≡ Some kind
+  pub is_vacant : station_named machine name ≡ None
+  pub differs : ¬ (station.kind ≡ kind)
+
+-- why a peripheral is not attached: no device of the name has peripherals, else the device is of another kind, or has
+-- its peripheral
+abbrev pub IsNotAttachedFor : Machine → List ℕ → Station → AttachFault → Type 0
+IsNotAttachedFor machine name station attach.Unknown = kind_named machine name ≡ None
+IsNotAttachedFor machine name station attach.KindDiffers = IsOfAnotherKind machine name station
+IsNotAttachedFor machine name station attach.InUse = IsSome (station_named machine name)
+
+-- a device's place is this one
+abbrev pub is_place : ℕ → Option ℕ → Bool
+is_place place None = false
+is_place place (Some other) = nat_eq other place
+
+-- the control has the device at a place open
+abbrev pub has_open : ℕ → Control → Bool
+has_open place control = is_place place control.device
+
+-- one of the controls has
+abbrev pub is_open_at : ℕ → List Control → Bool
+is_open_at place controls = list_any (has_open place) controls
+
+-- The device of this name, which no control has open, is vacant from now on; this stood there.
+pub record IsDetached (old : Machine) (name : List ℕ) (station : Station) (new : Machine) : Type 0 where
+  pub place : ℕ
+  pub device : Device
+  pub is_at : place_of old.devices name ≡ Some place
+  pub is_device : slice_get old.devices place ≡ Some device
+  pub is_attached : device.station ≡ Some station
+  pub is_closed : is_open_at place old.controls ≡ false
+  pub machine : new ≡ with_standing old place device None
+
+-- The device of this name has its peripheral, and a control has it open.
+pub record IsOpenUnder (machine : Machine) (name : List ℕ) : Type 0 where
+  pub place : ℕ
+  pub is_at : place_of machine.devices name ≡ Some place
+  pub is_attached : IsSome (station_named machine name)
+  pub is_open : is_open_at place machine.controls ≡ true
+
+-- why no peripheral is detached: no device of the name has peripherals, else the device is vacant, else a control has
+-- it open
+abbrev pub IsNotDetachedFor : Machine → List ℕ → DetachFault → Type 0
+IsNotDetachedFor machine name detach.Unknown = kind_named machine name ≡ None
+IsNotDetachedFor machine name detach.Vacant =
+    IsSome (kind_named machine name) × (station_named machine name ≡ None)
+IsNotDetachedFor machine name detach.InUse = IsOpenUnder machine name
+
 -- From old, the machine may give this response to the request, and is new then.
 abbrev pub Step : Machine → Request → Response → Machine → Type 0
 Step old (NewControl category) (Made number) new =
@@ -238,6 +328,11 @@ Step old (InputTo name input) TakenIn new = OnStation old (place_of old.devices 
 Step old (InputTo name input) NoDevice new = (station_named old name ≡ None) × (new ≡ old)
 Step old (InputTo name input) WrongInput new = FindsFit (station_named old name) input false × (new ≡ old)
 Step old (InputTo name input) OutOfMemory new = FindsFit (station_named old name) input true × (new ≡ old)
+Step old (WorkOn name) (Worked result) new =
+    OnStation old (place_of old.devices name)
+    (λ place. WorksAt (holder_at old.claims (Some place)) place (Ok result)) new
+Step old (WorkOn name) NoDevice new = (station_named old name ≡ None) × (new ≡ old)
+Step old (WorkOn name) OutOfMemory new = FindsWork old name × (new ≡ old)
 Step old (Deliver number reply) (Delivered event) new =
     MatchOption (slice_get old.controls number) ((event ≡ None) × (new ≡ old))
     (λ control. (event ≡ deliverable control) × (new ≡ with_control old number (delivered reply control)))
@@ -246,6 +341,11 @@ Step old (Snapshot name) (Shown plant) new =
     × (is_some (station_named old name) ≡ true) × (new ≡ old)
 Step old (Snapshot name) NoDevice new = (station_named old name ≡ None) × (new ≡ old)
 Step old (Snapshot name) OutOfMemory new = (is_some (station_named old name) ≡ true) × (new ≡ old)
+Step old (Attach name station) Attached new = IsAttached old name station new
+Step old (Attach name station) (NotAttached fault) new =
+    IsNotAttachedFor old name station fault × (new ≡ old)
+Step old (Detach name) (Detached station) new = IsDetached old name station new
+Step old (Detach name) (NotDetached fault) new = IsNotDetachedFor old name fault × (new ≡ old)
 -- no other response is given
 Step old request response new = ⊥
 

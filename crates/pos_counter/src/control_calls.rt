@@ -1,38 +1,36 @@
 //! The calls that every category has.
-ghost use Rattle.std.specs.Prelude.{◌≡◌, ◌<◌, List, Some, None, IfSome, length, map};
+ghost use Rattle.std.specs.Prelude.{◌≡◌, ◌<◌, List, Some, None, IfSome, length};
 ghost use Rattle.pos_service.specs.declared.call.Call.TheVariants as call;
 ghost use Rattle.pos_service.specs.Claims.{holder_at, is_own, is_foreign, claim_rows, claimed_by, release_rows, released_by, after_release};
 ghost use Rattle.pos_service.specs.HardTotals.{is_area_taken};
-ghost use Rattle.pos_service.specs.Peripherals.{PeripheralState};
 ghost use Rattle.pos_service.specs.Refusals.{Decided};
-ghost use Rattle.pos_counter.specs.declared.entry.Entry.{Entry as OneEntry};
-ghost use Rattle.pos_counter.specs.Parts.{AreCovered, ArePartsSound, Serves, ServesBeside};
+ghost use Rattle.pos_counter.specs.Machine.{Device};
+ghost use Rattle.pos_counter.specs.Parts.{AreCovered, AreDevicesSound, ArePartsSound, Serves, ServesBeside, devices_in};
 ghost use Rattle.pos_counter.specs.Steps.{CallOf, Answered};
 
-use crate::devices::find_for;
-use crate::entry::Entry;
+use crate::devices::Devices;
 use crate::totals_calls::is_totals;
 use pos_common::{Claims, Control};
 use pos_disk::Disk;
-use pos_service::{Answer, Code, HasState, Value};
+use pos_service::{Answer, Code, HasState, PeripheralBox, Value};
 use pos_totals::Totals;
 
 /// `open`, of the first device with a name (common chapter).
-pub(crate) fn open<P: HasState>(
+pub(crate) fn open(
     controls: &mut [Control],
-    entries: &[Entry],
-    peripherals: &[P],
+    devices: &Devices,
     number: usize,
     name: &[u8],
 ) -> Answer
     requires in_range { number < length controls.old }
-    requires sound { ArePartsSound controls.old entries.now (map P.state peripherals.now) }
-    ensures { let states = map P.state peripherals.now in
-        ServesBeside controls.old entries.now states (CallOf number (call.Open name.now)) (Answered result)
-        controls.new states }
+    requires parts { ArePartsSound controls.old (devices_in ⟦<PeripheralBox as HasState>⟧ devices.now) }
+    requires sound { AreDevicesSound ⟦<PeripheralBox as HasState>⟧ devices.now }
+    ensures { let devices = devices_in ⟦<PeripheralBox as HasState>⟧ devices.now in
+        ServesBeside controls.old devices (CallOf number (call.Open name.now)) (Answered result)
+        controls.new devices }
 {
     let control = &mut controls[number];
-    let found = find_for(control.category(), entries, peripherals, name);
+    let found = devices.find_for(control.category(), name);
     control.open(found)
 }
 
@@ -44,9 +42,9 @@ pub(crate) fn close<D: Disk>(
     number: usize,
 ) -> Answer
     requires { number < length controls.old }
-    ensures { (entries : List OneEntry) (states : List PeripheralState) → ArePartsSound controls.old entries states →
-        Serves D.Disk controls.old claims.old entries states totals.old
-        (CallOf number call.Close) (Answered result) controls.new claims.new states totals.new }
+    ensures { (devices : List Device) → ArePartsSound controls.old devices →
+        Serves D.Disk controls.old claims.old devices totals.old
+        (CallOf number call.Close) (Answered result) controls.new claims.new devices totals.new }
 {
     let device = controls[number].device();
     if device.is_none() {
@@ -70,9 +68,9 @@ pub(crate) fn claim<D: Disk>(
 ) -> Answer
     requires in_range { number < length controls.now }
     requires covers { AreCovered controls.now claims.old }
-    ensures { (entries : List OneEntry) (states : List PeripheralState) → ArePartsSound controls.now entries states →
-        Serves D.Disk controls.now claims.old entries states totals.old
-        (CallOf number (call.Claim timeout)) (Answered result) controls.now claims.new states totals.new }
+    ensures { (devices : List Device) → ArePartsSound controls.now devices →
+        Serves D.Disk controls.now claims.old devices totals.old
+        (CallOf number (call.Claim timeout)) (Answered result) controls.now claims.new devices totals.new }
 {
     let control = &controls[number];
     if is_totals(control) {
@@ -130,9 +128,9 @@ pub(crate) fn release<D: Disk>(
     number: usize,
 ) -> Answer
     requires { number < length controls.old }
-    ensures { (entries : List OneEntry) (states : List PeripheralState) → ArePartsSound controls.old entries states →
-        Serves D.Disk controls.old claims.old entries states totals.old
-        (CallOf number call.Release) (Answered result) controls.new claims.new states totals.new }
+    ensures { (devices : List Device) → ArePartsSound controls.old devices →
+        Serves D.Disk controls.old claims.old devices totals.old
+        (CallOf number call.Release) (Answered result) controls.new claims.new devices totals.new }
 {
     let control = &mut controls[number];
     if is_totals(control) {

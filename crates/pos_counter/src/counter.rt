@@ -1,22 +1,26 @@
-ghost use Rattle.std.specs.Prelude.{◌≡◌, length, map, IfOk, IfErr, OnErr};
+ghost use Rattle.std.specs.Prelude.{◌≡◌, [], false, true, length, IfOk, IfErr, OnErr};
 ghost use Rattle.pos_disk.specs.State.{IsAtRest};
+ghost use Rattle.pos_profile.specs.Registries.{devices_of as registered_in};
+ghost use Rattle.pos_service.specs.Stations.{station_of};
 ghost use Rattle.pos_totals.specs.Views.{WhenReady};
-ghost use Rattle.pos_counter.specs.Steps.{NewControl, CallOf, InputTo, Deliver, Delivered, Snapshot as SnapshotOf};
-ghost use Rattle.pos_counter.specs.Profile.{ServesProfile};
-ghost use Rattle.pos_counter.specs.Parts.{AllUnparked, HandsOver, parked};
-ghost use Rattle.pos_counter.specs.Responses.{made, answered, taken_in, shown, request_of, response_of, steps_of};
+ghost use Rattle.pos_counter.specs.Steps.{Attach, Detach, NewControl, CallOf, InputTo, WorkOn, Deliver, Delivered, Snapshot as SnapshotOf};
+ghost use Rattle.pos_counter.specs.Parts.{HandsOver};
+ghost use Rattle.pos_counter.specs.Responses.{made, answered, attached, detached, taken_in, worked, shown, request_of, response_of, steps_of};
 ghost use Rattle.pos_counter.specs.Totals.{TotalsPart};
-ghost use Rattle.pos_counter.specs.Counters.{machine, states_of, Begins, IsStep, IsStepBeside, IsRun, Stays, IsCounterSound};
+ghost use Rattle.pos_counter.specs.Counters.{machine, Begins, IsStep, IsStepBeside, IsRun, Stays, IsCounterSound};
 
 use crate::desk::Desk;
-use crate::device_calls;
-use crate::entry::{Entry, build_entries};
-use crate::faults::{ControlFault, InputFault, SnapshotFault};
+use crate::devices::Devices;
+use crate::faults::{ControlFault, InputFault, SnapshotFault, WorkFault};
 use crate::request::{Request, Response};
+use crate::{device_calls, exchange, working};
 use pos_common::Claims;
 use pos_disk::Disk;
+use pos_profile::laws::is_profile;
+use pos_profile::{AttachFault, DetachFault, Profile, Slot};
 use pos_service::{
     Answer, Call, Category, ErrorReply, Event, HasState, Input, NoMemory, PeripheralBox, Snapshot,
+    Worked,
 };
 use pos_totals::Totals;
 use std::alloc::Global;
@@ -32,8 +36,7 @@ const FIRST_HANDLE: u64 = 1;
 pub struct Counter<D: Disk> {
     desk: Desk,
     claims: Claims,
-    entries: Vec<Entry>,
-    boxes: Vec<PeripheralBox>,
+    devices: Devices,
     totals: Totals<D>,
 }
 
@@ -41,40 +44,77 @@ pub struct Counter<D: Disk> {
 pub struct Ended<D: Disk> {
     /// The disk of the totals, at rest where they were ready.
     pub disk: D,
-    /// The peripherals in the order of the devices, each out of service.
-    pub boxes: Vec<PeripheralBox>,
+    /// The devices that may have a peripheral, each once, in the profile's order, with what served it, out of service.
+    pub entries: Vec<Slot>,
 }
 
 impl<D: Disk> Counter<D> {
-    /// A counter with no control, over a disk, whose devices these peripherals serve: in order, each of the kind of its
-    /// device. The totals are off until a control of Hard Totals is enabled.
+    /// A counter with no control, over a disk and the devices of a profile, each vacant. The totals are off until a
+    /// control of Hard Totals is enabled. An empty list becomes a part of the counter.
     ///
-    /// Want of memory hands disk and peripherals back as they are.
+    /// Want of memory ends that list, and hands the disk back as it is.
     pub fn new(
         alloc: Global,
-        boxes: Vec<PeripheralBox>,
+        profile: &Profile,
+        slots: Vec<Slot>,
         disk: D,
-    ) -> Result<Self, (NoMemory, Vec<PeripheralBox>, D)>
-        requires serves { ServesProfile (states_of ⟦<PeripheralBox as HasState>⟧ boxes.items) }
-        requires unparked { AllUnparked (states_of ⟦<PeripheralBox as HasState>⟧ boxes.items) }
-        ensures begins { IfOk result (λ counter. Begins ⟦<PeripheralBox as HasState>⟧ boxes.items disk counter) }
+    ) -> Result<Self, (NoMemory, D)>
+        requires empty { slots.items ≡ [] }
+        ensures begins { IfOk result (λ counter.
+            Begins ⟦<PeripheralBox as HasState>⟧ profile.now.devices disk counter) }
         ensures sound { IfOk result (λ counter. IsCounterSound ⟦<PeripheralBox as HasState>⟧ counter) }
-        ensures handed_back { IfErr result (λ refusal. (refusal.1.items ≡ boxes.items) × (refusal.2 ≡ disk)) }
+        ensures handed_back { IfErr result (λ refusal. refusal.1 ≡ disk) }
     {
-        let entries = match build_entries(alloc) {
-            Ok(entries) => entries,
-            Err(want) => return Err((want, boxes, disk)),
+        is_profile(profile);
+        let Ok(claims) = Claims::new(alloc, profile.devices().len()) else {
+            slots.destroy_empty();
+            return Err((NoMemory, disk));
         };
-        match Claims::new(alloc, entries.len()) {
-            Ok(claims) => Ok(Counter {
+        match Devices::new(alloc, profile, slots) {
+            Ok(devices) => Ok(Counter {
                 desk: Desk::new(alloc),
                 claims,
-                entries,
-                boxes,
+                devices,
                 totals: Totals::new(alloc, disk, FIRST_HANDLE),
             }),
-            Err(want) => Err((want, boxes, disk)),
+            Err(want) => Err((want, disk)),
         }
+    }
+
+    /// Has a peripheral serve the device of this name, which is vacant and of its kind.
+    ///
+    /// Refused with Unknown where no device of the name may have a peripheral, else with InUse where the device has its
+    /// peripheral, else with KindDiffers. A refusal changes nothing, and hands the peripheral back as it is. It takes
+    /// no memory.
+    pub fn attach(
+        &mut self,
+        name: &[u8],
+        peripheral: PeripheralBox,
+    ) -> Result<(), (AttachFault, PeripheralBox)>
+        requires sound { IsCounterSound ⟦<PeripheralBox as HasState>⟧ self.old }
+        requires unparked { (⟦<PeripheralBox as HasState>⟧.state peripheral).is_parked ≡ false }
+        ensures step { let boxes = ⟦<PeripheralBox as HasState>⟧ in IsStepBeside boxes self.old
+            (Attach name.now (station_of (boxes.state peripheral))) (attached result) self.new }
+        ensures handed_back { IfErr result (λ refusal. refusal.1 ≡ peripheral) }
+        ensures sound { IsCounterSound ⟦<PeripheralBox as HasState>⟧ self.new }
+    {
+        exchange::attach(&self.desk.controls, &mut self.devices, name, peripheral)
+    }
+
+    /// Takes the peripheral of the device of this name, which no control has open, out of service, and hands it out,
+    /// else as it is. The device is vacant then.
+    ///
+    /// Refused with Unknown where no device of the name may have a peripheral, else with Vacant where it has none, else
+    /// with InUse where a control has the device open. A refusal changes nothing. It takes no memory.
+    pub fn detach(&mut self, name: &[u8]) -> Result<PeripheralBox, DetachFault>
+        requires sound { IsCounterSound ⟦<PeripheralBox as HasState>⟧ self.old }
+        ensures step { let boxes = ⟦<PeripheralBox as HasState>⟧ in IsStepBeside boxes self.old
+            (Detach name.now) (detached boxes.state result) self.new }
+        ensures parked { IfOk result (λ peripheral.
+            (⟦<PeripheralBox as HasState>⟧.state peripheral).is_parked ≡ true) }
+        ensures sound { IsCounterSound ⟦<PeripheralBox as HasState>⟧ self.new }
+    {
+        exchange::detach(&self.desk.controls, &mut self.devices, name)
     }
 
     /// A new control of a category, which is closed: its number, counted from 0.
@@ -100,12 +140,9 @@ impl<D: Disk> Counter<D> {
             (CallOf number call.now) (answered result) self.new }
         ensures sound { IsCounterSound ⟦<PeripheralBox as HasState>⟧ self.new }
     {
-        device_calls::call(
-            self.desk.allocator(),
-            &mut self.desk.controls,
+        self.desk.call(
             &mut self.claims,
-            &self.entries,
-            &mut self.boxes,
+            &mut self.devices,
             &mut self.totals,
             number,
             call,
@@ -125,10 +162,33 @@ impl<D: Disk> Counter<D> {
         device_calls::input(
             self.desk.allocator(),
             &mut self.desk.controls,
-            &self.entries,
-            &mut self.boxes,
+            &mut self.devices,
             device,
             input,
+        )
+    }
+
+    /// Works on the output that waits for the device of this name: the first request of the control that holds it
+    /// (common chapter, asynchronous output).
+    ///
+    /// It is Idle where there is nothing to do: where the device is no printer, where nobody holds it, where its holder
+    /// is disabled or has no request, and while the holder's first request has failed. Else the request is Done, and an
+    /// OutputCompleteEvent is enqueued; or it has Failed, stays the first, and an ErrorEvent with EL_OUTPUT is
+    /// enqueued.
+    ///
+    /// Refused with NoDevice where no device has the name or no peripheral stands behind it. Want of memory changes
+    /// nothing.
+    pub fn work(&mut self, device: &[u8]) -> Result<Worked, WorkFault>
+        requires sound { IsCounterSound ⟦<PeripheralBox as HasState>⟧ self.old }
+        ensures step { IsStepBeside ⟦<PeripheralBox as HasState>⟧ self.old
+            (WorkOn device.now) (worked result) self.new }
+        ensures sound { IsCounterSound ⟦<PeripheralBox as HasState>⟧ self.new }
+    {
+        working::work(
+            &mut self.desk.controls,
+            &self.claims,
+            &mut self.devices,
+            device,
         )
     }
 
@@ -150,7 +210,7 @@ impl<D: Disk> Counter<D> {
         requires sound { IsCounterSound ⟦<PeripheralBox as HasState>⟧ self.now }
         ensures { IsStepBeside ⟦<PeripheralBox as HasState>⟧ self.now (SnapshotOf device.now) (shown result) self.now }
     {
-        device_calls::snapshot(&self.entries, &self.boxes, device)
+        device_calls::snapshot(&self.devices, device)
     }
 
     /// Carries out requests one after another: what is answered to each, in order.
@@ -185,42 +245,30 @@ impl<D: Disk> Counter<D> {
             Request::InputTo(device, input) => {
                 Response::of_input(self.input(device.as_slice(), input))
             }
+            Request::WorkOn(device) => Response::of_work(self.work(device.as_slice())),
             Request::Deliver(number, reply) => Response::Delivered(self.deliver(*number, *reply)),
             Request::Snapshot(device) => Response::of_snapshot(self.snapshot(device.as_slice())),
         }
     }
 
-    /// Ends the counter: the disk, and the peripherals, each taken out of service and else as it is. It takes no
-    /// memory.
+    /// Ends the counter: the disk, and the devices that may have a peripheral, each once, in the profile's order, with
+    /// their peripherals, which are taken out of service and else as they are. It takes no memory.
     pub fn shutdown(self) -> Ended<D>
         requires sound { IsCounterSound ⟦<PeripheralBox as HasState>⟧ self }
         ensures disk { result.disk ≡ self.totals.disk }
         ensures at_rest { D.honest result.disk → WhenReady self.totals.totals.mode (IsAtRest (D.state result.disk)) }
-        ensures boxes { let states = states_of ⟦<PeripheralBox as HasState>⟧ result.boxes.items in
-            (part : TotalsPart) → HandsOver (machine ⟦<PeripheralBox as HasState>⟧ self part) states }
+        ensures entries { let boxes = ⟦<PeripheralBox as HasState>⟧ in
+            (part : TotalsPart) → HandsOver (machine boxes self part) (registered_in boxes result.entries.items) }
     {
         let Counter {
             desk: _,
             claims: _,
-            entries: _,
-            boxes,
+            devices,
             totals,
         } = self;
         Ended {
             disk: totals.into_disk(),
-            boxes: park_all(boxes),
+            entries: devices.into_entries(),
         }
     }
-}
-
-/// Takes each peripheral out of service.
-fn park_all(mut boxes: Vec<PeripheralBox>) -> Vec<PeripheralBox>
-    requires { Unit {0} }
-    ensures { states_of ⟦<PeripheralBox as HasState>⟧ result.items
-        ≡ map parked (states_of ⟦<PeripheralBox as HasState>⟧ boxes.items) }
-{
-    for place in 0..boxes.len() {
-        boxes[place].park();
-    }
-    boxes
 }

@@ -1,12 +1,15 @@
-ghost use Rattle.std.specs.Prelude.{◌≡◌, [], List};
+ghost use Rattle.std.specs.Prelude.{◌≡◌, [], List, length};
 ghost use Rattle.pos_counter.specs.Machine.{Device, Shared};
-ghost use Rattle.pos_counter.specs.Steps.{Step, Deliver, Delivered};
-ghost use Rattle.pos_counter.specs.Parts.{over, MakesControl};
+ghost use Rattle.pos_counter.specs.Responses.{answered};
+ghost use Rattle.pos_counter.specs.Steps.{Step, CallOf, Deliver, Delivered};
+ghost use Rattle.pos_counter.specs.Parts.{over, AreDevicesSound, ArePartsSound, MakesControl, Serves, devices_in};
 
+use crate::device_calls;
+use crate::devices::Devices;
 use crate::faults::ControlFault;
-use pos_common::Control;
+use pos_common::{Claims, Control};
 use pos_disk::Disk;
-use pos_service::{Category, ErrorReply, Event, NoMemory};
+use pos_service::{Answer, Call, Category, ErrorReply, Event, HasState, NoMemory, PeripheralBox};
 use pos_totals::Totals;
 use std::alloc::Global;
 use std::marker::Model;
@@ -71,6 +74,36 @@ impl Desk {
             }
             Err(NoMemory) => Err(ControlFault::NoMemory),
         }
+    }
+
+    /// A call of an application on one of the controls.
+    pub(crate) fn call<D: Disk>(
+        &mut self,
+        claims: &mut Claims,
+        devices: &mut Devices,
+        totals: &mut Totals<D>,
+        number: usize,
+        call: &Call,
+    ) -> Result<Answer, NoMemory>
+        requires parts { ArePartsSound self.old (devices_in ⟦<PeripheralBox as HasState>⟧ devices.old) }
+        requires sound { AreDevicesSound ⟦<PeripheralBox as HasState>⟧ devices.old }
+        requires covers { length claims.old ≡ length (devices_in ⟦<PeripheralBox as HasState>⟧ devices.old) }
+        ensures serves { let boxes = ⟦<PeripheralBox as HasState>⟧ in
+            Serves D.Disk self.old claims.old (devices_in boxes devices.old) totals.old
+            (CallOf number call.now) (answered result)
+            self.new claims.new (devices_in boxes devices.new) totals.new }
+        ensures sound { AreDevicesSound ⟦<PeripheralBox as HasState>⟧ devices.new }
+    {
+        let alloc = self.alloc;
+        device_calls::call(
+            alloc,
+            &mut self.controls,
+            claims,
+            devices,
+            totals,
+            number,
+            call,
+        )
     }
 
     /// Takes the event that may be delivered to a control. A control that isn't there has none.

@@ -1,19 +1,18 @@
 //! The calls of an application, and what happens at devices.
-ghost use Rattle.std.specs.Prelude.{◌≡◌, ◌<◌, ◌≤◌, false, true, List, Some, length, map};
+ghost use Rattle.std.specs.Prelude.{◌≡◌, ◌<◌, false, true, List, Some, length};
 ghost use Rattle.pos_service.specs.Calls.{is_common, serves};
 ghost use Rattle.pos_service.specs.DisplayCalls.{HasCursor};
 ghost use Rattle.pos_service.specs.Kinds.{is_display};
 ghost use Rattle.pos_service.specs.Peripherals.{input_fits};
 ghost use Rattle.pos_service.specs.Stations.{station_of, CalledBy, IsOpen, StaysInService, TakenAt};
 ghost use Rattle.pos_common.specs.Held.{Held, controls_of};
-ghost use Rattle.pos_counter.specs.Parts.{ArePartsSound, Serves, ServesBeside, machine_of};
+ghost use Rattle.pos_counter.specs.Parts.{AreDevicesSound, ArePartsSound, CallsAt, FitsAt, IsDoneAt, MayBeCalled, Serves, ServesBeside, devices_in, over};
 ghost use Rattle.pos_counter.specs.Responses.{answered, taken_in, shown};
 ghost use Rattle.pos_counter.specs.Steps.{Step, CallOf, InputTo, Snapshot as SnapshotOf, DeviceDoes, device_rows};
 ghost use Rattle.pos_counter.specs.Machine.{Shared};
 
 use crate::control_calls::{claim, close, open, release};
-use crate::devices::find;
-use crate::entry::Entry;
+use crate::devices::Devices;
 use crate::faults::{InputFault, SnapshotFault};
 use crate::properties::{get, set};
 use crate::totals_calls::{call_totals, is_totals};
@@ -30,33 +29,32 @@ pub(crate) fn call<D: Disk>(
     alloc: Global,
     controls: &mut [Control],
     claims: &mut Claims,
-    entries: &[Entry],
-    boxes: &mut [PeripheralBox],
+    devices: &mut Devices,
     totals: &mut Totals<D>,
     number: usize,
     call: &Call,
 ) -> Result<Answer, NoMemory>
-    requires sound { ArePartsSound controls.old entries.now (map ⟦<PeripheralBox as HasState>⟧.state boxes.old) }
-    requires covers { length claims.old ≡ length entries.now }
-    ensures { let state = ⟦<PeripheralBox as HasState>⟧.state in
-        Serves D.Disk controls.old claims.old entries.now (map state boxes.old) totals.old
-        (CallOf number call.now) (answered result) controls.new claims.new (map state boxes.new) totals.new }
+    requires parts { ArePartsSound controls.old (devices_in ⟦<PeripheralBox as HasState>⟧ devices.old) }
+    requires sound { AreDevicesSound ⟦<PeripheralBox as HasState>⟧ devices.old }
+    requires covers { length claims.old ≡ length (devices_in ⟦<PeripheralBox as HasState>⟧ devices.old) }
+    ensures serves { let boxes = ⟦<PeripheralBox as HasState>⟧ in
+        Serves D.Disk controls.old claims.old (devices_in boxes devices.old) totals.old
+        (CallOf number call.now) (answered result) controls.new claims.new (devices_in boxes devices.new) totals.new }
+    ensures sound { AreDevicesSound ⟦<PeripheralBox as HasState>⟧ devices.new }
 {
     if number >= controls.len() {
         return Ok(Answer::Refused(Code::Illegal, 0));
     }
     match call {
-        Call::Open(name) => Ok(open(controls, entries, boxes, number, name.as_slice())),
+        Call::Open(name) => Ok(open(controls, devices, number, name.as_slice())),
         Call::Close => Ok(close(controls, claims, totals, number)),
         Call::Claim(timeout) => Ok(claim(controls, claims, totals, number, *timeout)),
         Call::Release => Ok(release(controls, claims, totals, number)),
         Call::Set(property, value) => set(
-            controls, claims, entries, totals, number, *property, value,
+            controls, claims, devices, totals, number, *property, value,
         ),
-        Call::Get(property) => get(controls, claims, entries, boxes, totals, number, *property),
-        _ => call_category(
-            alloc, controls, claims, entries, boxes, totals, number, call,
-        ),
+        Call::Get(property) => get(controls, claims, devices, totals, number, *property),
+        _ => call_category(alloc, controls, claims, devices, totals, number, call),
     }
 }
 
@@ -65,18 +63,19 @@ fn call_category<D: Disk>(
     alloc: Global,
     controls: &mut [Control],
     claims: &Claims,
-    entries: &[Entry],
-    boxes: &mut [PeripheralBox],
+    devices: &mut Devices,
     totals: &mut Totals<D>,
     number: usize,
     call: &Call,
 ) -> Result<Answer, NoMemory>
     requires in_range { number < length controls.old }
     requires own { is_common call.now ≡ false }
-    requires sound { ArePartsSound controls.old entries.now (map ⟦<PeripheralBox as HasState>⟧.state boxes.old) }
-    ensures { let state = ⟦<PeripheralBox as HasState>⟧.state in
-        Serves D.Disk controls.old claims.now entries.now (map state boxes.old) totals.old
-        (CallOf number call.now) (answered result) controls.new claims.now (map state boxes.new) totals.new }
+    requires parts { ArePartsSound controls.old (devices_in ⟦<PeripheralBox as HasState>⟧ devices.old) }
+    requires sound { AreDevicesSound ⟦<PeripheralBox as HasState>⟧ devices.old }
+    ensures serves { let boxes = ⟦<PeripheralBox as HasState>⟧ in
+        Serves D.Disk controls.old claims.now (devices_in boxes devices.old) totals.old
+        (CallOf number call.now) (answered result) controls.new claims.now (devices_in boxes devices.new) totals.new }
+    ensures sound { AreDevicesSound ⟦<PeripheralBox as HasState>⟧ devices.new }
 {
     let Some(place) = controls[number].device() else {
         return Ok(Answer::Refused(Code::Closed, 0));
@@ -85,15 +84,45 @@ fn call_category<D: Disk>(
         return call_totals(controls, claims, totals, number, call);
     }
     let category = controls[number].category();
-    call_device(
+    call_there(
+        alloc, controls, number, category, place, claims, devices, call,
+    )
+}
+
+/// A call of a category's own on an open control of the device at a place, which is handed to what serves it.
+fn call_there(
+    alloc: Global,
+    controls: &mut [Control],
+    number: usize,
+    category: Category,
+    place: usize,
+    claims: &Claims,
+    devices: &mut Devices,
+    call: &Call,
+) -> Result<Answer, NoMemory>
+    requires open { IsOpen category (controls_of controls.old) number }
+    requires sound { AreDevicesSound ⟦<PeripheralBox as HasState>⟧ devices.old }
+    requires may { let devices = devices_in ⟦<PeripheralBox as HasState>⟧ devices.old in
+        MayBeCalled devices place category (controls_of controls.old) number }
+    ensures done { let boxes = ⟦<PeripheralBox as HasState>⟧ in
+        IsDoneAt (devices_in boxes devices.old) place (CallsAt category claims.now number call.now result)
+        controls.old controls.new (devices_in boxes devices.new) }
+    ensures sound { AreDevicesSound ⟦<PeripheralBox as HasState>⟧ devices.new }
+{
+    let Some(mut peripheral) = devices.registry.take(place) else {
+        unreachable!();
+    };
+    let answer = call_device(
         alloc,
         controls,
         number,
         category,
         claims,
-        &mut boxes[place],
+        &mut peripheral,
         call,
-    )
+    );
+    devices.registry.put(place, peripheral);
+    answer
 }
 
 /// A call of a category's own on an open control of a device with a peripheral, which is the device's. Where that is a
@@ -126,6 +155,9 @@ fn call_device(
         Category::LineDisplay => {
             pos_display::call(alloc, controls, number, claims, peripheral, call)
         }
+        Category::PosPrinter => {
+            pos_printer::call(alloc, controls, number, claims, peripheral, call)
+        }
         Category::HardTotals => unreachable!(),
     }
 }
@@ -134,29 +166,53 @@ fn call_device(
 pub(crate) fn input(
     alloc: Global,
     controls: &mut [Control],
-    entries: &[Entry],
-    boxes: &mut [PeripheralBox],
+    devices: &mut Devices,
     name: &[u8],
     input: &Input,
 ) -> Result<(), InputFault>
-    requires { ArePartsSound controls.old entries.now (map ⟦<PeripheralBox as HasState>⟧.state boxes.old) }
-    ensures { let state = ⟦<PeripheralBox as HasState>⟧.state in
-        ServesBeside controls.old entries.now (map state boxes.old) (InputTo name.now input.now) (taken_in result)
-        controls.new (map state boxes.new) }
+    requires parts { ArePartsSound controls.old (devices_in ⟦<PeripheralBox as HasState>⟧ devices.old) }
+    requires sound { AreDevicesSound ⟦<PeripheralBox as HasState>⟧ devices.old }
+    ensures serves { let boxes = ⟦<PeripheralBox as HasState>⟧ in
+        ServesBeside controls.old (devices_in boxes devices.old) (InputTo name.now input.now) (taken_in result)
+        controls.new (devices_in boxes devices.new) }
+    ensures sound { AreDevicesSound ⟦<PeripheralBox as HasState>⟧ devices.new }
 {
-    let Some(place) = find(entries, name) else {
+    let Some(place) = devices.find(name) else {
         return Err(InputFault::NoDevice);
     };
-    if place >= boxes.len() {
+    let Some(peripheral) = devices.registry.peripheral(place) else {
         return Err(InputFault::NoDevice);
-    }
-    if !input.fits(boxes[place].kind()) {
+    };
+    if !input.fits(peripheral.kind()) {
         return Err(InputFault::WrongInput);
     }
-    match take_input(alloc, controls, place, &mut boxes[place], input) {
+    match input_there(alloc, controls, place, devices, input) {
         Ok(()) => Ok(()),
         Err(NoMemory) => Err(InputFault::NoMemory),
     }
+}
+
+/// Hands an input to what serves the device at a place, which it fits.
+fn input_there(
+    alloc: Global,
+    controls: &mut [Control],
+    place: usize,
+    devices: &mut Devices,
+    input: &Input,
+) -> Result<(), NoMemory>
+    requires sound { AreDevicesSound ⟦<PeripheralBox as HasState>⟧ devices.old }
+    requires fits { FitsAt (devices_in ⟦<PeripheralBox as HasState>⟧ devices.old) place input.now }
+    ensures done { let boxes = ⟦<PeripheralBox as HasState>⟧ in
+        IsDoneAt (devices_in boxes devices.old) place (TakenAt input.now place result)
+        controls.old controls.new (devices_in boxes devices.new) }
+    ensures sound { AreDevicesSound ⟦<PeripheralBox as HasState>⟧ devices.new }
+{
+    let Some(mut peripheral) = devices.registry.take(place) else {
+        unreachable!();
+    };
+    let taken = take_input(alloc, controls, place, &mut peripheral, input);
+    devices.registry.put(place, peripheral);
+    taken
 }
 
 /// Hands an input that fits to the peripheral of the device at a place. Want of memory changes nothing.
@@ -178,28 +234,25 @@ fn take_input(
     match peripheral.kind() {
         Kind::Drawer => pos_drawer::take_input(controls, place, peripheral, input),
         Kind::Scanner => pos_scanner::take_input(alloc, controls, place, peripheral, input),
-        Kind::Display { .. } | Kind::Printer { .. } => unreachable!(),
+        Kind::Display { .. } => unreachable!(),
+        Kind::Printer { .. } => pos_printer::take_input(controls, place, peripheral, input),
     }
 }
 
 /// What the first device with a name is physically.
-pub(crate) fn snapshot<P: HasState>(
-    entries: &[Entry],
-    peripherals: &[P],
-    name: &[u8],
-) -> Result<Snapshot, SnapshotFault>
-    requires { length (map P.state peripherals.now) ≤ length entries.now }
+pub(crate) fn snapshot(devices: &Devices, name: &[u8]) -> Result<Snapshot, SnapshotFault>
+    requires { AreDevicesSound ⟦<PeripheralBox as HasState>⟧ devices.now }
     ensures { (helds : List Held) (shared : Shared) →
-        let machine = machine_of helds entries.now (map P.state peripherals.now) shared in
+        let machine = over helds (devices_in ⟦<PeripheralBox as HasState>⟧ devices.now) shared in
         Step machine (SnapshotOf name.now) (shown result) machine }
 {
-    let Some(place) = find(entries, name) else {
+    let Some(place) = devices.find(name) else {
         return Err(SnapshotFault::NoDevice);
     };
-    if place >= peripherals.len() {
+    let Some(peripheral) = devices.registry.peripheral(place) else {
         return Err(SnapshotFault::NoDevice);
-    }
-    match peripherals[place].snapshot() {
+    };
+    match peripheral.snapshot() {
         Ok(snapshot) => Ok(snapshot),
         Err(_) => Err(SnapshotFault::NoMemory),
     }

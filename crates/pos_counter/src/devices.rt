@@ -1,81 +1,137 @@
-//! The devices of the profile, by their names.
-ghost use Rattle.std.specs.Prelude.{◌≡◌, ◌<◌, ◌≤◌, ◌||◌, List, [], is_none, is_some, slice_get, length, map, IfSome};
-ghost use Rattle.pos_service.specs.Peripherals.{PeripheralState};
+//! The devices of a counter, by their names and places.
+ghost use Rattle.std.specs.Prelude.{◌≡◌, [], Some, IfOk, IsSome, length, map};
+ghost use Rattle.pos_profile.specs.Registries.{devices as registered, devices_of as registered_in, parked};
 ghost use Rattle.pos_service.specs.Stations.{signs_in};
-ghost use Rattle.pos_counter.specs.Machine.{Shared, place_of, found_under};
-ghost use Rattle.pos_counter.specs.Parts.{devices_of, kind_at, machine_of, standing_at};
+ghost use Rattle.pos_counter.specs.Machine.{device_at, found_at, kind_in, place_of, station_in};
+ghost use Rattle.pos_counter.specs.Parts.{AreDevicesSound, devices_in, profile_devices, totals_name, totals_place};
 
-use crate::entry::Entry;
-use pos_service::{Category, Finding, HasState, Kind, PaperLevel, Signs};
+use pos_profile::{Profile, Registry, Slot};
+use pos_service::{
+    Bytes, Category, Finding, HasState, Kind, NoMemory, PaperLevel, PeripheralBox, Signs,
+};
+use std::alloc::Global;
 
-/// The place of the first device with a name.
-pub(crate) fn find(entries: &[Entry], name: &[u8]) -> Option<usize>
-    ensures place { (states : List PeripheralState) → result ≡ place_of (devices_of entries.now states) name.now }
-    ensures within { IfSome result (λ place. place < length entries.now) }
+/// The devices of a profile: those that may have a peripheral have the first places, in its order, and the Hard Totals
+/// device, where there is one, has the last.
+pub(crate) struct Devices {
+    pub(crate) registry: Registry,
+    totals: Option<Bytes>,
+}
+
+/// The name of the Hard Totals device of a profile, if it has one.
+fn copy_totals(alloc: Global, profile: &Profile) -> Result<Option<Bytes>, NoMemory>
+    ensures { IfOk result (λ name. name ≡ totals_name profile.now.devices) }
 {
-    for (place, entry) in entries.iter().enumerate() {
-        if entry.name.as_slice() == name {
-            return Some(place);
+    match profile.totals() {
+        Some(entry) => Ok(Some(Bytes::from_slice(alloc, entry.name.as_bytes())?)),
+        None => Ok(None),
+    }
+}
+
+impl Devices {
+    /// The devices of a profile, each vacant. An empty list becomes a part of them; want of memory ends that list.
+    pub(crate) fn new(alloc: Global, profile: &Profile, slots: Vec<Slot>) -> Result<Self, NoMemory>
+        requires empty { slots.items ≡ [] }
+        ensures vacant { IfOk result (λ devices.
+            devices_in ⟦<PeripheralBox as HasState>⟧ devices ≡ profile_devices profile.now.devices) }
+        ensures sound { IfOk result (λ devices. AreDevicesSound ⟦<PeripheralBox as HasState>⟧ devices) }
+    {
+        let Ok(totals) = copy_totals(alloc, profile) else {
+            slots.destroy_empty();
+            return Err(NoMemory);
+        };
+        let registry = Registry::new(alloc, profile, slots)?;
+        Ok(Devices { registry, totals })
+    }
+
+    /// The place of the first device with a name.
+    pub(crate) fn find(&self, name: &[u8]) -> Option<usize>
+        requires { AreDevicesSound ⟦<PeripheralBox as HasState>⟧ self.now }
+        ensures { result ≡ place_of (devices_in ⟦<PeripheralBox as HasState>⟧ self.now) name.now }
+    {
+        match self.registry.find(name) {
+            Some(place) => Some(place),
+            None => self.find_totals(name),
         }
     }
-    None
-}
 
-/// What a control of a category finds under a name.
-pub(crate) fn find_for<P: HasState>(
-    category: Category,
-    entries: &[Entry],
-    peripherals: &[P],
-    name: &[u8],
-) -> Finding
-    requires { length peripherals.now ≤ length entries.now }
-    ensures { (shared : Shared) →
-        result ≡ found_under (machine_of [] entries.now (map P.state peripherals.now) shared) category name.now }
-{
-    let Some(place) = find(entries, name) else {
-        return Finding::NotThere;
-    };
-    let kind = entries[place].kind;
-    if !category.serves(kind) {
-        return Finding::NotThere;
-    }
-    if !is_attached(kind, peripherals, place) {
-        return Finding::Vacant;
-    }
-    Finding::At(place)
-}
-
-/// Whether a device of this kind at a place has its peripheral, where it is of one that has any.
-fn is_attached<P: HasState>(kind: Option<Kind>, peripherals: &[P], place: usize) -> bool
-    ensures { result ≡ (is_none kind || is_some (slice_get (map P.state peripherals.now) place)) }
-{
-    kind.is_none() || place < peripherals.len()
-}
-
-/// What the device at the place is, where it has a peripheral.
-pub(crate) fn kind_at(entries: &[Entry], place: Option<usize>) -> Option<Kind>
-    ensures { result ≡ kind_at entries.now place }
-{
-    if let Some(place) = place {
-        if let Some(entry) = entries.get(place) {
-            return entry.kind;
+    /// The place of the Hard Totals device, where it has the name.
+    fn find_totals(&self, name: &[u8]) -> Option<usize>
+        ensures { let list = registered ⟦<PeripheralBox as HasState>⟧ self.now.registry in
+            result ≡ totals_place (length list) name.now self.now.totals }
+    {
+        match &self.totals {
+            Some(totals) if name == totals.as_slice() => Some(self.registry.count()),
+            _ => None,
         }
     }
-    None
-}
 
-/// The signs of the peripheral at the place, each false or good where there is none.
-pub(crate) fn signs_at<P: HasState>(peripherals: &[P], place: Option<usize>) -> Signs
-    ensures { result ≡ signs_in (standing_at (map P.state peripherals.now) place) }
-{
-    if let Some(place) = place {
-        if let Some(peripheral) = peripherals.get(place) {
-            return peripheral.signs();
+    /// What a control of a category finds under a name.
+    pub(crate) fn find_for(&self, category: Category, name: &[u8]) -> Finding
+        requires { AreDevicesSound ⟦<PeripheralBox as HasState>⟧ self.now }
+        ensures { let devices = devices_in ⟦<PeripheralBox as HasState>⟧ self.now in
+            result ≡ found_at category (place_of devices name.now) (device_at devices (place_of devices name.now)) }
+    {
+        let Some(place) = self.find(name) else {
+            return Finding::NotThere;
+        };
+        self.find_at(category, place)
+    }
+
+    /// What a control of a category finds at the place of a device.
+    fn find_at(&self, category: Category, place: usize) -> Finding
+        requires { IsSome (device_at (devices_in ⟦<PeripheralBox as HasState>⟧ self.now) (Some place)) }
+        ensures { let devices = devices_in ⟦<PeripheralBox as HasState>⟧ self.now in
+            result ≡ found_at category (Some place) (device_at devices (Some place)) }
+    {
+        let kind = self.kind_at(Some(place));
+        if !category.serves(kind) {
+            return Finding::NotThere;
+        }
+        if kind.is_some() && self.registry.peripheral(place).is_none() {
+            return Finding::Vacant;
+        }
+        Finding::At(place)
+    }
+
+    /// What the device at the place is, where it has a peripheral.
+    pub(crate) fn kind_at(&self, place: Option<usize>) -> Option<Kind>
+        ensures { result ≡ kind_in (device_at (devices_in ⟦<PeripheralBox as HasState>⟧ self.now) place) }
+    {
+        match place {
+            Some(place) => self.registry.kind(place),
+            None => None,
         }
     }
-    Signs {
-        drawer_open: false,
-        cover_open: false,
-        paper: PaperLevel::Good,
+
+    /// Ends the devices: those that may have a peripheral, each once, in the profile's order, with their peripherals,
+    /// which are taken out of service and else as they were.
+    pub(crate) fn into_entries(self) -> Vec<Slot>
+        requires { Unit {0} }
+        ensures { let boxes = ⟦<PeripheralBox as HasState>⟧ in
+            registered_in boxes result.items ≡ map parked (registered boxes self.registry) }
+    {
+        let Devices {
+            registry,
+            totals: _,
+        } = self;
+        registry.into_entries()
+    }
+
+    /// The signs of the peripheral at the place, each false or good where there is none.
+    pub(crate) fn signs_at(&self, place: Option<usize>) -> Signs
+        ensures { let devices = devices_in ⟦<PeripheralBox as HasState>⟧ self.now in
+            result ≡ signs_in (station_in (device_at devices place)) }
+    {
+        if let Some(place) = place {
+            if let Some(peripheral) = self.registry.peripheral(place) {
+                return peripheral.signs();
+            }
+        }
+        Signs {
+            drawer_open: false,
+            cover_open: false,
+            paper: PaperLevel::Good,
+        }
     }
 }

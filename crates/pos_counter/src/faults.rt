@@ -25,6 +25,17 @@ pub enum InputFault {
     NoMemory,
 }
 
+/// Why there was no work on a device's output.
+#[derive(Clone, Copy, Debug, PartialEq, Eq, Error)]
+pub enum WorkFault {
+    /// No device has the name, or no peripheral stands behind it.
+    #[error("there is no such device")]
+    NoDevice,
+    /// No memory was found, and nothing has changed.
+    #[error("no memory")]
+    NoMemory,
+}
+
 /// Why nothing is shown of a device.
 #[derive(Clone, Copy, Debug, PartialEq, Eq, Error)]
 pub enum SnapshotFault {

@@ -1,5 +1,5 @@
 //! Laws over the device machine, and what they say of a counter.
-ghost use Rattle.std.specs.Prelude.{◌≡◌, ◌⊎◌, List, [], ◌∷◌, Some, None, ℕ};
+ghost use Rattle.std.specs.Prelude.{◌≡◌, ◌⊎◌, List, [], ◌∷◌, ◌++◌, Some, None, ℕ};
 ghost use Rattle.pos_dir.specs.declared.file.File.{File};
 ghost use Rattle.pos_disk.specs.State.{Rises};
 ghost use Rattle.pos_service.specs.declared.answer.Answer.{Answer};
@@ -84,6 +84,21 @@ pub fn crash_leaves_a_prefix<D: Disk>(counter: &Counter<D>)
     ensures beside { (old : _) (request : Request) (response : Response)
         → IsStepBeside ⟦<PeripheralBox as HasState>⟧ old request response counter.now
         → IsStep D.Disk ⟦<PeripheralBox as HasState>⟧ old request response counter.now }
+{}
+
+/// A run that is followed by a step is a run: so requests that are carried out as a list, and calls made one by one,
+/// among them those that attach and detach peripherals, are runs of the machine in any order.
+pub fn runs_go_on<D: Disk>(counter: &Counter<D>)
+    // a step behind a run
+    ensures step { (first mid : _) (steps : List (Request × Response)) (request : Request) (response : Response)
+        → IsRun D.Disk ⟦<PeripheralBox as HasState>⟧ first steps mid
+        → IsStep D.Disk ⟦<PeripheralBox as HasState>⟧ mid request response counter.now
+        → IsRun D.Disk ⟦<PeripheralBox as HasState>⟧ first (steps ++ (request, response) ∷ []) counter.now }
+    // a run behind a run
+    ensures run { (first mid : _) (steps more : List (Request × Response))
+        → IsRun D.Disk ⟦<PeripheralBox as HasState>⟧ first steps mid
+        → IsRun D.Disk ⟦<PeripheralBox as HasState>⟧ mid more counter.now
+        → IsRun D.Disk ⟦<PeripheralBox as HasState>⟧ first (steps ++ more) counter.now }
 {}
 
 /// An example. The disk fails in a group; the next recovery keeps it or drops it, by the files that it finds, and it is

@@ -10,9 +10,13 @@ mod device_calls;
 mod devices;
 #[cfg(test)]
 mod display_tests;
-mod entry;
+mod exchange;
+#[cfg(test)]
+mod exchange_tests;
 mod faults;
 pub mod laws;
+#[cfg(test)]
+mod printer_tests;
 mod properties;
 mod request;
 #[cfg(test)]
@@ -24,7 +28,9 @@ mod tests;
 mod totals_calls;
 #[cfg(test)]
 mod totals_tests;
+mod working;
 
 pub use counter::{Counter, Ended};
-pub use faults::{ControlFault, InputFault, SnapshotFault};
+pub use faults::{ControlFault, InputFault, SnapshotFault, WorkFault};
+pub use pos_profile::{AttachFault, DetachFault};
 pub use request::{Request, Response};

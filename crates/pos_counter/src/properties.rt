@@ -1,79 +1,84 @@
 //! The properties of a control, by what is known of its device (common chapter, and those of the categories).
-ghost use Rattle.std.specs.Prelude.{◌≡◌, ◌<◌, ◌≤◌, ◌&&◌, [], ℕ, List, Option, length, map, not};
+ghost use Rattle.std.specs.Prelude.{◌≡◌, ◌<◌, ◌&&◌, [], ℕ, List, Option, length, not};
 ghost use Rattle.pos_service.specs.declared.call.Call.TheVariants as call;
-ghost use Rattle.pos_service.specs.Claims.{is_own};
-ghost use Rattle.pos_service.specs.Peripherals.{PeripheralState};
+ghost use Rattle.pos_service.specs.Claims.{is_own, is_foreign};
 ghost use Rattle.pos_store.specs.Standing.{Standing};
-ghost use Rattle.pos_counter.specs.Parts.{ArePartsSound, Serves, machine_with, part_of};
+ghost use Rattle.pos_counter.specs.Parts.{ArePartsSound, Serves, devices_in, machine_with, part_of};
 ghost use Rattle.pos_counter.specs.Machine.{holder_in};
 ghost use Rattle.pos_counter.specs.Responses.{answered};
 ghost use Rattle.pos_counter.specs.Steps.{Step, CallOf, facts_of};
 ghost use Rattle.pos_counter.specs.Parts.{IsRecovering};
 ghost use Rattle.pos_counter.specs.Totals.{asks_recovery, file_facts};
 
-use crate::devices::{kind_at, signs_at};
-use crate::entry::Entry;
+use crate::devices::Devices;
 use crate::totals_calls::is_totals;
 use pos_common::{Claims, Control};
 use pos_disk::Disk;
-use pos_service::{Answer, Facts, FileFacts, HasState, NoMemory, Property, Value};
+use pos_service::{Answer, Facts, FileFacts, HasState, NoMemory, PeripheralBox, Property, Value};
 use pos_totals::Totals;
 
 /// Gets a property. Want of memory, for a copy of bytes, changes nothing.
-pub(crate) fn get<P: HasState, D: Disk>(
+pub(crate) fn get<D: Disk>(
     controls: &[Control],
     claims: &Claims,
-    entries: &[Entry],
-    peripherals: &[P],
+    devices: &Devices,
     totals: &Totals<D>,
     number: usize,
     property: Property,
 ) -> Result<Answer, NoMemory>
     requires in_range { number < length controls.now }
-    requires attached { length (map P.state peripherals.now) ≤ length entries.now }
     ensures { (left : List Standing) →
-        let states = map P.state peripherals.now in
-        let machine = machine_with controls.now claims.now entries.now states (part_of D.Disk totals.now left) in
+        let devices = devices_in ⟦<PeripheralBox as HasState>⟧ devices.now in
+        let machine = machine_with controls.now claims.now devices (part_of D.Disk totals.now left) in
         Step machine (CallOf number (call.Get property)) (answered result) machine }
 {
     let control = &controls[number];
-    let facts = find_facts(control, claims, entries, peripherals, totals, number);
+    let facts = find_facts(control, claims, devices, totals, number);
     control.get(property, &facts)
 }
 
 /// What is known of the control with a number and of its device.
-fn find_facts<P: HasState, D: Disk>(
+fn find_facts<D: Disk>(
     control: &Control,
     claims: &Claims,
-    entries: &[Entry],
-    peripherals: &[P],
+    devices: &Devices,
     totals: &Totals<D>,
     number: usize,
 ) -> Facts
-    requires attached { length (map P.state peripherals.now) ≤ length entries.now }
     ensures { (left : List Standing) →
-        let states = map P.state peripherals.now in
-        let machine = machine_with [] claims.now entries.now states (part_of D.Disk totals.now left) in
+        let devices = devices_in ⟦<PeripheralBox as HasState>⟧ devices.now in
+        let machine = machine_with [] claims.now devices (part_of D.Disk totals.now left) in
         result ≡ facts_of machine number control.now.control }
 {
     let device = control.device();
+    let holder = find_holder(control, claims, totals.area());
     Facts {
-        is_claimed: is_holder(control, claims, totals.area(), number),
+        is_claimed: is_own(number, holder),
+        is_foreign: is_foreign(number, holder),
         in_transaction: totals.in_transaction(number),
-        kind: kind_at(entries, device),
-        signs: signs_at(peripherals, device),
+        kind: devices.kind_at(device),
+        signs: devices.signs_at(device),
         totals_size: totals.size(),
         files: find_file_facts(totals),
     }
 }
 
-/// Whether the control with a number holds its device, by who holds the area.
-fn is_holder(control: &Control, claims: &Claims, area: Option<usize>, number: usize) -> bool
-    ensures { let control = control.now.control in
-        result ≡ is_own number (holder_in control.category claims.now area control.device) }
+/// Whether the control with a number is the holder of a device.
+fn is_own(number: usize, holder: Option<usize>) -> bool
+    ensures { result ≡ is_own number holder }
 {
-    match find_holder(control, claims, area) {
+    match holder {
         Some(holder) => holder == number,
+        None => false,
+    }
+}
+
+/// Whether another control than the one with a number is the holder of a device.
+fn is_foreign(number: usize, holder: Option<usize>) -> bool
+    ensures { result ≡ is_foreign number holder }
+{
+    match holder {
+        Some(holder) => holder != number,
         None => false,
     }
 }
@@ -108,24 +113,24 @@ fn find_file_facts<D: Disk>(totals: &Totals<D>) -> Option<FileFacts>
 pub(crate) fn set<D: Disk>(
     controls: &mut [Control],
     claims: &Claims,
-    entries: &[Entry],
+    devices: &Devices,
     totals: &mut Totals<D>,
     number: usize,
     property: Property,
     value: &Value,
 ) -> Result<Answer, NoMemory>
     requires { number < length controls.old }
-    ensures { (states : List PeripheralState) → ArePartsSound controls.old entries.now states →
-        Serves D.Disk controls.old claims.now entries.now states totals.old
-        (CallOf number (call.Set property value.now)) (answered result) controls.new claims.now states totals.new }
+    ensures { let devices = devices_in ⟦<PeripheralBox as HasState>⟧ devices.now in
+        ArePartsSound controls.old devices → Serves D.Disk controls.old claims.now devices totals.old
+        (CallOf number (call.Set property value.now)) (answered result) controls.new claims.now devices totals.new }
 {
     if is_recovering(&controls[number], totals.is_ready(), property, value) {
-        return set_recovered(controls, claims, entries, totals, number, property, value);
+        return set_recovered(controls, claims, devices, totals, number, property, value);
     }
     let control = &mut controls[number];
     let holder = find_holder(control, claims, totals.area());
     let device = control.device();
-    let kind = kind_at(entries, device);
+    let kind = devices.kind_at(device);
     Ok(control.set(number, holder, kind, property, value))
 }
 
@@ -133,7 +138,7 @@ pub(crate) fn set<D: Disk>(
 fn set_recovered<D: Disk>(
     controls: &mut [Control],
     claims: &Claims,
-    entries: &[Entry],
+    devices: &Devices,
     totals: &mut Totals<D>,
     number: usize,
     property: Property,
@@ -141,12 +146,12 @@ fn set_recovered<D: Disk>(
 ) -> Result<Answer, NoMemory>
     requires in_range { number < length controls.old }
     requires recovers { IsRecovering controls.old number property value.now totals.old.totals.mode }
-    ensures { (states : List PeripheralState) → ArePartsSound controls.old entries.now states →
-        Serves D.Disk controls.old claims.now entries.now states totals.old
-        (CallOf number (call.Set property value.now)) (answered result) controls.new claims.now states totals.new }
+    ensures { let devices = devices_in ⟦<PeripheralBox as HasState>⟧ devices.now in
+        ArePartsSound controls.old devices → Serves D.Disk controls.old claims.now devices totals.old
+        (CallOf number (call.Set property value.now)) (answered result) controls.new claims.now devices totals.new }
 {
     let holder = find_holder(&controls[number], claims, totals.area());
-    let kind = kind_at(entries, controls[number].device());
+    let kind = devices.kind_at(controls[number].device());
     match totals.recover() {
         Ok(()) => Ok(controls[number].set(number, holder, kind, property, value)),
         Err(fault) => match fault.code() {

@@ -1,8 +1,10 @@
 ghost use Rattle.std.specs.Prelude.{◌≡◌};
-ghost use Rattle.pos_counter.specs.Responses.{response_of, made, answered, taken_in, shown};
+ghost use Rattle.pos_counter.specs.Responses.{response_of, made, answered, taken_in, worked, shown};
 
-use crate::faults::{ControlFault, InputFault, SnapshotFault};
-use pos_service::{Answer, Bytes, Call, Category, ErrorReply, Event, Input, NoMemory, Snapshot};
+use crate::faults::{ControlFault, InputFault, SnapshotFault, WorkFault};
+use pos_service::{
+    Answer, Bytes, Call, Category, ErrorReply, Event, Input, NoMemory, Snapshot, Worked,
+};
 
 /// What may be asked of a counter: controls by their numbers, devices by their names.
 #[derive(Debug, Drop)]
@@ -13,6 +15,8 @@ pub enum Request {
     CallOf(usize, Call),
     /// Something happens at a device.
     InputTo(Bytes, Input),
+    /// The first request of output that waits for a device is to be done.
+    WorkOn(Bytes),
     /// The event that may be delivered to a control, with the application's answer to an ErrorEvent.
     Deliver(usize, ErrorReply),
     /// What a device is physically.
@@ -34,6 +38,8 @@ pub enum Response {
     NoDevice,
     /// The device has no such input.
     WrongInput,
+    /// What has come of the work.
+    Worked(Worked),
     /// The event, or none.
     Delivered(Option<Event>),
     /// What the device is physically.
@@ -73,6 +79,17 @@ impl Response {
             Err(InputFault::NoDevice) => Response::NoDevice,
             Err(InputFault::WrongInput) => Response::WrongInput,
             Err(InputFault::NoMemory) => Response::OutOfMemory,
+        }
+    }
+
+    /// What `Counter::work` answers.
+    pub(crate) fn of_work(answer: Result<Worked, WorkFault>) -> Self
+        ensures { response_of result ≡ worked answer }
+    {
+        match answer {
+            Ok(worked) => Response::Worked(worked),
+            Err(WorkFault::NoDevice) => Response::NoDevice,
+            Err(WorkFault::NoMemory) => Response::OutOfMemory,
         }
     }
 

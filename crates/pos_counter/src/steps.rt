@@ -3,9 +3,10 @@ use crate::support::{counter_over, end};
 use crate::{Request, Response};
 use pos_disk::Disk;
 use pos_service::display_text::DisplayCell;
+use pos_service::receipt_text::{Mark, PrintedCharacter};
 use pos_service::{
-    Answer, Bytes, Call, Category, Code, ErrorReply, Event, Input, NoMemory, Plant, Property,
-    Snapshot, Value,
+    Answer, Bytes, Call, Category, Code, ErrorReply, Event, Input, Locus, NoMemory, Plant,
+    Property, Snapshot, Value, Worked,
 };
 use std::alloc::{AllocError, Global};
 
@@ -20,9 +21,18 @@ pub enum Wanted<'a> {
     Bytes(&'a [u8]),
     Refused(Code, u32),
     Status(u32),
+    /// An OutputCompleteEvent with this OutputID.
+    Completed(u64),
+    /// An ErrorEvent with EL_OUTPUT.
+    OutputError(Code, u32),
     NoEvent,
+    TakenIn,
+    NoDevice,
     WrongInput,
+    Worked(Worked),
     Shows(&'a [u8], &'a [u32]),
+    /// A printer whose cover is open or not, with so many lines of paper left, and what it has printed.
+    Printed(bool, u32, &'a [Mark], &'a [u8]),
 }
 
 pub const NOTHING: Wanted<'static> = Wanted::Nothing;
@@ -44,6 +54,14 @@ pub const CLOSED: Wanted<'static> = Wanted::Refused(Code::Closed, 0);
 pub const TIMEOUT: Wanted<'static> = Wanted::Refused(Code::Timeout, 0);
 
 pub const NO_EXIST: Wanted<'static> = Wanted::Refused(Code::NoExist, 0);
+
+pub const BUSY: Wanted<'static> = Wanted::Refused(Code::Busy, 0);
+
+pub const COVER_OPEN: Wanted<'static> = Wanted::Refused(Code::Extended, 201);
+
+pub const PAPER_END: Wanted<'static> = Wanted::Refused(Code::Extended, 203);
+
+pub const IDLE: Wanted<'static> = Wanted::Worked(Worked::Idle);
 
 /// Whether a call gives what is wanted.
 fn gives(value: &Value, wanted: Wanted<'_>) -> bool {
@@ -78,6 +96,44 @@ fn shows(plant: &Plant, characters: &[u8], attributes: &[u32]) -> bool {
     }
 }
 
+/// Whether a printer's cover and paper are so.
+fn is_printed(plant: &Plant, cover: bool, left: u32, marks: &[Mark], text: &[u8]) -> bool {
+    match plant {
+        Plant::Printer(receipt) => {
+            let (told, characters) = receipt.printed();
+            receipt.is_cover_open() == cover
+                && receipt.lines_left() == left
+                && told == marks
+                && characters
+                    .iter()
+                    .map(|character: &PrintedCharacter| character.byte)
+                    .eq(text.iter().copied())
+        }
+        _ => false,
+    }
+}
+
+/// Whether a device is so.
+fn is_so(plant: &Plant, wanted: Wanted<'_>) -> bool {
+    match wanted {
+        Wanted::Shows(characters, attributes) => shows(plant, characters, attributes),
+        Wanted::Printed(cover, left, marks, text) => is_printed(plant, cover, left, marks, text),
+        _ => false,
+    }
+}
+
+/// Whether an event tells what is wanted.
+fn tells(event: Event, wanted: Wanted<'_>) -> bool {
+    match event {
+        Event::StatusUpdate(status) => matches!(wanted, Wanted::Status(number) if status == number),
+        Event::OutputComplete(id) => matches!(wanted, Wanted::Completed(number) if id == number),
+        Event::Error(code, extended, Locus::Output) => {
+            matches!(wanted, Wanted::OutputError(failure, number) if code == failure && extended == number)
+        }
+        _ => false,
+    }
+}
+
 /// Whether a response is what is wanted.
 fn fits(response: &Response, wanted: Wanted<'_>) -> bool {
     match response {
@@ -86,14 +142,13 @@ fn fits(response: &Response, wanted: Wanted<'_>) -> bool {
         Response::Answered(Answer::Refused(code, extended)) => {
             matches!(wanted, Wanted::Refused(refusal, number) if *code == refusal && *extended == number)
         }
-        Response::Delivered(Some(Event::StatusUpdate(status))) => {
-            matches!(wanted, Wanted::Status(number) if *status == number)
-        }
+        Response::Delivered(Some(event)) => tells(*event, wanted),
         Response::Delivered(None) => matches!(wanted, Wanted::NoEvent),
+        Response::TakenIn => matches!(wanted, Wanted::TakenIn),
+        Response::NoDevice => matches!(wanted, Wanted::NoDevice),
         Response::WrongInput => matches!(wanted, Wanted::WrongInput),
-        Response::Shown(Snapshot(plant)) => {
-            matches!(wanted, Wanted::Shows(characters, attributes) if shows(plant, characters, attributes))
-        }
+        Response::Worked(worked) => matches!(wanted, Wanted::Worked(result) if *worked == result),
+        Response::Shown(Snapshot(plant)) => is_so(plant, wanted),
         _ => false,
     }
 }
@@ -107,17 +162,25 @@ pub enum Step<'a> {
     Claim(i128),
     Release,
     Deliver,
+    Reply(ErrorReply),
     Enable(bool),
     Get(Property),
     SetTruth(Property, bool),
     SetNumber(Property, i128),
     Move(&'a [u8]),
+    MoveCover(&'a [u8], bool),
+    Load(&'a [u8], u32),
+    Work(&'a [u8]),
     Show(&'a [u8]),
     OpenDrawer,
     Text(&'a [u8], i128),
     TextAt(i128, i128, &'a [u8], i128),
     ClearText,
     Scroll(i128, i128),
+    Print(i128, &'a [u8]),
+    PrintNow(i128, &'a [u8]),
+    Cut(i128),
+    ClearOutput,
     Create(&'a [u8], i128),
     Delete(&'a [u8]),
     Find(&'a [u8]),
@@ -146,7 +209,15 @@ fn request_of(alloc: Global, number: usize, step: Step<'_>) -> Result<Request, A
     match step {
         Step::Make(category) => Ok(Request::NewControl(category)),
         Step::Deliver => Ok(Request::Deliver(number, ErrorReply::Default)),
+        Step::Reply(reply) => Ok(Request::Deliver(number, reply)),
         Step::Move(name) => Ok(Request::InputTo(bytes(alloc, name)?, Input::DrawerMoved(false))),
+        Step::MoveCover(name, is_open) => {
+            Ok(Request::InputTo(bytes(alloc, name)?, Input::CoverMoved(is_open)))
+        }
+        Step::Load(name, lines) => {
+            Ok(Request::InputTo(bytes(alloc, name)?, Input::PaperLoaded(lines)))
+        }
+        Step::Work(name) => Ok(Request::WorkOn(bytes(alloc, name)?)),
         Step::Show(name) => Ok(Request::Snapshot(bytes(alloc, name)?)),
         call => Ok(Request::CallOf(number, call_of(alloc, call)?)),
     }
@@ -173,6 +244,17 @@ fn call_of(alloc: Global, step: Step<'_>) -> Result<Call, AllocError> {
         )),
         Step::ClearText => Ok(Call::ClearText),
         Step::Scroll(direction, units) => Ok(Call::ScrollText(direction, units)),
+        call => printer_call_of(alloc, call),
+    }
+}
+
+/// The call of a step of a printer, or of Hard Totals.
+fn printer_call_of(alloc: Global, step: Step<'_>) -> Result<Call, AllocError> {
+    match step {
+        Step::Print(station, text) => Ok(Call::PrintNormal(station, bytes(alloc, text)?)),
+        Step::PrintNow(station, text) => Ok(Call::PrintImmediate(station, bytes(alloc, text)?)),
+        Step::Cut(percentage) => Ok(Call::CutPaper(percentage)),
+        Step::ClearOutput => Ok(Call::ClearOutput),
         call => file_call_of(alloc, call),
     }
 }

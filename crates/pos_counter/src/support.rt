@@ -1,22 +1,21 @@
-//! A counter over a drawer, whose line fails as often as it is told, a scanner, a display, and a disk of the totals.
-ghost use Rattle.std.specs.Prelude.{◌≡◌, ◌≤◌, [], false, IfOk};
-ghost use Rattle.std.specs.Vec.{vec_capacity};
+//! A counter over a drawer, whose line fails as often as it is told, a scanner, a display, a printer, and a disk of the
+//! totals.
+ghost use Rattle.std.specs.Prelude.{◌≡◌, false, IfOk};
 ghost use Rattle.pos_service.specs.Peripherals.{PeripheralState, Asked};
 ghost use Rattle.pos_service.specs.declared.kind.Kind.TheVariants as kind;
 ghost use Rattle.pos_service.specs.declared.plant.Plant.TheVariants as plant;
 ghost use Rattle.pos_sims.specs.Scanners.{scanner_state};
-ghost use Rattle.pos_counter.specs.Counters.{IsCounterSound, states_of};
-ghost use Rattle.pos_counter.specs.Parts.{AllUnparked};
-ghost use Rattle.pos_counter.specs.Profile.{ServesProfile};
+ghost use Rattle.pos_counter.specs.Counters.{IsCounterSound};
 
-use crate::{Counter, Ended};
+use crate::{AttachFault, Counter, DetachFault, Ended};
 use pos_disk::{Disk, MemDisk};
 use pos_image::Images;
+use pos_profile::{Profile, Slot};
 use pos_service::{
     HasState, Input, Kind, NoMemory, Order, PaperLevel, Peripheral, PeripheralBox, Plant, Reply,
     Signs, Snapshot, Taken,
 };
-use pos_sims::PlainDisplay;
+use pos_sims::{PlainDisplay, RollPrinter};
 use std::alloc::{AllocError, Global};
 
 /// A cash drawer whose line fails with the first orders.
@@ -174,14 +173,26 @@ impl Peripheral for TestScanner {
     }
 }
 
-/// Ends peripherals, whether they are in service or not.
-pub fn end_all(mut boxes: Vec<PeripheralBox>)
+/// Ends devices and their peripherals: how many had one that was out of service.
+pub fn end_all(mut entries: Vec<Slot>) -> usize
     requires { Unit {0} }
 {
-    while let Some(mut single) = boxes.pop() {
-        single.park();
+    let mut parked: usize = 0;
+    while let Some(entry) = entries.pop() {
+        let Slot {
+            name: _,
+            kind: _,
+            peripheral,
+        } = entry;
+        if let Some(peripheral) = peripheral {
+            if peripheral.is_parked() {
+                parked = parked.saturating_add(1);
+            }
+            peripheral.end();
+        }
     }
-    boxes.destroy_empty();
+    entries.destroy_empty();
+    parked
 }
 
 /// A disk with these bytes at its start, and zero bytes behind them.
@@ -201,45 +212,116 @@ pub fn formatted(alloc: Global) -> Result<MemDisk, AllocError> {
     }
 }
 
-/// Puts what serves a counter's devices into an empty list with room for it: a drawer, a scanner, and a display of 2
-/// rows of 4 columns, in service.
-fn fill(
-    boxes: &mut Vec<PeripheralBox>,
+/// The devices of these tests: the cash drawer `d1`, the scanner `s1`, the line display `p1` of 2 rows of 4 columns,
+/// the receipt printer `r1` of 8 characters a line whose paper is near its end at 2 lines, and the Hard Totals device
+/// `t1`.
+const BUILT: &str = "[[device]]\nname = \"d1\"\ncategory = \"CashDrawer\"\n\
+    [[device]]\nname = \"s1\"\ncategory = \"Scanner\"\n\
+    [[device]]\nname = \"p1\"\ncategory = \"LineDisplay\"\nrows = 2\ncolumns = 4\n\
+    [[device]]\nname = \"r1\"\ncategory = \"POSPrinter\"\nchars = 8\nlines = 5\nnear = 2\n\
+    [[device]]\nname = \"t1\"\ncategory = \"HardTotals\"\n";
+
+/// A counter over a disk, each of its devices vacant.
+pub fn vacant_counter<D: Disk + Drop>(alloc: Global, disk: D) -> Result<Counter<D>, AllocError>
+    ensures { IfOk result (λ counter. IsCounterSound ⟦<PeripheralBox as HasState>⟧ counter) }
+{
+    let Ok(profile) = Profile::from_text(alloc, BUILT) else {
+        return Err(AllocError);
+    };
+    match Counter::new(alloc, &profile, Vec::new(alloc), disk) {
+        Ok(counter) => Ok(counter),
+        Err(_) => Err(AllocError),
+    }
+}
+
+/// Attaches a peripheral: why it isn't, if so. One that is handed back is ended.
+pub fn attach<D: Disk>(
+    counter: &mut Counter<D>,
+    name: &[u8],
+    peripheral: PeripheralBox,
+) -> Option<AttachFault>
+    requires sound { IsCounterSound ⟦<PeripheralBox as HasState>⟧ counter.old }
+    requires unparked { (⟦<PeripheralBox as HasState>⟧.state peripheral).is_parked ≡ false }
+    ensures { IsCounterSound ⟦<PeripheralBox as HasState>⟧ counter.new }
+{
+    match counter.attach(name, peripheral) {
+        Ok(()) => None,
+        Err((fault, peripheral)) => {
+            peripheral.end();
+            Some(fault)
+        }
+    }
+}
+
+/// Detaches a peripheral, and ends it: why it isn't, if so.
+pub fn detach<D: Disk>(counter: &mut Counter<D>, name: &[u8]) -> Option<DetachFault>
+    requires { IsCounterSound ⟦<PeripheralBox as HasState>⟧ counter.old }
+    ensures { IsCounterSound ⟦<PeripheralBox as HasState>⟧ counter.new }
+{
+    match counter.detach(name) {
+        Ok(peripheral) => {
+            peripheral.end();
+            None
+        }
+        Err(fault) => Some(fault),
+    }
+}
+
+/// What serves the devices of a counter.
+struct Gathered {
+    drawer: PeripheralBox,
+    scanner: PeripheralBox,
+    display: PeripheralBox,
+    printer: PeripheralBox,
+}
+
+/// Gathers peripherals that are in service.
+fn gather(
     drawer: Box<dyn Peripheral>,
     scanner: Box<dyn Peripheral>,
     display: Box<dyn Peripheral>,
-)
-    requires empty { boxes.old.items ≡ [] }
-    requires room { 3 ≤ vec_capacity boxes.old }
-    requires drawer { ((state drawer).kind ≡ kind.Drawer) × ((state drawer).is_parked ≡ false) }
-    requires scanner { ((state scanner).kind ≡ kind.Scanner) × ((state scanner).is_parked ≡ false) }
-    requires display { ((state display).kind ≡ kind.Display 2 4) × ((state display).is_parked ≡ false) }
-    ensures serves { ServesProfile (states_of ⟦<PeripheralBox as HasState>⟧ boxes.new.items) }
-    ensures unparked { AllUnparked (states_of ⟦<PeripheralBox as HasState>⟧ boxes.new.items) }
+    printer: Box<dyn Peripheral>,
+) -> Gathered
+    requires drawer { (state drawer).is_parked ≡ false }
+    requires scanner { (state scanner).is_parked ≡ false }
+    requires display { (state display).is_parked ≡ false }
+    requires printer { (state printer).is_parked ≡ false }
+    ensures drawer { (⟦<PeripheralBox as HasState>⟧.state result.drawer).is_parked ≡ false }
+    ensures scanner { (⟦<PeripheralBox as HasState>⟧.state result.scanner).is_parked ≡ false }
+    ensures display { (⟦<PeripheralBox as HasState>⟧.state result.display).is_parked ≡ false }
+    ensures printer { (⟦<PeripheralBox as HasState>⟧.state result.printer).is_parked ≡ false }
 {
-    boxes.push_reserved(PeripheralBox::new(drawer));
-    boxes.push_reserved(PeripheralBox::new(scanner));
-    boxes.push_reserved(PeripheralBox::new(display));
+    Gathered {
+        drawer: PeripheralBox::new(drawer),
+        scanner: PeripheralBox::new(scanner),
+        display: PeripheralBox::new(display),
+        printer: PeripheralBox::new(printer),
+    }
 }
 
-/// What serves a counter's devices: a closed drawer, whose line fails with so many orders, a scanner that finds no
-/// memory for as many inputs, and a blank display.
-pub fn peripherals(alloc: Global, faults: u32) -> Result<Vec<PeripheralBox>, AllocError>
-    ensures serves { IfOk result (λ boxes. ServesProfile (states_of ⟦<PeripheralBox as HasState>⟧ boxes.items)) }
-    ensures unparked { IfOk result (λ boxes. AllUnparked (states_of ⟦<PeripheralBox as HasState>⟧ boxes.items)) }
+/// Attaches what serves the devices of a counter, each in service.
+fn fill<D: Disk>(counter: &mut Counter<D>, gathered: Gathered)
+    requires sound { IsCounterSound ⟦<PeripheralBox as HasState>⟧ counter.old }
+    requires drawer { (⟦<PeripheralBox as HasState>⟧.state gathered.drawer).is_parked ≡ false }
+    requires scanner { (⟦<PeripheralBox as HasState>⟧.state gathered.scanner).is_parked ≡ false }
+    requires display { (⟦<PeripheralBox as HasState>⟧.state gathered.display).is_parked ≡ false }
+    requires printer { (⟦<PeripheralBox as HasState>⟧.state gathered.printer).is_parked ≡ false }
+    ensures { IsCounterSound ⟦<PeripheralBox as HasState>⟧ counter.new }
 {
-    let drawer = Box::new(alloc, TestDrawer::new(faults))?;
-    let scanner = Box::new(alloc, TestScanner::new(faults))?;
-    let Ok(display) = PlainDisplay::new(alloc, 2, 4) else {
-        return Err(AllocError);
-    };
-    let display = Box::new(alloc, display)?;
-    let mut boxes = Vec::with_capacity(alloc, 3)?;
-    fill(&mut boxes, drawer, scanner, display);
-    Ok(boxes)
+    let Gathered {
+        drawer,
+        scanner,
+        display,
+        printer,
+    } = gathered;
+    let _ = attach(counter, b"d1", drawer);
+    let _ = attach(counter, b"s1", scanner);
+    let _ = attach(counter, b"p1", display);
+    let _ = attach(counter, b"r1", printer);
 }
 
-/// A counter over these peripherals and a disk.
+/// A counter over a disk, whose devices are served: a closed drawer, whose line fails with so many orders, a scanner
+/// that finds no memory for as many inputs, a blank display, and a printer with 5 lines of paper.
 pub fn counter_over<D: Disk + Drop>(
     alloc: Global,
     faults: u32,
@@ -247,21 +329,23 @@ pub fn counter_over<D: Disk + Drop>(
 ) -> Result<Counter<D>, AllocError>
     ensures { IfOk result (λ counter. IsCounterSound ⟦<PeripheralBox as HasState>⟧ counter) }
 {
-    let boxes = peripherals(alloc, faults)?;
-    match Counter::new(alloc, boxes, disk) {
-        Ok(counter) => Ok(counter),
-        Err((NoMemory, boxes, _)) => {
-            end_all(boxes);
-            Err(AllocError)
-        }
-    }
+    let drawer = Box::new(alloc, TestDrawer::new(faults))?;
+    let scanner = Box::new(alloc, TestScanner::new(faults))?;
+    let Ok(display) = PlainDisplay::new(alloc, 2, 4) else {
+        return Err(AllocError);
+    };
+    let display = Box::new(alloc, display)?;
+    let printer = Box::new(alloc, RollPrinter::new(alloc, 8, 5, 2))?;
+    let mut counter = vacant_counter(alloc, disk)?;
+    fill(&mut counter, gather(drawer, scanner, display, printer));
+    Ok(counter)
 }
 
 /// Ends a counter: its disk.
 pub fn end<D: Disk>(counter: Counter<D>) -> D
     requires { IsCounterSound ⟦<PeripheralBox as HasState>⟧ counter }
 {
-    let Ended { disk, boxes } = counter.shutdown();
-    end_all(boxes);
+    let Ended { disk, entries } = counter.shutdown();
+    end_all(entries);
     disk
 }

@@ -3,44 +3,15 @@ ghost use Rattle.std.specs.Prelude.{IfOk};
 ghost use Rattle.pos_counter.specs.Counters.{IsCounterSound};
 
 use crate::steps::bytes;
-use crate::support::{counter_over, end, end_all, formatted, peripherals};
-use crate::{ControlFault, Counter, Ended, InputFault, Request, Response, SnapshotFault};
-use pos_disk::{Disk, MemDisk};
+use crate::support::{counter_over, end, formatted};
+use crate::{ControlFault, Counter, InputFault, Request, Response, SnapshotFault};
+use pos_disk::MemDisk;
 use pos_service::{
-    Answer, Bytes, Call, Category, Code, ErrorReply, Event, HasState, Input, Kind, NoMemory,
+    Answer, Bytes, Call, Category, Code, ErrorReply, Event, HasState, Input, NoMemory,
     PeripheralBox, Plant, Property, Snapshot, Value,
 };
 use std::alloc::{AllocError, Global};
 use std::test::Fail;
-
-#[test]
-fn a_new_counter_or_its_refusal_gives_peripherals_and_disk_back(
-    rt: HostRuntime,
-) -> Result<(), AllocError> {
-    let alloc = rt.alloc();
-    let disk = formatted(alloc)?;
-    let boxes = peripherals(alloc, 0)?;
-    let (Ended { disk, boxes }, is_parked) = match Counter::new(alloc, boxes, disk) {
-        Ok(counter) => (counter.shutdown(), true),
-        Err((NoMemory, boxes, disk)) => (Ended { disk, boxes }, false),
-    };
-    assert_eq!(rt; disk.len(), 327_680);
-    assert_eq!(rt; boxes.len(), 3);
-    for single in &boxes {
-        assert_eq!(rt; single.is_parked(), is_parked);
-    }
-    assert_eq!(rt; boxes[0].kind(), Kind::Drawer);
-    assert_eq!(rt; boxes[1].kind(), Kind::Scanner);
-    assert_eq!(rt;
-        boxes[2].kind(),
-        Kind::Display {
-            rows: 2,
-            columns: 4
-        }
-    );
-    end_all(boxes);
-    Ok(())
-}
 
 /// Whether a call is done and gives nothing.
 fn is_done(answered: Result<Answer, NoMemory>) -> bool {

@@ -2,12 +2,11 @@
 ghost use Rattle.std.specs.Prelude.{◌≡◌, List, false};
 ghost use Rattle.pos_service.specs.declared.category.Category.TheVariants as category;
 ghost use Rattle.pos_service.specs.Calls.{is_common};
-ghost use Rattle.pos_service.specs.Peripherals.{PeripheralState};
 ghost use Rattle.pos_service.specs.Stations.{IsOpen};
 ghost use Rattle.pos_service.specs.TotalsCalls.{asks_area, file_call};
 ghost use Rattle.pos_common.specs.Needs.{needs_no_other, needs_holder};
 ghost use Rattle.pos_common.specs.Held.{controls_of};
-ghost use Rattle.pos_counter.specs.declared.entry.Entry.{Entry as OneEntry};
+ghost use Rattle.pos_counter.specs.Machine.{Device};
 ghost use Rattle.pos_counter.specs.Parts.{ArePartsSound, Serves, CallsFiles};
 ghost use Rattle.pos_counter.specs.Responses.{answered};
 ghost use Rattle.pos_counter.specs.Steps.{CallOf};
@@ -38,9 +37,9 @@ pub(crate) fn call_totals<D: Disk>(
 ) -> Result<Answer, NoMemory>
     requires open { IsOpen category.HardTotals (controls_of controls.now) number }
     requires own { is_common call.now ≡ false }
-    ensures { (entries : List OneEntry) (states : List PeripheralState) → ArePartsSound controls.now entries states →
-        Serves D.Disk controls.now claims.now entries states totals.old
-        (CallOf number call.now) (answered result) controls.now claims.now states totals.new }
+    ensures { (devices : List Device) → ArePartsSound controls.now devices →
+        Serves D.Disk controls.now claims.now devices totals.old
+        (CallOf number call.now) (answered result) controls.now claims.now devices totals.new }
 {
     if !Category::HardTotals.has_call(call) {
         return Ok(Answer::Refused(Code::Illegal, 0));

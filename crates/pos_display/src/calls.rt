@@ -79,6 +79,7 @@ fn carry_out(
 ) -> Result<Answer, NoMemory>
     requires number { caller < length controls.old }
     requires unparked { (⟦<PeripheralBox as HasState>⟧.state display.old).is_parked ≡ false }
+    requires display { is_display (⟦<PeripheralBox as HasState>⟧.state display.old).kind ≡ true }
     requires fits { order_fits (⟦<PeripheralBox as HasState>⟧.state display.old).kind plan.order ≡ true }
     ensures ordered { let state = ⟦<PeripheralBox as HasState>⟧.state in
         Carries plan caller result (controls_of controls.old) (station_of (state display.old))

@@ -17,10 +17,11 @@ use Rattle.pos_service.specs.declared.code.Code.TheVariants as code
 use Rattle.pos_service.specs.declared.finding.Finding.{Finding}
 use Rattle.pos_service.specs.declared.finding.Finding.TheVariants as finding
 use Rattle.pos_service.specs.Claims.{is_exclusive, is_foreign}
-use Rattle.pos_service.specs.Controls.{Control, Reader, state_of}
+use Rattle.pos_service.specs.Controls.{Control, Reader, Writer, state_of}
 use Rattle.pos_service.specs.Events.{data_count}
-use Rattle.pos_service.specs.Kinds.{is_display, rows_of, columns_of}
+use Rattle.pos_service.specs.Kinds.{is_display, is_printer, rows_of, columns_of, chars_of}
 use Rattle.pos_service.specs.Numbers.{is_index, is_up_to}
+use Rattle.pos_service.specs.Receipts.{is_empty, is_near_end}
 use Rattle.pos_service.specs.Refusals.{Row, when}
 
 -- controls of a category may open devices of its kind
@@ -37,6 +38,8 @@ serves category.Scanner (Some (kind.Display rows columns)) = false
 serves category.Scanner (Some (kind.Printer chars near)) = false
 serves category.LineDisplay None = false
 serves category.LineDisplay (Some k) = is_display k
+serves category.PosPrinter None = false
+serves category.PosPrinter (Some k) = is_printer k
 serves category.HardTotals None = true
 serves category.HardTotals (Some k) = false
 
@@ -59,6 +62,10 @@ has_call category.LineDisplay (call.DisplayText text attribute) = true
 has_call category.LineDisplay (call.DisplayTextAt row column text attribute) = true
 has_call category.LineDisplay call.ClearText = true
 has_call category.LineDisplay (call.ScrollText direction units) = true
+has_call category.PosPrinter (call.PrintNormal station text) = true
+has_call category.PosPrinter (call.PrintImmediate station text) = true
+has_call category.PosPrinter (call.CutPaper percentage) = true
+has_call category.PosPrinter call.ClearOutput = true
 has_call category.HardTotals (call.Create name size detection) = true
 has_call category.HardTotals (call.Delete name) = true
 has_call category.HardTotals (call.Find name) = true
@@ -81,6 +88,9 @@ takes_memory (call.DisplayText text attribute) = true
 takes_memory (call.DisplayTextAt row column text attribute) = true
 takes_memory call.ClearText = true
 takes_memory (call.ScrollText direction units) = true
+takes_memory (call.PrintNormal station text) = true
+takes_memory (call.PrintImmediate station text) = true
+takes_memory (call.CutPaper percentage) = true
 takes_memory (call.Create name size detection) = true
 takes_memory (call.Delete name) = true
 takes_memory (call.FindByIndex index) = true
@@ -111,6 +121,12 @@ has_property category.LineDisplay property.Columns = true
 has_property category.LineDisplay property.CursorRow = true
 has_property category.LineDisplay property.CursorColumn = true
 has_property category.LineDisplay property.CursorUpdate = true
+has_property category.PosPrinter property.AsyncMode = true
+has_property category.PosPrinter property.OutputId = true
+has_property category.PosPrinter property.RecLineChars = true
+has_property category.PosPrinter property.CoverOpen = true
+has_property category.PosPrinter property.RecEmpty = true
+has_property category.PosPrinter property.RecNearEnd = true
 has_property category.HardTotals property.TotalsSize = true
 has_property category.HardTotals property.FreeData = true
 has_property category.HardTotals property.NumberOfFiles = true
@@ -162,6 +178,7 @@ is_settable property.DecodeData = true
 is_settable property.CursorRow = true
 is_settable property.CursorColumn = true
 is_settable property.CursorUpdate = true
+is_settable property.AsyncMode = true
 is_settable p = false
 
 -- The property may be set to this value, by its type, and by its range at a device of this kind: CursorRow is one of
@@ -175,6 +192,7 @@ takes at property.DecodeData (value.Truth is_true) = true
 takes at property.CursorRow (value.Number n) = is_index (rows_of at) n
 takes at property.CursorColumn (value.Number n) = is_up_to (columns_of at) n
 takes at property.CursorUpdate (value.Truth is_true) = true
+takes at property.AsyncMode (value.Truth is_true) = true
 takes at p v = false
 
 -- the property may be set by the control alone that holds its device
@@ -216,6 +234,11 @@ cursor_after was property.CursorColumn (value.Number n) = record was { place = r
 cursor_after was property.CursorUpdate (value.Truth is_true) = record was { update = is_true }
 cursor_after was p v = was
 
+-- what is kept of output, once the property is set
+abbrev pub writer_after : Writer → Property → Value → Writer
+writer_after was property.AsyncMode (value.Truth is_true) = record was { is_async = is_true }
+writer_after was p v = was
+
 -- the control with the property set
 abbrev pub after_set : Control → Property → Value → Control
 after_set control p v = record control {
@@ -223,6 +246,7 @@ after_set control p v = record control {
   frozen = frozen_after control.frozen p v;
   reader = reader_after control.reader p v;
   cursor = cursor_after control.cursor p v;
+  writer = writer_after control.writer p v;
 }
 
 -- the property can be read of an open control alone
@@ -230,9 +254,21 @@ abbrev pub needs_open : Property → Bool
 needs_open property.State = false
 needs_open p = true
 
+-- the property can be read by the control alone that holds its device
+abbrev pub needs_holder : Property → Bool
+needs_holder property.RecLineChars = true
+needs_holder property.CoverOpen = true
+needs_holder property.RecEmpty = true
+needs_holder property.RecNearEnd = true
+needs_holder p = false
+
 -- the property can be read of an enabled device alone
 abbrev pub needs_enabled : Property → Bool
 needs_enabled property.DrawerOpened = true
+needs_enabled property.RecLineChars = true
+needs_enabled property.CoverOpen = true
+needs_enabled property.RecEmpty = true
+needs_enabled property.RecNearEnd = true
 needs_enabled property.FreeData = true
 needs_enabled property.NumberOfFiles = true
 needs_enabled p = false
@@ -253,6 +289,8 @@ abbrev pub get_rows : Control → Facts → Property → List Row
 get_rows control facts p =
     when (needs_open p && is_none control.device) code.Closed
     ∷ when (not (has_property control.category p)) code.Illegal
+    ∷ when (needs_holder p && facts.is_foreign) code.Claimed
+    ∷ when (needs_holder p && not facts.is_claimed) code.NotClaimed
     ∷ when (needs_enabled p && not control.enabled) code.Disabled
     ∷ when (needs_files p && is_none facts.files) code.Failure ∷ []
 
@@ -281,6 +319,12 @@ property_of control facts property.Columns = value.Number (pos (columns_of facts
 property_of control facts property.CursorRow = value.Number (pos control.cursor.place.row)
 property_of control facts property.CursorColumn = value.Number (pos control.cursor.place.column)
 property_of control facts property.CursorUpdate = value.Truth control.cursor.update
+property_of control facts property.AsyncMode = value.Truth control.writer.is_async
+property_of control facts property.OutputId = value.Number (pos control.writer.output_id)
+property_of control facts property.RecLineChars = value.Number (pos (chars_of facts.kind))
+property_of control facts property.CoverOpen = value.Truth facts.signs.cover_open
+property_of control facts property.RecEmpty = value.Truth (is_empty facts.signs.paper)
+property_of control facts property.RecNearEnd = value.Truth (is_near_end facts.signs.paper)
 property_of control facts property.TotalsSize = value.Number (pos facts.totals_size)
 property_of control facts property.FreeData = told_of_files facts.files (λ files. files.free)
 property_of control facts property.NumberOfFiles = told_of_files facts.files (λ files. files.count)

@@ -11,6 +11,7 @@ abbrev pub is_exclusive : Category → Bool
 is_exclusive category.CashDrawer = false
 is_exclusive category.Scanner = true
 is_exclusive category.LineDisplay = true
+is_exclusive category.PosPrinter = true
 is_exclusive category.HardTotals = false
 
 -- The table of claims has the control that holds each device, by the devices' places; None is nobody.

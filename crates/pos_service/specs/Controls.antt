@@ -1,15 +1,19 @@
--- A control: its properties and its list of events (common chapter, for its reader chapter Scanner, and for its
--- cursor chapter Line Display).
-use Rattle.std.specs.Prelude.{ℕ, Bool, false, not, ◌&&◌, ◌||◌, List, [], Option, Some, None, is_none, option_map, map, nat_eq, if◌then◌else◌}
+-- A control: its properties, its list of events, and its output (common chapter, for its reader chapter Scanner, for
+-- its cursor chapter Line Display, and for its writer chapter POS Printer).
+use Rattle.std.specs.Prelude.{ℕ, ◌+◌, Bool, false, not, ◌&&◌, ◌||◌, List, [], Option, Some, None, is_none, option_map, map, nat_eq, if◌then◌else◌}
 use Rattle.pos_service.specs.declared.category.Category.{Category}
 use Rattle.pos_service.specs.declared.display_text.Cursor.{Cursor}
 use Rattle.pos_service.specs.declared.display_text.Place.{Place}
 use Rattle.pos_service.specs.declared.event.ErrorReply.{ErrorReply}
 use Rattle.pos_service.specs.declared.event.Event.{Event}
+use Rattle.pos_service.specs.declared.event.Locus.TheVariants as locus
+use Rattle.pos_service.specs.declared.code.Code.{Code}
+use Rattle.pos_service.specs.declared.order.Order.{Order}
 use Rattle.pos_service.specs.declared.scan.Scan.{Scan}
 use Rattle.pos_service.specs.Displays.{default_cursor}
-use Rattle.pos_service.specs.Events.{EventList, Enqueued, Data, no_events, event_of, scan_of, enqueued, all_enqueued, input_failed}
+use Rattle.pos_service.specs.Events.{EventList, Enqueued, Data, Error, Complete, no_events, event_of, scan_of, enqueued, all_enqueued, input_failed, output_cleared}
 use Rattle.pos_service.specs.Events.{deliverable as deliverable_in, delivered as delivered_in}
+use Rattle.pos_service.specs.Output.{Output, is_outstanding, no_output, with_request, request_done, request_failed, output_deleted, output_after}
 
 -- what a control keeps of input: DataEventEnabled, AutoDisable, DecodeData, and the scan that ScanData, ScanDataLabel
 -- and ScanDataType show
@@ -27,6 +31,16 @@ no_scan = record { kind = 0; bytes = []; label = [] }
 abbrev pub default_reader : Reader
 default_reader = record { data_enabled = false; auto_disable = false; decode = false; shown = no_scan }
 
+-- what a control keeps of output: AsyncMode, OutputID, and the output that it has still to do
+pub record Writer : Type 0 where
+  pub is_async : Bool
+  pub output_id : ℕ
+  pub output : Output
+
+-- the defaults of these properties, with no output, and with the OutputID that the next request gets
+abbrev pub default_writer : ℕ → Writer
+default_writer next = record { is_async = false; output_id = 0; output = no_output next }
+
 -- a control: closed where it has no device, which is named by its place in the profile
 pub record Control : Type 0 where
   pub category : Category
@@ -35,9 +49,10 @@ pub record Control : Type 0 where
   pub frozen : Bool
   pub reader : Reader
   pub cursor : Cursor
+  pub writer : Writer
   pub list : EventList
 
--- a control as it is made
+-- a control as it is made: its OutputIDs rise from 1
 abbrev pub new_control : Category → Control
 new_control category = record {
   category = category;
@@ -46,17 +61,29 @@ new_control category = record {
   frozen = false;
   reader = default_reader;
   cursor = default_cursor;
+  writer = default_writer 1;
   list = no_events;
 }
 
--- a control that has opened the device at a place: its properties have their defaults
+-- a control that has opened the device at a place: its properties have their defaults, and its OutputIDs go on
 abbrev pub opened : Control → Option ℕ → Control
-opened control place = record (new_control control.category) { device = place }
+opened control place = record (new_control control.category) {
+  device = place;
+  writer = default_writer control.writer.output.next;
+}
 
--- a control whose device is disabled, whose events are deleted, and whose input error state has ended; its other
+-- with other output
+abbrev pub with_output : Output → Writer → Writer
+with_output output writer = record writer { output = output }
+
+-- a control whose device is disabled, whose events and output are deleted, and whose error states have ended; its other
 -- properties stay
 abbrev pub stopped : Control → Control
-stopped control = record control { enabled = false; list = no_events }
+stopped control = record control {
+  enabled = false;
+  writer = with_output (output_deleted control.writer.output) control.writer;
+  list = no_events;
+}
 
 -- a control that was closed
 abbrev pub closed : Control → Control
@@ -70,9 +97,15 @@ moved_to place cursor = record cursor { place = place }
 abbrev pub with_place : Place → Control → Control
 with_place place control = record control { cursor = moved_to place control.cursor }
 
--- S_CLOSED, S_ERROR or S_IDLE
+-- the input or the output error state stands
+abbrev pub is_in_error : Control → Bool
+is_in_error control = control.list.in_error || control.writer.output.is_failed
+
+-- S_CLOSED, S_ERROR, S_BUSY or S_IDLE
 abbrev pub state_of : Control → ℕ
-state_of control = if is_none control.device then 1 else (if control.list.in_error then 4 else 2)
+state_of control =
+    if is_none control.device then 1
+    else (if is_in_error control then 4 else (if is_outstanding control.writer.output then 3 else 2))
 
 -- a control's device is the one at this place
 abbrev pub is_at : Option ℕ → ℕ → Bool
@@ -109,6 +142,37 @@ read scan control =
 abbrev pub failed : Control → Control
 failed control = record control { list = input_failed control.list }
 
+-- with one more request, which has the next OutputID
+abbrev pub queued_by : Order → Writer → Writer
+queued_by order writer = record writer { output_id = writer.output.next; output = with_request order writer.output }
+
+-- a control with one more request
+abbrev pub queued : Order → Control → Control
+queued order control = record control { writer = queued_by order control.writer }
+
+-- a control whose first request, with this OutputID, is done: the request is removed, and an OutputCompleteEvent
+-- enqueued
+abbrev pub completed : ℕ → Control → Control
+completed id control = record control {
+  writer = with_output (request_done control.writer.output) control.writer;
+  list = enqueued (Complete id) control.list;
+}
+
+-- a control whose first request has failed: it stays the first, and an ErrorEvent of output is enqueued
+abbrev pub output_failed : Code → ℕ → Control → Control
+output_failed code extended control = record control {
+  writer = with_output (request_failed control.writer.output) control.writer;
+  list = enqueued (Error code extended locus.Output) control.list;
+}
+
+-- clearOutput: a control without requests, without ErrorEvents of output, and without an error of output.
+-- OutputCompleteEvents stay.
+abbrev pub without_output : Control → Control
+without_output control = record control {
+  writer = with_output (output_deleted control.writer.output) control.writer;
+  list = output_cleared control.list;
+}
+
 -- no event may be delivered: the control is closed, or its events are frozen (FreezeEvents)
 abbrev pub is_held_back : Control → Bool
 is_held_back control = is_none control.device || control.frozen
@@ -140,5 +204,6 @@ after_scan (Some scan) reader = record reader { data_enabled = false; shown = as
 abbrev pub delivered : ErrorReply → Control → Control
 delivered reply control = record control {
   reader = after_scan (scan_in (next_event control)) control.reader;
+  writer = with_output (output_after (deliverable control) reply control.writer.output) control.writer;
   list = delivered_in control.reader.data_enabled (is_held_back control) reply control.list;
 }

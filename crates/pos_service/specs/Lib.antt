@@ -15,5 +15,6 @@ pub mod Stations
 pub mod DrawerCalls
 pub mod ScannerCalls
 pub mod DisplayCalls
+pub mod PrinterCalls
 pub mod HardTotals
 pub mod TotalsCalls

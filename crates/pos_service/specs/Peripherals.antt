@@ -18,8 +18,11 @@ use Rattle.pos_service.specs.declared.input.Taken.TheVariants as taken
 use Rattle.pos_service.specs.declared.signs.PaperLevel.TheVariants as paper
 use Rattle.pos_service.specs.declared.signs.Signs.{Signs}
 use Rattle.pos_service.specs.declared.memory.NoMemory.{NoMemory}
+use Rattle.pos_service.specs.declared.receipt_text.Outcome.TheVariants as outcome
+use Rattle.pos_service.specs.declared.receipt_text.Piece.{Piece}
 use Rattle.pos_service.specs.Displays.{Display, ShowsText, Scrolls, blank_display, is_cursor_place, is_display_text, most_units}
-use Rattle.pos_service.specs.Kinds.{is_drawer, is_display, rows_of, columns_of}
+use Rattle.pos_service.specs.Kinds.{is_drawer, is_display, is_printer, rows_of, columns_of, near_of}
+use Rattle.pos_service.specs.Receipts.{Printer, Prints, pieces, cut_pieces, is_printable_text, paper_level}
 
 -- a peripheral: what it is, what it is physically, whether it is out of service, and how often its line has failed
 pub record PeripheralState : Type 0 where
@@ -46,6 +49,7 @@ abbrev pub IsPlantOf : Kind → Plant → Type 0
 IsPlantOf kind.Drawer (plant.Drawer is_open) = ⊤
 IsPlantOf kind.Scanner plant.Scanner = ⊤
 IsPlantOf (kind.Display rows columns) (plant.Display shown) = HasCells rows columns shown
+IsPlantOf (kind.Printer chars near) (plant.Printer printed) = printed.chars ≡ chars
 IsPlantOf is of_another = ⊥
 
 -- what a peripheral of this kind shows of its plant
@@ -53,13 +57,19 @@ abbrev pub signs_of : Kind → Plant → Signs
 signs_of is (plant.Drawer is_open) = record { drawer_open = is_open; cover_open = false; paper = paper.Good }
 signs_of is plant.Scanner = record { drawer_open = false; cover_open = false; paper = paper.Good }
 signs_of is (plant.Display shown) = record { drawer_open = false; cover_open = false; paper = paper.Good }
+signs_of is (plant.Printer printed) = record {
+  drawer_open = false;
+  cover_open = printed.is_cover_open;
+  paper = paper_level (near_of is) printed.left;
+}
 
 -- the place at a row and a column
 abbrev pub place_at : ℕ → ℕ → Place
 place_at row column = record { row = row; column = column }
 
--- A peripheral of this kind takes the order: drawers open, displays show a text that they take from one of their places
--- on, are cleared, and scroll by at most as many units as they have rows or columns.
+-- A peripheral of this kind takes the order: drawers open, displays show a text that they take from one of their
+-- places on, are cleared, and scroll by at most as many units as they have rows or columns, and printers print a text
+-- that they take, and cut the paper by 0 to 100 percent.
 abbrev pub order_fits : Kind → Order → Bool
 order_fits is order.OpenDrawer = is_drawer is
 order_fits is (order.ShowText row column style bytes) =
@@ -68,13 +78,21 @@ order_fits is (order.ShowText row column style bytes) =
 order_fits is order.ClearText = is_display is
 order_fits is (order.Scroll direction units) =
     is_display is && nat_le units (most_units (rows_of (Some is)) (columns_of (Some is)) direction)
+order_fits is (order.Print bytes) = is_printer is && is_printable_text bytes
+order_fits is (order.Cut percentage) = is_printer is && nat_le percentage 100
 
--- the input can happen at a peripheral of this kind: a drawer is moved, a scanner reads a bar code of the types 0 to
--- 999, or fails to read
+-- Every printer takes the order.
+abbrev pub PrintersTake : Order → Type 0
+PrintersTake asked = (is : Kind) → is_printer is ≡ true → order_fits is asked ≡ true
+
+-- the input can happen at a peripheral of this kind: a drawer is moved; a scanner reads a bar code of the types 0 to
+-- 999, or fails to read; a printer's cover is moved, or it is loaded with paper of at most 100,000 lines
 abbrev pub input_fits : Kind → Input → Bool
 input_fits kind.Drawer (input.DrawerMoved is_open) = true
 input_fits kind.Scanner (input.Scan number bytes label) = nat_le number 999
 input_fits kind.Scanner input.ScanFault = true
+input_fits (kind.Printer chars near) (input.CoverMoved is_open) = true
+input_fits (kind.Printer chars near) (input.PaperLoaded lines) = nat_le lines 100000
 input_fits is of_another = false
 
 -- the count rose, or it stays at its last value
@@ -86,6 +104,7 @@ abbrev pub Opens : Plant → Plant → Type 0
 Opens (plant.Drawer was_open) new = new ≡ plant.Drawer true
 Opens plant.Scanner new = ⊥
 Opens (plant.Display shown) new = ⊥
+Opens (plant.Printer printed) new = ⊥
 
 -- a display shows a text then, from a place on
 abbrev pub Shows : Place → Attribute → List ℕ → Plant → Plant → Type 0
@@ -102,24 +121,37 @@ abbrev pub Moves : Direction → ℕ → Plant → Plant → Type 0
 Moves direction units (plant.Display old) (plant.Display new) = Scrolls old direction units new
 Moves direction units old new = ⊥
 
+-- a printer prints a request of these pieces then, or says why it prints nothing of it
+abbrev pub PrintsOut : List Piece → Plant → Reply → Plant → Type 0
+PrintsOut ps (plant.Printer old) reply.Done (plant.Printer new) = Prints old ps outcome.Done new
+PrintsOut ps (plant.Printer old) reply.CoverOpen (plant.Printer new) = Prints old ps outcome.CoverOpen new
+PrintsOut ps (plant.Printer old) reply.PaperEnd (plant.Printer new) = Prints old ps outcome.PaperEnd new
+PrintsOut ps old told new = ⊥
+
 -- Of a kind, from the old plant, an order that reaches the peripheral may get this reply and leave the new plant: a
--- drawer opens, and a display shows a text, is blank, or scrolls.
+-- drawer opens; a display shows a text, is blank, or scrolls; a printer prints, or its cover is open, or its paper
+-- ends.
 abbrev pub Performs : Kind → Order → Plant → Reply → Plant → Type 0
-Performs is asked old reply.CoverOpen new = ⊥
-Performs is asked old reply.PaperEnd new = ⊥
-Performs is asked old reply.LineFault new = ⊥
+Performs is (order.Print bytes) old told new = PrintsOut (pieces bytes) old told new
+Performs is (order.Cut percentage) old told new = PrintsOut (cut_pieces percentage) old told new
 Performs is order.OpenDrawer old reply.Done new = Opens old new
 Performs is (order.ShowText row column style bytes) old reply.Done new = Shows (place_at row column) style bytes old new
 Performs is order.ClearText old reply.Done new = Clears old new
 Performs is (order.Scroll direction units) old reply.Done new = Moves direction units old new
+Performs is asked old told new = ⊥
 
--- Of a kind, from the old plant, an input may be taken so and leave the new plant: a drawer is open or closed as it was
--- moved, and nothing of a scanner or of a display changes.
+-- Of a kind, from the old plant, an input may be taken so and leave the new plant: a drawer is open or closed as it
+-- was moved, so is a printer's cover, or it has so many lines of paper left, and nothing of a scanner or of a display
+-- changes.
 abbrev pub Takes : Kind → Input → Plant → Taken → Plant → Type 0
 Takes is (input.DrawerMoved is_open) (plant.Drawer was_open) taken.Quiet new = new ≡ plant.Drawer is_open
 Takes is (input.Scan number bytes label) plant.Scanner taken.Scan new = new ≡ plant.Scanner
 Takes is input.ScanFault plant.Scanner taken.Fault new = new ≡ plant.Scanner
 Takes is other (plant.Display shown) taken.Quiet new = new ≡ plant.Display shown
+Takes is (input.CoverMoved is_open) (plant.Printer old) taken.Quiet new =
+    new ≡ plant.Printer (record old { is_cover_open = is_open })
+Takes is (input.PaperLoaded lines) (plant.Printer old) taken.Quiet new =
+    new ≡ plant.Printer (record old { left = lines })
 Takes is other old taken new = ⊥
 
 -- A line fault changes nothing but the count of failures; with every other reply the line has not failed.

@@ -12,6 +12,8 @@ use Rattle.pos_service.specs.declared.receipt_text.Mark.{Mark}
 use Rattle.pos_service.specs.declared.receipt_text.Mark.TheVariants as mark
 use Rattle.pos_service.specs.declared.receipt_text.Outcome.{Outcome}
 use Rattle.pos_service.specs.declared.receipt_text.Outcome.TheVariants as outcome
+use Rattle.pos_service.specs.declared.signs.PaperLevel.{PaperLevel}
+use Rattle.pos_service.specs.declared.signs.PaperLevel.TheVariants as paper
 
 -- Bytes are read as a list of pieces, each by the first rule that fits.
 
@@ -269,6 +271,22 @@ printer_after outcome.PaperEnd printer made = printer
 pub record Prints (old : Printer) (ps : List Piece) (answer : Outcome) (new : Printer) : Type 0 where
   pub outcome : answer ≡ outcome_of old (lines_needed (printed_by old.chars old.buffer ps).items)
   pub printer : new ≡ printer_after answer old (printed_by old.chars old.buffer ps)
+
+-- how much paper a printer has at so many lines left: none, near their end at 1 to `near`, else enough
+abbrev pub paper_level : ℕ → ℕ → PaperLevel
+paper_level near left = if left == 0 then paper.Empty else (if nat_le left near then paper.NearEnd else paper.Good)
+
+-- the paper has ended (property RecEmpty)
+abbrev pub is_empty : PaperLevel → Bool
+is_empty paper.Good = false
+is_empty paper.NearEnd = false
+is_empty paper.Empty = true
+
+-- the paper is near its end, or has ended (property RecNearEnd)
+abbrev pub is_near_end : PaperLevel → Bool
+is_near_end paper.Good = false
+is_near_end paper.NearEnd = true
+is_near_end paper.Empty = true
 
 -- Items may be kept in two flat lists: where the lines end and the cuts are, and all characters, those of the line
 -- buffer last.

@@ -34,6 +34,15 @@ pub enum Call {
     ClearText,
     /// `scrollText` with the number of a direction, and by how many rows or columns.
     ScrollText(i128, i128),
+    /// `printNormal` with the number of a station and the text: it is printed, at once or later, as AsyncMode says
+    /// (chapter POS Printer, as the calls below).
+    PrintNormal(i128, Bytes),
+    /// `printImmediate` with the number of a station and the text: it is printed before all that is queued.
+    PrintImmediate(i128, Bytes),
+    /// `cutPaper` with how much of the paper is cut, in percent.
+    CutPaper(i128),
+    /// `clearOutput`: all output that is queued is deleted (common chapter).
+    ClearOutput,
     /// `create` with the new file's name, its size in bytes, and whether errors are to be detected, which has no effect
     /// (chapter Hard Totals, as the calls below).
     Create(Bytes, i128, bool),

@@ -15,6 +15,8 @@ pub enum Category {
     Scanner,
     /// Chapter Line Display.
     LineDisplay,
+    /// Chapter POS Printer.
+    PosPrinter,
     /// Chapter Hard Totals.
     HardTotals,
 }
@@ -34,6 +36,7 @@ impl Category {
                     columns: _,
                 })
             ),
+            Category::PosPrinter => matches!(kind, Some(Kind::Printer { chars: _, near: _ })),
             Category::HardTotals => kind.is_none(),
         }
     }
@@ -47,6 +50,7 @@ impl Category {
             Category::CashDrawer => false,
             Category::Scanner => true,
             Category::LineDisplay => true,
+            Category::PosPrinter => true,
             Category::HardTotals => false,
         }
     }
@@ -73,6 +77,12 @@ impl Category {
             | Property::CursorRow
             | Property::CursorColumn
             | Property::CursorUpdate => self == Category::LineDisplay,
+            Property::AsyncMode
+            | Property::OutputId
+            | Property::RecLineChars
+            | Property::CoverOpen
+            | Property::RecEmpty
+            | Property::RecNearEnd => self == Category::PosPrinter,
             _ => self == Category::HardTotals,
         }
     }
@@ -90,6 +100,13 @@ impl Category {
                     | Call::DisplayTextAt(_, _, _, _)
                     | Call::ClearText
                     | Call::ScrollText(_, _)
+            ),
+            Category::PosPrinter => matches!(
+                call,
+                Call::PrintNormal(_, _)
+                    | Call::PrintImmediate(_, _)
+                    | Call::CutPaper(_)
+                    | Call::ClearOutput
             ),
             Category::HardTotals => matches!(
                 call,

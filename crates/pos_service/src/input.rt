@@ -17,6 +17,10 @@ pub enum Input {
     },
     /// A scanner fails to read.
     ScanFault,
+    /// A printer's cover is open from now on, or closed.
+    CoverMoved(bool),
+    /// A printer has so many lines of paper left from now on, at most 100,000.
+    PaperLoaded(u32),
 }
 
 impl Input {
@@ -35,6 +39,8 @@ impl Input {
                 Kind::Scanner,
             ) => *number <= 999,
             (Input::ScanFault, Kind::Scanner) => true,
+            (Input::CoverMoved(_), Kind::Printer { chars: _, near: _ }) => true,
+            (Input::PaperLoaded(lines), Kind::Printer { chars: _, near: _ }) => *lines <= 100_000,
             _ => false,
         }
     }

@@ -1,5 +1,5 @@
 ghost use Rattle.std.specs.Prelude.{◌≡◌};
-ghost use Rattle.pos_service.specs.Kinds.{is_drawer, is_display, rows_of, columns_of};
+ghost use Rattle.pos_service.specs.Kinds.{is_drawer, is_display, is_printer, rows_of, columns_of, chars_of};
 
 /// What a device is, with the numbers that don't change while it lives.
 #[derive(Clone, Copy, Debug, PartialEq, Eq)]
@@ -35,6 +35,13 @@ impl Kind {
             }
         )
     }
+
+    /// Whether it is a receipt printer.
+    pub fn is_printer(self) -> bool
+        ensures { result ≡ is_printer self }
+    {
+        matches!(self, Kind::Printer { chars: _, near: _ })
+    }
 }
 
 /// Rows of what stands at a device: 0 where that is no display (chapter Line Display).
@@ -53,6 +60,16 @@ pub fn columns_of(kind: Option<Kind>) -> u32
 {
     match kind {
         Some(Kind::Display { rows: _, columns }) => columns,
+        _ => 0,
+    }
+}
+
+/// Characters of a line of what stands at a device: 0 where that is no printer (chapter POS Printer).
+pub fn chars_of(kind: Option<Kind>) -> u32
+    ensures { result ≡ chars_of kind }
+{
+    match kind {
+        Some(Kind::Printer { chars, near: _ }) => chars,
         _ => 0,
     }
 }

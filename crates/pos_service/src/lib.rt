@@ -25,6 +25,7 @@ mod scan;
 mod signs;
 #[cfg(test)]
 mod tests;
+mod worked;
 
 pub use answer::{Answer, Value};
 pub use bytes::Bytes;
@@ -35,12 +36,13 @@ pub use event::{ErrorReply, Event, Locus};
 pub use facts::{Facts, FileFacts};
 pub use finding::Finding;
 pub use input::{Input, Taken};
-pub use kind::{Kind, columns_of, rows_of};
+pub use kind::{Kind, chars_of, columns_of, rows_of};
 pub use memory::NoMemory;
 pub use order::{Order, Reply};
 pub use peripheral::Peripheral;
 pub use peripheral_box::{HasState, PeripheralBox};
-pub use plant::{DisplayCells, Plant, Snapshot};
+pub use plant::{DisplayCells, Plant, Receipt, Snapshot};
 pub use property::Property;
 pub use scan::Scan;
 pub use signs::{PaperLevel, Signs};
+pub use worked::Worked;

@@ -6,6 +6,7 @@ ghost use Rattle.pos_service.specs.Peripherals.{order_fits, place_at};
 use crate::bytes::Bytes;
 use crate::display_text::{Attribute, Direction, is_text_of_display};
 use crate::kind::{Kind, columns_of, rows_of};
+use crate::receipt_text::is_printable;
 
 /// What a control asks of a peripheral.
 #[derive(Debug, Drop)]
@@ -26,6 +27,14 @@ pub enum Order {
         direction: Direction,
         units: u32,
     },
+    /// A printer prints a text.
+    Print {
+        bytes: Bytes,
+    },
+    /// A printer cuts the paper by 0 to 100 percent.
+    Cut {
+        percentage: u8,
+    },
 }
 
 impl Order {
@@ -45,6 +54,8 @@ impl Order {
             Order::Scroll { direction, units } => {
                 kind.is_display() && units_fit(kind, *direction, *units)
             }
+            Order::Print { bytes } => kind.is_printer() && is_printable(bytes.as_slice()),
+            Order::Cut { percentage } => kind.is_printer() && *percentage <= 100,
         }
     }
 }

@@ -1,6 +1,8 @@
 ghost use Rattle.std.specs.Prelude.{◌≡◌};
+ghost use Rattle.pos_service.specs.Receipts.{items_from, buffer_from};
 
 use crate::display_text::DisplayCell;
+use crate::receipt_text::{Mark, PrintedCharacter};
 use std::marker::Model;
 
 /// What a peripheral is physically.
@@ -12,6 +14,8 @@ pub enum Plant {
     Scanner,
     /// A line display, by what it shows.
     Display(DisplayCells),
+    /// A receipt printer, by its paper and its cover.
+    Printer(Receipt),
 }
 
 /// What a line display shows. Contracts see its rows, its columns, and the list of its cells row by row.
@@ -73,6 +77,89 @@ impl DisplayCells {
             cells,
         } = self;
         cells
+    }
+}
+
+/// A receipt printer's paper and cover. Contracts see how many characters a line has, the list of what is printed, the
+/// line buffer, how many lines of paper are left, and whether the cover is open.
+#[derive(Debug, Drop)]
+pub struct Receipt {
+    chars: u32,
+    marks: Vec<Mark>,
+    characters: Vec<PrintedCharacter>,
+    left: u32,
+    is_cover_open: bool,
+}
+
+impl Model for Receipt {
+    ghost use Rattle.pos_service.specs.Receipts.{Printer};
+    ghost use Rattle.pos_service.specs.Receipts.{items_from, buffer_from};
+
+    ghost Value = { Printer };
+
+    ghost view = { λ r. record {
+      chars = r.chars;
+      items = items_from r.marks.items r.characters.items;
+      buffer = buffer_from r.marks.items r.characters.items;
+      left = r.left;
+      is_cover_open = r.is_cover_open;
+    } };
+}
+
+impl Receipt {
+    /// What is printed on lines of so many characters, in two flat lists without a copy: the lines and the cuts, and
+    /// all characters, those of the line buffer last; so many lines of paper are left, and the cover is open or not.
+    pub fn new(
+        chars: u32,
+        marks: Vec<Mark>,
+        characters: Vec<PrintedCharacter>,
+        left: u32,
+        is_cover_open: bool,
+    ) -> Self
+        ensures { result ≡ record {
+          chars = chars;
+          items = items_from marks.items characters.items;
+          buffer = buffer_from marks.items characters.items;
+          left = left;
+          is_cover_open = is_cover_open;
+        } }
+    {
+        Receipt {
+            chars,
+            marks,
+            characters,
+            left,
+            is_cover_open,
+        }
+    }
+
+    /// How many characters a line has.
+    pub fn chars(&self) -> u32
+        ensures { result ≡ self.now.chars }
+    {
+        self.chars
+    }
+
+    /// What is printed, in two flat lists: the lines and the cuts, and all characters, those of the line buffer last.
+    pub fn printed(&self) -> (&[Mark], &[PrintedCharacter])
+        ensures items { items_from result.0.now result.1.now ≡ self.now.items }
+        ensures buffer { buffer_from result.0.now result.1.now ≡ self.now.buffer }
+    {
+        (self.marks.as_slice(), self.characters.as_slice())
+    }
+
+    /// How many lines of paper are left.
+    pub fn lines_left(&self) -> u32
+        ensures { result ≡ self.now.left }
+    {
+        self.left
+    }
+
+    /// Whether the cover is open.
+    pub fn is_cover_open(&self) -> bool
+        ensures { result ≡ self.now.is_cover_open }
+    {
+        self.is_cover_open
     }
 }
 

@@ -1,7 +1,7 @@
 ghost use Rattle.std.specs.Prelude.{◌≡◌};
-ghost use Rattle.pos_service.specs.Calls.{is_settable, needs_open, needs_enabled};
+ghost use Rattle.pos_service.specs.Calls.{is_settable, needs_open, needs_holder, needs_enabled};
 
-/// A property of a control (common chapter, and chapters Cash Drawer, Scanner, Line Display and Hard
+/// A property of a control (common chapter, and chapters Cash Drawer, Scanner, Line Display, POS Printer and Hard
 /// Totals).
 #[derive(Clone, Copy, Debug, PartialEq, Eq)]
 pub enum Property {
@@ -41,6 +41,18 @@ pub enum Property {
     CursorColumn,
     /// Whether a text moves the cursor to its end.
     CursorUpdate,
+    /// Whether requests are queued, and done later.
+    AsyncMode,
+    /// The OutputID of the request that was queued last.
+    OutputId,
+    /// How many characters a line of the receipt has.
+    RecLineChars,
+    /// Whether the printer's cover is open.
+    CoverOpen,
+    /// Whether no paper is left.
+    RecEmpty,
+    /// Whether the paper is near its end, or none is left.
+    RecNearEnd,
     /// How many bytes the files of the totals may have in sum.
     TotalsSize,
     /// How many bytes are left for new files.
@@ -72,6 +84,7 @@ impl Property {
                 | Property::CursorRow
                 | Property::CursorColumn
                 | Property::CursorUpdate
+                | Property::AsyncMode
         )
     }
 
@@ -82,13 +95,29 @@ impl Property {
         !matches!(self, Property::State)
     }
 
+    /// Whether it can be read by the control alone that holds its device.
+    pub fn needs_holder(self) -> bool
+        ensures { result ≡ needs_holder self }
+    {
+        matches!(
+            self,
+            Property::RecLineChars | Property::CoverOpen | Property::RecEmpty | Property::RecNearEnd
+        )
+    }
+
     /// Whether it can be read of an enabled device alone.
     pub fn needs_enabled(self) -> bool
         ensures { result ≡ needs_enabled self }
     {
         matches!(
             self,
-            Property::DrawerOpened | Property::FreeData | Property::NumberOfFiles
+            Property::DrawerOpened
+                | Property::RecLineChars
+                | Property::CoverOpen
+                | Property::RecEmpty
+                | Property::RecNearEnd
+                | Property::FreeData
+                | Property::NumberOfFiles
         )
     }
 }

@@ -1,5 +1,5 @@
 //! The text of a receipt printer: the pieces that its bytes are read as.
-ghost use Rattle.std.specs.Prelude.{◌≡◌, ◌++◌, ◌∷◌, ◌<◌, ◌≤◌, length, bytes_eq};
+ghost use Rattle.std.specs.Prelude.{◌≡◌, ◌++◌, ◌∷◌, ◌<◌, ◌≤◌, IfSome, length, bytes_eq};
 ghost use Rattle.std.specs.List.{list_all};
 ghost use Rattle.pos_service.specs.Receipts.{is_printable_byte, is_in_range, is_printable_text, pieces, pieces_in, sequence_pieces, cut_pieces, line_end_pieces, numbered_pieces};
 
@@ -182,7 +182,7 @@ pub fn next_token(bytes: &[u8]) -> (Token, &[u8])
 fn all_allowed(bytes: &[u8]) -> bool
     ensures { result ≡ list_all is_printable_byte bytes.now }
 {
-    bytes.iter().all(|b| *b == 10 || *b == 13 || *b == 27 || (32 <= *b && *b <= 126))
+    bytes.iter().all(|b| (32 <= *b && *b <= 126) || *b == 10 || *b == 13 || *b == 27)
 }
 
 #[tactic(auto, using(crate::proofs::PieceLemmas::all_line_ends))]
@@ -197,17 +197,33 @@ fn is_in_range_token(token: Token) -> bool
     }
 }
 
+/// The character at the front of some bytes, if one stands there that needs no look at the others, as each byte from
+/// 0x20 on is, and the bytes behind it.
+pub fn next_character(bytes: &[u8]) -> Option<(u8, &[u8])>
+    ensures pieces { IfSome result (λ front. pieces bytes.now ≡ Piece.Character front.0 ∷ pieces front.1.now) }
+    ensures shorter { IfSome result (λ front. length front.1.now < length bytes.now) }
+{
+    match bytes {
+        [byte, rest @ ..] if *byte >= 32 => Some((*byte, rest)),
+        _ => None,
+    }
+}
+
 /// Whether no number in the bytes is out of its range.
 fn all_in_range(bytes: &[u8]) -> bool
     ensures { result ≡ list_all is_in_range (pieces bytes.now) }
 {
     let mut rest = bytes;
     while !rest.is_empty() {
-        let (token, next) = next_token(rest);
-        if !is_in_range_token(token) {
-            return false;
+        if let Some((_, next)) = next_character(rest) {
+            rest = next;
+        } else {
+            let (token, next) = next_token(rest);
+            if !is_in_range_token(token) {
+                return false;
+            }
+            rest = next;
         }
-        rest = next;
     }
     true
 }

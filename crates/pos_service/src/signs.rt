@@ -1,4 +1,7 @@
-/// How much paper a printer has.
+ghost use Rattle.std.specs.Prelude.{◌≡◌};
+ghost use Rattle.pos_service.specs.Receipts.{paper_level, is_empty, is_near_end};
+
+/// How much paper a printer has (chapter POS Printer).
 #[derive(Clone, Copy, Debug, PartialEq, Eq)]
 pub enum PaperLevel {
     /// More than near the end.
@@ -7,6 +10,41 @@ pub enum PaperLevel {
     NearEnd,
     /// No line is left.
     Empty,
+}
+
+impl PaperLevel {
+    /// With so many lines left, by the number of lines at which the paper is near its end.
+    pub fn of_lines(near: u32, left: u32) -> Self
+        ensures { result ≡ paper_level near left }
+    {
+        if left == 0 {
+            return PaperLevel::Empty;
+        }
+        if left <= near {
+            return PaperLevel::NearEnd;
+        }
+        PaperLevel::Good
+    }
+
+    /// Whether no line is left (property RecEmpty).
+    pub fn is_empty(self) -> bool
+        ensures { result ≡ is_empty self }
+    {
+        match self {
+            PaperLevel::Good | PaperLevel::NearEnd => false,
+            PaperLevel::Empty => true,
+        }
+    }
+
+    /// Whether the paper is near its end, or no line is left (property RecNearEnd).
+    pub fn is_near_end(self) -> bool
+        ensures { result ≡ is_near_end self }
+    {
+        match self {
+            PaperLevel::Good => false,
+            PaperLevel::NearEnd | PaperLevel::Empty => true,
+        }
+    }
 }
 
 /// What a peripheral shows of itself. A part that its kind lacks is false, or good.

@@ -1,8 +1,9 @@
 use crate::display_text::{Attribute, BLANK, Cursor, Direction, ORIGIN};
 use crate::numbers::{to_count, to_index, to_natural};
+use crate::receipt_text::{Alignment, Mark, PrintedCharacter};
 use crate::{
-    Bytes, Call, Category, Code, DisplayCells, Input, Kind, Locus, NoMemory, Order, Property,
-    columns_of, rows_of,
+    Bytes, Call, Category, Code, DisplayCells, Input, Kind, Locus, NoMemory, Order, PaperLevel,
+    Property, Receipt, chars_of, columns_of, rows_of,
 };
 use std::alloc::Global;
 
@@ -147,5 +148,72 @@ fn cells_are_kept_and_given_back(rt: HostRuntime) -> Result<(), NoMemory> {
     assert_eq!(rt; (shown.rows(), shown.columns()), (1, 2));
     assert_eq!(rt; shown.as_slice(), [BLANK, BLANK].as_slice());
     assert_eq!(rt; shown.into_vec().len(), 2);
+    Ok(())
+}
+
+/// A printer of eight characters a line, whose paper is near its end at two lines.
+const PRINTER: Kind = Kind::Printer { chars: 8, near: 2 };
+
+#[test]
+fn printers_are_exclusive_and_have_calls_and_signs_of_their_own(rt: HostRuntime) {
+    assert!(rt; Category::PosPrinter.is_exclusive());
+    assert!(rt; Category::PosPrinter.serves(Some(PRINTER)) && !Category::PosPrinter.serves(None));
+    assert!(rt; !Category::LineDisplay.serves(Some(PRINTER)));
+    assert!(rt; Category::PosPrinter.has_call(&Call::ClearOutput));
+    assert!(rt; !Category::PosPrinter.has_call(&Call::ClearText));
+    for property in [Property::RecLineChars, Property::RecEmpty] {
+        assert!(rt; Category::PosPrinter.has_property(property));
+        assert!(rt; !Category::HardTotals.has_property(property));
+        assert!(rt; property.needs_holder() && property.needs_enabled());
+    }
+    assert!(rt; Property::AsyncMode.is_settable() && !Property::OutputId.is_settable());
+    assert!(rt; !Property::OutputId.needs_holder() && !Property::AsyncMode.needs_enabled());
+    assert_eq!(rt; (chars_of(Some(PRINTER)), chars_of(None)), (8, 0));
+}
+
+#[test]
+fn a_printer_takes_texts_cuts_and_paper(rt: HostRuntime) -> Result<(), NoMemory> {
+    let bytes = Bytes::from_slice(rt.alloc(), b"A\x1b|50P")?;
+    let text = Order::Print { bytes };
+    assert!(rt; text.fits(PRINTER) && !text.fits(DISPLAY));
+    let bytes = Bytes::from_slice(rt.alloc(), b"\x1b|101P")?;
+    assert!(rt; !Order::Print { bytes }.fits(PRINTER));
+    assert!(rt; Order::Cut { percentage: 100 }.fits(PRINTER));
+    assert!(rt; !Order::Cut { percentage: 101 }.fits(PRINTER));
+    assert!(rt; !Order::Cut { percentage: 1 }.fits(Kind::Drawer));
+    assert!(rt; Input::CoverMoved(true).fits(PRINTER) && !Input::CoverMoved(true).fits(DISPLAY));
+    assert!(rt; Input::PaperLoaded(100_000).fits(PRINTER));
+    assert!(rt; !Input::PaperLoaded(100_001).fits(PRINTER));
+    assert!(rt; !Input::DrawerMoved(true).fits(PRINTER));
+    Ok(())
+}
+
+#[test]
+fn paper_is_near_its_end_from_a_line_down(rt: HostRuntime) {
+    for (left, level) in [
+        (0, PaperLevel::Empty),
+        (1, PaperLevel::NearEnd),
+        (2, PaperLevel::NearEnd),
+        (3, PaperLevel::Good),
+    ] {
+        assert_eq!(rt; PaperLevel::of_lines(2, left), level);
+    }
+    assert_eq!(rt; PaperLevel::of_lines(0, 1), PaperLevel::Good);
+    assert!(rt; PaperLevel::Empty.is_empty() && PaperLevel::Empty.is_near_end());
+    assert!(rt; !PaperLevel::NearEnd.is_empty() && PaperLevel::NearEnd.is_near_end());
+    assert!(rt; !PaperLevel::Good.is_near_end());
+}
+
+#[test]
+fn a_receipt_is_kept(rt: HostRuntime) -> Result<(), NoMemory> {
+    let (byte, is_bold) = (b'A', true);
+    let characters = vec![in rt.alloc(); PrintedCharacter { byte, is_bold }; 3]?;
+    let marks = vec![in rt.alloc(); Mark::Line(Alignment::Left, 2); 1]?;
+    let receipt = Receipt::new(8, marks, characters, 7, true);
+    assert_eq!(rt; (receipt.chars(), receipt.lines_left()), (8, 7));
+    assert!(rt; receipt.is_cover_open());
+    let (marks, characters) = receipt.printed();
+    assert_eq!(rt; marks, [Mark::Line(Alignment::Left, 2)].as_slice());
+    assert_eq!(rt; characters.len(), 3);
     Ok(())
 }

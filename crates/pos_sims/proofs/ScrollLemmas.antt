@@ -1,5 +1,5 @@
 -- Cells that move within parts of the list are rows and columns that move.
-use Rattle.std.proofs.Common.{◌≡◌, inl, inr, ℕ, ◌+◌, ◌-◌, ◌*◌, ◌%◌, ◌<◌, ◌≤◌, List, true, false, length, get_or, ap, sym, ◌∙◌, refl, arith}
+use Rattle.std.proofs.Common.{◌≡◌, inl, inr, ℕ, ◌+◌, ◌-◌, ◌*◌, ◌<◌, ◌≤◌, List, true, false, length, get_or, ap, ◌∙◌, refl, arith}
 use Rattle.std.specs.Prelude.{nat_lt, nat_le, if◌then◌else◌}
 use Rattle.std.proofs.lemmas.Bool.Decides.{nat_tests}
 use Rattle.std.proofs.lemmas.List.{get_or_past}
@@ -8,14 +8,8 @@ use Rattle.std.proofs.Math.Nat.{mul-le-mul_right}
 use Rattle.pos_service.specs.declared.display_text.DisplayCell.{DisplayCell}
 use Rattle.pos_service.specs.declared.display_text.Direction.TheVariants as direction
 use Rattle.pos_service.specs.Displays.{Scrolls, blank, cell_at}
-use Rattle.pos_sims.specs.Windows.{MovesToFront, MovesToEnd, display_of}
-use Rattle.pos_sims.proofs.WindowLemmas.{two_ways, in_window, moved_whole, past_cells}
-
--- a part that is the whole list
-whole_part : (len k : ℕ) → k < len → k % len ≡ k
-whole_part len k lt =
-    let e : 0 * len + k ≡ k = omega arith in
-    ap (λ n. n % len) (sym e) ∙ mod-mul-add 0 len k lt
+use Rattle.pos_sims.specs.Windows.{ShiftsToFront, ShiftsToEnd, MovesToFront, MovesToEnd, display_of}
+use Rattle.pos_sims.proofs.WindowLemmas.{two_ways, in_window, shifted, past_cells}
 
 rows_later : (columns row column units : ℕ) → row * columns + column + units * columns ≡ (row + units) * columns + column
 rows_later columns row column units = omega arith
@@ -28,13 +22,13 @@ rows_before columns row column units le =
     omega (arith, f)
 
 -- up
-pub scrolls_up : (rows columns units : ℕ) (old new : List DisplayCell) → length old ≡ rows * columns → length new ≡ length old → MovesToFront (length old) (units * columns) old new → Scrolls (display_of rows columns old) direction.Up units (display_of rows columns new)
+pub scrolls_up : (rows columns units : ℕ) (old new : List DisplayCell) → length old ≡ rows * columns → length new ≡ length old → ShiftsToFront (units * columns) old new → Scrolls (display_of rows columns old) direction.Up units (display_of rows columns new)
 scrolls_up rows columns units old new count same moved = record {
   rows = refl;
   columns = refl;
   count = same ∙ count;
   cells = λ row column r c.
-      moved_whole old new (length old) (units * columns) refl moved (row * columns + column) (omega (arith, count, in_window rows columns row column r c))
+      shifted old new (units * columns) moved (row * columns + column) (omega (arith, count, in_window rows columns row column r c))
       ∙ ap (λ k. get_or old k blank) (rows_later columns row column units)
       ∙ elim (two_ways (row + units) rows) as (λ _. cell_at columns old (row + units) column ≡ (if nat_lt (row + units) rows then cell_at columns old (row + units) column else blank)) [
         | inl inside ↦
@@ -52,7 +46,7 @@ before_all columns row column units c lt =
     omega (arith, h)
 
 -- down
-pub scrolls_down : (rows columns units : ℕ) (old new : List DisplayCell) → length old ≡ rows * columns → length new ≡ length old → MovesToEnd (length old) (units * columns) old new → Scrolls (display_of rows columns old) direction.Down units (display_of rows columns new)
+pub scrolls_down : (rows columns units : ℕ) (old new : List DisplayCell) → length old ≡ rows * columns → length new ≡ length old → ShiftsToEnd (units * columns) old new → Scrolls (display_of rows columns old) direction.Down units (display_of rows columns new)
 scrolls_down rows columns units old new count same moved = record {
   rows = refl;
   columns = refl;
@@ -61,7 +55,6 @@ scrolls_down rows columns units old new count same moved = record {
       let k = row * columns + column in
       let lt : k < length old = omega (arith, count, in_window rows columns row column r c) in
       moved k lt
-      ∙ ap (λ n. if nat_le (units * columns) n then get_or old (k - units * columns) blank else blank) (whole_part (length old) k lt)
       ∙ elim (two_ways row units) as (λ _. (if nat_le (units * columns) k then get_or old (k - units * columns) blank else blank) ≡ (if nat_le units row then cell_at columns old (row - units) column else blank)) [
         | inl outside ↦
             let t : nat_le units row ≡ false = grind (arith, nat_tests, outside) in

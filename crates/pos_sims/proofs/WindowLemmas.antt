@@ -12,7 +12,7 @@ use Rattle.pos_service.specs.declared.display_text.Place.{Place}
 use Rattle.pos_service.specs.Displays.{Placed, Strip, right_of, with_run, fed, with_text, blank, cell_at, cell_with, last_at, shown_at, rows_above}
 use Rattle.pos_service.proofs.StripLemmas.{first_full, first_free, character_text}
 use Rattle.pos_sims.specs.declared.laying.Manner.{Manner}
-use Rattle.pos_sims.specs.Windows.{Follows, IsWithin}
+use Rattle.pos_sims.specs.Windows.{Follows, IsWithin, ShiftsToFront}
 
 abbrev place_at : ℕ → ℕ → Place
 place_at row column = record { row = row; column = column }
@@ -195,19 +195,16 @@ begins manner cells start within =
       column = refl;
     }
 
--- cells that move to the front as one part
-pub moved_whole : (cells next : List DisplayCell) (len places : ℕ) → len ≡ length cells →
-    ((k : ℕ) → k < length cells → get_or next k blank ≡ (if nat_lt (k % len + places) len then get_or cells (k + places) blank else blank)) →
+-- cells that shift to the front: past the end stands a blank
+pub shifted : (cells next : List DisplayCell) (places : ℕ) → ShiftsToFront places cells next →
     (k : ℕ) → k < length cells → get_or next k blank ≡ get_or cells (k + places) blank
-moved_whole cells next len places e moved k lt =
-    let whole : 0 * len + k ≡ k = omega arith in
-    let same : k % len ≡ k = ap (λ n. n % len) (sym whole) ∙ mod-mul-add 0 len k (omega arith) in
+shifted cells next places moved k lt =
     moved k lt
-    ∙ elim (two_ways (k + places) len) as (λ _. (if nat_lt (k % len + places) len then get_or cells (k + places) blank else blank) ≡ get_or cells (k + places) blank) [
+    ∙ elim (two_ways (k + places) (length cells)) as (λ _. (if nat_lt (k + places) (length cells) then get_or cells (k + places) blank else blank) ≡ get_or cells (k + places) blank) [
       | inl inside ↦
-          let t : nat_lt (k % len + places) len ≡ true = grind (arith, nat_tests, same, inside) in
+          let t : nat_lt (k + places) (length cells) ≡ true = grind (arith, nat_tests, inside) in
           rw t
       | inr outside ↦
-          let t : nat_lt (k % len + places) len ≡ false = grind (arith, nat_tests, same, outside) in
-          rw t (sym (get_or_past cells (k + places) blank (omega (arith, e, outside))))
+          let t : nat_lt (k + places) (length cells) ≡ false = grind (arith, nat_tests, outside) in
+          rw t (sym (get_or_past cells (k + places) blank outside))
     ]

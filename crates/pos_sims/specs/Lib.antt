@@ -3,3 +3,4 @@ pub mod Scanners
 pub mod LineDisplays
 pub mod Windows
 pub mod Tapes
+pub mod ReceiptPrinters

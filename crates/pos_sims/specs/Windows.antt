@@ -47,6 +47,17 @@ pub record IsSized (rows columns cells : ℕ) : Type 0 where
 abbrev pub display_of : ℕ → ℕ → List DisplayCell → Display
 display_of rows columns cells = record { rows = rows; columns = columns; cells = cells }
 
+-- each cell is the one that stood so many places behind it, or a blank
+abbrev pub ShiftsToFront : ℕ → List DisplayCell → List DisplayCell → Type 0
+ShiftsToFront places old new =
+    (k : ℕ) → k < length old →
+    get_or new k blank ≡ (if nat_lt (k + places) (length old) then get_or old (k + places) blank else blank)
+
+-- each cell is the one that stood so many places before it, or a blank
+abbrev pub ShiftsToEnd : ℕ → List DisplayCell → List DisplayCell → Type 0
+ShiftsToEnd places old new =
+    (k : ℕ) → k < length old → get_or new k blank ≡ (if nat_le places k then get_or old (k - places) blank else blank)
+
 -- within each part of so many cells, each cell is the one that stood so many places behind it, or a blank
 abbrev pub MovesToFront : ℕ → ℕ → List DisplayCell → List DisplayCell → Type 0
 MovesToFront width places old new =

@@ -1,7 +1,7 @@
 ghost use Rattle.std.specs.Prelude.{◌≡◌, ◌≢◌, ◌<◌, [], ◌∷◌, length};
 ghost use Rattle.pos_sims.specs.Windows.{IsWithin, Lays, ShowsOver};
 
-use crate::scrolling::move_to_front;
+use crate::scrolling::shift_to_front;
 use pos_service::display_text::{Attribute, DisplayCell, Place};
 
 /// How a text is shown: the size of the display, and the text's attribute.
@@ -25,8 +25,7 @@ fn next_row(cells: &mut [DisplayCell], manner: Manner, place: Place) -> Place
             column: 0,
         };
     }
-    let len = cells.len();
-    move_to_front(cells, len, manner.columns as usize);
+    shift_to_front(cells, manner.columns as usize);
     Place {
         row: place.row,
         column: 0,

@@ -7,6 +7,7 @@ mod plain_drawer;
 mod plain_scanner;
 mod printing;
 mod roll;
+mod roll_printer;
 mod scrolling;
 mod tape;
 #[cfg(test)]
@@ -17,4 +18,5 @@ pub use plain_display::PlainDisplay;
 pub use plain_drawer::PlainDrawer;
 pub use plain_scanner::PlainScanner;
 pub use roll::Roll;
+pub use roll_printer::RollPrinter;
 pub use window::Window;

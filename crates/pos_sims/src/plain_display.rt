@@ -79,7 +79,8 @@ impl Peripheral for PlainDisplay {
                 self.window.scroll(*direction, *units);
                 Ok(Reply::Done)
             }
-            Order::OpenDrawer => unreachable!(),
+            Order::OpenDrawer | Order::Print { bytes: _ } | Order::Cut { percentage: _ } =>
+                unreachable!(),
         }
     }
 
@@ -95,7 +96,9 @@ impl Peripheral for PlainDisplay {
                 bytes: _,
                 label: _,
             }
-            | Input::ScanFault => Ok(Taken::Quiet),
+            | Input::ScanFault
+            | Input::CoverMoved(_)
+            | Input::PaperLoaded(_) => Ok(Taken::Quiet),
         }
     }
 

@@ -4,7 +4,7 @@ ghost use Rattle.pos_sims.specs.Tapes.{Adds, IsPrinted, StopsShort, add_cut, end
 
 use crate::tape::{Stop, Tape};
 use pos_service::receipt_text::{
-    Alignment, Mark, Piece, PrintedCharacter, Token, cut_of, next_token,
+    Alignment, Mark, Piece, PrintedCharacter, Token, cut_of, next_character, next_token,
 };
 use std::alloc::Global;
 
@@ -116,6 +116,20 @@ impl Tape {
         }
     }
 
+    /// One character, in a line of its own where the line buffer is full.
+    fn lay_character(&mut self, byte: u8) -> Result<(), Stop>
+        ensures ok { OnOk result (work_of self.new ≡ step self.old.chars (work_of self.old) (Piece.Character byte)) }
+        ensures paper { StopsShort result self.old.limit
+            (step self.old.chars (work_of self.old) (Piece.Character byte)).used }
+        ensures adds { Adds self.old self.new }
+    {
+        let is_bold = self.is_bold;
+        match self.end_full() {
+            Ok(()) => self.push(PrintedCharacter { byte, is_bold }),
+            Err(stop) => Err(stop),
+        }
+    }
+
     /// One piece.
     fn lay_piece(&mut self, piece: Piece) -> Result<(), Stop>
         ensures ok { OnOk result (work_of self.new ≡ step self.old.chars (work_of self.old) piece) }
@@ -123,13 +137,7 @@ impl Tape {
         ensures adds { Adds self.old self.new }
     {
         match piece {
-            Piece::Character(byte) => {
-                let is_bold = self.is_bold;
-                match self.end_full() {
-                    Ok(()) => self.push(PrintedCharacter { byte, is_bold }),
-                    Err(stop) => Err(stop),
-                }
-            }
+            Piece::Character(byte) => self.lay_character(byte),
             Piece::LineEnd => self.end_line(),
             Piece::Return => self.end_begun(),
             Piece::Cut(percentage) => match self.end_begun() {
@@ -188,11 +196,18 @@ impl Tape {
     {
         let mut rest = bytes;
         while !rest.is_empty() {
-            let (token, next) = next_token(rest);
-            if let Err(stop) = self.lay_token(token) {
-                return Err(stop);
+            if let Some((byte, next)) = next_character(rest) {
+                if let Err(stop) = self.lay_character(byte) {
+                    return Err(stop);
+                }
+                rest = next;
+            } else {
+                let (token, next) = next_token(rest);
+                if let Err(stop) = self.lay_token(token) {
+                    return Err(stop);
+                }
+                rest = next;
             }
-            rest = next;
         }
         Ok(())
     }

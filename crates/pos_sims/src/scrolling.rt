@@ -1,8 +1,30 @@
 ghost use Rattle.std.specs.Prelude.{◌≡◌, ◌*◌, ◌≤◌, length};
 ghost use Rattle.pos_service.specs.Displays.{Scrolls, most_units};
-ghost use Rattle.pos_sims.specs.Windows.{IsSized, MovesToFront, MovesToEnd, display_of};
+ghost use Rattle.pos_sims.specs.Windows.{IsSized, ShiftsToFront, ShiftsToEnd, MovesToFront, MovesToEnd, display_of};
 
 use pos_service::display_text::{BLANK, Direction, DisplayCell};
+
+/// Each cell moves so many places to the front; behind them are blanks.
+pub(crate) fn shift_to_front(cells: &mut [DisplayCell], places: usize)
+    ensures count { length cells.new ≡ length cells.old }
+    ensures moved { ShiftsToFront places cells.old cells.new }
+{
+    let len = cells.len();
+    let places = places.min(len);
+    cells.copy_within(places..len, 0);
+    cells[len - places..].fill(BLANK);
+}
+
+/// Each cell moves so many places to the end; before them are blanks.
+pub(crate) fn shift_to_end(cells: &mut [DisplayCell], places: usize)
+    ensures count { length cells.new ≡ length cells.old }
+    ensures moved { ShiftsToEnd places cells.old cells.new }
+{
+    let len = cells.len();
+    let places = places.min(len);
+    cells.copy_within(..len - places, places);
+    cells[..places].fill(BLANK);
+}
 
 /// Within each part of `width` cells, each cell moves so many places to the front; behind them are blanks.
 pub(crate) fn move_to_front(cells: &mut [DisplayCell], width: usize, places: usize)
@@ -49,12 +71,11 @@ pub(crate) fn scroll_cells(
     requires units { units ≤ most_units rows columns direction }
     ensures { Scrolls (display_of rows columns cells.old) direction units (display_of rows columns cells.new) }
 {
-    let len = cells.len();
     let width = columns as usize;
     let units = units as usize;
     match direction {
-        Direction::Up => move_to_front(cells, len, units * width),
-        Direction::Down => move_to_end(cells, len, units * width),
+        Direction::Up => shift_to_front(cells, units * width),
+        Direction::Down => shift_to_end(cells, units * width),
         Direction::Left => move_to_front(cells, width, units),
         Direction::Right => move_to_end(cells, width, units),
     }

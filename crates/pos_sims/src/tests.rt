@@ -1,4 +1,5 @@
 mod display;
+mod printer;
 
 use crate::{PlainDrawer, PlainScanner};
 use pos_service::{

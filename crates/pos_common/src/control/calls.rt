@@ -42,18 +42,21 @@ impl Control {
         self.is_frozen = false;
         self.reader.reset();
         self.cursor = Cursor::new();
+        self.writer.reset();
         self.stop();
     }
 
-    /// Is disabled, without events and without an input error.
+    /// Is disabled, without events, without requests of output, and without an error.
     fn stop(&mut self)
         ensures { self.new.control ≡ stopped self.old.control }
     {
         self.is_enabled = false;
+        self.writer.clear();
         self.events.clear();
     }
 
-    /// `close`: it is for no device any more. It is disabled, and its events are deleted (common chapter).
+    /// `close`: it is for no device any more. It is disabled, and its events and its output are deleted (common
+    /// chapter).
     ///
     /// Refused with E_CLOSED where it is closed.
     pub fn close(&mut self) -> Answer
@@ -90,7 +93,7 @@ impl Control {
 
     /// `release`: what it is once it has released its device, by its number and the number of the control that holds
     /// the device now, if any (common chapter). The control of a sharable device stays as it is. That of an
-    /// exclusive-use device is disabled, and its events are deleted.
+    /// exclusive-use device is disabled, and its events and its output are deleted.
     ///
     /// Refused with E_CLOSED where it is closed, E_ILLEGAL where it doesn't hold the device.
     pub fn release(&mut self, number: usize, holder: Option<usize>) -> Answer

@@ -17,6 +17,10 @@ pub const SCAN_EVENTS: usize = 1;
 /// The most events that a failed scan has: ErrorEvents with EL_INPUT_DATA and with EL_INPUT.
 pub const FAULT_EVENTS: usize = 2;
 
+/// The most events that a request of output has which is worked on: those of a change of signs, and one that it is
+/// done, or has failed.
+pub const WORK_EVENTS: usize = 4;
+
 impl Control {
     /// Whether it has the device at this place open and enabled.
     pub fn listens(&self, place: usize) -> bool
@@ -42,7 +46,8 @@ impl Control {
     /// open and enabled (common chapter, StatusUpdateEvent).
     pub fn hear(&mut self, place: usize, old: Signs, new: Signs)
         requires { HasRoom place sign_events self.old }
-        ensures { self.new.control ≡ if_listening place (heard (status_events old new)) self.old.control }
+        ensures heard { self.new.control ≡ if_listening place (heard (status_events old new)) self.old.control }
+        ensures room { self.old.spare ≤ self.new.spare + sign_events }
     {
         if self.listens(place) {
             self.tell(
@@ -116,7 +121,7 @@ impl Control {
 
     /// Takes the event that may be delivered now (common chapter, event queue): none while the control is closed or its
     /// events are frozen, else the first while data events are enabled, and the first that is neither a DataEvent nor
-    /// an error of input while they aren't. The reply is the application's to an ErrorEvent of input. With a DataEvent
+    /// an error of input while they aren't. The reply is the application's to an ErrorEvent. With a DataEvent
     /// its scan is shown, as DecodeData says now, and data events are disabled.
     pub fn deliver(&mut self, reply: ErrorReply) -> Option<Event>
         ensures event { result ≡ deliverable self.old.control }
@@ -126,6 +131,7 @@ impl Control {
         let is_held_back = self.is_held_back();
         let delivery = self.events.deliver(data_enabled, is_held_back, reply)?;
         self.reader.take(delivery.scan);
+        self.writer.take_reply(delivery.event, reply);
         Some(delivery.event)
     }
 }

@@ -1,4 +1,5 @@
 ghost use Rattle.std.specs.Prelude.{◌≡◌, ◌&&◌, ◌∷◌, [], ⊤, true, false, not, is_none};
+ghost use Rattle.pos_service.specs.Controls.{state_of};
 ghost use Rattle.pos_service.specs.Calls.{needs_files, is_of_bytes, takes, is_settable, set_rows, after_set, get_rows, property_of};
 ghost use Rattle.pos_service.specs.Kinds.{rows_of, columns_of};
 ghost use Rattle.pos_service.specs.Numbers.{is_index, is_up_to};
@@ -9,7 +10,7 @@ use super::Control;
 use crate::need::{ClaimNeed, Need};
 use pos_service::numbers::{to_count, to_index};
 use pos_service::{
-    Answer, Bytes, Code, Facts, Kind, NoMemory, Property, Value, columns_of, rows_of,
+    Answer, Bytes, Code, Facts, Kind, NoMemory, Property, Value, chars_of, columns_of, rows_of,
 };
 
 /// What setting DeviceEnabled asks of the control of an exclusive-use device.
@@ -110,16 +111,18 @@ impl Control {
             Property::AutoDisable => self.reader.set_auto_disable(is_true),
             Property::DecodeData => self.reader.set_decode(is_true),
             Property::CursorUpdate => self.cursor.update = is_true,
+            Property::AsyncMode => self.writer.set_async(is_true),
             _ => {}
         }
     }
 
     /// A property, by what is known of the control's device (common chapter, chapters Cash Drawer, Scanner, Line
-    /// Display and Hard Totals). Bytes are copied, for which memory may be wanted.
+    /// Display, POS Printer and Hard Totals). Bytes are copied, for which memory may be wanted.
     ///
-    /// Refused with E_CLOSED where the control is closed, but for State; with E_ILLEGAL where its category doesn't have
-    /// the property; with E_DISABLED where the property is one of an enabled device and the device is disabled; with
-    /// E_FAILURE where the property is one of the files and the totals are off.
+    /// Refused with E_CLOSED where the control is closed, but for State; with E_ILLEGAL where its category doesn't
+    /// have the property; with E_CLAIMED where the property is one for the control that holds the device, and another
+    /// one does, E_NOTCLAIMED where nobody does; with E_DISABLED where it is one of an enabled device and the device
+    /// is disabled; with E_FAILURE where the property is one of the files and the totals are off.
     pub fn get(&self, property: Property, facts: &Facts) -> Result<Answer, NoMemory>
         ensures { Gets (get_rows self.now.control facts.now property) property
             (property_of self.now.control facts.now property) result }
@@ -129,6 +132,12 @@ impl Control {
         }
         if !self.category.has_property(property) {
             return Ok(Answer::Refused(Code::Illegal, 0));
+        }
+        if property.needs_holder() && facts.is_foreign {
+            return Ok(Answer::Refused(Code::Claimed, 0));
+        }
+        if property.needs_holder() && !facts.is_claimed {
+            return Ok(Answer::Refused(Code::NotClaimed, 0));
         }
         if property.needs_enabled() && !self.is_enabled {
             return Ok(Answer::Refused(Code::Disabled, 0));
@@ -140,6 +149,22 @@ impl Control {
         }
     }
 
+    /// What it is at: closed 1, idle 2, busy 3, in error 4.
+    fn state(&self) -> u32
+        ensures { result ≡ state_of self.now.control }
+    {
+        if self.device.is_none() {
+            return 1;
+        }
+        if self.events.in_error() || self.writer.is_failed() {
+            return 4;
+        }
+        if self.writer.is_outstanding() {
+            return 3;
+        }
+        2
+    }
+
     /// The value of a property but of one of bytes, by what is known of the control's device.
     ///
     /// Refused with E_FAILURE where it is one of the files and the totals are off.
@@ -149,9 +174,7 @@ impl Control {
             (result ≡ Answer.Done (property_of self.now.control facts.now property)) }
     {
         match property {
-            Property::State if self.device.is_none() => Answer::Done(Value::Number(1)),
-            Property::State if self.events.in_error() => Answer::Done(Value::Number(4)),
-            Property::State => Answer::Done(Value::Number(2)),
+            Property::State => Answer::Done(Value::Number(i128::from(self.state()))),
             Property::Claimed => Answer::Done(Value::Truth(facts.is_claimed)),
             Property::DeviceEnabled => Answer::Done(Value::Truth(self.is_enabled)),
             Property::FreezeEvents => Answer::Done(Value::Truth(self.is_frozen)),
@@ -168,6 +191,12 @@ impl Control {
                 Answer::Done(Value::Number(i128::from(self.cursor.place.column)))
             }
             Property::CursorUpdate => Answer::Done(Value::Truth(self.cursor.update)),
+            Property::AsyncMode => Answer::Done(Value::Truth(self.writer.is_async())),
+            Property::OutputId => Answer::Done(Value::Number(i128::from(self.writer.output_id()))),
+            Property::RecLineChars => Answer::Done(Value::Number(i128::from(chars_of(facts.kind)))),
+            Property::CoverOpen => Answer::Done(Value::Truth(facts.signs.cover_open)),
+            Property::RecEmpty => Answer::Done(Value::Truth(facts.signs.paper.is_empty())),
+            Property::RecNearEnd => Answer::Done(Value::Truth(facts.signs.paper.is_near_end())),
             Property::CapStatus | Property::CapTransactions => Answer::Done(Value::Truth(true)),
             Property::TransactionInProgress => Answer::Done(Value::Truth(facts.in_transaction)),
             Property::CapSingleFile | Property::CapErrorDetection => {

@@ -1,9 +1,9 @@
 //! Tables of steps: what happens to controls, one step after another, and what has to come of it.
 use super::drawer_signs;
-use crate::{Control, FAULT_EVENTS, Need, SCAN_EVENTS, SIGN_EVENTS};
+use crate::{Control, FAULT_EVENTS, Need, SCAN_EVENTS, SIGN_EVENTS, WORK_EVENTS};
 use pos_service::display_text::{Cursor, Place};
 use pos_service::{
-    Answer, Bytes, Code, ErrorReply, Event, Facts, Finding, NoMemory, Property, Scan, Value,
+    Answer, Bytes, Code, ErrorReply, Event, Facts, Finding, NoMemory, Order, Property, Scan, Value,
 };
 use std::alloc::Global;
 use std::test::Fail;
@@ -26,6 +26,7 @@ pub enum Step {
     MoveCursor(Place),
     ClearInputProperties,
     Input(Input),
+    Output(Output),
     Deliver(ErrorReply),
     /// Data events are enabled, and the next event is delivered.
     Next(ErrorReply),
@@ -40,6 +41,22 @@ pub enum Input {
     Fault,
     /// A drawer that has been opened.
     DrawerOpened,
+}
+
+/// What happens to the output of a control that has the printer at place 0.
+#[derive(Clone, Copy)]
+pub enum Output {
+    /// A cut of the paper by so many percent, at most 100, is queued.
+    Queue(u8),
+    /// The cut that is to be done now is looked at.
+    First,
+    /// The cut that is to be done now is done, where there is one.
+    Complete,
+    /// The cut that is to be done now has failed, where there is one: no paper was left.
+    Fail,
+    Clear,
+    IsAsync,
+    HasOutput,
 }
 
 pub const FAULT: Step = Step::Input(Input::Fault);
@@ -58,6 +75,8 @@ pub enum Wanted<'a> {
     Refused(Code),
     Event(Event),
     NoEvent,
+    /// A cut by so many percent, with its OutputID.
+    Cut(u64, u8),
 }
 
 pub const NOTHING: Wanted<'static> = Wanted::Nothing;
@@ -156,6 +175,7 @@ fn does(
             come(alloc, control, input)?;
             Ok(is_nothing(wanted))
         }
+        Step::Output(output) => works(control, output, wanted),
         Step::Deliver(reply) => Ok(delivers(control.deliver(reply), wanted)),
         Step::Next(reply) => Ok(delivers(next(control, who, facts, reply), wanted)),
     }
@@ -218,6 +238,57 @@ fn scan(alloc: Global, control: &mut Control, kind: u32, byte: u8) -> Result<(),
         },
     );
     Ok(())
+}
+
+/// Whether of what happens to a control's output comes what is wanted.
+fn works(control: &mut Control, output: Output, wanted: Wanted<'_>) -> Result<bool, NoMemory> {
+    match output {
+        Output::Queue(percentage) => Ok(answers(queue(control, percentage)?, wanted)),
+        Output::First => Ok(is_first(control, wanted)),
+        Output::Complete => complete(control, wanted),
+        Output::Fail => {
+            control.room_for(0, WORK_EVENTS)?;
+            if control.first_request(0).is_some() {
+                control.fail_request(Code::Extended, 203);
+            }
+            Ok(is_nothing(wanted))
+        }
+        Output::Clear => {
+            control.clear_output();
+            Ok(is_nothing(wanted))
+        }
+        Output::IsAsync => Ok(is(control.is_async(), wanted)),
+        Output::HasOutput => Ok(is(control.has_output(), wanted)),
+    }
+}
+
+/// Queues a cut of the paper by so many percent, at most 100.
+fn queue(control: &mut Control, percentage: u8) -> Result<Answer, NoMemory> {
+    if percentage > 100 {
+        return Ok(Answer::Refused(Code::Illegal, 0));
+    }
+    control.queue(Order::Cut { percentage })
+}
+
+/// The cut that is to be done now, or none, is what is wanted.
+fn is_first(control: &Control, wanted: Wanted<'_>) -> bool {
+    match control.first_request(0) {
+        Some((id, Order::Cut { percentage })) => {
+            matches!(wanted, Wanted::Cut(number, by) if number == id && by == *percentage)
+        }
+        Some(_) => false,
+        None => is_nothing(wanted),
+    }
+}
+
+/// The cut that is to be done now is done, and its OutputID is what is wanted; where there is none, nothing is.
+fn complete(control: &mut Control, wanted: Wanted<'_>) -> Result<bool, NoMemory> {
+    control.room_for(0, WORK_EVENTS)?;
+    if control.first_request(0).is_none() {
+        return Ok(is_nothing(wanted));
+    }
+    let id = control.complete_request();
+    Ok(matches!(wanted, Wanted::Number(number) if number == i128::from(id)))
 }
 
 /// What gives nothing is what is wanted.

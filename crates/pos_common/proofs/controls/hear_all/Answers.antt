@@ -1,10 +1,15 @@
-use Rattle.std.proofs.Common.{◌<◌, ◌≡◌, length, arith, ◌∙◌}
-use Rattle.std.proofs.lemmas.List.{length-map}
+use Rattle.std.proofs.Common.{◌<◌, ◌≤◌, ◌≡◌, All, length, arith, subst, ◌∙◌, refl}
+use Rattle.std.proofs.lemmas.List.{length-map, take_all}
+use Rattle.std.specs.Prelude.{◌+◌}
 use Rattle.pos_service.specs.Controls.{heard, if_listening}
 use Rattle.pos_service.specs.Statuses.{status_events}
 use Rattle.pos_common.specs.Held.{HasRoom, controls_of, sign_events}
-use Rattle.pos_common.proofs.HeldLemmas.{mapped_more, first_of_rest, rest_after_set}
+use Rattle.pos_common.proofs.HeldLemmas.{mapped_more, first_of_rest, rest_after_set, front_after_set}
+use Rattle.pos_common.proofs.RoomLemmas.{room_left}
 use Rattle.pos_common.proofs.controls.hear_all.Goals as goal
+
+pub loop-control-init : goal.loop-control-init
+loop-control-init c = record { heard = refl; room = c.requires; left = λ count all. (λ i d lt. absurd (omega (arith, lt)), all) }
 
 pub hear-requires : goal.hear-requires
 hear-requires c =
@@ -15,9 +20,23 @@ hear-requires c =
 pub loop-control-preserved : goal.loop-control-preserved
 loop-control-preserved c =
     let hs = c.loop-control.controls in
+    let place = c.args.place in
+    let events = status_events c.args.old c.args.new in
     let lt : c.loop-control.control-index < length hs = omega arith in
     let n : length (controls_of c.args.controls.now) ≡ length hs = length-map c.args.controls.now _ ∙ omega arith in
     record {
-      heard = mapped_more (if_listening c.args.place (heard (status_events c.args.old c.args.new))) _ hs _ c.control-item.result _ lt c.hear.ensures c.loop-control.invariant.heard n;
-      room = rest_after_set (HasRoom c.args.place sign_events) hs _ _ lt c.loop-control.invariant.room;
+      heard = mapped_more (if_listening place (heard events)) _ hs _ c.control-item.result _ lt c.hear.ensures.heard c.loop-control.invariant.heard n;
+      room = rest_after_set (HasRoom place sign_events) hs _ _ lt c.loop-control.invariant.room;
+      left = λ count all.
+          let so_far = c.loop-control.invariant.left count all in
+          let before = first_of_rest (HasRoom place (sign_events + count)) hs _ c.control-item.result lt so_far.1 in (
+            front_after_set (HasRoom place count) hs _ _ lt (room_left place count events _ _ c.hear.ensures.heard c.hear.ensures.room before) so_far.0,
+            rest_after_set (HasRoom place (sign_events + count)) hs _ _ lt so_far.1,
+          );
     }
+
+pub returns-clause-room : goal.returns-clause-room
+returns-clause-room c = λ count all.
+    let hs = c.loop-control.controls in
+    let le : length hs ≤ c.loop-control.control-index = omega arith in
+    subst (All (HasRoom c.args.place count)) (take_all c.loop-control.control-index hs le) (c.loop-control.invariant.left count all).0

@@ -1,7 +1,7 @@
-use Rattle.std.proofs.Common.{get_or, map, set}
+use Rattle.std.proofs.Common.{get_or, set}
 use Rattle.std.proofs.lemmas.List.{get_or_default}
 use Rattle.pos_service.specs.declared.call.Call.TheVariants as call
-use Rattle.pos_counter.specs.Parts.{devices_of}
+use Rattle.pos_counter.specs.Parts.{boxes_in, devices_in}
 use Rattle.pos_counter.specs.Steps.{CallOf, Answered}
 use Rattle.pos_counter.proofs.Lifts.{match_at_some, control_at, decided_at}
 use Rattle.pos_counter.proofs.Serving.{controls_serve}
@@ -10,10 +10,9 @@ use Rattle.pos_counter.proofs.control_calls.open.Goals as goal
 pub returns : goal.returns
 returns g c =
     let hs = c.args.controls.now in
-    let es = c.args.entries.now in
-    let ss = map g.P.HasState.state c.args.peripherals.now in
+    let ds = devices_in (boxes_in c.requires.sound) c.args.devices.now in
     let n = c.args.number in
     let held = c.index-controls-number.result in
-    controls_serve hs (set hs n c.open.new.self) es ss (CallOf n (call.Open c.args.name.now)) (Answered c.open.result) c.requires.sound
+    controls_serve hs (set hs n c.open.new.self) ds (CallOf n (call.Open c.args.name.now)) (Answered c.open.result) c.requires.parts
     (λ shared. match_at_some _ _ _ _ (control_at hs n held c.requires.in_range)
-    (decided_at hs (devices_of es ss) shared n c.open.new.self (get_or hs n held) _ _ _ _ (get_or_default hs n held _ c.requires.in_range) (simp (c.find_for-found.ensures shared, c.category.ensures) at c.open.ensures)))
+    (decided_at hs ds shared n c.open.new.self (get_or hs n held) _ _ _ _ (get_or_default hs n held _ c.requires.in_range) (simp (c.find_for-found.ensures, c.category.ensures) at c.open.ensures)))

@@ -1,68 +1,73 @@
-use Rattle.std.proofs.Common.{◌∙◌, ◌<◌, ◌≤◌, length, get_or, map, ap, sym, refl, true, false, arith}
-use Rattle.std.proofs.lemmas.List.{length-map}
-use Rattle.std.proofs.lemmas.Option.{slice_get-get_or}
-use Rattle.pos_service.specs.declared.peripheral_box.HasState.{Ghosts}
+use Rattle.std.proofs.Common.{◌∙◌, Ok, Some, ap, refl, sym, true, false}
 use Rattle.pos_service.specs.Peripherals.{input_fits}
+use Rattle.pos_service.specs.Stations.{TakenAt, station_of}
+use Rattle.pos_profile.specs.Registries.{devices as registered}
+use Rattle.pos_counter.specs.Parts.{boxes_in, devices_in}
 use Rattle.pos_counter.specs.Steps.{InputTo, NoDevice, WrongInput, TakenIn, OutOfMemory}
-use Rattle.pos_counter.proofs.Serving.{controls_serve, station_serves}
-use Rattle.pos_counter.proofs.Stations.{finds_fit, nothing_named, on_station, unchanged, unparked_at}
+use Rattle.pos_counter.proofs.DeviceLists.{found_fit, missing_there}
+use Rattle.pos_counter.proofs.Serving.{step_serves}
+use Rattle.pos_counter.proofs.Stations.{done_places, finds_fit, named, on_station, unchanged, unnamed}
 use Rattle.pos_counter.proofs.device_calls.input.Goals as goal
 
-pub returns-then-place-boxes : goal.returns-then-place-boxes
-returns-then-place-boxes g c =
-    let boxes : Ghosts _ = record { state = λ b. (goal.Peripheral-dyn g (b.device.vtable, b.device.value)).state b.device.value } in
+pub returns-in_default-clause-serves : goal.returns-in_default-clause-serves
+returns-in_default-clause-serves g c =
     let hs = c.args.controls.now in
-    let es = c.args.entries.now in
-    let ss = map boxes.state c.args.boxes.now in
-    let beyond : length ss ≤ c.in-Some.place = omega (arith, length-map c.args.boxes.now boxes.state) in
-    controls_serve hs hs es ss (InputTo c.args.name.now c.args.input.now) NoDevice c.requires
-    (λ shared. (nothing_named hs es ss shared c.args.name.now c.in-Some.place c.requires.attached (c.in-Some.ensures.place ss) beyond, refl))
+    let ds = devices_in (boxes_in c.requires.sound) c.args.devices.now in
+    step_serves hs hs ds ds (InputTo c.args.name.now c.args.input.now) NoDevice c.requires.parts refl
+    (λ shared. (unnamed hs ds shared c.args.name.now c.in_default.ensures, refl))
 
-pub returns-then-not-fits : goal.returns-then-not-fits
-returns-then-not-fits g c =
-    let boxes : Ghosts _ = record { state = λ b. (goal.Peripheral-dyn g (b.device.vtable, b.device.value)).state b.device.value } in
+pub returns-in_default-peripheral-clause-serves : goal.returns-in_default-peripheral-clause-serves
+returns-in_default-peripheral-clause-serves g c =
+    let boxes = boxes_in c.requires.sound in
+    let devices = c.args.devices.now in
     let hs = c.args.controls.now in
-    let es = c.args.entries.now in
-    let bs = c.args.boxes.now in
+    let ds = devices_in boxes devices in
     let place = c.in-Some.place in
-    let within : place < length bs = omega arith in
+    let vacant = missing_there (registered boxes devices.registry) devices.totals place c.in_default-peripheral.ensures in
+    step_serves hs hs ds ds (InputTo c.args.name.now c.args.input.now) NoDevice c.requires.parts refl
+    (λ shared. (named hs ds shared c.args.name.now place c.in-Some.ensures ∙ vacant, refl))
+
+pub returns-then-not-fits-clause-serves : goal.returns-then-not-fits-clause-serves
+returns-then-not-fits-clause-serves g c =
+    let boxes = boxes_in c.requires.sound in
+    let devices = c.args.devices.now in
+    let hs = c.args.controls.now in
+    let ds = devices_in boxes devices in
+    let place = c.in-Some.place in
     let fit = ap (λ k. input_fits k c.args.input.now) (sym c.kind.ensures.kind) ∙ sym c.fits.ensures ∙ c.if-not-fits.true in
-    controls_serve hs hs es (map boxes.state bs) (InputTo c.args.name.now c.args.input.now) WrongInput c.requires (λ shared. (
-      finds_fit boxes.state hs es bs shared c.args.name.now place (get_or bs place c.index-boxes-place.result) c.args.input.now false c.requires.attached (c.in-Some.ensures.place _) (slice_get-get_or bs place c.index-boxes-place.result within) fit,
-      refl,
-    ))
+    step_serves hs hs ds ds (InputTo c.args.name.now c.args.input.now) WrongInput c.requires.parts refl
+    (λ shared. (finds_fit hs ds shared c.args.name.now place c.args.input.now false c.in-Some.ensures (found_fit (registered boxes devices.registry) devices.totals place _ c.args.input.now false c.in-Some-peripheral.ensures fit), refl))
 
-pub take_input-requires-clause-unparked : goal.take_input-requires-clause-unparked
-take_input-requires-clause-unparked g c =
-    let bs = c.args.boxes.now in
-    let within : c.in-Some.place < length bs = omega arith in
-    unparked_at _ bs c.in-Some.place _ (slice_get-get_or bs c.in-Some.place _ within) c.requires.unparked
-
-pub returns-in-Ok : goal.returns-in-Ok
-returns-in-Ok g c =
-    let boxes : Ghosts _ = record { state = λ b. (goal.Peripheral-dyn g (b.device.vtable, b.device.value)).state b.device.value } in
-    let hs = c.args.controls.now in
-    let es = c.args.entries.now in
-    let bs = c.args.boxes.now in
-    let place = c.in-Some.place in
-    let within : place < length bs = omega arith in
-    let gs = c.take_input.new.controls in
-    let box = c.take_input.new.peripheral in
-    station_serves boxes.state hs gs es bs place box (InputTo c.args.name.now c.args.input.now) TakenIn c.requires c.in-Ok.ensures.in_service.unparked
-    (λ shared. on_station boxes.state hs gs es bs shared place _ box _ _ c.requires.attached (slice_get-get_or bs place c.index-boxes-place-2.result within) (sym (c.in-Some.ensures.place _)) c.in-Ok.ensures.taken)
-
-pub returns-in-Err : goal.returns-in-Err
-returns-in-Err g c =
-    let boxes : Ghosts _ = record { state = λ b. (goal.Peripheral-dyn g (b.device.vtable, b.device.value)).state b.device.value } in
-    let hs = c.args.controls.now in
-    let es = c.args.entries.now in
-    let bs = c.args.boxes.now in
-    let place = c.in-Some.place in
-    let within : place < length bs = omega arith in
-    let gs = c.take_input.new.controls in
-    let box = c.take_input.new.peripheral in
+pub input_there-requires-clause-fits : goal.input_there-requires-clause-fits
+input_there-requires-clause-fits g c =
+    let boxes = boxes_in c.requires.sound in
+    let devices = c.args.devices.now in
     let fit = ap (λ k. input_fits k c.args.input.now) (sym c.kind.ensures.kind) ∙ sym c.fits.ensures ∙ c.if-not-fits.false in
-    station_serves boxes.state hs gs es bs place box (InputTo c.args.name.now c.args.input.now) OutOfMemory c.requires c.in-Err.ensures.in_service.unparked (λ shared. (
-      finds_fit boxes.state hs es bs shared c.args.name.now place (get_or bs place c.index-boxes-place.result) c.args.input.now true c.requires.attached (c.in-Some.ensures.place _) (slice_get-get_or bs place c.index-boxes-place.result within) fit,
-      unchanged boxes.state hs gs es bs shared place _ box (slice_get-get_or bs place c.index-boxes-place-2.result within) c.in-Err.ensures.taken.controls c.in-Err.ensures.taken.station,
+    found_fit (registered boxes devices.registry) devices.totals c.in-Some.place _ c.args.input.now true c.in-Some-peripheral.ensures fit
+
+pub returns-in-Ok-clause-serves : goal.returns-in-Ok-clause-serves
+returns-in-Ok-clause-serves g c =
+    let boxes = boxes_in c.requires.sound in
+    let hs = c.args.controls.now in
+    let gs = c.input_there.new.controls in
+    let ds = devices_in boxes c.args.devices.now in
+    let es = devices_in boxes c.input_there.new.devices in
+    let done = c.in-Ok.ensures.done in
+    step_serves hs gs ds es (InputTo c.args.name.now c.args.input.now) TakenIn c.requires.parts (done_places done)
+    (λ shared. on_station hs gs ds es shared c.in-Some.place _ (λ place. TakenAt c.args.input.now place (Ok tt)) (sym c.in-Some.ensures) done)
+
+pub returns-in-Err-clause-serves : goal.returns-in-Err-clause-serves
+returns-in-Err-clause-serves g c =
+    let boxes = boxes_in c.requires.sound in
+    let devices = c.args.devices.now in
+    let hs = c.args.controls.now in
+    let gs = c.input_there.new.controls in
+    let ds = devices_in boxes devices in
+    let es = devices_in boxes c.input_there.new.devices in
+    let place = c.in-Some.place in
+    let done = c.in-Err.ensures.done in
+    let fit = ap (λ k. input_fits k c.args.input.now) (sym c.kind.ensures.kind) ∙ sym c.fits.ensures ∙ c.if-not-fits.false in
+    step_serves hs gs ds es (InputTo c.args.name.now c.args.input.now) OutOfMemory c.requires.parts (done_places done) (λ shared. (
+      finds_fit hs ds shared c.args.name.now place c.args.input.now true c.in-Some.ensures (found_fit (registered boxes devices.registry) devices.totals place _ c.args.input.now true c.in-Some-peripheral.ensures fit),
+      unchanged hs gs ds es shared place done.device done.before done.after done.is_device done.is_attached done.changed done.does,
     ))

@@ -3,21 +3,22 @@ use Rattle.pos_service.specs.HardTotals.{is_ready}
 use Rattle.pos_service.specs.Calls.{after_set, set_rows}
 use Rattle.pos_common.specs.Held.{Held, TurnsInto}
 use Rattle.pos_store.specs.Standing.{Standing}
-use Rattle.pos_counter.specs.Machine.{Shared, holder_in}
+use Rattle.pos_service.specs.declared.peripheral_box.HasState.{Ghosts}
+use Rattle.pos_counter.specs.Machine.{Shared, device_at, holder_in, kind_in}
 use Rattle.pos_counter.specs.Totals.{asks_recovery}
 use Rattle.std.proofs.lemmas.List.{get_or_default}
 use Rattle.pos_service.specs.declared.call.Call.TheVariants as call
-use Rattle.pos_counter.specs.Parts.{kind_at, machine_with, part_of}
+use Rattle.pos_counter.specs.Parts.{devices_in, machine_with, part_of}
 use Rattle.pos_counter.specs.Steps.{CallOf, Answered}
-use Rattle.pos_counter.proofs.DeviceLists.{kind_there}
 use Rattle.pos_counter.proofs.Recovering.{plain_set}
 use Rattle.pos_counter.proofs.Serving.{kept_disk, rests_stepped, stepped_sound}
 use Rattle.pos_counter.proofs.properties.set.Goals as goal
 
 pub returns : goal.returns
-returns g c = λ states sound.
+returns g c = λ sound.
+    let boxes : Ghosts _ = record { state = λ b. (goal.Peripheral-dyn g (b.device.vtable, b.device.value)).state b.device.value } in
     let hs = c.args.controls.now in
-    let es = c.args.entries.now in
+    let ds = devices_in boxes c.args.devices.now in
     let n = c.args.number in
     let p = c.args.property in
     let v = c.args.value.now in
@@ -28,17 +29,18 @@ returns g c = λ states sound.
     let is = get_or_default hs n c.index-controls-number-2.result h c.requires in
     let same = get_or_default hs n c.index-controls-number-2.result c.index-controls-number.result c.requires in
     let holder = c.find_holder-holder.ensures ∙ ap (λ o. holder_in h.control.category cl o h.control.device) c.area.ensures in
-    let kind = c.kind_at-kind.ensures ∙ ap (kind_at es) c.device-device.ensures ∙ sym (kind_there es states h.control.device) in
+    let kind = c.kind_at-kind.ensures ∙ ap (λ o. kind_in (device_at ds o)) c.device-device.ensures in
     let held = subst (λ o. TurnsInto (set_rows n o c.kind_at-kind.result h.control p v) c.set.result h c.set.new.self (after_set h.control p v)) holder c.set.ensures in
     let turns = subst (λ at. TurnsInto (set_rows n (holder_in h.control.category cl view.totals.area h.control.device) at h.control p v) c.set.result h c.set.new.self (after_set h.control p v)) kind held in
     let plain = subst (λ (k : Held). (asks_recovery k.control p v && not (is_ready view.totals.mode)) ≡ false) (sym same)
     (ap (λ b. asks_recovery (get_or hs n c.index-controls-number.result).control p v && not b) (sym c.is_ready.ensures) ∙ sym c.is_recovering.ensures ∙ c.if-is_recovering.false) in
-    let step = λ (left : List Standing). plain_set hs cl es states (part_of g.D.Disk view left) n c.set.new.self h p v c.set.result c.requires is plain turns in
+    let step = λ (left : List Standing). plain_set hs cl ds (part_of g.D.Disk view left) n c.set.new.self h p v c.set.result c.requires is plain turns in
     let shared : Shared = record { claims = cl; totals = part_of g.D.Disk view [] } in
     record {
-      steps = λ left leaves. rests_stepped g.D.Disk view (machine_with hs cl es states) (machine_with (set hs n c.set.new.self) cl es states) q (Answered c.set.result) left (λ bytes honest since. g.met.D.Disk.only_now view.disk bytes honest since) leaves (step left);
-      sound = stepped_sound hs (set hs n c.set.new.self) es states shared shared q (Answered c.set.result) sound (step []);
+      steps = λ left leaves. rests_stepped g.D.Disk view (machine_with hs cl ds) (machine_with (set hs n c.set.new.self) cl ds) q (Answered c.set.result) left (λ bytes honest since. g.met.D.Disk.only_now view.disk bytes honest since) leaves (step left);
+      sound = stepped_sound hs (set hs n c.set.new.self) ds shared shared q (Answered c.set.result) sound (step []);
       covers = refl;
+      places = refl;
       alone = λ h. refl;
       kept = kept_disk g.D.Disk view.disk;
     }

@@ -1,5 +1,5 @@
--- One peripheral fewer is left.
+-- One device fewer is left.
 use Rattle.pos_counter.proofs.support.end_all.Given as goal
 
-abbrev pub decreases-loop-single : goal.decreases-loop-single
-decreases-loop-single g l = goal.left-loop-single g l
+abbrev pub decreases-loop-entry : goal.decreases-loop-entry
+decreases-loop-entry g l = goal.left-loop-entry g l

@@ -1,15 +1,16 @@
-use Rattle.std.proofs.Common.{subst, sym}
-use Rattle.pos_counter.specs.Counters.{IsCounterSound, boxes_of}
+use Rattle.std.proofs.Common.{◌∙◌, sym}
 use Rattle.pos_counter.proofs.counter.Counter.call.Goals as goal
 
-pub call-requires-clause-sound : goal.call-requires-clause-sound
-call-requires-clause-sound g c =
-    let boxes = boxes_of c.requires.sound in
-    let sound = subst (IsCounterSound boxes) (sym c.self.view_is) c.requires.sound in
-    rw (c.deref_mut.ensures.value, c.deref.ensures.value, c.deref_mut-2.ensures.value) sound.parts
+pub returns-clause-step : goal.returns-clause-step
+returns-clause-step g c = record {
+  steps = c.call.ensures.serves.steps;
+  alone = c.call.ensures.serves.alone;
+  kept = c.call.ensures.serves.kept;
+}
 
-pub call-requires-clause-covers : goal.call-requires-clause-covers
-call-requires-clause-covers g c =
-    let boxes = boxes_of c.requires.sound in
-    let sound = subst (IsCounterSound boxes) (sym c.self.view_is) c.requires.sound in
-    rw (c.deref.ensures.value) sound.covers
+pub returns-clause-sound : goal.returns-clause-sound
+returns-clause-sound g c = record {
+  parts = c.call.ensures.serves.sound;
+  devices = c.call.ensures.sound;
+  covers = c.call.ensures.serves.covers ∙ c.requires.sound.covers ∙ sym c.call.ensures.serves.places;
+}

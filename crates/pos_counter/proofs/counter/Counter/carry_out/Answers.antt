@@ -1,7 +1,7 @@
 use Rattle.std.proofs.Common.{ap, sym, refl, ◌∙◌}
 use Rattle.pos_counter.specs.Counters.{boxes_of}
-use Rattle.pos_counter.specs.Responses.{made, taken_in, shown, request_of}
-use Rattle.pos_counter.specs.Steps.{NewControl, InputTo, Deliver, Delivered, Snapshot}
+use Rattle.pos_counter.specs.Responses.{made, taken_in, worked, shown, request_of}
+use Rattle.pos_counter.specs.Steps.{NewControl, InputTo, WorkOn, Deliver, Delivered, Snapshot}
 use Rattle.pos_counter.proofs.Runs.{beside_step_as, step_as}
 use Rattle.pos_counter.proofs.counter.Counter.carry_out.Goals as goal
 
@@ -14,6 +14,11 @@ pub returns-in-InputTo-clause-step : goal.returns-in-InputTo-clause-step
 returns-in-InputTo-clause-step g c =
     let old = c.args.self.now in
     beside_step_as g.D.Disk (boxes_of c.requires.sound) old c.input.new.self (InputTo c.as_slice.result.now c.in-InputTo.input) (taken_in c.input.result) _ _ (λ bytes honest since. g.met.D.Disk.only_now old.totals.disk bytes honest since) (ap request_of c.in-InputTo.is ∙ ap (λ name. InputTo name c.in-InputTo.input) (sym c.as_slice.ensures)) (c.of_input.ensures) c.input.ensures.step
+
+pub returns-in-WorkOn-clause-step : goal.returns-in-WorkOn-clause-step
+returns-in-WorkOn-clause-step g c =
+    let old = c.args.self.now in
+    beside_step_as g.D.Disk (boxes_of c.requires.sound) old c.work.new.self (WorkOn c.as_slice-in-WorkOn.result.now) (worked c.work.result) _ _ (λ bytes honest since. g.met.D.Disk.only_now old.totals.disk bytes honest since) (ap request_of c.in-WorkOn.is ∙ ap WorkOn (sym c.as_slice-in-WorkOn.ensures)) (c.of_work.ensures) c.work.ensures.step
 
 pub returns-in-Deliver-clause-step : goal.returns-in-Deliver-clause-step
 returns-in-Deliver-clause-step g c =

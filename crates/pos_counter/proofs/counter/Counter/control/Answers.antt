@@ -1,9 +1,9 @@
 use Rattle.std.proofs.Common.{[], refl}
 use Rattle.pos_counter.specs.Steps.{NewControl}
 use Rattle.pos_counter.specs.Responses.{made}
-use Rattle.pos_counter.specs.Counters.{states_of, boxes_of}
+use Rattle.pos_counter.specs.Counters.{boxes_of}
 use Rattle.pos_counter.specs.Machine.{Shared}
-use Rattle.pos_counter.specs.Parts.{devices_of}
+use Rattle.pos_counter.specs.Parts.{devices_in}
 use Rattle.pos_counter.proofs.Runs.{control_is_step}
 use Rattle.pos_counter.proofs.Serving.{stepped_sound}
 use Rattle.pos_counter.proofs.counter.Counter.control.Goals as goal
@@ -18,11 +18,11 @@ pub returns-clause-sound : goal.returns-clause-sound
 returns-clause-sound g c =
     let boxes = boxes_of c.requires.sound in
     let old = c.args.self.now in
-    let es = old.entries.items in
-    let ss = states_of boxes old.boxes.items in
+    let ds = devices_in boxes old.devices in
     let before : Shared = record { claims = old.claims; totals = record { totals = old.totals.totals; left = []; failures = 0 } } in
     let after : Shared = record { claims = old.claims; totals = record { totals = c.control.new.totals.totals; left = []; failures = 0 } } in
     record {
-      parts = stepped_sound old.desk c.control.new.self es ss before after (NewControl c.args.category) (made c.control.result) c.requires.sound.parts (c.control.ensures.step (devices_of es ss) old.claims [] 0);
+      parts = stepped_sound old.desk c.control.new.self ds before after (NewControl c.args.category) (made c.control.result) c.requires.sound.parts (c.control.ensures.step ds old.claims [] 0);
+      devices = c.requires.sound.devices;
       covers = c.requires.sound.covers;
     }

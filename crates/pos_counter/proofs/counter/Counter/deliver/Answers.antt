@@ -1,7 +1,7 @@
 use Rattle.std.proofs.Common.{refl}
 use Rattle.pos_counter.specs.Steps.{Deliver, Delivered}
-use Rattle.pos_counter.specs.Counters.{states_of, boxes_of}
-use Rattle.pos_counter.specs.Parts.{devices_of}
+use Rattle.pos_counter.specs.Counters.{boxes_of}
+use Rattle.pos_counter.specs.Parts.{devices_in}
 use Rattle.pos_counter.proofs.Serving.{controls_serve}
 use Rattle.pos_counter.proofs.counter.Counter.deliver.Goals as goal
 
@@ -10,14 +10,13 @@ returns-clause-step g c =
     let boxes = boxes_of c.requires.sound in
     let old = c.args.self.now in
     record {
-      step = λ part. c.deliver.ensures (devices_of old.entries.items (states_of boxes old.boxes.items)) (record { claims = old.claims; totals = part });
+      step = λ part. c.deliver.ensures (devices_in boxes old.devices) (record { claims = old.claims; totals = part });
       totals = refl;
     }
 
 pub returns-clause-sound : goal.returns-clause-sound
 returns-clause-sound g c =
     let boxes = boxes_of c.requires.sound in
-    let es = c.args.self.now.entries.items in
-    let ss = states_of boxes c.args.self.now.boxes.items in
-    let served = controls_serve c.args.self.now.desk c.deliver.new.self es ss (Deliver c.args.number c.args.reply) (Delivered c.deliver.result) c.requires.sound.parts (c.deliver.ensures (devices_of es ss)) in
-    record { parts = served.sound; covers = c.requires.sound.covers }
+    let ds = devices_in boxes c.args.self.now.devices in
+    let served = controls_serve c.args.self.now.desk c.deliver.new.self ds (Deliver c.args.number c.args.reply) (Delivered c.deliver.result) c.requires.sound.parts (c.deliver.ensures ds) in
+    record { parts = served.sound; devices = c.requires.sound.devices; covers = c.requires.sound.covers }

@@ -1,16 +1,15 @@
 use Rattle.std.proofs.Common.{◌≡◌, ◌∙◌, ap, map, sym, subst, true}
-use Rattle.std.specs.Prelude.{All}
-use Rattle.pos_service.specs.Peripherals.{PeripheralState}
-use Rattle.pos_service.specs.Stations.{station_of}
-use Rattle.pos_counter.specs.Counters.{states_of, boxes_of}
-use Rattle.pos_counter.proofs.Parking.{stations_stay, all_parked}
+use Rattle.std.specs.Prelude.{All, IfSome}
+use Rattle.pos_profile.specs.Registries.{Device as Registered, devices as registered}
+use Rattle.pos_counter.specs.Counters.{boxes_of}
+use Rattle.pos_counter.specs.Parts.{device_of}
+use Rattle.pos_counter.proofs.Parking.{devices_stay, all_parked}
 use Rattle.pos_counter.proofs.counter.Counter.shutdown.Goals as goal
 
-pub returns-clause-boxes : goal.returns-clause-boxes
-returns-clause-boxes g c = λ part.
-    let boxes = boxes_of c.requires.sound in
-    let bs = c.args.self.boxes.items in
-    let states = states_of boxes bs in record {
-      stations = ap (map station_of) c.park_all.ensures ∙ stations_stay c.args.self.entries.items states c.requires.sound.parts.attached;
-      parked = subst (All (λ (s : PeripheralState). s.is_parked ≡ true)) (sym c.park_all.ensures) (all_parked states);
+pub returns-clause-entries : goal.returns-clause-entries
+returns-clause-entries g c = λ part.
+    let devices = c.args.self.devices in
+    let list = registered (boxes_of c.requires.sound) devices.registry in record {
+      devices = ap (map device_of) c.into_entries.ensures ∙ devices_stay list devices.totals;
+      parked = subst (All (λ (d : Registered). IfSome d.peripheral (λ state. state.is_parked ≡ true))) (sym c.into_entries.ensures) (all_parked list);
     }

@@ -3,6 +3,6 @@ use Rattle.pos_counter.proofs.counter.Counter.snapshot.Goals as goal
 
 pub returns : goal.returns
 returns g c = record {
-  step = λ part. let shown = rw (c.deref.ensures.value, c.deref-2.ensures.value) at c.snapshot.ensures in shown c.args.self.now.desk (record { claims = c.args.self.now.claims; totals = part });
+  step = λ part. c.snapshot.ensures c.args.self.now.desk (record { claims = c.args.self.now.claims; totals = part });
   totals = refl;
 }

@@ -1,0 +1,156 @@
+ghost use Rattle.std.specs.Prelude.{◌≡◌, ◌<◌, Some, OnOk, OnErr, IfSome, IsSome, option_map};
+ghost use Rattle.pos_output.specs.declared.fault.PutFault.TheVariants as put_fault;
+ghost use Rattle.pos_service.specs.Controls.{default_writer, queued_by, with_output};
+ghost use Rattle.pos_service.specs.Output.{is_outstanding, last_output_id, output_after, output_deleted};
+ghost use Rattle.pos_service.specs.Output.{request_done, request_failed, request_to_do};
+ghost use Rattle.pos_service.specs.Peripherals.{PrintersTake};
+
+use pos_output::{OutputQueue, PutFault};
+use pos_service::{ErrorReply, Event, Locus, Order};
+use std::alloc::Global;
+use std::marker::Model;
+
+/// What a control keeps of output: properties that say how it is done, and the requests that are still to do, each of
+/// which every printer takes (common chapter, chapter POS Printer).
+#[derive(Drop)]
+pub(crate) struct Writer {
+    is_async: bool,
+    output_id: u64,
+    output: OutputQueue,
+}
+
+impl Model for Writer {
+    ghost use Rattle.std.specs.Prelude.{All};
+    ghost use Rattle.pos_service.specs.Controls.{Writer as Kept};
+    ghost use Rattle.pos_service.specs.Peripherals.{PrintersTake};
+
+    ghost Value = { Kept };
+
+    ghost view = { λ a. record { is_async = a.is_async; output_id = a.output_id; output = a.output } };
+
+    ghost invariant = { λ a. All (λ request. PrintersTake request.1) a.output.requests };
+}
+
+impl Writer {
+    /// All properties by default, and no requests. OutputIDs begin with 1.
+    pub(crate) fn new(alloc: Global) -> Self
+        ensures { result ≡ default_writer 1 }
+    {
+        Writer {
+            is_async: false,
+            output_id: 0,
+            output: OutputQueue::starting(alloc, 1),
+        }
+    }
+
+    /// AsyncMode: whether requests are queued.
+    pub(crate) fn is_async(&self) -> bool
+        ensures { result ≡ self.now.is_async }
+    {
+        self.is_async
+    }
+
+    /// OutputID: that of the request that was queued last, 0 where none was since the control was opened.
+    pub(crate) fn output_id(&self) -> u64
+        ensures { result ≡ self.now.output_id }
+    {
+        self.output_id
+    }
+
+    /// Whether there are requests.
+    pub(crate) fn is_outstanding(&self) -> bool
+        ensures { result ≡ is_outstanding self.now.output }
+    {
+        !self.output.is_empty()
+    }
+
+    /// Whether the output error state stands.
+    pub(crate) fn is_failed(&self) -> bool
+        ensures { result ≡ self.now.output.is_failed }
+    {
+        self.output.is_failed()
+    }
+
+    /// Sets AsyncMode.
+    pub(crate) fn set_async(&mut self, is_true: bool)
+        ensures { self.new ≡ record self.old { is_async = is_true } }
+    {
+        self.is_async = is_true;
+    }
+
+    /// Sets all properties to their defaults, and deletes all requests. OutputIDs go on.
+    pub(crate) fn reset(&mut self)
+        ensures { self.new ≡ default_writer self.old.output.next }
+    {
+        self.is_async = false;
+        self.output_id = 0;
+        self.output.clear();
+    }
+
+    /// Queues a request, which gets the next OutputID. A refusal changes nothing.
+    pub(crate) fn put(&mut self, order: Order) -> Result<(), PutFault>
+        requires { PrintersTake order }
+        ensures queued { OnOk result (self.new ≡ queued_by order self.old) }
+        ensures left { OnOk result (self.old.output.next < last_output_id) }
+        ensures exhausted { OnErr result (result ≡ Err put_fault.Exhausted → self.old.output.next ≡ last_output_id) }
+        ensures unchanged { OnErr result (self.new ≡ self.old) }
+    {
+        match self.output.put(order) {
+            Ok(id) => {
+                self.output_id = id;
+                Ok(())
+            }
+            Err((fault, _)) => Err(fault),
+        }
+    }
+
+    /// The request that is to be done now, with its OutputID: the first, or None while it has failed.
+    pub(crate) fn first(&self) -> Option<(u64, &Order)>
+        ensures request { option_map (λ request. (request.0, request.1.now)) result ≡ request_to_do self.now.output }
+        ensures fits { IfSome result (λ request. PrintersTake request.1.now) }
+    {
+        self.output.first()
+    }
+
+    /// The request that was to be done is done: it is removed, and its OutputID is given.
+    pub(crate) fn done(&mut self) -> u64
+        requires { IsSome (request_to_do self.old.output) }
+        ensures id { option_map (λ request. request.0) (request_to_do self.old.output) ≡ Some result }
+        ensures removed { self.new ≡ with_output (request_done self.old.output) self.old }
+    {
+        self.output.done()
+    }
+
+    /// The request that was to be done has failed: it stays the first, and the output error state stands.
+    pub(crate) fn failed(&mut self)
+        requires { IsSome (request_to_do self.old.output) }
+        ensures { self.new ≡ with_output (request_failed self.old.output) self.old }
+    {
+        self.output.failed();
+    }
+
+    /// Deletes all requests, and ends the output error state. OutputIDs go on.
+    pub(crate) fn clear(&mut self)
+        ensures { self.new ≡ with_output (output_deleted self.old.output) self.old }
+    {
+        self.output.clear();
+    }
+
+    /// An event has been delivered, and the application has replied: of an error of output the state ends; ER_CLEAR
+    /// deletes all requests, and with every other reply the first is to be tried again (common chapter, error
+    /// handling).
+    pub(crate) fn take_reply(&mut self, event: Event, reply: ErrorReply)
+        ensures { self.new ≡ with_output (output_after (Some event) reply self.old.output) self.old }
+    {
+        let Event::Error(_, _, Locus::Output) = event else {
+            return;
+        };
+        if reply == ErrorReply::Clear {
+            self.output.clear();
+            return;
+        }
+        if self.output.is_failed() {
+            self.output.retry();
+        }
+    }
+}

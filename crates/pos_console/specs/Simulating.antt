@@ -1,0 +1,94 @@
+-- What is simulated for the entries of a profile (docs/CONSOLE.md, "The program").
+use Rattle.std.specs.Prelude.{◌≡◌, ◌≤◌, ◌⊎◌, ℕ, false, List, Option, Some, None, Result, Err, IfSome, Box, map, option_map}
+use Rattle.std.specs.declared.alloc.Global.{Global}
+use Rattle.pos_service.specs.declared.category.Category.{Category}
+use Rattle.pos_service.specs.declared.category.Category.TheVariants.{CashDrawer, Scanner, LineDisplay, PosPrinter, HardTotals}
+use Rattle.pos_service.specs.Displays.{blank_display}
+use Rattle.pos_service.specs.Peripherals.{IsInRange, PeripheralState}
+use Rattle.pos_service.specs.Receipts.{empty_roll}
+use Rattle.pos_sims.specs.Drawers.{drawer_state, state_of as state_of_drawer}
+use Rattle.pos_sims.specs.LineDisplays.{display_state, state_of as state_of_display}
+use Rattle.pos_sims.specs.ReceiptPrinters.{printer_state, state_of as state_of_printer}
+use Rattle.pos_sims.specs.Scanners.{scanner_state, state_of as state_of_scanner}
+use Rattle.pos_profile.specs.declared.entry.Entry.{Entry}
+use Rattle.pos_profile.specs.Kinds.{kind_of}
+use Rattle.std.specs.Io.KnownBytes.{Keeps}
+use Rattle.std.specs.List.{filter_map}
+use Rattle.pos_disk.specs.State.{DiskState}
+use Rattle.pos_profile.specs.Entries.{Contents}
+use Rattle.pos_service.specs.Stations.{station_of}
+use Rattle.pos_store.specs.Standing.{Standing, LeavesOneOf}
+use Rattle.pos_counter.specs.Machine.{Machine}
+use Rattle.pos_counter.specs.Parts.{profile_devices}
+use Rattle.pos_counter.specs.Steps.{Attach, Request, Response, Run}
+use Rattle.pos_counter.specs.Totals.{TotalsPart}
+use Rattle.pos_console.specs.declared.run.RunFault.{RunFault}
+use Rattle.pos_console.specs.declared.run.RunFault.TheVariants as fault
+use Rattle.pos_console.specs.Running.{RunsScript, begun_with, new_totals}
+use Rattle.pos_console.specs.Spares.{SpareStates}
+use Rattle.pos_console.specs.declared.simulation.Simulation.{Simulation}
+use Rattle.pos_console.specs.declared.simulation.Simulation.TheVariants as simulation
+
+-- what contracts see of what is simulated
+abbrev pub state_of : Simulation → PeripheralState
+state_of (simulation.Drawer drawer) = state_of_drawer drawer
+state_of (simulation.Scanner scanner) = state_of_scanner scanner
+state_of (simulation.Display display) = state_of_display display
+state_of (simulation.Printer printer) = state_of_printer printer
+
+-- what contracts see of what is simulated in a box, if anything is
+abbrev pub boxed_state : Option (Box Simulation Global) → Option PeripheralState
+boxed_state None = None
+boxed_state (Some kept) = Some (state_of kept.value)
+
+-- what is simulated for a category with the numbers of an entry: a closed drawer, a scanner, a blank display, or a
+-- printer that has printed nothing, in service; Hard Totals have no peripheral
+abbrev pub simulated_with : Category → Entry → Option PeripheralState
+simulated_with CashDrawer entry = Some (drawer_state false false)
+simulated_with Scanner entry = Some (scanner_state false 0)
+simulated_with LineDisplay entry = Some (display_state (blank_display entry.rows entry.columns) false)
+simulated_with PosPrinter entry = Some (printer_state (empty_roll entry.chars entry.lines) entry.near false)
+simulated_with HardTotals entry = None
+
+-- what is simulated for an entry
+abbrev pub simulated_for : Entry → Option PeripheralState
+simulated_for entry = simulated_with entry.category entry
+
+-- what is simulated for entries, in order
+abbrev pub simulated_all : List Entry → SpareStates
+simulated_all entries = map simulated_for entries
+
+-- the numbers of an entry are in their ranges
+pub record IsSimulable (entry : Entry) : Type 0 where
+  pub kind : IfSome (kind_of entry) IsInRange
+  pub lines : entry.lines ≤ 100000
+
+-- each device that has a peripheral is to be served by what is simulated for it, in order
+abbrev pub requests_for : List Entry → List Request
+requests_for entries =
+    filter_map (λ entry. option_map (λ state. Attach entry.name (station_of state)) (simulated_for entry)) entries
+
+-- What a run over a profile leaves of a writer, from totals that are off: what is simulated was attached to the
+-- devices, one after another, each of which was vacant, and the spares are what is simulated for them; then comes the
+-- script.
+pub record RunsOverProfile (contents : Contents) (part : TotalsPart) (unread before after : Option (List ℕ))
+    (result : Result (Unit {0}) RunFault) : Type 0 where
+  pub fills : List (Request × Response)
+  pub begin : Machine
+  pub asked : map (λ step. step.0) fills ≡ requests_for contents.devices
+  pub filled : Run (begun_with (profile_devices contents.devices) part) fills begin
+  pub end : Machine
+  pub left : SpareStates
+  pub run : RunsScript Run begin (simulated_all contents.spares) unread before after result left end
+
+-- there was no memory, and nothing was written
+abbrev pub FindsNoMemory : Option (List ℕ) → Option (List ℕ) → Result (Unit {0}) RunFault → Type 0
+FindsNoMemory before after result = (result ≡ Err fault.NoMemory) × Keeps before after
+
+-- what a run over a profile and a disk leaves, for all that an honest disk may leave before it
+abbrev pub ProfileLeaves : Contents → Type 0 → DiskState → Option (List ℕ) → Option (List ℕ) → Option (List ℕ)
+    → Result (Unit {0}) RunFault → Type 0
+ProfileLeaves contents Honest disk unread before after result =
+    (left : List Standing) → Honest → LeavesOneOf left disk
+    → FindsNoMemory before after result
+    ⊎ RunsOverProfile contents (new_totals left disk.failures) unread before after result

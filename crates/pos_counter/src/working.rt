@@ -1,0 +1,84 @@
+//! The work on the output that waits for devices (common chapter, asynchronous output).
+ghost use Rattle.std.specs.Prelude.{◌≡◌, Some, false};
+ghost use Rattle.pos_service.specs.Claims.{holder_at};
+ghost use Rattle.pos_service.specs.PrinterCalls.{WorksAt};
+ghost use Rattle.pos_service.specs.Stations.{station_of, StaysInService};
+ghost use Rattle.pos_common.specs.Held.{controls_of};
+ghost use Rattle.pos_counter.specs.Parts.{AreDevicesSound, ArePartsSound, IsAttachedAt, IsDoneAt, ServesUnder, devices_in};
+ghost use Rattle.pos_counter.specs.Responses.{worked};
+ghost use Rattle.pos_counter.specs.Steps.{WorkOn};
+
+use crate::devices::Devices;
+use crate::faults::WorkFault;
+use pos_common::{Claims, Control};
+use pos_service::{HasState, NoMemory, PeripheralBox, Worked};
+
+/// Works on the output that waits for the first device with a name.
+pub(crate) fn work(
+    controls: &mut [Control],
+    claims: &Claims,
+    devices: &mut Devices,
+    name: &[u8],
+) -> Result<Worked, WorkFault>
+    requires parts { ArePartsSound controls.old (devices_in ⟦<PeripheralBox as HasState>⟧ devices.old) }
+    requires sound { AreDevicesSound ⟦<PeripheralBox as HasState>⟧ devices.old }
+    ensures serves { let boxes = ⟦<PeripheralBox as HasState>⟧ in
+        ServesUnder claims.now controls.old (devices_in boxes devices.old) (WorkOn name.now) (worked result)
+        controls.new (devices_in boxes devices.new) }
+    ensures sound { AreDevicesSound ⟦<PeripheralBox as HasState>⟧ devices.new }
+{
+    let Some(place) = devices.find(name) else {
+        return Err(WorkFault::NoDevice);
+    };
+    if devices.registry.peripheral(place).is_none() {
+        return Err(WorkFault::NoDevice);
+    }
+    match work_there(controls, place, claims, devices) {
+        Ok(worked) => Ok(worked),
+        Err(NoMemory) => Err(WorkFault::NoMemory),
+    }
+}
+
+/// Works on the output that waits for what serves the device at a place.
+fn work_there(
+    controls: &mut [Control],
+    place: usize,
+    claims: &Claims,
+    devices: &mut Devices,
+) -> Result<Worked, NoMemory>
+    requires sound { AreDevicesSound ⟦<PeripheralBox as HasState>⟧ devices.old }
+    requires attached { IsAttachedAt (devices_in ⟦<PeripheralBox as HasState>⟧ devices.old) place }
+    ensures done { let boxes = ⟦<PeripheralBox as HasState>⟧ in
+        IsDoneAt (devices_in boxes devices.old) place (WorksAt (holder_at claims.now (Some place)) place result)
+        controls.old controls.new (devices_in boxes devices.new) }
+    ensures sound { AreDevicesSound ⟦<PeripheralBox as HasState>⟧ devices.new }
+{
+    let Some(mut peripheral) = devices.registry.take(place) else {
+        unreachable!();
+    };
+    let outcome = work_at(controls, place, claims, &mut peripheral);
+    devices.registry.put(place, peripheral);
+    outcome
+}
+
+/// Works on the first request of the control that holds the device at a place. There is nothing to do at a device that
+/// is no printer. Want of memory changes nothing.
+fn work_at(
+    controls: &mut [Control],
+    place: usize,
+    claims: &Claims,
+    peripheral: &mut PeripheralBox,
+) -> Result<Worked, NoMemory>
+    requires unparked { (⟦<PeripheralBox as HasState>⟧.state peripheral.old).is_parked ≡ false }
+    ensures worked { let state = ⟦<PeripheralBox as HasState>⟧.state in
+        WorksAt (holder_at claims.now (Some place)) place result
+        (controls_of controls.old) (station_of (state peripheral.old))
+        (controls_of controls.new) (station_of (state peripheral.new)) }
+    ensures in_service { let state = ⟦<PeripheralBox as HasState>⟧.state in
+        StaysInService (state peripheral.old) (state peripheral.new) }
+{
+    if !peripheral.kind().is_printer() {
+        return Ok(Worked::Idle);
+    }
+    pos_printer::work(controls, place, claims, peripheral)
+}

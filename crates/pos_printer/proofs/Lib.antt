@@ -1,0 +1,6 @@
+pub mod CallLemmas
+pub mod OpenLemmas
+pub mod OrderLemmas
+pub mod ReplyLemmas
+pub mod RequestLemmas
+pub mod WorkLemmas

@@ -1,0 +1,59 @@
+-- What comes of an order that a printer was given.
+use Rattle.std.proofs.Common.{◌≡◌, ◌∙◌, List, Ok, ap, refl}
+use Rattle.std.specs.Prelude.{ℕ}
+use Rattle.pos_service.specs.declared.order.Order.{Order}
+use Rattle.pos_service.specs.declared.order.Reply.TheVariants as reply
+use Rattle.pos_service.specs.declared.signs.Signs.{Signs}
+use Rattle.pos_service.specs.Controls.{Control, heard, all_listening}
+use Rattle.pos_service.specs.Peripherals.{PeripheralState, Asked, signs_of}
+use Rattle.pos_service.specs.PrinterCalls.{Ordered}
+use Rattle.pos_service.specs.Stations.{SameStation, station_of}
+use Rattle.pos_service.specs.Statuses.{status_events}
+use Rattle.pos_printer.proofs.ReplyLemmas.{same_covered, same_ended}
+
+-- the controls once they have heard what has changed at a place
+abbrev pub heard_at : ℕ → PeripheralState → PeripheralState → List Control → List Control
+heard_at place s t controls =
+    all_listening place (heard (status_events (signs_of s.kind s.plant) (signs_of t.kind t.plant))) controls
+
+-- they have heard of signs that are those of the printer
+pub heard_of : (place : ℕ) (s t : PeripheralState) (a b : Signs) (old mid new : List Control) → a ≡ signs_of s.kind s.plant → b ≡ signs_of t.kind t.plant → mid ≡ old → new ≡ all_listening place (heard (status_events a b)) mid → new ≡ heard_at place s t old
+heard_of place s t a b old mid new is_a is_b same h =
+    h
+    ∙ ap (λ (m : List Control). all_listening place (heard (status_events a b)) m) same
+    ∙ ap (λ (u : Signs). all_listening place (heard (status_events u b)) old) is_a
+    ∙ ap (λ (u : Signs). all_listening place (heard (status_events (signs_of s.kind s.plant) u)) old) is_b
+
+-- nothing has changed at a printer that does nothing
+same_station : (s t : PeripheralState) (old : List Control) → t.kind ≡ s.kind → t.plant ≡ s.plant → t.failures ≡ s.failures → SameStation old (station_of s) old (station_of t)
+same_station s t old kind plant failures = record { controls = refl; station = rw (kind, plant, failures) refl }
+
+-- the printer has done it
+pub ordered_done : (given : Order) (place : ℕ) (s t : PeripheralState) (old new : List Control) → Asked s given (Ok reply.Done) t → new ≡ heard_at place s t old → Ordered given place reply.Done old (station_of s) new (station_of t)
+ordered_done given place s t old new asked heard = record {
+  plant = asked.answer.0;
+  station = rw (asked.kind, asked.answer.1) refl;
+  controls = heard;
+}
+
+-- its cover is open
+pub ordered_covered : (given : Order) (place : ℕ) (s t : PeripheralState) (old : List Control) → Asked s given (Ok reply.CoverOpen) t → Ordered given place reply.CoverOpen old (station_of s) old (station_of t)
+ordered_covered given place s t old asked = record {
+  plant = asked.answer.0;
+  same = same_station s t old asked.kind (same_covered s.kind given s.plant t.plant asked.answer.0) asked.answer.1;
+}
+
+-- its paper doesn't suffice
+pub ordered_ended : (given : Order) (place : ℕ) (s t : PeripheralState) (old : List Control) → Asked s given (Ok reply.PaperEnd) t → Ordered given place reply.PaperEnd old (station_of s) old (station_of t)
+ordered_ended given place s t old asked = record {
+  plant = asked.answer.0;
+  same = same_station s t old asked.kind (same_ended s.kind given s.plant t.plant asked.answer.0) asked.answer.1;
+}
+
+-- its line has failed
+pub ordered_failed : (given : Order) (place : ℕ) (s t : PeripheralState) (old : List Control) → Asked s given (Ok reply.LineFault) t → Ordered given place reply.LineFault old (station_of s) old (station_of t)
+ordered_failed given place s t old asked = record {
+  failures = asked.answer.1;
+  station = rw (asked.kind, asked.answer.0) refl;
+  controls = refl;
+}

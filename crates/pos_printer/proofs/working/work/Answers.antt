@@ -1,0 +1,46 @@
+use Rattle.std.proofs.Common.{◌∙◌, arith, subst, sym}
+use Rattle.pos_service.specs.declared.order.Reply.TheVariants as reply
+use Rattle.pos_common.specs.Held.{controls_of}
+use Rattle.pos_printer.proofs.OrderLemmas.{ordered_covered, ordered_ended}
+use Rattle.pos_printer.proofs.WorkLemmas.{IsFirst, does, fails, first_found, first_heard, has_request, room_for_first}
+use Rattle.pos_printer.proofs.working.work.Goals as goal
+
+pub complete-requires-clause-request : goal.complete-requires-clause-request
+complete-requires-clause-request g c =
+    let place = c.args.place in
+    let holder = c.in-Some.holder in
+    let f = first_found place holder (controls_of c.args.controls.now) (sym c.has_work.ensures.work ∙ c.if-not-has_work.false) in
+    let roomy = subst (IsFirst place holder f.0) (sym c.room_all.ensures.same) f.1 in
+    let heard = first_heard place holder f.0 _ _ _ roomy c.hear_all.ensures.heard in
+    has_request place holder 1 f.0 c.hear_all.new.controls heard (omega arith) (c.hear_all.ensures.room 1 c.in_ok-room_all.ensures.room)
+
+pub fail-requires-clause-request : goal.fail-requires-clause-request
+fail-requires-clause-request g c =
+    room_for_first c.args.place c.in-Some.holder _ c.room_all.new.controls (sym c.has_work.ensures.work ∙ c.if-not-has_work.false) c.room_all.ensures.same c.in_ok-room_all.ensures.room
+
+pub fail-requires-in-PaperEnd-clause-request : goal.fail-requires-in-PaperEnd-clause-request
+fail-requires-in-PaperEnd-clause-request g c =
+    room_for_first c.args.place c.in-Some.holder _ c.room_all.new.controls (sym c.has_work.ensures.work ∙ c.if-not-has_work.false) c.room_all.ensures.same c.in_ok-room_all.ensures.room
+
+pub fail-requires-in-LineFault-clause-request : goal.fail-requires-in-LineFault-clause-request
+fail-requires-in-LineFault-clause-request g c =
+    room_for_first c.args.place c.in-Some.holder _ c.room_all.new.controls (sym c.has_work.ensures.work ∙ c.if-not-has_work.false) c.room_all.ensures.same c.in_ok-room_all.ensures.room
+
+pub returns-in-Done-clause-worked : goal.returns-in-Done-clause-worked
+returns-in-Done-clause-worked g c =
+    let asked = rw (c.in_ok-ask_for.was, c.in-Done.is) at c.ask_for.ensures in
+    does _ c.in-Some.holder c.args.place c.complete.result (controls_of c.args.controls.now) _ _ c.room_all.new.controls _ _ _ _ _ (sym c.holder.ensures ∙ c.in-Some.is) c.requires.printer (sym c.has_work.ensures.work ∙ c.if-not-has_work.false) c.room_all.ensures.same asked c.signs-old.ensures c.signs.ensures c.hear_all.ensures.heard c.complete.ensures
+
+pub returns-in-CoverOpen-clause-worked : goal.returns-in-CoverOpen-clause-worked
+returns-in-CoverOpen-clause-worked g c =
+    let asked = rw (c.in_ok-ask_for.was, c.in-CoverOpen.is) at c.ask_for.ensures in
+    let old = controls_of c.args.controls.now in
+    fails _ c.in-Some.holder c.args.place reply.CoverOpen c.fail.result old _ c.room_all.new.controls _ _ _ (sym c.holder.ensures ∙ c.in-Some.is) c.requires.printer (sym c.has_work.ensures.work ∙ c.if-not-has_work.false) c.room_all.ensures.same asked
+    (λ given told. ordered_covered given c.args.place _ _ old told) (λ id. rw c.room_all.ensures.same at c.fail.ensures.failed) (λ id. c.fail.ensures.said)
+
+pub returns-in-PaperEnd-clause-worked : goal.returns-in-PaperEnd-clause-worked
+returns-in-PaperEnd-clause-worked g c =
+    let asked = rw (c.in_ok-ask_for.was, c.in-PaperEnd.is) at c.ask_for.ensures in
+    let old = controls_of c.args.controls.now in
+    fails _ c.in-Some.holder c.args.place reply.PaperEnd c.fail-in-PaperEnd.result old _ c.room_all.new.controls _ _ _ (sym c.holder.ensures ∙ c.in-Some.is) c.requires.printer (sym c.has_work.ensures.work ∙ c.if-not-has_work.false) c.room_all.ensures.same asked
+    (λ given told. ordered_ended given c.args.place _ _ old told) (λ id. rw c.room_all.ensures.same at c.fail-in-PaperEnd.ensures.failed) (λ id. c.fail-in-PaperEnd.ensures.said)

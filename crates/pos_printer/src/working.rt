@@ -1,0 +1,108 @@
+ghost use Rattle.std.specs.Prelude.{◌≡◌, ◌<◌, true, false, Some, IsSome, MatchOption, is_some, length, slice_get, slice_set};
+ghost use Rattle.std.specs.Option.{option_and_then};
+ghost use Rattle.pos_service.specs.Claims.{holder_at};
+ghost use Rattle.pos_service.specs.Controls.{completed, output_failed};
+ghost use Rattle.pos_service.specs.Kinds.{is_printer};
+ghost use Rattle.pos_service.specs.Output.{request_to_do};
+ghost use Rattle.pos_service.specs.Peripherals.{Asked};
+ghost use Rattle.pos_service.specs.PrinterCalls.{first_request, WorksAt};
+ghost use Rattle.pos_service.specs.Stations.{station_of, StaysInService};
+ghost use Rattle.pos_common.specs.Held.{controls_of};
+ghost use Rattle.pos_printer.specs.Requests.{HasRequest};
+
+use pos_common::{Claims, Control, WORK_EVENTS, hear_all, room_all};
+use pos_service::{Code, HasState, NoMemory, PeripheralBox, Reply, Worked};
+
+/// Works on the first request of the control that holds the printer at a place. There is nothing to do where nobody
+/// holds it, where the holder is disabled, where it has no request, and while its first one has failed (common
+/// chapter, asynchronous output).
+///
+/// The room for all events is made before the order is given. Once it is done, each control that has the printer open
+/// and enabled hears the statuses that have changed; then the request is removed, and an OutputCompleteEvent enqueued.
+/// Where the printer doesn't do it, the request stays the first, the output error state stands, and an ErrorEvent with
+/// EL_OUTPUT is enqueued: with E_EXTENDED 201 where the cover is open, else 203 where the paper doesn't suffice; with
+/// E_FAILURE where the line fails. Want of memory changes nothing.
+pub fn work(
+    controls: &mut [Control],
+    place: usize,
+    claims: &Claims,
+    printer: &mut PeripheralBox,
+) -> Result<Worked, NoMemory>
+    requires unparked { (⟦<PeripheralBox as HasState>⟧.state printer.old).is_parked ≡ false }
+    requires printer { is_printer (⟦<PeripheralBox as HasState>⟧.state printer.old).kind ≡ true }
+    ensures worked { let state = ⟦<PeripheralBox as HasState>⟧.state in
+        WorksAt (holder_at claims.now (Some place)) place result
+        (controls_of controls.old) (station_of (state printer.old))
+        (controls_of controls.new) (station_of (state printer.new)) }
+    ensures in_service { let state = ⟦<PeripheralBox as HasState>⟧.state in
+        StaysInService (state printer.old) (state printer.new) }
+{
+    let Some(holder) = claims.holder(Some(place)) else {
+        return Ok(Worked::Idle);
+    };
+    if !has_work(controls, holder, place) {
+        return Ok(Worked::Idle);
+    }
+    room_all(controls, place, WORK_EVENTS)?;
+    let old = printer.signs();
+    match ask_for(&controls[holder], place, printer)? {
+        Reply::Done => {
+            hear_all(controls, place, old, printer.signs());
+            Ok(complete(controls, holder))
+        }
+        Reply::CoverOpen => Ok(fail(controls, holder, Code::Extended, 201)),
+        Reply::PaperEnd => Ok(fail(controls, holder, Code::Extended, 203)),
+        Reply::LineFault => Ok(fail(controls, holder, Code::Failure, 0)),
+    }
+}
+
+/// Whether the control with a number has a request that is to be done now at a place.
+fn has_work(controls: &[Control], holder: usize, place: usize) -> bool
+    ensures work { let held = slice_get (controls_of controls.now) holder in
+        result ≡ is_some (option_and_then (first_request place) held) }
+    ensures within { result ≡ true → holder < length controls.now }
+{
+    match controls.get(holder) {
+        Some(control) => control.first_request(place).is_some(),
+        None => false,
+    }
+}
+
+/// Gives the printer at a place the order of the request that a control has to be done now. Want of memory changes
+/// nothing.
+fn ask_for(control: &Control, place: usize, printer: &mut PeripheralBox) -> Result<Reply, NoMemory>
+    requires unparked { (⟦<PeripheralBox as HasState>⟧.state printer.old).is_parked ≡ false }
+    requires printer { is_printer (⟦<PeripheralBox as HasState>⟧.state printer.old).kind ≡ true }
+    requires request { IsSome (first_request place control.now.control) }
+    ensures { let state = ⟦<PeripheralBox as HasState>⟧.state in
+        MatchOption (first_request place control.now.control) ⊥ (λ request.
+        Asked (state printer.old) request.1 result (state printer.new)) }
+{
+    match control.first_request(place) {
+        Some((_, order)) => printer.ask(order),
+        None => unreachable!(),
+    }
+}
+
+/// The request that the control with a number had to be done now is done.
+fn complete(controls: &mut [Control], holder: usize) -> Worked
+    requires within { holder < length controls.old }
+    requires request { HasRequest holder controls.old }
+    ensures { MatchOption (slice_get (controls_of controls.old) holder) ⊥ (λ control.
+        MatchOption (request_to_do control.writer.output) ⊥ (λ request. (result ≡ Worked.Done request.0)
+        × (controls_of controls.new ≡ slice_set (controls_of controls.old) holder (completed request.0 control)))) }
+{
+    Worked::Done(controls[holder].complete_request())
+}
+
+/// The request that the control with a number had to be done now has failed.
+fn fail(controls: &mut [Control], holder: usize, code: Code, extended: u32) -> Worked
+    requires within { holder < length controls.old }
+    requires request { HasRequest holder controls.old }
+    ensures said { result ≡ Worked.Failed code extended }
+    ensures failed { MatchOption (slice_get (controls_of controls.old) holder) ⊥ (λ control.
+        controls_of controls.new ≡ slice_set (controls_of controls.old) holder (output_failed code extended control)) }
+{
+    controls[holder].fail_request(code, extended);
+    Worked::Failed(code, extended)
+}

@@ -1,0 +1,176 @@
+-- What is faulty in a document, by its two lists.
+use Rattle.std.proofs.Common.{◌≡◌, ◌∙◌, ◌<◌, ◌+◌, ◌-◌, ℕ, zero, suc, List, [], ◌∷◌, ◌++◌, Bool, true, false, Option, Some, None, option_map, option_and_then, cond, map, length, take, slice_get, refl, sym, ap, subst, arith, inl, inr, add-one}
+use Rattle.std.specs.Prelude.{codes, if◌then◌else◌}
+use Rattle.std.proofs.lemmas.Bool.{cases_lt, false≢true}
+use Rattle.std.proofs.lemmas.List.{length-map, take-append-le}
+use Rattle.std.proofs.lemmas.Option.{slice_get-map}
+use Rattle.toml.specs.Data.{Data, Members, as_table}
+use Rattle.pos_service.specs.declared.category.Category.{Category}
+use Rattle.pos_service.specs.declared.category.Category.TheVariants.{CashDrawer, Scanner, LineDisplay, PosPrinter, HardTotals}
+use Rattle.pos_profile.specs.declared.entry.Entry.{Entry}
+use Rattle.pos_profile.specs.declared.listing.Flaw.{Flaw}
+use Rattle.pos_profile.specs.declared.mistake.Place.TheVariants.{Root}
+use Rattle.pos_profile.specs.declared.mistake.Reason.{Reason}
+use Rattle.pos_profile.specs.declared.reading.Numbers.{Numbers}
+use Rattle.pos_profile.specs.declared.root.DocumentFault.{DocumentFault}
+use Rattle.pos_profile.specs.declared.root.DocumentFault.TheVariants.{Mistaken}
+use Rattle.pos_profile.specs.declared.role.Role.{Role}
+use Rattle.pos_profile.specs.declared.role.Role.TheVariants.{Device, Spare}
+use Rattle.pos_profile.specs.declared.table.Keys.TheVariants.{OfEntry}
+use Rattle.pos_profile.specs.Categories.{category_named, is_totals}
+use Rattle.pos_profile.specs.Entries.{entry_of, entry_with, numbers_of, table_entry}
+use Rattle.pos_profile.specs.Mistakes.{IsFlawedList, IsMistake, IsSoundList, RootHas, mistake_at}
+use Rattle.pos_profile.specs.Profiles.{IsLowest, IsRead, entries_of, is_faulty, is_refused, is_refused_after, is_root, is_totals_entry}
+use Rattle.pos_profile.specs.Tables.{allowed, has_only, is_key, key_of, name_for, text_at, values_at}
+use Rattle.pos_profile.proofs.ListLemmas.{none_past}
+
+-- the entries of both lists
+abbrev both : Members → List (Option Entry)
+both root = entries_of Device root ++ entries_of Spare root
+
+below_number : (root : Members) (place : ℕ) → is_root root ≡ true → IsLowest (is_refused (both root)) place → (n : ℕ) → n < place + 1 → is_faulty root n ≡ false
+below_number root place is lowest zero less = rw is
+below_number root place is lowest (suc n) less = lowest.below n (omega arith)
+
+-- entries are numbered from 1
+numbered : (root : Members) (place : ℕ) → is_root root ≡ true → IsLowest (is_refused (both root)) place → IsLowest (is_faulty root) (place + 1)
+numbered root place is lowest = record { here = rw add-one lowest.here; below = below_number root place is lowest }
+
+faultless : (root : Members) → is_root root ≡ true → ((n : ℕ) → is_refused (both root) n ≡ false) → (n : ℕ) → is_faulty root n ≡ false
+faultless root is sound zero = rw is
+faultless root is sound (suc n) = sound n
+
+-- a refused place is one of the list
+within : (found : List (Option Entry)) (place : ℕ) → is_refused found place ≡ true → place < length found
+within found place refused =
+    elim (cases_lt place (length found)) [
+      | inl less ↦ less
+      | inr past ↦ absurd (false≢true (sym (none_past found place past) ∙ refused))
+    ]
+
+get_front : (front back : List (Option Entry)) (n : ℕ) → n < length front → slice_get (front ++ back) n ≡ slice_get front n
+get_front [] back n less = absurd (omega arith)
+get_front (x ∷ front) back zero less = refl
+get_front (x ∷ front) back (suc n) less = get_front front back n (omega arith)
+
+get_back : (front back : List (Option Entry)) (n k : ℕ) → k ≡ length front + n → slice_get (front ++ back) k ≡ slice_get back n
+get_back [] back n k e = ap (slice_get back) (omega arith)
+get_back (x ∷ front) back n zero e = absurd (omega arith)
+get_back (x ∷ front) back n (suc k) e = get_back front back n k (omega arith)
+
+-- what is refused of the first of two lists
+pub refused_front : (front back : List (Option Entry)) (n : ℕ) → n < length front → is_refused (front ++ back) n ≡ is_refused front n
+refused_front front back n less =
+    let same : slice_get (front ++ back) n ≡ slice_get front n = get_front front back n less in
+    let prefix : take n (front ++ back) ≡ take n front = take-append-le n front back (omega arith) in
+    rw (same, prefix)
+
+-- a spare isn't Hard Totals
+plain_entry : (category : Category) → is_totals category ≡ false → (name : Option (List ℕ)) (numbers : Option Numbers) (only : Bool)
+    → is_totals_entry (option_and_then (λ text. option_and_then (λ ns. cond only (Some (entry_with category text ns)) None) numbers) name) ≡ false
+plain_entry category plain None numbers only = refl
+plain_entry category plain (Some text) None only = refl
+plain_entry category plain (Some text) (Some ns) true = plain
+plain_entry category plain (Some text) (Some ns) false = refl
+
+plain_category : (table : Members) (category : Option Category)
+    → is_totals_entry (option_and_then (λ c. option_and_then (λ name. option_and_then (λ numbers. if has_only (is_key (OfEntry Spare c)) table then Some (entry_with c name numbers) else None) (numbers_of c table)) (name_for Spare table)) (option_and_then (allowed Spare) category)) ≡ false
+plain_category table None = refl
+plain_category table (Some CashDrawer) = plain_entry CashDrawer refl (name_for Spare table) (numbers_of CashDrawer table) (has_only (is_key (OfEntry Spare CashDrawer)) table)
+plain_category table (Some Scanner) = plain_entry Scanner refl (name_for Spare table) (numbers_of Scanner table) (has_only (is_key (OfEntry Spare Scanner)) table)
+plain_category table (Some LineDisplay) = plain_entry LineDisplay refl (name_for Spare table) (numbers_of LineDisplay table) (has_only (is_key (OfEntry Spare LineDisplay)) table)
+plain_category table (Some PosPrinter) = plain_entry PosPrinter refl (name_for Spare table) (numbers_of PosPrinter table) (has_only (is_key (OfEntry Spare PosPrinter)) table)
+plain_category table (Some HardTotals) = refl
+
+plain_table : (table : Option Members) → is_totals_entry (option_and_then (table_entry Spare) table) ≡ false
+plain_table None = refl
+plain_table (Some table) = plain_category table (option_and_then category_named (text_at (codes "category") table))
+
+after_plain : (earlier others : List (Option Entry)) (entry : Option Entry) → is_totals_entry entry ≡ false → is_refused_after earlier (Some entry) ≡ is_refused_after others (Some entry)
+after_plain earlier others None plain = refl
+after_plain earlier others (Some entry) plain = rw plain
+
+after_spare : (earlier others : List (Option Entry)) (value : Option Data) → is_refused_after earlier (option_map (entry_of Spare) value) ≡ is_refused_after others (option_map (entry_of Spare) value)
+after_spare earlier others None = refl
+after_spare earlier others (Some value) = after_plain earlier others (entry_of Spare value) (plain_table (as_table value))
+
+refused_back : (front : List (Option Entry)) (values : List Data) (n k : ℕ) → k ≡ length front + n → is_refused (front ++ map (entry_of Spare) values) k ≡ is_refused (map (entry_of Spare) values) n
+refused_back front values n k e =
+    let back = map (entry_of Spare) values in
+    let same : slice_get (front ++ back) k ≡ option_map (entry_of Spare) (slice_get values n) = get_back front back n k e ∙ slice_get-map (entry_of Spare) values n in
+    let here : slice_get back n ≡ option_map (entry_of Spare) (slice_get values n) = slice_get-map (entry_of Spare) values n in
+    rw (same, here) (after_spare (take k (front ++ back)) (take n back) (slice_get values n))
+
+-- the lowest of the devices is the lowest of both
+lowest_front : (front back : List (Option Entry)) (place : ℕ) → IsLowest (is_refused front) place → IsLowest (is_refused (front ++ back)) place
+lowest_front front back place lowest =
+    let less = within front place lowest.here in
+    record {
+      here = refused_front front back place less ∙ lowest.here;
+      below = λ n before. refused_front front back n (omega arith) ∙ lowest.below n before;
+    }
+
+both_sound : (front : List (Option Entry)) (values : List Data) (limit : ℕ) → ((n : ℕ) → is_refused front n ≡ false) → ((n : ℕ) → n < limit → is_refused (map (entry_of Spare) values) n ≡ false) → (n : ℕ) → n < length front + limit → is_refused (front ++ map (entry_of Spare) values) n ≡ false
+both_sound front values limit first second n less =
+    elim (cases_lt n (length front)) [
+      | inl here ↦ refused_front front (map (entry_of Spare) values) n here ∙ first n
+      | inr after ↦ refused_back front values (n - length front) n (omega arith) ∙ second (n - length front) (omega arith)
+    ]
+
+-- where no device is refused, the lowest of the spares is the lowest of both
+lowest_back : (front : List (Option Entry)) (values : List Data) (place : ℕ) → ((n : ℕ) → is_refused front n ≡ false) → IsLowest (is_refused (map (entry_of Spare) values)) place → IsLowest (is_refused (front ++ map (entry_of Spare) values)) (length front + place)
+lowest_back front values place first lowest =
+    record { here = refused_back front values place (length front + place) refl ∙ lowest.here; below = both_sound front values place first lowest.below }
+
+-- where no device and no spare is refused, none of both is
+neither : (front : List (Option Entry)) (values : List Data) → ((n : ℕ) → is_refused front n ≡ false) → ((n : ℕ) → is_refused (map (entry_of Spare) values) n ≡ false) → (n : ℕ) → is_refused (front ++ map (entry_of Spare) values) n ≡ false
+neither front values first second n = both_sound front values (n + 1) first (λ k _. second k) n (omega arith)
+
+-- a mistake is at another spelling of its flaw
+pub listed_at : (before : ℕ) (role : Role) {flaw other : Flaw} {fault : DocumentFault} → flaw ≡ other → fault ≡ Mistaken (mistake_at before role flaw.place flaw.reason) → fault ≡ Mistaken (mistake_at before role other.place other.reason)
+listed_at before role same is = is ∙ ap (λ (f : Flaw). Mistaken (mistake_at before role f.place f.reason)) same
+
+-- the root is the first mistake
+pub root_mistaken : (root : Members) (why : Reason) → is_root root ≡ false → RootHas root why → IsMistake root (record { number = 0; place = Root; reason = why })
+root_mistaken root why unsound has = record {
+  lowest = record { here = rw unsound; below = λ n less. absurd (omega arith) };
+  number = refl;
+  has = has;
+}
+
+module _ (root : Members) (is : is_root root ≡ true) where
+  -- a device is the first mistake
+  pub device_mistaken : (place : ℕ) (why : Reason) → IsFlawedList Device (values_at (key_of Device) root) place why → IsMistake root (mistake_at 0 Device place why)
+  device_mistaken place why flawed =
+      let same : place + 1 ≡ 0 + place + 1 = omega arith in
+      let lowest = numbered root place is (lowest_front (entries_of Device root) (entries_of Spare root) place flawed.lowest) in
+      record {
+        lowest = subst (IsLowest (is_faulty root)) same lowest;
+        number = sym same;
+        has = rw add-one flawed.has;
+      }
+
+  module _ (devices : List Entry) (sound : IsSoundList Device (values_at (key_of Device) root) devices) where
+    count : length (entries_of Device root) ≡ length devices
+    count = ap length sound.entries ∙ length-map devices (λ (e : Entry). Some e)
+
+    values_count : length (values_at (key_of Device) root) ≡ length devices
+    values_count = sym (length-map (values_at (key_of Device) root) (entry_of Device)) ∙ count
+
+    -- a spare is the first mistake
+    pub spare_mistaken : (before place : ℕ) (why : Reason) → before ≡ length devices → IsFlawedList Spare (values_at (key_of Spare) root) place why → IsMistake root (mistake_at before Spare place why)
+    spare_mistaken before place why are flawed =
+        let lowest = numbered root (length (entries_of Device root) + place) is (lowest_back (entries_of Device root) (values_at (key_of Spare) root) place sound.sound flawed.lowest) in
+        record {
+          lowest = subst (λ n. IsLowest (is_faulty root) (n + place + 1)) (count ∙ sym are) lowest;
+          number = omega (arith, values_count);
+          has = rw add-one flawed.has;
+        }
+
+    -- the document has no mistake
+    pub document_read : (spares : List Entry) → IsSoundList Spare (values_at (key_of Spare) root) spares → IsRead root (record { devices = devices; spares = spares })
+    document_read spares others = record {
+      sound = faultless root is (neither (entries_of Device root) (values_at (key_of Spare) root) sound.sound others.sound);
+      devices = sound.entries;
+      spares = others.entries;
+    }

@@ -1,0 +1,7 @@
+pub mod TableLemmas
+pub mod ListLemmas
+pub mod DocumentLemmas
+pub mod SoundLemmas
+pub mod PlaceLemmas
+pub mod RegistryLemmas
+pub mod CallerLemmas

@@ -1,0 +1,69 @@
+-- The index of a registry finds each name at its first place.
+use Rattle.std.proofs.Common.{◌≡◌, ◌∙◌, ◌<◌, ◌+◌, ℕ, suc, List, [], ◌∷◌, ◌++◌, Bool, true, false, Option, Some, None, option_map, cond, map, length, take, get_or, slice_get, bytes_eq, refl, sym, ap, subst, arith}
+use Rattle.std.specs.Prelude.{is_some}
+use Rattle.std.specs.Map.{lookup}
+use Rattle.std.proofs.lemmas.Bool.{false≢true}
+use Rattle.std.proofs.lemmas.List.{length-take-le, take_more}
+use Rattle.std.proofs.lemmas.Option.{slice_get-map, slice_get_read, slice_get_within, get_or_from_slice_get}
+use Rattle.std.proofs.lemmas.Slice.Eq.{bytes_eq-Decides}
+use Rattle.pos_profile.specs.declared.planning.Planned.{Planned}
+use Rattle.pos_profile.specs.Places.{first_of, place_from, place_of, where_same}
+
+-- a place before the end is looked at first
+cond_first : (here : Bool) (at : ℕ) (long short later : Option ℕ) → long ≡ first_of short later → cond here (Some at) long ≡ first_of (cond here (Some at) short) later
+cond_first true at long short later is = refl
+cond_first false at long short later is = is
+
+-- the place of a name in a list with one more name
+place_longer : (at : ℕ) (name : List ℕ) (names : List (List ℕ)) (noted : List ℕ) (end : ℕ) → end ≡ at + length names → place_from at name (names ++ noted ∷ []) ≡ first_of (place_from at name names) (where_same name noted end)
+place_longer at name [] noted end is =
+    let same : at ≡ end = omega (arith, is) in
+    ap (λ n. where_same name noted n) same
+place_longer at name (first ∷ names) noted end is =
+    cond_first (bytes_eq name first) at (place_from (at + 1) name (names ++ noted ∷ [])) (place_from (at + 1) name names) (where_same name noted end)
+    (place_longer (at + 1) name names noted end (omega (arith, is)))
+
+-- the place of a name among one more of a list's names
+pub place_more : (names : List (List ℕ)) (place : ℕ) (noted : List ℕ) → slice_get names place ≡ Some noted → (name : List ℕ) → place_of (take (place + 1) names) name ≡ first_of (place_of (take place names) name) (where_same name noted place)
+place_more names place noted at name =
+    let within : place < length names = slice_get_within names place noted at in
+    let longer : take (place + 1) names ≡ take place names ++ noted ∷ [] =
+    take_more names place [] within ∙ ap (λ n. take place names ++ n ∷ []) (get_or_from_slice_get names place noted [] at) in
+    let count : length (take place names) ≡ place = length-take-le place names (omega arith) in
+    ap (λ ns. place_of ns name) longer ∙ place_longer 0 name (take place names) noted place (omega (arith, count))
+
+-- a place that is found is one of the list
+bound_here : (here : Bool) (at : ℕ) (rest : Option ℕ) (place count : ℕ) → (rest ≡ Some place → place < at + 1 + count) → cond here (Some at) rest ≡ Some place → place < at + suc count
+bound_here true at rest place count later found = let same : at ≡ place = cc in omega (arith, same)
+bound_here false at rest place count later found = let less = later found in omega (arith, less)
+
+place_bound : (at : ℕ) (name : List ℕ) (names : List (List ℕ)) (place : ℕ) → place_from at name names ≡ Some place → place < at + length names
+place_bound at name [] place found = absurd cc
+place_bound at name (first ∷ names) place found =
+    bound_here (bytes_eq name first) at (place_from (at + 1) name names) place (length names) (place_bound (at + 1) name names place) found
+
+pub place_within : (names : List (List ℕ)) (name : List ℕ) (place : ℕ) → place_of names name ≡ Some place → place < length names
+place_within names name place found = let bound = place_bound 0 name names place found in omega (arith, bound)
+
+-- what is found already is found first
+found_first : (same : Bool) (place : ℕ) (found : Option ℕ) → (same ≡ true → is_some found ≡ true) → found ≡ first_of found (cond same (Some place) None)
+found_first same place (Some at) is = refl
+found_first false place None is = refl
+found_first true place None is = absurd (false≢true (is refl))
+
+-- a name that has a place is noted already
+pub already : (found : List ℕ → Option ℕ) (noted : List ℕ) (place : ℕ) → is_some (found noted) ≡ true → (name : List ℕ) → found name ≡ first_of (found name) (where_same name noted place)
+already found noted place there name =
+    found_first (bytes_eq name noted) place (found name)
+    (λ same. subst (λ (other : List ℕ). is_some (found other) ≡ true) (sym ((bytes_eq-Decides name noted).0 same)) there)
+
+-- a list of entries with one more
+pub lookup_more : {K : Type 0} (test : K → Bool) (entries : List (K × ℕ)) (key : K) (place : ℕ) → lookup test (entries ++ (key, place) ∷ []) ≡ first_of (lookup test entries) (cond (test key) (Some place) None)
+lookup_more test [] key place = refl
+lookup_more test (entry ∷ entries) key place =
+    cond_first (test entry.0) entry.1 (lookup test (entries ++ (key, place) ∷ [])) (lookup test entries) (cond (test key) (Some place) None) (lookup_more test entries key place)
+
+-- the name at a place of a plan
+pub planned_name : (plan : List Planned) (place : ℕ) (planned : Planned) → place < length plan → planned ≡ get_or plan place planned → slice_get (map (λ (p : Planned). p.name) plan) place ≡ Some planned.name
+planned_name plan place planned within at =
+    slice_get-map (λ (p : Planned). p.name) plan place ∙ ap (option_map (λ (p : Planned). p.name)) (slice_get_read plan (length plan) place planned refl within at)

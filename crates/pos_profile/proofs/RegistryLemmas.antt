@@ -1,0 +1,158 @@
+-- The devices of a registry, where the peripheral of one changes.
+use Rattle.std.proofs.Common.{◌≡◌, ◌∙◌, ◌<◌, ◌≤◌, ◌+◌, ℕ, zero, suc, List, [], ◌∷◌, ◌++◌, true, false, Option, Some, None, map, length, take, drop, get_or, set, slice_get, refl, sym, ap, subst, arith}
+use Rattle.std.specs.Prelude.{IfSome, is_some, option_and_then}
+use Rattle.std.specs.List.{All, AllByRecursion, cons_option}
+use Rattle.std.specs.Option.{option_map}
+use Rattle.std.proofs.lemmas.Bool.{false≢true}
+use Rattle.std.proofs.lemmas.List.{append-nil, drop_all, length-map, get_or-map, map-set, take_all, take_more}
+use Rattle.std.proofs.lemmas.List.Edits.{map_over_more}
+use Rattle.std.proofs.lemmas.List.Elements.{filter_map-append, recursion_from_All}
+use Rattle.std.proofs.lemmas.Option.{slice_get-map, slice_get_past, slice_get_read}
+use Rattle.pos_service.specs.declared.kind.Kind.{Kind}
+use Rattle.pos_service.specs.declared.peripheral_box.PeripheralBox.{PeripheralBox}
+use Rattle.pos_service.specs.declared.peripheral_box.HasState.{Ghosts}
+use Rattle.pos_service.specs.Peripherals.{IsInRange, PeripheralState}
+use Rattle.pos_profile.specs.declared.entry.Entry.{Entry}
+use Rattle.pos_profile.specs.declared.planning.Planned.{Planned}
+use Rattle.pos_profile.specs.declared.registry.Registry.{Registry}
+use Rattle.pos_profile.specs.declared.role.Role.TheVariants as role
+use Rattle.pos_profile.specs.declared.slot.Slot.{Slot}
+use Rattle.pos_profile.specs.Kinds.{kind_of}
+use Rattle.pos_profile.specs.Places.{IsIndexOf, found_in, place_of}
+use Rattle.pos_profile.specs.Soundness.{IsSoundEntry}
+use Rattle.pos_profile.specs.Registries.{Device, HasKindInRange, IsRegistrySound, IsServed, MayServe, device_of, devices, devices_of, names_of, parked, planned_for, planned_of, standing_at, vacant, vacant_devices, with_peripheral}
+
+-- what one more entry plans
+planned_more : (entries : List Entry) (place : ℕ) (entry : Entry) → place < length entries → entry ≡ get_or entries place entry → planned_of (take (place + 1) entries) ≡ planned_of (take place entries) ++ planned_of (entry ∷ [])
+planned_more entries place entry within at =
+    ap planned_of (take_more entries place entry within ∙ ap (λ e. take place entries ++ e ∷ []) (sym at))
+    ∙ filter_map-append planned_for (take place entries) (entry ∷ [])
+
+-- an entry without a peripheral plans nothing
+pub planned_skips : (entries : List Entry) (place : ℕ) (entry : Entry) → place < length entries → entry ≡ get_or entries place entry → kind_of entry ≡ None → planned_of (take (place + 1) entries) ≡ planned_of (take place entries)
+planned_skips entries place entry within at none =
+    let plans : planned_of (entry ∷ []) ≡ [] = rw none refl in
+    planned_more entries place entry within at ∙ ap (λ (ps : List Planned). planned_of (take place entries) ++ ps) plans ∙ append-nil (planned_of (take place entries))
+
+-- an entry with a peripheral plans its device
+pub planned_takes : (entries : List Entry) (place : ℕ) (entry : Entry) (kind : Kind) → place < length entries → entry ≡ get_or entries place entry → kind_of entry ≡ Some kind → planned_of (take (place + 1) entries) ≡ planned_of (take place entries) ++ record { name = entry.name; kind = kind } ∷ []
+planned_takes entries place entry kind within at some =
+    let plans : planned_of (entry ∷ []) ≡ record { name = entry.name; kind = kind } ∷ [] = rw some refl in
+    planned_more entries place entry within at ∙ ap (λ (ps : List Planned). planned_of (take place entries) ++ ps) plans
+
+-- the device at the place of a slot
+pub device_at : {X : Type 0} {O : X → Type 0} (boxes : Ghosts (PeripheralBox X O)) (slots : List (Slot X O)) (place : ℕ) (slot : Slot X O) → place < length slots → slot ≡ get_or slots place slot → slice_get (devices_of boxes slots) place ≡ Some (device_of boxes slot)
+device_at boxes slots place slot within at =
+    slice_get-map (λ s. device_of boxes s) slots place ∙ ap (λ o. option_map (λ s. device_of boxes s) o) (slice_get_read slots (length slots) place slot refl within at)
+
+pub devices_count : {X : Type 0} {O : X → Type 0} (boxes : Ghosts (PeripheralBox X O)) (slots : List (Slot X O)) → length (devices_of boxes slots) ≡ length slots
+devices_count boxes slots = length-map slots (λ s. device_of boxes s)
+
+pub names_count : (list : List Device) → length (names_of list) ≡ length list
+names_count list = length-map list (λ (d : Device). d.name)
+
+-- another peripheral, or none, is put into a slot
+pub devices_set : {X : Type 0} {O : X → Type 0} (boxes : Ghosts (PeripheralBox X O)) (slots : List (Slot X O)) (place : ℕ) (slot other : Slot X O) (x : Option (PeripheralBox X O)) → slot ≡ get_or slots place other → devices_of boxes (set slots place (record slot { peripheral = x })) ≡ with_peripheral (devices_of boxes slots) place (option_map boxes.state x)
+devices_set boxes [] place slot other x at = refl
+devices_set boxes (first ∷ slots) zero slot other x at =
+    ap (λ (s : Slot _ _). (record (device_of boxes s) { peripheral = option_map boxes.state x } ∷ devices_of boxes slots)) at
+devices_set boxes (first ∷ slots) (suc place) slot other x at =
+    ap (λ (ds : List Device). (device_of boxes first ∷ ds)) (devices_set boxes slots place slot other x at)
+
+-- past the end there is nothing to change
+pub with_past : (list : List Device) (place : ℕ) (x : Option PeripheralState) → length list ≤ place → with_peripheral list place x ≡ list
+with_past [] place x past = refl
+with_past (device ∷ list) zero x past = absurd (omega (arith, past))
+with_past (device ∷ list) (suc place) x past = ap (λ (ds : List Device). (device ∷ ds)) (with_past list place x (omega (arith, past)))
+
+pub standing_past : (list : List Device) (place : ℕ) → length list ≤ place → standing_at list place ≡ None
+standing_past list place past = rw (slice_get_past list place past)
+
+-- what stands at the place of a device
+pub standing_is : (list : List Device) (place : ℕ) (device : Device) → slice_get list place ≡ Some device → standing_at list place ≡ device.peripheral
+standing_is list place device at = ap (λ (o : Option Device). option_and_then (λ (d : Device). d.peripheral) o) at
+
+-- the names stay
+names_with : (list : List Device) (place : ℕ) (x : Option PeripheralState) → names_of (with_peripheral list place x) ≡ names_of list
+names_with [] place x = refl
+names_with (device ∷ list) zero x = refl
+names_with (device ∷ list) (suc place) x = ap (λ (ns : List (List ℕ)). (device.name ∷ ns)) (names_with list place x)
+
+-- each device is served rightly, where the changed one is
+served_with : (list : List Device) (place : ℕ) (x : Option PeripheralState) → AllByRecursion IsServed list → ((device : Device) → slice_get list place ≡ Some device → IsServed (record device { peripheral = x })) → AllByRecursion IsServed (with_peripheral list place x)
+served_with [] place x all here = tt
+served_with (device ∷ list) zero x all here = (here device refl, all.1)
+served_with (device ∷ list) (suc place) x all here = (all.0, served_with list place x all.1 here)
+
+-- the kinds stay
+kinds_with : (list : List Device) (place : ℕ) (x : Option PeripheralState) → AllByRecursion HasKindInRange list → AllByRecursion HasKindInRange (with_peripheral list place x)
+kinds_with [] place x all = tt
+kinds_with (device ∷ list) zero x all = all
+kinds_with (device ∷ list) (suc place) x all = (all.0, kinds_with list place x all.1)
+
+-- a registry stays sound, where the peripheral of a place is changed for a right one
+pub sound_with : {X : Type 0} {O : X → Type 0} (boxes : Ghosts (PeripheralBox X O)) (old new : Registry X O) (place : ℕ) (x : Option PeripheralState) → IsRegistrySound boxes old → new.places ≡ old.places → devices boxes new ≡ with_peripheral (devices boxes old) place x
+    → ((device : Device) → slice_get (devices boxes old) place ≡ Some device → IsServed (record device { peripheral = x })) → IsRegistrySound boxes new
+sound_with boxes old new place x sound places is here = record {
+  index = λ name. ap (λ p. found_in p name) places ∙ sound.index name ∙ ap (λ (ns : List (List ℕ)). place_of ns name) (sym (ap names_of is ∙ names_with (devices boxes old) place x));
+  kinds = subst (AllByRecursion HasKindInRange) (sym is) (kinds_with (devices boxes old) place x sound.kinds);
+  served = subst (AllByRecursion IsServed) (sym is) (served_with (devices boxes old) place x sound.served here);
+}
+
+-- what may serve a place is of the kind of its device
+pub same_kind : (list : List Device) (place : ℕ) (state : PeripheralState) (device : Device) → MayServe list place state → slice_get list place ≡ Some device → state.kind ≡ device.kind
+same_kind list place state device may at =
+    let same : may.device ≡ device = cc in
+    may.kind ∙ ap (λ (d : Device). d.kind) same
+
+-- what there is, where there is something
+pub some_of : {A : Type 0} (o : Option A) → is_some o ≡ true → (x : A) × (o ≡ Some x)
+some_of None is = absurd (false≢true is)
+some_of (Some x) is = (x, refl)
+
+-- there is nothing, where there isn't something
+pub none_of : {A : Type 0} (o : Option A) → is_some o ≡ false → o ≡ None
+none_of None is = refl
+none_of (Some x) is = absurd (false≢true (sym is))
+
+-- something isn't nothing
+pub never : {A : Type 0} {x : A} → None ≡ Some x → ⊥
+never is = false≢true (ap is_some is)
+
+-- what is planned is sound, vacant
+names_vacant : (plan : List Planned) → names_of (map vacant plan) ≡ map (λ (p : Planned). p.name) plan
+names_vacant [] = refl
+names_vacant (planned ∷ plan) = ap (λ (ns : List (List ℕ)). (planned.name ∷ ns)) (names_vacant plan)
+
+served_vacant : (plan : List Planned) → AllByRecursion IsServed (map vacant plan)
+served_vacant [] = tt
+served_vacant (planned ∷ plan) = (tt, served_vacant plan)
+
+-- what is planned for an entry whose kind is in range
+kinds_more : (name : List ℕ) (kind : Option Kind) (plan : List Planned) → IfSome kind IsInRange → AllByRecursion HasKindInRange (map vacant plan) → AllByRecursion HasKindInRange (map vacant (cons_option (option_map (λ kind. record { name = name; kind = kind }) kind) plan))
+kinds_more name None plan here all = all
+kinds_more name (Some kind) plan here all = (here, all)
+
+-- what is planned for sound entries
+kinds_planned : (entries : List Entry) → AllByRecursion (IsSoundEntry role.Device) entries → AllByRecursion HasKindInRange (vacant_devices entries)
+kinds_planned [] sound = tt
+kinds_planned (entry ∷ entries) sound = kinds_more entry.name (kind_of entry) (planned_of entries) sound.0.kind (kinds_planned entries sound.1)
+
+pub sound_planned : {X : Type 0} {O : X → Type 0} (boxes : Ghosts (PeripheralBox X O)) (registry : Registry X O) (entries : List Entry) (plan : List Planned) → All (IsSoundEntry role.Device) entries → plan ≡ planned_of entries → devices boxes registry ≡ map vacant plan → IsIndexOf registry.places (map (λ (p : Planned). p.name) plan) → IsRegistrySound boxes registry
+sound_planned boxes registry entries plan sound planned is index = record {
+  index = λ name. index name ∙ ap (λ (ns : List (List ℕ)). place_of ns name) (sym (ap names_of is ∙ names_vacant plan));
+  kinds = subst (AllByRecursion HasKindInRange) (sym (is ∙ ap (map vacant) planned)) (kinds_planned entries (recursion_from_All (IsSoundEntry role.Device) entries sound));
+  served = subst (AllByRecursion IsServed) (sym is) (served_vacant plan);
+}
+
+-- one more device is out of service
+pub parked_more : {X : Type 0} {O : X → Type 0} (boxes : Ghosts (PeripheralBox X O)) (slots : List (Slot X O)) (olds : List Device) (place : ℕ) (old new : Slot X O) → place < length olds → length slots ≡ length olds → devices_of boxes slots ≡ map parked (take place olds) ++ drop place olds → old ≡ get_or slots place old
+    → device_of boxes new ≡ parked (device_of boxes old) → devices_of boxes (set slots place new) ≡ map parked (take (place + 1) olds) ++ drop (place + 1) olds
+parked_more boxes slots olds place old new within same front at parks =
+    map-set (λ s. device_of boxes s) slots place new ∙ ap (set (devices_of boxes slots) place) parks
+    ∙ map_over_more parked olds (devices_of boxes slots) place (device_of boxes old) within front (ap (λ s. device_of boxes s) at ∙ sym (get_or-map (λ s. device_of boxes s) slots place old (device_of boxes old) (omega (arith, within, same))))
+
+-- once the place is behind the last, all are out of service
+pub parked_whole : (list olds : List Device) (place : ℕ) → length olds ≤ place → list ≡ map parked (take place olds) ++ drop place olds → list ≡ map parked olds
+parked_whole list olds place past front =
+    front ∙ ap (λ (xs : List Device). map parked xs ++ drop place olds) (take_all place olds past) ∙ ap (λ (xs : List Device). map parked olds ++ xs) (drop_all place olds past) ∙ append-nil (map parked olds)

@@ -1,0 +1,21 @@
+use Rattle.std.proofs.Common.{◌≡◌, ◌∙◌, ℕ, None, ap, sym, false, Vec, Global}
+use Rattle.std.specs.Prelude.{bytes_eq, is_some}
+use Rattle.std.specs.Map.{lookup}
+use Rattle.indexmap.proofs.CallerLemmas.{insert_entry-new}
+use Rattle.pos_profile.specs.Places.{first_of, looked_up, where_same}
+use Rattle.pos_profile.proofs.PlaceLemmas.{already, lookup_more}
+use Rattle.pos_profile.proofs.RegistryLemmas.{none_of}
+use Rattle.pos_profile.proofs.places.note.Goals as goal
+
+pub returns-then-contains_key : goal.returns-then-contains_key
+returns-then-contains_key c = already (looked_up c.args.places.now) c.args.name.now c.args.place (sym c.contains_key.ensures ∙ c.if-contains_key.true)
+
+pub returns : goal.returns
+returns c = λ name.
+    let old = c.args.places.now in
+    let test = λ (key : Vec ℕ Global). bytes_eq name key.items in
+    let unseen : is_some (looked_up old c.args.name.now) ≡ false = sym c.contains_key.ensures ∙ c.if-contains_key.false in
+    let absent : looked_up old c.in-Ok.copy.items ≡ None = ap (looked_up old) c.in-Ok.ensures.items ∙ none_of (looked_up old c.args.name.now) unseen in
+    ap (lookup test) (c.in-Ok-insert.ensures.entries ∙ insert_entry-new (λ k l. bytes_eq k.items l.items) old c.in-Ok.copy c.args.place absent)
+    ∙ lookup_more test old.entries c.in-Ok.copy c.args.place
+    ∙ ap (λ noted. first_of (looked_up old name) (where_same name noted c.args.place)) c.in-Ok.ensures.items

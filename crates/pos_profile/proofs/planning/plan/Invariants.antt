@@ -1,0 +1,11 @@
+use Rattle.std.proofs.Common.{◌≡◌, ◌≤◌, length, take, vec_len, vec_capacity}
+use Rattle.pos_profile.specs.Registries.{planned_of}
+use Rattle.pos_profile.proofs.planning.plan.Given as goal
+
+-- the entries so far are planned
+abbrev pub invariant-loop-entry : goal.invariant-loop-entry
+invariant-loop-entry l = record {
+  so_far : l.plan.items ≡ planned_of (take l.entry-index l.entries);
+  count : vec_len l.plan ≤ l.entry-index;
+  room : length l.entries ≤ vec_capacity l.plan;
+}

@@ -1,0 +1,33 @@
+use Rattle.std.proofs.Common.{◌≡◌, Err, subst, sym, arith}
+use Rattle.toml.specs.View.{table_view}
+use Rattle.pos_profile.specs.declared.listing.ListFault.{ListFault}
+use Rattle.pos_profile.specs.declared.root.DocumentFault.{DocumentFault}
+use Rattle.pos_profile.specs.declared.root.DocumentFault.TheVariants.{Mistaken}
+use Rattle.pos_profile.specs.declared.role.Role.TheVariants.{Device, Spare}
+use Rattle.pos_profile.specs.Mistakes.{IsFlawedList, ReadsDocument, ReadsList, mistake_at}
+use Rattle.pos_profile.specs.Tables.{key_of, values_at}
+use Rattle.pos_profile.proofs.DocumentLemmas.{device_mistaken, document_read, listed_at, spare_mistaken}
+use Rattle.pos_profile.proofs.root.read_document.Goals as goal
+
+pub returns-in-Err-Flawed-read_list : goal.returns-in-Err-Flawed-read_list
+returns-in-Err-Flawed-read_list c =
+    let root = table_view c.args.root.now in
+    let fault = c.in-Err-Flawed-read_list in
+    let flawed : IsFlawedList Device (values_at (key_of Device) root) fault.flaw.place fault.flaw.reason =
+    subst (λ (f : ListFault). ReadsList Device (values_at (key_of Device) root) (Err f)) fault.field-0-is fault.ensures in
+    let is : c.listed.result ≡ Mistaken (mistake_at 0 Device fault.flaw.place fault.flaw.reason) = listed_at 0 Device fault.flaw-is c.listed.ensures in
+    subst (λ (f : DocumentFault). ReadsDocument root (Err f)) (sym is) (device_mistaken root c.in-Ok.ensures fault.flaw.place fault.flaw.reason flawed)
+
+pub returns-in-Ok-read_list-2 : goal.returns-in-Ok-read_list-2
+returns-in-Ok-read_list-2 c =
+    document_read (table_view c.args.root.now) c.in-Ok.ensures c.in-Ok-read_list.devices.items c.in-Ok-read_list.ensures c.in-Ok-read_list-2.spares.items c.in-Ok-read_list-2.ensures
+
+pub returns-in-Err-Flawed-read_list-2 : goal.returns-in-Err-Flawed-read_list-2
+returns-in-Err-Flawed-read_list-2 c =
+    let root = table_view c.args.root.now in
+    let fault = c.in-Err-Flawed-read_list-2 in
+    let flawed : IsFlawedList Spare (values_at (key_of Spare) root) fault.flaw.place fault.flaw.reason =
+    subst (λ (f : ListFault). ReadsList Spare (values_at (key_of Spare) root) (Err f)) fault.field-0-is fault.ensures in
+    let devices = c.in-Ok-read_list.devices.items in
+    let is : c.listed-in-Err-Flawed-read_list-2.result ≡ Mistaken (mistake_at c.len.result Spare fault.flaw.place fault.flaw.reason) = listed_at c.len.result Spare fault.flaw-is c.listed-in-Err-Flawed-read_list-2.ensures in
+    subst (λ (f : DocumentFault). ReadsDocument root (Err f)) (sym is) (spare_mistaken root c.in-Ok.ensures devices c.in-Ok-read_list.ensures c.len.result fault.flaw.place fault.flaw.reason (omega arith) flawed)

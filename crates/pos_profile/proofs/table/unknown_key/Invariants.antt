@@ -1,0 +1,14 @@
+use Rattle.std.proofs.Common.{◌≡◌, true, string_bytes}
+use Rattle.std.specs.Prelude.{is_some}
+use Rattle.std.specs.List.{list_all}
+use Rattle.toml.specs.Data.{get_member}
+use Rattle.toml.specs.View.{table_view}
+use Rattle.pos_profile.specs.Tables.{has_only, is_key}
+use Rattle.pos_profile.proofs.table.unknown_key.Given as goal
+
+-- the keys that are left decide, and each is one of the table
+abbrev pub invariant-loop-key : goal.invariant-loop-key
+invariant-loop-key l = record {
+  decide : list_all (λ key. is_key l.keys (string_bytes key)) l.key-iterator ≡ has_only (is_key l.keys) (table_view l.table);
+  there : list_all (λ key. is_some (get_member (string_bytes key) (table_view l.table))) l.key-iterator ≡ true;
+}

@@ -1,0 +1,12 @@
+pub mod Categories
+pub mod Names
+pub mod Numbers
+pub mod Kinds
+pub mod Tables
+pub mod Entries
+pub mod Profiles
+pub mod Mistakes
+pub mod Soundness
+pub mod Places
+pub mod Registries
+pub mod Built

@@ -1,0 +1,45 @@
+ghost use Rattle.std.specs.Prelude.{◌≡◌};
+ghost use Rattle.pos_profile.specs.Kinds.{kind_of};
+
+use crate::text::Text;
+use pos_service::{Category, Kind};
+
+/// A device of the profile, or a spare. A number that its category doesn't have is 0, and a spare's name is empty.
+#[derive(Debug, Drop)]
+pub struct Entry {
+    /// The name by which controls open it, 1 to 16 ASCII letters, digits or hyphens.
+    pub name: Text,
+    /// What it is.
+    pub category: Category,
+    /// The rows of a display, 1 to 8.
+    pub rows: u32,
+    /// The columns of a display, 1 to 80.
+    pub columns: u32,
+    /// The characters of a printer's line, 1 to 255.
+    pub chars: u32,
+    /// The lines of paper that a printer begins with, 0 to 100,000.
+    pub lines: u32,
+    /// How many lines of paper are left where a printer's paper is near its end, 0 to 100,000.
+    pub near: u32,
+}
+
+impl Entry {
+    /// What a peripheral for it has to be, or none for Hard Totals, which have no peripheral.
+    pub fn kind(&self) -> Option<Kind>
+        ensures { result ≡ kind_of self.now }
+    {
+        match self.category {
+            Category::CashDrawer => Some(Kind::Drawer),
+            Category::Scanner => Some(Kind::Scanner),
+            Category::LineDisplay => Some(Kind::Display {
+                rows: self.rows,
+                columns: self.columns,
+            }),
+            Category::PosPrinter => Some(Kind::Printer {
+                chars: self.chars,
+                near: self.near,
+            }),
+            Category::HardTotals => None,
+        }
+    }
+}

@@ -1,0 +1,43 @@
+//! The devices of a shop counter: their profile, which is read from TOML, and the registry of what peripheral serves
+//! each of them.
+#![tactic(auto)]
+
+mod built;
+mod category;
+mod entry;
+mod explaining;
+mod fault;
+pub mod laws;
+mod listing;
+mod mistake;
+mod names;
+mod number;
+mod places;
+mod planning;
+mod profile;
+mod reading;
+mod registry;
+mod registry_fault;
+#[cfg(test)]
+mod registry_tests;
+mod role;
+mod root;
+mod slot;
+mod table;
+#[cfg(test)]
+mod test_drawer;
+#[cfg(test)]
+mod tests;
+mod text;
+
+pub use entry::Entry;
+pub use explaining::find_mistake;
+pub use fault::ProfileFault;
+pub use mistake::{Mistake, Place, Reason};
+pub use number::NumberKey;
+pub use profile::Profile;
+pub use registry::Registry;
+pub use registry_fault::{AttachFault, DetachFault};
+pub use role::Role;
+pub use slot::Slot;
+pub use text::Text;

@@ -1,0 +1,87 @@
+use crate::number::NumberKey;
+use crate::role::Role;
+use crate::text::Text;
+use std::fmt;
+
+/// Where a profile isn't sound.
+#[derive(Clone, Copy, Debug, PartialEq, Eq)]
+pub enum Place {
+    /// At its root.
+    Root,
+    /// At the entry of a list that has this number, counted from 1 in its own list.
+    Listed(Role, usize),
+}
+
+/// What isn't sound at a place of a profile.
+#[derive(Debug, Drop)]
+pub enum Reason {
+    /// The value of the root's key is no array.
+    NotAnArray(Role),
+    /// The root, or the entry, has a key that it may not have.
+    UnknownKey(Text),
+    /// The entry is no table.
+    NotATable,
+    /// The category is missing, or none that an entry of this list may have.
+    BadCategory(Role),
+    /// The name is missing, or isn't 1 to 16 ASCII letters, digits or hyphens.
+    BadName,
+    /// A number of the category is missing, or isn't in its range.
+    BadNumber(NumberKey),
+    /// There is an earlier device of Hard Totals.
+    SecondHardTotals,
+}
+
+/// The first thing in a profile that isn't sound, for its writer.
+#[derive(Debug, Drop)]
+pub struct Mistake {
+    /// The number that the refusal of the profile tells.
+    pub number: usize,
+    /// Where it is.
+    pub place: Place,
+    /// What it is.
+    pub reason: Reason,
+}
+
+impl fmt::Display for Place {
+    fn fmt<W: fmt::Write>(&self, f: &mut fmt::Formatter<W>) -> fmt::Result {
+        match self {
+            Place::Root => write!(f, "profile"),
+            Place::Listed(Role::Device, number) => write!(f, "device {number}"),
+            Place::Listed(Role::Spare, number) => write!(f, "spare {number}"),
+        }
+    }
+}
+
+impl fmt::Display for Reason {
+    fn fmt<W: fmt::Write>(&self, f: &mut fmt::Formatter<W>) -> fmt::Result {
+        match self {
+            Reason::NotAnArray(role) => {
+                let key = role.key();
+                write!(f, "{key} must be an array of tables")
+            }
+            Reason::UnknownKey(key) => write!(f, "unknown key: {key}"),
+            Reason::NotATable => write!(f, "must be a table"),
+            Reason::BadCategory(Role::Device) => write!(
+                f,
+                "category must be CashDrawer, Scanner, LineDisplay, POSPrinter or HardTotals"
+            ),
+            Reason::BadCategory(Role::Spare) => write!(
+                f,
+                "category must be CashDrawer, Scanner, LineDisplay or POSPrinter"
+            ),
+            Reason::BadName => write!(f, "name must be 1 to 16 letters, digits or hyphens"),
+            Reason::BadNumber(number) => {
+                let (key, least, most) = (number.key(), number.least(), number.most());
+                write!(f, "{key} must be {least} to {most}")
+            }
+            Reason::SecondHardTotals => write!(f, "a second device of category HardTotals"),
+        }
+    }
+}
+
+impl fmt::Display for Mistake {
+    fn fmt<W: fmt::Write>(&self, f: &mut fmt::Formatter<W>) -> fmt::Result {
+        let (place, reason) = (self.place, &self.reason);
+        write!(f, "{place}: {reason}")
+    }
+}

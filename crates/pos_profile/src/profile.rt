@@ -1,0 +1,95 @@
+ghost use Rattle.std.specs.Prelude.{◌≡◌, option_copied};
+ghost use Rattle.std.specs.List.{find};
+ghost use Rattle.toml.specs.Parse.{parse_document};
+ghost use Rattle.toml.specs.View.{table_view};
+ghost use Rattle.pos_profile.specs.Categories.{is_totals};
+ghost use Rattle.pos_profile.specs.Profiles.{FromDocument, Gives};
+
+use crate::category::is_totals;
+use crate::entry::Entry;
+use crate::fault::ProfileFault;
+use crate::listing::first_repeated;
+use crate::root::{DocumentFault, Lists, read_document};
+use pos_service::NoMemory;
+use std::alloc::Global;
+use std::marker::Model;
+use toml::Table;
+
+/// The devices of a counter and its spares, each in the order of the profile (docs/PROFILE.md).
+#[derive(Debug, Drop)]
+pub struct Profile {
+    pub(crate) devices: Vec<Entry>,
+    pub(crate) spares: Vec<Entry>,
+}
+
+impl Model for Profile {
+    ghost use Rattle.pos_profile.specs.Entries.{Contents};
+    ghost use Rattle.pos_profile.specs.Soundness.{IsSoundProfile};
+
+    ghost Value = { Contents };
+
+    ghost view = { λ profile. record { devices = profile.devices.items; spares = profile.spares.items } };
+
+    ghost invariant = { λ profile.
+        IsSoundProfile (record { devices = profile.devices.items; spares = profile.spares.items }) };
+}
+
+/// The profile that a document is.
+fn from_table(alloc: Global, root: &Table) -> Result<Profile, ProfileFault>
+    ensures { Gives (table_view root.now) result }
+{
+    let lists = match read_document(alloc, root) {
+        Ok(lists) => lists,
+        Err(DocumentFault::Mistaken(mistake)) => {
+            return Err(ProfileFault::BadEntry(mistake.number));
+        }
+        Err(DocumentFault::NoMemory) => return Err(ProfileFault::NoMemory),
+    };
+    let Lists {
+        mut devices,
+        spares,
+    } = lists;
+    match first_repeated(alloc, &devices) {
+        Ok(Some(place)) => Err(ProfileFault::Duplicate(devices.swap_remove(place).name)),
+        Ok(None) => Ok(Profile { devices, spares }),
+        Err(NoMemory) => Err(ProfileFault::NoMemory),
+    }
+}
+
+impl Profile {
+    /// The profile that a text is.
+    ///
+    /// Refused with BadText where the text is no TOML document; else with BadEntry and the lowest number of what isn't
+    /// sound, 0 for the root, from 1 on the entries, devices counted before spares; else with Duplicate and the first
+    /// name that stands a second time. NoMemory may come at any text.
+    pub fn from_text(alloc: Global, text: &str) -> Result<Profile, ProfileFault>
+        ensures { FromDocument (parse_document text.now) result }
+    {
+        match toml::table_from_str(alloc, text) {
+            Ok(root) => from_table(alloc, &root),
+            Err(error) if error.is_memory() => Err(ProfileFault::NoMemory),
+            Err(_) => Err(ProfileFault::BadText),
+        }
+    }
+
+    /// The devices in order.
+    pub fn devices(&self) -> &[Entry]
+        ensures { result.now ≡ self.now.devices }
+    {
+        self.devices.as_slice()
+    }
+
+    /// The device of Hard Totals, if there is one. It has no peripheral, and so no place in a registry.
+    pub fn totals(&self) -> Option<&Entry>
+        ensures { option_copied result ≡ find (λ entry. is_totals entry.category) self.now.devices }
+    {
+        self.devices.iter().find(|entry| is_totals(entry.category))
+    }
+
+    /// The spares in order.
+    pub fn spares(&self) -> &[Entry]
+        ensures { result.now ≡ self.now.spares }
+    {
+        self.spares.as_slice()
+    }
+}

@@ -1,0 +1,225 @@
+ghost use Rattle.std.specs.Prelude.{◌≡◌, ◌≢◌, ◌≤◌, [], None, Some, true, false, IfOk, IfErr, map, length, vec_capacity};
+ghost use Rattle.std.specs.Option.{option_map};
+ghost use Rattle.pos_profile.specs.Places.{IsIndexOf, place_of};
+ghost use Rattle.pos_profile.specs.Registries.{Attaches, Detaches, IsRegistrySound, MayServe, devices, devices_of, kind_at, names_of, parked, planned_of, standing_at, vacant, vacant_devices, with_peripheral};
+
+use crate::laws::is_profile;
+use crate::places::Places;
+use crate::planning::{Planned, plan};
+use crate::profile::Profile;
+use crate::registry_fault::{AttachFault, DetachFault};
+use crate::slot::Slot;
+use pos_service::{HasState, Kind, NoMemory, PeripheralBox};
+use std::alloc::Global;
+
+/// The devices of a profile that have a peripheral, in its order, each with what serves it. It is ended by
+/// `into_entries` alone.
+///
+/// Hard Totals have no peripheral, and so no place here.
+pub struct Registry {
+    places: Places,
+    slots: Vec<Slot>,
+}
+
+/// Whether kinds are the same.
+fn is_same(one: Kind, other: Kind) -> bool
+    ensures same { result ≡ true → one ≡ other }
+    ensures differ { result ≡ false → one ≢ other }
+{
+    one == other
+}
+
+/// Puts the devices that are planned into an empty list with room for them, each vacant.
+fn fill(mut slots: Vec<Slot>, plan: Vec<Planned>) -> Vec<Slot>
+    requires empty { slots.items ≡ [] }
+    requires room { length plan.items ≤ vec_capacity slots }
+    ensures { devices_of ⟦<PeripheralBox as HasState>⟧ result.items ≡ map vacant plan.items }
+{
+    for planned in plan {
+        let Planned { name, kind } = planned;
+        slots.push_reserved(Slot {
+            name,
+            kind,
+            peripheral: None,
+        });
+    }
+    slots
+}
+
+/// The plan of a profile's devices, and the places of their names.
+fn prepare(alloc: Global, profile: &Profile) -> Result<(Vec<Planned>, Places), NoMemory>
+    ensures planned { IfOk result (λ made. made.0.items ≡ planned_of profile.now.devices) }
+    ensures index { IfOk result (λ made. IsIndexOf made.1 (map (λ planned. planned.name) made.0.items)) }
+{
+    let plan = plan(alloc, profile.devices())?;
+    let places = Places::of(alloc, &plan)?;
+    Ok((plan, places))
+}
+
+impl Registry {
+    /// The registry of a profile's devices, each vacant. An empty list becomes its list of devices; want of memory ends
+    /// that list.
+    pub fn new(alloc: Global, profile: &Profile, mut slots: Vec<Slot>) -> Result<Self, NoMemory>
+        requires empty { slots.items ≡ [] }
+        ensures vacant { IfOk result (λ registry.
+            devices ⟦<PeripheralBox as HasState>⟧ registry ≡ vacant_devices profile.now.devices) }
+        ensures sound { IfOk result (λ registry. IsRegistrySound ⟦<PeripheralBox as HasState>⟧ registry) }
+    {
+        is_profile(profile);
+        let Ok((plan, places)) = prepare(alloc, profile) else {
+            slots.destroy_empty();
+            return Err(NoMemory);
+        };
+        if slots.reserve(plan.len()).is_err() {
+            slots.destroy_empty();
+            return Err(NoMemory);
+        }
+        Ok(Registry {
+            places,
+            slots: fill(slots, plan),
+        })
+    }
+
+    /// The place of the first device with a name.
+    pub fn find(&self, name: &[u8]) -> Option<usize>
+        requires { IsRegistrySound ⟦<PeripheralBox as HasState>⟧ self.now }
+        ensures { result ≡ place_of (names_of (devices ⟦<PeripheralBox as HasState>⟧ self.now)) name.now }
+    {
+        self.places.find(name)
+    }
+
+    /// How many devices have a place.
+    pub fn count(&self) -> usize
+        ensures { result ≡ length (devices ⟦<PeripheralBox as HasState>⟧ self.now) }
+    {
+        self.slots.len()
+    }
+
+    /// What the peripheral of the device at a place has to be; None at no place.
+    pub fn kind(&self, place: usize) -> Option<Kind>
+        ensures { result ≡ kind_at (devices ⟦<PeripheralBox as HasState>⟧ self.now) place }
+    {
+        match self.slots.get(place) {
+            Some(slot) => Some(slot.kind),
+            None => None,
+        }
+    }
+
+    /// What serves the device at a place; None where it is vacant, or no place.
+    pub fn peripheral(&self, place: usize) -> Option<&PeripheralBox>
+        ensures { let boxes = ⟦<PeripheralBox as HasState>⟧ in
+            option_map (λ found. boxes.state found.now) result ≡ standing_at (devices boxes self.now) place }
+    {
+        match self.slots.get(place) {
+            Some(slot) => slot.peripheral.as_ref(),
+            None => None,
+        }
+    }
+
+    /// Hands out what serves the device at a place, which is vacant then; None where it is vacant, or no place.
+    pub fn take(&mut self, place: usize) -> Option<PeripheralBox>
+        requires sound { IsRegistrySound ⟦<PeripheralBox as HasState>⟧ self.old }
+        ensures taken { let boxes = ⟦<PeripheralBox as HasState>⟧ in
+            option_map boxes.state result ≡ standing_at (devices boxes self.old) place }
+        ensures vacated { let boxes = ⟦<PeripheralBox as HasState>⟧ in
+            devices boxes self.new ≡ with_peripheral (devices boxes self.old) place None }
+        ensures sound { IsRegistrySound ⟦<PeripheralBox as HasState>⟧ self.new }
+    {
+        if place >= self.slots.len() {
+            return None;
+        }
+        self.slots[place].peripheral.take()
+    }
+
+    /// Has a peripheral serve the device at a vacant place.
+    pub fn put(&mut self, place: usize, peripheral: PeripheralBox)
+        requires sound { IsRegistrySound ⟦<PeripheralBox as HasState>⟧ self.old }
+        requires may_serve { let boxes = ⟦<PeripheralBox as HasState>⟧ in
+            MayServe (devices boxes self.old) place (boxes.state peripheral) }
+        requires unparked { (⟦<PeripheralBox as HasState>⟧.state peripheral).is_parked ≡ false }
+        ensures served { let boxes = ⟦<PeripheralBox as HasState>⟧ in
+            devices boxes self.new ≡ with_peripheral (devices boxes self.old) place (Some (boxes.state peripheral)) }
+        ensures sound { IsRegistrySound ⟦<PeripheralBox as HasState>⟧ self.new }
+    {
+        match self.slots[place].peripheral.replace(peripheral) {
+            None => {}
+            Some(_) => unreachable!(),
+        }
+    }
+
+    /// Has a peripheral serve the first device with a name, which is vacant and of its kind.
+    ///
+    /// Refused with Unknown where no device here has the name, else with InUse where the device has its peripheral,
+    /// else with KindDiffers. A refusal hands the peripheral back. It takes no memory.
+    pub fn attach(
+        &mut self,
+        name: &[u8],
+        peripheral: PeripheralBox,
+    ) -> Result<(), (AttachFault, PeripheralBox)>
+        requires sound { IsRegistrySound ⟦<PeripheralBox as HasState>⟧ self.old }
+        requires unparked { (⟦<PeripheralBox as HasState>⟧.state peripheral).is_parked ≡ false }
+        ensures attaches { let boxes = ⟦<PeripheralBox as HasState>⟧ in
+            Attaches (devices boxes self.old) name.now (boxes.state peripheral) result (devices boxes self.new) }
+        ensures handed_back { IfErr result (λ refusal. refusal.1 ≡ peripheral) }
+        ensures sound { IsRegistrySound ⟦<PeripheralBox as HasState>⟧ self.new }
+    {
+        let Some(place) = self.find(name) else {
+            return Err((AttachFault::Unknown, peripheral));
+        };
+        let slot = &self.slots[place];
+        if slot.peripheral.is_some() {
+            return Err((AttachFault::InUse, peripheral));
+        }
+        if !is_same(slot.kind, peripheral.kind()) {
+            return Err((AttachFault::KindDiffers, peripheral));
+        }
+        self.put(place, peripheral);
+        Ok(())
+    }
+
+    /// Takes what serves the first device with a name out of service, and hands it out. The caller tells whether a
+    /// control has the device open.
+    ///
+    /// Refused with Unknown where no device here has the name, else with Vacant where the device has no peripheral,
+    /// else with InUse where a control has it open. It takes no memory.
+    pub fn detach(&mut self, name: &[u8], is_open: bool) -> Result<PeripheralBox, DetachFault>
+        requires sound { IsRegistrySound ⟦<PeripheralBox as HasState>⟧ self.old }
+        ensures detaches { let boxes = ⟦<PeripheralBox as HasState>⟧ in
+            Detaches boxes.state (devices boxes self.old) name.now is_open result (devices boxes self.new) }
+        ensures sound { IsRegistrySound ⟦<PeripheralBox as HasState>⟧ self.new }
+    {
+        let Some(place) = self.find(name) else {
+            return Err(DetachFault::Unknown);
+        };
+        if self.slots[place].peripheral.is_none() {
+            return Err(DetachFault::Vacant);
+        }
+        if is_open {
+            return Err(DetachFault::InUse);
+        }
+        match self.take(place) {
+            Some(mut peripheral) => {
+                peripheral.park();
+                Ok(peripheral)
+            }
+            None => unreachable!(),
+        }
+    }
+
+    /// Ends the registry: its devices in the profile's order, each once, with their peripherals, which are taken out of
+    /// service and else as they were. It takes no memory.
+    pub fn into_entries(self) -> Vec<Slot>
+        requires { Unit {0} }
+        ensures { let boxes = ⟦<PeripheralBox as HasState>⟧ in
+            devices_of boxes result.items ≡ map parked (devices boxes self) }
+    {
+        let Registry {
+            places: _,
+            mut slots,
+        } = self;
+        for place in 0..slots.len() {
+            slots[place].park();
+        }
+        slots
+    }
+}

@@ -1,0 +1,27 @@
+ghost use Rattle.std.specs.Prelude.{◌≡◌};
+ghost use Rattle.pos_profile.specs.Registries.{device_of, parked};
+
+use pos_service::{Bytes, HasState, Kind, PeripheralBox};
+
+/// A device of a registry, and the peripheral that serves it.
+pub struct Slot {
+    /// The name by which controls open the device.
+    pub name: Bytes,
+    /// What its peripheral has to be.
+    pub kind: Kind,
+    /// Its peripheral, or none where the device is vacant.
+    pub peripheral: Option<PeripheralBox>,
+}
+
+impl Slot {
+    /// Takes the device's peripheral out of service, if it has one.
+    pub(crate) fn park(&mut self)
+        requires { Unit {0} }
+        ensures { let boxes = ⟦<PeripheralBox as HasState>⟧ in
+            device_of boxes self.new ≡ parked (device_of boxes self.old) }
+    {
+        if let Some(peripheral) = &mut self.peripheral {
+            peripheral.park();
+        }
+    }
+}

@@ -1,0 +1,122 @@
+//! What a profile asks of a table.
+ghost use Rattle.std.specs.Prelude.{◌≡◌, map, option_map, option_copied};
+ghost use Rattle.toml.specs.Data.{get_member};
+ghost use Rattle.toml.specs.View.{view, table_view};
+ghost use Rattle.pos_profile.specs.Numbers.{has_number, is_number_key};
+ghost use Rattle.pos_profile.specs.Tables.{FindsUnknown, is_key, is_list, number_at, number_within, text_at, values_at};
+
+use crate::number::NumberKey;
+use crate::role::Role;
+use pos_service::Category;
+use toml::{Table, Value};
+
+/// The value at a key.
+fn member<'a>(table: &'a Table, key: &str) -> Option<&'a Value>
+    ensures { option_map (λ value. view value.now) result ≡ get_member key.now (table_view table.now) }
+{
+    table.get(key)
+}
+
+/// The text at a key.
+pub(crate) fn text_at<'a>(table: &'a Table, key: &str) -> Option<&'a str>
+    ensures { option_copied result ≡ text_at key.now (table_view table.now) }
+{
+    match member(table, key) {
+        Some(value) => value.as_str(),
+        None => None,
+    }
+}
+
+fn number_within(number: i64, least: u32, most: u32) -> Option<u32>
+    ensures { result ≡ number_within least most number }
+{
+    match u32::try_from(number) {
+        Ok(number) if least <= number && number <= most => Some(number),
+        _ => None,
+    }
+}
+
+/// A number of the table, where it is there and in its range.
+pub(crate) fn number_at(table: &Table, key: NumberKey) -> Option<u32>
+    ensures { result ≡ number_at key (table_view table.now) }
+{
+    let value = match member(table, key.key()) {
+        Some(value) => value.as_integer(),
+        None => None,
+    };
+    match value {
+        Some(number) => number_within(number, key.least(), key.most()),
+        None => None,
+    }
+}
+
+/// Whether entries of a category have a number of this key.
+fn is_number_key(category: Category, key: &str) -> bool
+    ensures { result ≡ is_number_key category key.now }
+{
+    match category {
+        Category::LineDisplay => key == "rows" || key == "columns",
+        Category::PosPrinter => key == "chars" || key == "lines" || key == "near",
+        _ => false,
+    }
+}
+
+/// Which keys a table may have.
+#[derive(Clone, Copy)]
+pub(crate) enum Keys {
+    /// Those of the root.
+    OfRoot,
+    /// Those of an entry of a list and a category.
+    OfEntry(Role, Category),
+}
+
+impl Keys {
+    fn has(self, key: &str) -> bool
+        ensures { result ≡ is_key self key.now }
+    {
+        match self {
+            Keys::OfRoot => key == "device" || key == "spare",
+            Keys::OfEntry(Role::Device, category) => {
+                key == "category" || key == "name" || is_number_key(category, key)
+            }
+            Keys::OfEntry(Role::Spare, category) => {
+                key == "category" || is_number_key(category, key)
+            }
+        }
+    }
+}
+
+/// A key of a table that it may not have.
+pub(crate) fn unknown_key(table: &Table, keys: Keys) -> Option<&str>
+    ensures { FindsUnknown (is_key keys) (table_view table.now) (option_copied result) }
+{
+    for key in table.keys() {
+        if !keys.has(key.as_str()) {
+            return Some(key.as_str());
+        }
+    }
+    None
+}
+
+/// Whether a key is absent or has an array.
+pub(crate) fn is_list(table: &Table, key: &str) -> bool
+    ensures { result ≡ is_list (get_member key.now (table_view table.now)) }
+{
+    match member(table, key) {
+        Some(value) => value.is_array(),
+        None => true,
+    }
+}
+
+/// The values of the array at a key; none where there is no array.
+pub(crate) fn values_at<'a>(table: &'a Table, key: &str) -> &'a [Value]
+    ensures { map (λ value. view value) result.now ≡ values_at key.now (table_view table.now) }
+{
+    match member(table, key) {
+        Some(value) => match value.as_array() {
+            Some(values) => values.as_slice(),
+            None => &[],
+        },
+        None => &[],
+    }
+}

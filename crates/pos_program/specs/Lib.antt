@@ -1,0 +1,5 @@
+pub mod Choices
+pub mod Faults
+pub mod Files
+pub mod Formatting
+pub mod ProfileFiles

@@ -1,0 +1,36 @@
+-- What the bytes of a profile's file give (docs/PROFILE.md, docs/CONSOLE.md).
+use Rattle.std.specs.Prelude.{◌≡◌, ◌+◌, ℕ, List, Option, Some, Result, Ok, Err, ◌==◌, count_by, take, IsUtf8, ⊤}
+use Rattle.std.specs.Str.Lossy.{utf8_valid_len}
+use Rattle.toml.specs.Data.{Members}
+use Rattle.toml.specs.Parse.{parse_document}
+use Rattle.pos_profile.specs.Entries.{Contents}
+use Rattle.pos_profile.specs.Mistakes.{Explains}
+use Rattle.pos_profile.specs.Profiles.{FromDocument}
+use Rattle.pos_profile.specs.declared.fault.ProfileFault.{ProfileFault}
+use Rattle.pos_profile.specs.declared.fault.ProfileFault.TheVariants as refusal
+use Rattle.pos_program.specs.declared.profile_fault.ProfileFileFault.{ProfileFileFault}
+use Rattle.pos_program.specs.declared.profile_fault.ProfileFileFault.TheVariants as fault
+
+-- the profile that a document is, or its refusal
+abbrev pub Refuses : Option Members → ProfileFault → Type 0
+Refuses document why = FromDocument document (Err why)
+
+-- What the document of a text gives: its profile; or, for its refusal, what its writer is told.
+abbrev pub Reads : Option Members → Result Contents ProfileFileFault → Type 0
+Reads document (Ok contents) = FromDocument document (Ok contents)
+Reads document (Err (fault.Unreadable cause)) = ⊥
+Reads document (Err (fault.NotUtf8 line)) = ⊥
+Reads document (Err (fault.NotToml line error)) = Refuses document refusal.BadText
+Reads document (Err (fault.Unsound mistake)) =
+    Refuses document (refusal.BadEntry mistake.number) × Explains document (Some mistake)
+Reads document (Err (fault.Duplicate name)) = Refuses document (refusal.Duplicate name)
+Reads document (Err fault.NoMemory) = ⊤
+
+-- the line in which a place of a text lies, counted from 1
+abbrev pub line_at : List ℕ → ℕ → ℕ
+line_at text place = count_by (λ byte. byte == 10) (take place text) + 1
+
+-- What the bytes of a file give: that of their text, where they are one; else the line where they stop being one.
+abbrev pub ReadsBytes : List ℕ → Result Contents ProfileFileFault → Type 0
+ReadsBytes bytes (Err (fault.NotUtf8 line)) = ¬ (IsUtf8 bytes) × (line ≡ line_at bytes (utf8_valid_len bytes))
+ReadsBytes bytes result = IsUtf8 bytes × Reads (parse_document bytes) result

@@ -1,0 +1,30 @@
+//! Why a file can't serve as a disk.
+
+use std::io;
+use thiserror::Error;
+
+/// Why a file can't serve as a disk, or not be formatted, with what the system says of it.
+#[derive(Clone, Copy, Debug, Error)]
+pub enum FileFault {
+    /// It isn't there, or may not be read and written.
+    #[error("can't be opened for reading and writing: {0}")]
+    Open(io::Error),
+    /// The system doesn't tell how long it is.
+    #[error("its length can't be told: {0}")]
+    Measure(io::Error),
+    /// The folder that it lies in can't be read, or not be synced.
+    #[error("its folder can't be opened and synced: {0}")]
+    Folder(io::Error),
+    /// It is shorter than a disk and can't be lengthened.
+    #[error("can't be lengthened: {0}")]
+    Lengthen(io::Error),
+    /// It was lengthened, and the device may not have it.
+    #[error("can't be synced: {0}")]
+    Sync(io::Error),
+    /// Totals are there already, which formatting would end. Nothing was written.
+    #[error("is formatted already: remove it first if its totals may go")]
+    Formatted,
+    /// A read, a write or a sync failed while it was formatted.
+    #[error("a read, a write or a sync failed while it was formatted")]
+    Device,
+}

@@ -1,0 +1,25 @@
+//! What the program `pos_console` needs of words, files and profiles: what its words ask for, a disk in a file, a
+//! file that is formatted, the profile in a file, and the faults that it ends with.
+#![tactic(auto)]
+
+mod fault;
+mod file_disk;
+mod file_fault;
+mod formatting;
+mod one_line;
+mod opening;
+mod profile_fault;
+mod profile_file;
+#[cfg(test)]
+mod tests;
+mod words;
+
+pub use fault::{Fault, status_of};
+pub use file_disk::FileDisk;
+pub use file_fault::FileFault;
+pub use formatting::{format_disk, format_file};
+pub use one_line::OneLine;
+pub use opening::open_run;
+pub use profile_fault::ProfileFileFault;
+pub use profile_file::{profile_of_bytes, profile_of_text, read_profile};
+pub use words::{ChoiceFault, Task, choice, read_words};

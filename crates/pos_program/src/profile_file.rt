@@ -1,0 +1,87 @@
+//! The profile in a file.
+ghost use Rattle.std.specs.Prelude.{◌≡◌, ◌≤◌, length, None, Err};
+ghost use Rattle.toml.specs.Parse.{parse_document};
+ghost use Rattle.pos_profile.specs.Mistakes.{Explains};
+ghost use Rattle.pos_program.specs.ProfileFiles.{Reads, ReadsBytes, line_at};
+
+use crate::profile_fault::ProfileFileFault;
+use pos_profile::{Profile, ProfileFault, find_mistake};
+use pos_service::NoMemory;
+use std::alloc::Global;
+use std::rt::Files;
+use std::{fs, io, str};
+
+// The line in which a place of a text lies, counted from 1.
+fn line_at(text: &[u8], place: usize) -> usize
+    requires { place ≤ length text.now }
+    ensures { result ≡ line_at text.entry.now place }
+{
+    let ends = text[..place].iter().filter(|byte| **byte == b'\n').count();
+    ends + 1
+}
+
+// Why a text that is no TOML document is none.
+fn explain_text(alloc: Global, text: &str) -> ProfileFileFault
+    requires { parse_document text.now ≡ None }
+    ensures { Reads (parse_document text.entry.now) (Err result) }
+{
+    match toml::table_from_str(alloc, text) {
+        Ok(_) => unreachable!(),
+        Err(error) => match error.span() {
+            Some(span) => ProfileFileFault::NotToml {
+                line: line_at(text.as_bytes(), span.start),
+                error,
+            },
+            None => ProfileFileFault::NoMemory,
+        },
+    }
+}
+
+// Why a document that isn't sound is no profile.
+fn explain_document(alloc: Global, text: &str) -> ProfileFileFault
+    requires { ¬ (Explains (parse_document text.now) None) }
+    ensures { Reads (parse_document text.entry.now) (Err result) }
+{
+    match find_mistake(alloc, text) {
+        Ok(Some(mistake)) => ProfileFileFault::Unsound(mistake),
+        Ok(None) => unreachable!(),
+        Err(NoMemory) => ProfileFileFault::NoMemory,
+    }
+}
+
+/// The profile that a text is. Its refusal says what `Profile::from_text` says, and why.
+pub fn profile_of_text(alloc: Global, text: &str) -> Result<Profile, ProfileFileFault>
+    ensures { Reads (parse_document text.entry.now) result }
+{
+    match Profile::from_text(alloc, text) {
+        Ok(profile) => Ok(profile),
+        Err(ProfileFault::BadText) => Err(explain_text(alloc, text)),
+        Err(ProfileFault::BadEntry(_)) => Err(explain_document(alloc, text)),
+        Err(ProfileFault::Duplicate(name)) => Err(ProfileFileFault::Duplicate(name)),
+        Err(ProfileFault::NoMemory) => Err(ProfileFileFault::NoMemory),
+    }
+}
+
+/// The profile that the bytes of a file are: that of their text, if they are UTF-8.
+pub fn profile_of_bytes(alloc: Global, bytes: &[u8]) -> Result<Profile, ProfileFileFault>
+    ensures { ReadsBytes bytes.entry.now result }
+{
+    match str::from_utf8(bytes) {
+        Ok(text) => profile_of_text(alloc, text),
+        Err(error) => Err(ProfileFileFault::NotUtf8 {
+            line: line_at(bytes, error.valid_up_to()),
+        }),
+    }
+}
+
+/// The profile in a file.
+pub fn read_profile<R: Files + AllocGlobal>(
+    rt: &R,
+    path: &str,
+) -> Result<Profile, ProfileFileFault> {
+    match fs::read(rt, path) {
+        Ok(bytes) => profile_of_bytes(rt.alloc(), &bytes),
+        Err(cause) if cause.kind() == io::ErrorKind::OutOfMemory => Err(ProfileFileFault::NoMemory),
+        Err(cause) => Err(ProfileFileFault::Unreadable(cause)),
+    }
+}

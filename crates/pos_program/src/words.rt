@@ -1,0 +1,138 @@
+//! What the words of the command line ask for.
+ghost use Rattle.std.specs.Prelude.{◌≡◌, codes, map};
+ghost use Rattle.clap.specs.Words.{kind_of, rule_of};
+ghost use Rattle.clap.specs.Built.{TakesValue};
+ghost use Rattle.pos_program.specs.Choices.{Chooses, FitsAlone, Names, TellsWhy, path_rule};
+
+use clap::error::ErrorKind;
+use clap::{Arg, ArgAction, Command};
+use std::alloc::Global;
+use std::convert::AsStr;
+use std::rt::Env;
+use std::{env, io};
+use thiserror::Error;
+
+/// What the words of the command line ask for. A path is its word as it stands.
+#[derive(Clone, Copy, Debug, PartialEq, Eq)]
+pub enum Task<'a> {
+    /// No words: to run a script over the built-in profile and a formatted disk in memory.
+    Demo,
+    /// `run --profile FILE --disk FILE`: to run a script over the profile in one file and the disk in another.
+    Run { profile: &'a str, disk: &'a str },
+    /// `format --disk FILE`: to format the disk in a file.
+    Format { disk: &'a str },
+}
+
+/// Why the words of the command line ask for nothing.
+#[derive(Clone, Copy, Debug, PartialEq, Eq, Error)]
+pub enum ChoiceFault {
+    /// The words are those of no command.
+    #[error("the words ask for nothing: give none, `run --profile FILE --disk FILE` or `format --disk FILE`")]
+    Words,
+    /// There was no memory to read the words of a command.
+    #[error("no memory")]
+    NoMemory,
+}
+
+/// The words after the program's name. `Words` where one of them is no UTF-8.
+pub fn read_words<R: Env + AllocGlobal>(rt: &R) -> Result<Vec<String>, ChoiceFault> {
+    let words = match env::args(rt) {
+        Ok(words) => words,
+        Err(cause) if cause.kind() == io::ErrorKind::OutOfMemory => {
+            return Err(ChoiceFault::NoMemory);
+        }
+        Err(_) => return Err(ChoiceFault::Words),
+    };
+    match words.skip(1).collect::<Vec<String>>(rt.alloc()) {
+        Ok(words) => Ok(words),
+        Err(_) => Err(ChoiceFault::NoMemory),
+    }
+}
+
+// An option `--NAME FILE` that has to be there.
+fn path_option<'a>(alloc: Global, name: &'a str) -> Arg<'a>
+    ensures rule { rule_of result ≡ path_rule name.entry.now }
+    ensures id { result.id ≡ name.entry }
+    ensures value { TakesValue result }
+    ensures alone { FitsAlone result }
+{
+    Arg::new(alloc, name)
+        .long(name)
+        .required(true)
+        .action(ArgAction::Set)
+}
+
+// Why `clap` gave no matches.
+fn fault_of_error(error: &clap::Error) -> ChoiceFault
+    ensures { TellsWhy (kind_of error.now) result }
+{
+    if error.kind() == ErrorKind::OutOfMemory {
+        return ChoiceFault::NoMemory;
+    }
+    ChoiceFault::Words
+}
+
+// What the words of `run` ask for.
+fn run_task<'a, S: AsStr>(alloc: Global, words: &'a [S]) -> Result<Task<'a>, ChoiceFault>
+    requires { Names (codes "run") (map S.text words.now) }
+    ensures { Chooses (map S.text words.entry.now) result }
+{
+    let profile = path_option(alloc, "profile");
+    let disk = path_option(alloc, "disk");
+    let Ok(started) = Command::new(alloc, "run").arg(profile) else {
+        return Err(ChoiceFault::NoMemory);
+    };
+    let Ok(line) = started.arg(disk) else {
+        return Err(ChoiceFault::NoMemory);
+    };
+    let matches = match line.try_get_matches_from(words) {
+        Ok(matches) => matches,
+        Err(error) => return Err(fault_of_error(&error)),
+    };
+    let Some(profile) = matches.get_str("profile") else {
+        unreachable!()
+    };
+    let Some(disk) = matches.get_str("disk") else {
+        unreachable!()
+    };
+    Ok(Task::Run { profile, disk })
+}
+
+// What the words of `format` ask for.
+fn format_task<'a, S: AsStr>(alloc: Global, words: &'a [S]) -> Result<Task<'a>, ChoiceFault>
+    requires { Names (codes "format") (map S.text words.now) }
+    ensures { Chooses (map S.text words.entry.now) result }
+{
+    let disk = path_option(alloc, "disk");
+    let Ok(line) = Command::new(alloc, "format").arg(disk) else {
+        return Err(ChoiceFault::NoMemory);
+    };
+    let matches = match line.try_get_matches_from(words) {
+        Ok(matches) => matches,
+        Err(error) => return Err(fault_of_error(&error)),
+    };
+    let Some(disk) = matches.get_str("disk") else {
+        unreachable!()
+    };
+    Ok(Task::Format { disk })
+}
+
+/// What the words after the program's name ask for. Answers `Words` where they are those of no command: an unknown
+/// first word, or where `clap` refuses the words after it, as an option that is missing or repeated, a word too many,
+/// a call for help. Answers `NoMemory` where there was none to read the words of a command. docs/CONSOLE.md,
+/// "The program".
+pub fn choice<'a, S: AsStr>(alloc: Global, words: &'a [S]) -> Result<Task<'a>, ChoiceFault>
+    ensures { Chooses (map S.text words.entry.now) result }
+{
+    let Some(first) = words.first() else {
+        return Ok(Task::Demo);
+    };
+    let name = first.as_str();
+    if name == "run" {
+        return run_task(alloc, words);
+    }
+    if name == "format" {
+        return format_task(alloc, words);
+    }
+    Err(ChoiceFault::Words)
+}

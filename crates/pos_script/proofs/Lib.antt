@@ -1,0 +1,4 @@
+pub mod Pieces
+pub mod WriteLemmas
+pub mod ReceiptLemmas
+pub mod Readings

@@ -1,0 +1,66 @@
+-- Pieces of a text, and its lines and words.
+use Rattle.std.proofs.Common.{◌≡◌, ◌++◌, ◌∷◌, ℕ, ◌+◌, ◌<◌, ◌≤◌, List, [], Bool, true, false, cond, eqb, get_or, take, drop, length, ap, sym, ◌∙◌, subst, refl, arith}
+use Rattle.std.specs.Prelude.{MatchOption, Option, Some}
+use Rattle.std.proofs.lemmas.List.{drop_more, take_more, drop_all, take_all}
+use Rattle.pos_script.specs.Lines.{onto_first, pieces, lines_in, lines_of, without_cr}
+
+-- a text before the first of some pieces
+abbrev pub front_onto : List ℕ → List (List ℕ) → List (List ℕ)
+front_onto [] ps = ps
+front_onto (b ∷ bs) ps = onto_first b (front_onto bs ps)
+
+front_onto_push : (xs : List ℕ) (b : ℕ) (ps : List (List ℕ)) → front_onto (xs ++ b ∷ []) ps ≡ front_onto xs (onto_first b ps)
+front_onto_push [] b ps = refl
+front_onto_push (x ∷ xs) b ps = ap (onto_first x) (front_onto_push xs b ps)
+
+front_onto_nil : (xs : List ℕ) (ps : List (List ℕ)) → front_onto xs ([] ∷ ps) ≡ xs ∷ ps
+front_onto_nil [] ps = refl
+front_onto_nil (x ∷ xs) ps = ap (onto_first x) (front_onto_nil xs ps)
+
+-- one more byte that is no cut
+pub front_more : (c : ℕ) (text : List ℕ) (i : ℕ) (d : ℕ) → i < length text → eqb (get_or text i d) c ≡ false → pieces c text ≡ front_onto (take i text) (pieces c (drop i text)) → pieces c text ≡ front_onto (take (i + 1) text) (pieces c (drop (i + 1) text))
+front_more c text i d lt ne h =
+    let b = get_or text i d in
+    let rest = pieces c (drop (i + 1) text) in
+    let here : pieces c (drop i text) ≡ onto_first b rest = ap (pieces c) (drop_more text i d lt) ∙ ap (λ t. cond t ([] ∷ rest) (onto_first b rest)) ne in
+    h ∙ ap (front_onto (take i text)) here ∙ sym (front_onto_push (take i text) b rest) ∙ ap (λ xs. front_onto xs rest) (sym (take_more text i d lt))
+
+-- a byte that is a cut
+pub front_cut : (c : ℕ) (text : List ℕ) (i : ℕ) (d : ℕ) → i < length text → eqb (get_or text i d) c ≡ true → pieces c text ≡ front_onto (take i text) (pieces c (drop i text)) → pieces c text ≡ take i text ∷ pieces c (drop (i + 1) text)
+front_cut c text i d lt eq h =
+    let b = get_or text i d in
+    let rest = pieces c (drop (i + 1) text) in
+    let here : pieces c (drop i text) ≡ [] ∷ rest = ap (pieces c) (drop_more text i d lt) ∙ ap (λ t. cond t ([] ∷ rest) (onto_first b rest)) eq in
+    h ∙ ap (front_onto (take i text)) here ∙ front_onto_nil (take i text) rest
+
+-- no cut at all
+pub front_end : (c : ℕ) (text : List ℕ) (i : ℕ) → length text ≤ i → pieces c text ≡ front_onto (take i text) (pieces c (drop i text)) → pieces c text ≡ text ∷ []
+front_end c text i le h =
+    h ∙ ap (λ xs. front_onto (take i text) (pieces c xs)) (drop_all i text le) ∙ front_onto_nil (take i text) [] ∙ ap (λ xs. xs ∷ []) (take_all i text le)
+
+-- there is always a piece
+lines_of_more : (line : List ℕ) (ps : List (List ℕ)) → 0 < length ps → lines_in (line ∷ ps) ≡ without_cr line ∷ lines_in ps
+lines_of_more line [] lt = absurd (omega (arith, lt))
+lines_of_more line (p ∷ ps) lt = refl
+
+onto_first_some : (b : ℕ) (ps : List (List ℕ)) → 0 < length (onto_first b ps)
+onto_first_some b [] = omega arith
+onto_first_some b (p ∷ ps) = omega arith
+
+cond_some : (t : Bool) (xs ys : List (List ℕ)) → 0 < length xs → 0 < length ys → 0 < length (cond t xs ys)
+cond_some true xs ys h k = h
+cond_some false xs ys h k = k
+
+some_piece : (c : ℕ) (text : List ℕ) → 0 < length (pieces c text)
+some_piece c [] = omega arith
+some_piece c (b ∷ bs) = cond_some (eqb b c) _ _ (omega arith) (onto_first_some b (pieces c bs))
+
+pub line_then : (text line rest : List ℕ) → pieces 10 text ≡ line ∷ pieces 10 rest → lines_of text ≡ without_cr line ∷ lines_of rest
+line_then text line rest e = ap lines_in e ∙ lines_of_more line (pieces 10 rest) (some_piece 10 rest)
+
+pub last_line : (text : List ℕ) → 0 < length text → pieces 10 text ≡ text ∷ [] → lines_of text ≡ text ∷ []
+last_line [] lt e = absurd (omega (arith, lt))
+last_line (b ∷ bs) lt e = ap lines_in e
+
+pub match_at : {A : Type 0} (o : Option A) (a : A) (P : Type 0) (R : A → Type 0) → o ≡ Some a → MatchOption o P R → R a
+match_at o a P R e m = subst (λ x. MatchOption x P R) e m

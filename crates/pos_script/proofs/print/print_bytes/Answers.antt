@@ -1,0 +1,28 @@
+use Rattle.std.proofs.Common.{◌≡◌, ◌++◌, ◌∷◌, [], ℕ, List, length, refl, false}
+use Rattle.std.specs.Prelude.{codes, nat_eq}
+use Rattle.std.proofs.lemmas.Result.{err_from_is_err_and}
+use Rattle.hex.specs.Hex.{encode_lower}
+use Rattle.pos_script.specs.Text.{hex_text}
+use Rattle.pos_script.proofs.WriteLemmas.{failed_front, failed_behind, behind}
+use Rattle.pos_script.proofs.print.print_bytes.Goals as goal
+
+-- where there are bytes their text is their hex
+some_bytes : (bytes : List ℕ) → false ≡ nat_eq (length bytes) 0 → hex_text bytes ≡ encode_lower bytes
+some_bytes [] e = cc
+some_bytes (b ∷ bs) e = refl
+
+pub returns-in_err-write_parts : goal.returns-in_err-write_parts
+returns-in_err-write_parts g c =
+    let p = err_from_is_err_and c.from_residual.result c.from_residual.ensures.1 in
+    rw p.1 (failed_front _ _ (codes "ok ") (hex_text c.args.bytes.now ++ 10 ∷ []) c.in_err-write_parts.field-0 p.0 c.in_err-write_parts.ensures)
+
+pub returns-in_err-write_hex : goal.returns-in_err-write_hex
+returns-in_err-write_hex g c =
+    let p = err_from_is_err_and c.from_residual-in_err-write_hex.result c.from_residual-in_err-write_hex.ensures.1 in
+    rw (p.1, some_bytes c.args.bytes.now c.if-is_empty.ensures)
+    (failed_behind _ _ _ (codes "ok ") _ p.0 c.in_ok-write_parts.ensures (failed_front _ _ (encode_lower c.args.bytes.now) (10 ∷ []) c.in_err-write_hex.field-0 p.0 c.in_err-write_hex.ensures))
+
+pub returns : goal.returns
+returns g c =
+    rw (some_bytes c.args.bytes.now c.if-is_empty.ensures)
+    (behind _ _ _ (codes "ok ") _ _ c.in_ok-write_parts.ensures (behind _ _ _ (encode_lower c.args.bytes.now) (10 ∷ []) _ c.in_ok-write_hex.ensures c.write_parts-3.ensures))

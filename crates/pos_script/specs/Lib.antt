@@ -1,0 +1,9 @@
+pub mod Lines
+pub mod Arguments
+pub mod Words
+pub mod Methods
+pub mod Commands
+pub mod Glyphs
+pub mod ReceiptText
+pub mod Text
+pub mod Writing

@@ -1,0 +1,108 @@
+-- What a line prints (docs/CONSOLE.md, "Answers").
+use Rattle.std.specs.Prelude.{ℕ, ◌++◌, Bool, true, false, List, [], ◌∷◌, Option, Some, None, codes, decimal}
+use Rattle.std.specs.Fmt.{signed_decimal}
+use Rattle.hex.specs.Hex.{encode_lower}
+use Rattle.pos_service.specs.declared.answer.Value.{Value}
+use Rattle.pos_service.specs.declared.answer.Value.TheVariants as value
+use Rattle.pos_service.specs.declared.answer.Answer.{Answer}
+use Rattle.pos_service.specs.declared.answer.Answer.TheVariants as answer
+use Rattle.pos_service.specs.declared.code.Code.{Code}
+use Rattle.pos_service.specs.declared.code.Code.TheVariants as code
+use Rattle.pos_service.specs.declared.event.Event.{Event}
+use Rattle.pos_service.specs.declared.event.Event.TheVariants as event
+use Rattle.pos_service.specs.declared.plant.Plant.{Plant}
+use Rattle.pos_service.specs.declared.plant.Plant.TheVariants as plant
+use Rattle.pos_service.specs.declared.worked.Worked.{Worked as WorkResult}
+use Rattle.pos_service.specs.declared.worked.Worked.TheVariants as worked
+use Rattle.pos_service.specs.Codes.{number_of, locus_number_of}
+use Rattle.pos_script.specs.Glyphs.{cells_text}
+use Rattle.pos_script.specs.ReceiptText.{printer_text}
+use Rattle.pos_script.specs.declared.reply.Refusal.{Refusal}
+use Rattle.pos_script.specs.declared.reply.Refusal.TheVariants as refusal
+use Rattle.pos_script.specs.declared.reply.Reply.{Reply}
+use Rattle.pos_script.specs.declared.reply.Reply.TheVariants as reply
+
+-- a truth value
+abbrev pub truth_text : Bool → List ℕ
+truth_text true = codes "true"
+truth_text false = codes "false"
+
+-- bytes in lower-case hex, and a hyphen for none
+abbrev pub hex_text : List ℕ → List ℕ
+hex_text [] = codes "-"
+hex_text (b ∷ bs) = encode_lower (b ∷ bs)
+
+-- a value behind `ok`
+abbrev pub value_text : Value → List ℕ
+value_text value.Empty = []
+value_text (value.Truth b) = codes " " ++ truth_text b
+value_text (value.Number n) = codes " " ++ signed_decimal n
+value_text (value.Pair m n) = codes " " ++ signed_decimal m ++ codes " " ++ signed_decimal n
+value_text (value.Bytes bytes) = codes " " ++ hex_text bytes
+
+-- the extended code, which is printed behind E_EXTENDED alone
+abbrev pub extended_text : Code → ℕ → List ℕ
+extended_text code.Extended extended = codes " " ++ decimal extended
+extended_text code extended = []
+
+-- what a call is answered
+abbrev pub answer_text : Answer → List ℕ
+answer_text (answer.Done value) = codes "ok" ++ value_text value
+answer_text (answer.Refused code extended) = codes "err " ++ decimal (number_of code) ++ extended_text code extended
+
+-- a delivered event
+abbrev pub event_text : Event → List ℕ
+event_text (event.StatusUpdate n) = codes "event StatusUpdateEvent " ++ decimal n
+event_text event.Data = codes "event DataEvent 0"
+event_text (event.Error code extended locus) =
+    codes "event ErrorEvent " ++ decimal (number_of code) ++ codes " " ++ decimal extended ++ codes " "
+    ++ decimal (locus_number_of locus)
+event_text (event.OutputComplete id) = codes "event OutputCompleteEvent " ++ decimal id
+
+-- the event that was delivered, if there was one
+abbrev pub delivered_text : Option Event → List ℕ
+delivered_text None = codes "none"
+delivered_text (Some event) = event_text event
+
+-- what came of work on a device's output
+abbrev pub worked_text : WorkResult → List ℕ
+worked_text worked.Idle = codes "idle"
+worked_text (worked.Done id) = codes "done " ++ decimal id
+worked_text (worked.Failed code extended) =
+    codes "failed " ++ decimal (number_of code) ++ codes " " ++ decimal extended
+
+-- what a device is physically
+abbrev pub plant_text : Plant → List ℕ
+plant_text (plant.Drawer true) = codes "ok open"
+plant_text (plant.Drawer false) = codes "ok closed"
+plant_text plant.Scanner = codes "ok"
+plant_text (plant.Display shown) = codes "ok " ++ cells_text shown.cells
+plant_text (plant.Printer printed) = codes "ok " ++ printer_text printed
+
+-- why a peripheral was not attached or detached
+abbrev pub refusal_text : Refusal → List ℕ
+refusal_text refusal.Unknown = codes "refused Unknown"
+refusal_text refusal.Vacant = codes "refused Vacant"
+refusal_text refusal.InUse = codes "refused InUse"
+refusal_text refusal.KindDiffers = codes "refused KindDiffers"
+
+-- what the program says of a line
+abbrev pub reply_text : Reply → List ℕ
+reply_text reply.BadLine = codes "bad line"
+reply_text reply.BadControl = codes "bad control"
+reply_text reply.BadDevice = codes "bad device"
+reply_text reply.BadInput = codes "bad input"
+reply_text reply.BadSpare = codes "bad spare"
+reply_text reply.Memory = codes "memory"
+reply_text reply.Full = codes "refused Full"
+reply_text (reply.Refused refusal) = refusal_text refusal
+reply_text reply.Ok = codes "ok"
+reply_text (reply.Answered answer) = answer_text answer
+reply_text (reply.Delivered event) = delivered_text event
+reply_text (reply.Shown snapshot) = plant_text snapshot.0
+reply_text (reply.Worked result) = worked_text result
+
+-- what is printed for a line: nothing, or a line
+abbrev pub printed : Option (List ℕ) → List ℕ
+printed None = []
+printed (Some reply) = reply ++ 10 ∷ []

@@ -1,0 +1,186 @@
+-- What the words of a line stand for (docs/CONSOLE.md, "Words").
+use Rattle.std.specs.Prelude.{ℕ, ℤ, pos, negsuc, neg_ℤ, min, Bool, true, false, not, ◌&&◌, ◌||◌, ◌+◌, ◌-◌, ◌*◌, List, [], ◌∷◌, Option, Some, None, length, nat_le, ◌==◌, bytes_eq, codes, if◌then◌else◌, option_map, option_and_then}
+use Rattle.std.specs.List.{list_all, fold}
+use Rattle.hex.specs.Hex.{decode_of}
+use Rattle.pos_service.specs.declared.category.Category.{Category}
+use Rattle.pos_service.specs.declared.category.Category.TheVariants as category
+use Rattle.pos_service.specs.declared.event.ErrorReply.{ErrorReply}
+use Rattle.pos_service.specs.declared.event.ErrorReply.TheVariants as reply
+use Rattle.pos_service.specs.declared.property.Property.{Property}
+use Rattle.pos_service.specs.declared.property.Property.TheVariants as property
+use Rattle.pos_service.specs.declared.answer.Value.{Value}
+use Rattle.pos_service.specs.declared.answer.Value.TheVariants as value
+use Rattle.pos_script.specs.Lines.{is_nothing}
+use Rattle.pos_script.specs.Arguments.{Shape, value_of}
+use Rattle.pos_script.specs.declared.arguments.DeviceName.{DeviceName}
+
+-- whether a byte is a decimal digit
+abbrev pub is_digit : ℕ → Bool
+is_digit b = nat_le 48 b && nat_le b 57
+
+-- whether a byte may stand in a name: a letter, a digit or a hyphen
+abbrev pub is_name_byte : ℕ → Bool
+is_name_byte b = is_digit b || (nat_le 65 b && nat_le b 90) || (nat_le 97 b && nat_le b 122) || (b == 45)
+
+-- whether a word is a name: 1 to 16 letters, digits or hyphens
+abbrev pub is_name : List ℕ → Bool
+is_name word = nat_le (length word) 16 && not (is_nothing word) && list_all is_name_byte word
+
+-- whether a word is of 1 to 18 digits
+abbrev pub is_digits : List ℕ → Bool
+is_digits word = nat_le (length word) 18 && not (is_nothing word) && list_all is_digit word
+
+-- the number that decimal digits write
+abbrev pub number_of_digits : List ℕ → ℕ
+number_of_digits digits = fold (λ n b. n * 10 + (b - 48)) 0 digits
+
+-- the number of 1 to 18 digits
+abbrev pub digits_named : List ℕ → Option ℕ
+digits_named word = if is_digits word then Some (number_of_digits word) else None
+
+-- the number of 1 to 18 digits, with or without a minus before them
+abbrev pub number_named : List ℕ → Option ℤ
+number_named [] = None
+number_named (b ∷ bs) =
+    if b == 45 then option_map (λ n. neg_ℤ (pos n)) (digits_named bs) else option_map pos (digits_named (b ∷ bs))
+
+-- the greatest number of 32 bits
+abbrev pub most_count : ℕ
+most_count = 4294967295
+
+-- a number that isn't negative, and where it is past 32 bits the greatest of these
+abbrev pub count_of : ℤ → Option ℕ
+count_of (pos n) = Some (min n most_count)
+count_of (negsuc n) = None
+
+-- the number that a word stands for, where it isn't negative
+abbrev pub count_named : List ℕ → Option ℕ
+count_named word = option_and_then count_of (number_named word)
+
+-- the truth value of a word
+abbrev pub truth_named : List ℕ → Option Bool
+truth_named word =
+    if bytes_eq word (codes "true") then Some true
+    else (if bytes_eq word (codes "false") then Some false else None)
+
+-- the bytes that a word writes: a hyphen for none, else two hex digits of either case for each
+abbrev pub bytes_named : List ℕ → Option (List ℕ)
+bytes_named word = if bytes_eq word (codes "-") then Some [] else value_of (decode_of word)
+
+-- the value that a word stands for: a truth value or a number
+abbrev pub value_named : List ℕ → Option Value
+value_named word =
+    if bytes_eq word (codes "true") then Some (value.Truth true)
+    else (if bytes_eq word (codes "false") then Some (value.Truth false)
+    else option_map value.Number (number_named word))
+
+-- the category of this name
+abbrev pub category_named : List ℕ → Option Category
+category_named word =
+    if bytes_eq word (codes "CashDrawer") then Some category.CashDrawer
+    else (if bytes_eq word (codes "Scanner") then Some category.Scanner
+    else (if bytes_eq word (codes "LineDisplay") then Some category.LineDisplay
+    else (if bytes_eq word (codes "POSPrinter") then Some category.PosPrinter
+    else (if bytes_eq word (codes "HardTotals") then Some category.HardTotals else None))))
+
+-- the property of Hard Totals of this name
+abbrev pub totals_property_named : List ℕ → Option Property
+totals_property_named word =
+    if bytes_eq word (codes "TotalsSize") then Some property.TotalsSize
+    else (if bytes_eq word (codes "FreeData") then Some property.FreeData
+    else (if bytes_eq word (codes "NumberOfFiles") then Some property.NumberOfFiles
+    else (if bytes_eq word (codes "TransactionInProgress") then Some property.TransactionInProgress
+    else (if bytes_eq word (codes "CapTransactions") then Some property.CapTransactions
+    else (if bytes_eq word (codes "CapSingleFile") then Some property.CapSingleFile
+    else (if bytes_eq word (codes "CapErrorDetection") then Some property.CapErrorDetection else None))))))
+
+-- the property of receipt printers, or of Hard Totals, of this name
+abbrev pub printer_property_named : List ℕ → Option Property
+printer_property_named word =
+    if bytes_eq word (codes "AsyncMode") then Some property.AsyncMode
+    else (if bytes_eq word (codes "OutputID") then Some property.OutputId
+    else (if bytes_eq word (codes "RecLineChars") then Some property.RecLineChars
+    else (if bytes_eq word (codes "CoverOpen") then Some property.CoverOpen
+    else (if bytes_eq word (codes "RecEmpty") then Some property.RecEmpty
+    else (if bytes_eq word (codes "RecNearEnd") then Some property.RecNearEnd
+    else totals_property_named word)))))
+
+-- the property of line displays, of receipt printers, or of Hard Totals, of this name
+abbrev pub display_property_named : List ℕ → Option Property
+display_property_named word =
+    if bytes_eq word (codes "Rows") then Some property.Rows
+    else (if bytes_eq word (codes "Columns") then Some property.Columns
+    else (if bytes_eq word (codes "CursorRow") then Some property.CursorRow
+    else (if bytes_eq word (codes "CursorColumn") then Some property.CursorColumn
+    else (if bytes_eq word (codes "CursorUpdate") then Some property.CursorUpdate
+    else printer_property_named word))))
+
+-- the property of scanners, of line displays, of receipt printers, or of Hard Totals, of this name
+abbrev pub scanner_property_named : List ℕ → Option Property
+scanner_property_named word =
+    if bytes_eq word (codes "DataEventEnabled") then Some property.DataEventEnabled
+    else (if bytes_eq word (codes "AutoDisable") then Some property.AutoDisable
+    else (if bytes_eq word (codes "DataCount") then Some property.DataCount
+    else (if bytes_eq word (codes "DecodeData") then Some property.DecodeData
+    else (if bytes_eq word (codes "ScanData") then Some property.ScanData
+    else (if bytes_eq word (codes "ScanDataLabel") then Some property.ScanDataLabel
+    else (if bytes_eq word (codes "ScanDataType") then Some property.ScanDataType
+    else display_property_named word))))))
+
+-- the property of this name
+abbrev pub property_named : List ℕ → Option Property
+property_named word =
+    if bytes_eq word (codes "State") then Some property.State
+    else (if bytes_eq word (codes "Claimed") then Some property.Claimed
+    else (if bytes_eq word (codes "DeviceEnabled") then Some property.DeviceEnabled
+    else (if bytes_eq word (codes "FreezeEvents") then Some property.FreezeEvents
+    else (if bytes_eq word (codes "CapStatus") then Some property.CapStatus
+    else (if bytes_eq word (codes "DrawerOpened") then Some property.DrawerOpened
+    else scanner_property_named word)))))
+
+-- the reply to an ErrorEvent of this name
+abbrev pub error_reply_named : List ℕ → Option ErrorReply
+error_reply_named word =
+    if bytes_eq word (codes "retry") then Some reply.Retry
+    else (if bytes_eq word (codes "clear") then Some reply.Clear
+    else (if bytes_eq word (codes "continue") then Some reply.ContinueInput else None))
+
+-- the name of a device
+abbrev pub device_named : List ℕ → Option DeviceName
+device_named word = if is_name word then Some (record { name = word }) else None
+
+-- a shape whose words are kept in memory
+abbrev pub kept : {A : Type 0} → (List ℕ → Option A) → Shape A
+kept named = record { named = named; is_kept = true }
+
+-- a shape of which nothing is kept
+abbrev pub plain : {A : Type 0} → (List ℕ → Option A) → Shape A
+plain named = record { named = named; is_kept = false }
+
+-- the shapes of arguments
+abbrev pub number_shape : Shape ℤ
+number_shape = plain number_named
+
+abbrev pub count_shape : Shape ℕ
+count_shape = plain count_named
+
+abbrev pub truth_shape : Shape Bool
+truth_shape = plain truth_named
+
+abbrev pub bytes_shape : Shape (List ℕ)
+bytes_shape = kept bytes_named
+
+abbrev pub value_shape : Shape Value
+value_shape = plain value_named
+
+abbrev pub category_shape : Shape Category
+category_shape = plain category_named
+
+abbrev pub property_shape : Shape Property
+property_shape = plain property_named
+
+abbrev pub error_reply_shape : Shape ErrorReply
+error_reply_shape = plain error_reply_named
+
+abbrev pub device_shape : Shape DeviceName
+device_shape = kept device_named

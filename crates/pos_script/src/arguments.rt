@@ -1,0 +1,252 @@
+ghost use Rattle.std.specs.Prelude.{◌≡◌, true, is_some};
+ghost use Rattle.pos_script.specs.Lines.{words_of};
+ghost use Rattle.pos_script.specs.Arguments.{Shape, Reads, word_as, none, one, two, three, four};
+ghost use Rattle.pos_script.specs.Words.{number_shape, count_shape, truth_shape, bytes_shape, device_shape, category_shape, property_shape, value_shape, error_reply_shape};
+
+use crate::lines::next_word;
+use crate::words::{
+    category, count, decode, error_reply, is_hex_word, is_name_word, number, property, truth, value,
+};
+use pos_service::{Bytes, Category, ErrorReply, Property, Value};
+use std::alloc::Global;
+use thiserror::Error;
+
+/// Why a line was not read.
+#[derive(Clone, Copy, Debug, PartialEq, Eq, Error)]
+pub enum LineFault {
+    /// Its shape is wrong.
+    #[error("the line has a wrong shape")]
+    WrongShape,
+    /// Its shape is right, and there was no memory for what is kept of it.
+    #[error("no memory for the line")]
+    NoMemory,
+}
+
+/// What a word of a line may stand for.
+pub trait Argument: Sized + Drop {
+    ghost shape: { Shape Self };
+
+    /// Whether a word is of this shape. It takes no memory.
+    fn has_shape(word: &[u8]) -> bool
+        ensures { result ≡ is_some (shape.named word.now) };
+
+    /// What a word stands for. Refused where it isn't of this shape, before memory is asked for.
+    fn read(alloc: Global, word: &[u8]) -> Result<Self, LineFault>
+        ensures { Reads (word_as shape word.now) result };
+}
+
+impl Argument for i128 {
+    ghost shape = { number_shape };
+
+    fn has_shape(word: &[u8]) -> bool {
+        number(word).is_some()
+    }
+
+    fn read(_: Global, word: &[u8]) -> Result<Self, LineFault> {
+        number(word).ok_or(LineFault::WrongShape)
+    }
+}
+
+impl Argument for u32 {
+    ghost shape = { count_shape };
+
+    fn has_shape(word: &[u8]) -> bool {
+        count(word).is_some()
+    }
+
+    fn read(_: Global, word: &[u8]) -> Result<Self, LineFault> {
+        count(word).ok_or(LineFault::WrongShape)
+    }
+}
+
+impl Argument for bool {
+    ghost shape = { truth_shape };
+
+    fn has_shape(word: &[u8]) -> bool {
+        truth(word).is_some()
+    }
+
+    fn read(_: Global, word: &[u8]) -> Result<Self, LineFault> {
+        truth(word).ok_or(LineFault::WrongShape)
+    }
+}
+
+impl Argument for Value {
+    ghost shape = { value_shape };
+
+    fn has_shape(word: &[u8]) -> bool {
+        value(word).is_some()
+    }
+
+    fn read(_: Global, word: &[u8]) -> Result<Self, LineFault> {
+        value(word).ok_or(LineFault::WrongShape)
+    }
+}
+
+impl Argument for Category {
+    ghost shape = { category_shape };
+
+    fn has_shape(word: &[u8]) -> bool {
+        category(word).is_some()
+    }
+
+    fn read(_: Global, word: &[u8]) -> Result<Self, LineFault> {
+        category(word).ok_or(LineFault::WrongShape)
+    }
+}
+
+impl Argument for Property {
+    ghost shape = { property_shape };
+
+    fn has_shape(word: &[u8]) -> bool {
+        property(word).is_some()
+    }
+
+    fn read(_: Global, word: &[u8]) -> Result<Self, LineFault> {
+        property(word).ok_or(LineFault::WrongShape)
+    }
+}
+
+impl Argument for ErrorReply {
+    ghost shape = { error_reply_shape };
+
+    fn has_shape(word: &[u8]) -> bool {
+        error_reply(word).is_some()
+    }
+
+    fn read(_: Global, word: &[u8]) -> Result<Self, LineFault> {
+        error_reply(word).ok_or(LineFault::WrongShape)
+    }
+}
+
+impl Argument for Bytes {
+    ghost shape = { bytes_shape };
+
+    fn has_shape(word: &[u8]) -> bool {
+        is_hex_word(word)
+    }
+
+    fn read(alloc: Global, word: &[u8]) -> Result<Self, LineFault> {
+        if !is_hex_word(word) {
+            return Err(LineFault::WrongShape);
+        }
+        match decode(alloc, word) {
+            Ok(bytes) => Ok(bytes),
+            Err(_) => Err(LineFault::NoMemory),
+        }
+    }
+}
+
+/// The name of a device, which a call keeps.
+#[derive(Debug, Drop)]
+pub struct DeviceName {
+    /// Its bytes.
+    pub name: Bytes,
+}
+
+impl Argument for DeviceName {
+    ghost shape = { device_shape };
+
+    fn has_shape(word: &[u8]) -> bool {
+        is_name_word(word)
+    }
+
+    fn read(alloc: Global, word: &[u8]) -> Result<Self, LineFault> {
+        if !is_name_word(word) {
+            return Err(LineFault::WrongShape);
+        }
+        match Bytes::from_slice(alloc, word) {
+            Ok(name) => Ok(DeviceName { name }),
+            Err(_) => Err(LineFault::NoMemory),
+        }
+    }
+}
+
+/// Reads no argument: nothing but spaces is left of the line.
+pub fn read_none(words: &[u8]) -> Result<(), LineFault>
+    ensures { Reads (none (words_of words.now)) result }
+{
+    if next_word(words).is_some() {
+        return Err(LineFault::WrongShape);
+    }
+    Ok(())
+}
+
+/// Reads one argument, the last of the line.
+pub fn read_one<A: Argument>(alloc: Global, words: &[u8]) -> Result<A, LineFault>
+    ensures { Reads (one A.shape (words_of words.now)) result }
+{
+    let Some((word, rest)) = next_word(words) else {
+        return Err(LineFault::WrongShape);
+    };
+    if next_word(rest).is_some() {
+        return Err(LineFault::WrongShape);
+    }
+    A::read(alloc, word)
+}
+
+/// Reads two arguments, the last of the line. All shapes are looked at before memory is asked for.
+pub fn read_two<A: Argument, B: Argument>(alloc: Global, words: &[u8]) -> Result<(A, B), LineFault>
+    ensures { Reads (two A.shape B.shape (words_of words.now)) result }
+{
+    let Some((word, rest)) = next_word(words) else {
+        return Err(LineFault::WrongShape);
+    };
+    if !A::has_shape(word) {
+        return Err(LineFault::WrongShape);
+    }
+    let second = match read_one(alloc, rest) {
+        Ok(second) => second,
+        Err(fault) => return Err(fault),
+    };
+    match A::read(alloc, word) {
+        Ok(first) => Ok((first, second)),
+        Err(fault) => Err(fault),
+    }
+}
+
+/// Reads three arguments, the last of the line. All shapes are looked at before memory is asked for.
+pub fn read_three<A: Argument, B: Argument, C: Argument>(
+    alloc: Global,
+    words: &[u8],
+) -> Result<(A, (B, C)), LineFault>
+    ensures { Reads (three A.shape B.shape C.shape (words_of words.now)) result }
+{
+    let Some((word, rest)) = next_word(words) else {
+        return Err(LineFault::WrongShape);
+    };
+    if !A::has_shape(word) {
+        return Err(LineFault::WrongShape);
+    }
+    let others = match read_two(alloc, rest) {
+        Ok(others) => others,
+        Err(fault) => return Err(fault),
+    };
+    match A::read(alloc, word) {
+        Ok(first) => Ok((first, others)),
+        Err(fault) => Err(fault),
+    }
+}
+
+/// Reads four arguments, the last of the line. All shapes are looked at before memory is asked for.
+pub fn read_four<A: Argument, B: Argument, C: Argument, D: Argument>(
+    alloc: Global,
+    words: &[u8],
+) -> Result<(A, (B, (C, D))), LineFault>
+    ensures { Reads (four A.shape B.shape C.shape D.shape (words_of words.now)) result }
+{
+    let Some((word, rest)) = next_word(words) else {
+        return Err(LineFault::WrongShape);
+    };
+    if !A::has_shape(word) {
+        return Err(LineFault::WrongShape);
+    }
+    let others = match read_three(alloc, rest) {
+        Ok(others) => others,
+        Err(fault) => return Err(fault),
+    };
+    match A::read(alloc, word) {
+        Ok(first) => Ok((first, others)),
+        Err(fault) => Err(fault),
+    }
+}

@@ -1,0 +1,102 @@
+//! Characters and how they look, as a display shows them or a printer has printed them.
+ghost use Rattle.std.specs.Prelude.{◌≡◌, ◌++◌, ℕ};
+ghost use Rattle.pos_script.specs.Glyphs.{characters_text, looks_text, cell_character, cell_look, printed_character, printed_look, printed_text};
+ghost use Rattle.pos_script.specs.Writing.{Writes};
+
+use crate::write::{WriteFault, write_bytes, write_hex, write_parts};
+use itoa::Buffer;
+use pos_service::display_text::DisplayCell;
+use pos_service::receipt_text::PrintedCharacter;
+use std::io::Write;
+
+/// A character, and how it looks.
+pub trait Glyph {
+    ghost character: { Self → ℕ };
+
+    ghost look: { Self → ℕ };
+
+    /// The character, a byte.
+    fn character(&self) -> u8
+        ensures { result ≡ character self.now };
+
+    /// The number of how it looks.
+    fn look(&self) -> u32
+        ensures { result ≡ look self.now };
+}
+
+impl Glyph for DisplayCell {
+    ghost character = { cell_character };
+
+    ghost look = { cell_look };
+
+    fn character(&self) -> u8 {
+        self.character
+    }
+
+    fn look(&self) -> u32 {
+        self.attribute.number()
+    }
+}
+
+impl Glyph for PrintedCharacter {
+    ghost character = { printed_character };
+
+    ghost look = { printed_look };
+
+    fn character(&self) -> u8 {
+        self.byte
+    }
+
+    fn look(&self) -> u32 {
+        u32::from(self.is_bold)
+    }
+}
+
+/// Writes all characters in hex.
+fn write_characters<W: Write, G: Glyph>(writer: &mut W, glyphs: &[G]) -> Result<(), WriteFault>
+    ensures { Writes (W.contents writer.old) (W.contents writer.new)
+        (characters_text G.character glyphs.now) result }
+{
+    for glyph in glyphs {
+        write_hex(writer, &[glyph.character()])?;
+    }
+    Ok(())
+}
+
+/// Writes the number of how each character looks, a digit each.
+fn write_looks<W: Write, G: Glyph>(writer: &mut W, glyphs: &[G]) -> Result<(), WriteFault>
+    ensures { Writes (W.contents writer.old) (W.contents writer.new) (looks_text G.look glyphs.now) result }
+{
+    for glyph in glyphs {
+        let mut buffer = Buffer::new();
+        write_bytes(writer, buffer.format(glyph.look()).as_bytes())?;
+    }
+    Ok(())
+}
+
+/// Writes all characters, a separator, and how each character looks.
+pub fn write_glyphs<W: Write, G: Glyph>(
+    writer: &mut W,
+    separator: &str,
+    glyphs: &[G],
+) -> Result<(), WriteFault>
+    ensures { Writes (W.contents writer.old) (W.contents writer.new)
+        (characters_text G.character glyphs.now ++ (separator.now ++ looks_text G.look glyphs.now)) result }
+{
+    write_characters(writer, glyphs)?;
+    write_bytes(writer, separator.as_bytes())?;
+    write_looks(writer, glyphs)
+}
+
+/// Writes printed characters and how they look, or that there is none.
+pub fn write_printed<W: Write>(
+    writer: &mut W,
+    printed: &[PrintedCharacter],
+) -> Result<(), WriteFault>
+    ensures { Writes (W.contents writer.old) (W.contents writer.new) (printed_text printed.now) result }
+{
+    if printed.is_empty() {
+        return write_parts(writer, &["-:-"]);
+    }
+    write_glyphs(writer, ":", printed)
+}

@@ -1,0 +1,244 @@
+ghost use Rattle.std.specs.Prelude.{◌++◌, ◌∷◌, [], codes, option_map};
+ghost use Rattle.std.specs.Fmt.{signed_decimal};
+ghost use Rattle.pos_script.specs.Writing.{Writes};
+ghost use Rattle.pos_script.specs.Glyphs.{cells_text};
+ghost use Rattle.pos_script.specs.ReceiptText.{printer_text};
+ghost use Rattle.pos_script.specs.Text.{answer_text, hex_text, event_text, delivered_text, plant_text, printed, refusal_text, reply_text, worked_text};
+
+use crate::glyphs::write_glyphs;
+use crate::receipt::write_receipt;
+use crate::reply::{Refusal, Reply};
+use crate::write::{WriteFault, write_hex, write_parts};
+use itoa::Buffer;
+use pos_service::display_text::DisplayCell;
+use pos_service::{Answer, Code, Event, Locus, Plant, Receipt, Snapshot, Value, Worked};
+use std::io::Write;
+
+/// Writes `ok` and bytes.
+fn print_bytes<W: Write>(writer: &mut W, bytes: &[u8]) -> Result<(), WriteFault>
+    ensures { Writes (W.contents writer.old) (W.contents writer.new)
+        (codes "ok " ++ hex_text bytes.now ++ 10 ∷ []) result }
+{
+    if bytes.is_empty() {
+        return write_parts(writer, &["ok -\n"]);
+    }
+    write_parts(writer, &["ok "])?;
+    write_hex(writer, bytes)?;
+    write_parts(writer, &["\n"])
+}
+
+/// Writes `ok` and two numbers.
+fn print_pair<W: Write>(writer: &mut W, first: i128, second: i128) -> Result<(), WriteFault>
+    ensures { Writes (W.contents writer.old) (W.contents writer.new)
+        (codes "ok " ++ (signed_decimal first ++ (codes " " ++ (signed_decimal second ++ 10 ∷ [])))) result }
+{
+    let mut first_buffer = Buffer::new();
+    let mut second_buffer = Buffer::new();
+    let first = first_buffer.format(first);
+    let second = second_buffer.format(second);
+    write_parts(writer, &["ok ", first, " ", second, "\n"])
+}
+
+/// Writes `ok` and a value.
+fn print_value<W: Write>(writer: &mut W, value: Value) -> Result<(), WriteFault>
+    ensures { Writes (W.contents writer.old) (W.contents writer.new)
+        (answer_text (Answer.Done value) ++ 10 ∷ []) result }
+{
+    match value {
+        Value::Empty => write_parts(writer, &["ok\n"]),
+        Value::Truth(true) => write_parts(writer, &["ok true\n"]),
+        Value::Truth(false) => write_parts(writer, &["ok false\n"]),
+        Value::Number(number) => {
+            let mut buffer = Buffer::new();
+            write_parts(writer, &["ok ", buffer.format(number), "\n"])
+        }
+        Value::Pair(first, second) => print_pair(writer, first, second),
+        Value::Bytes(bytes) => print_bytes(writer, bytes.as_slice()),
+    }
+}
+
+/// Writes `err` and a result code, and the extended code behind E_EXTENDED.
+fn print_refusal<W: Write>(writer: &mut W, code: Code, extended: u32) -> Result<(), WriteFault>
+    ensures { Writes (W.contents writer.old) (W.contents writer.new)
+        (answer_text (Answer.Refused code extended) ++ 10 ∷ []) result }
+{
+    let mut buffer = Buffer::new();
+    let number = buffer.format(code.number());
+    match code {
+        Code::Extended => {
+            let mut extended_buffer = Buffer::new();
+            let extended = extended_buffer.format(extended);
+            write_parts(writer, &["err ", number, " ", extended, "\n"])
+        }
+        _ => write_parts(writer, &["err ", number, "\n"]),
+    }
+}
+
+/// Writes what a call is answered.
+fn print_answer<W: Write>(writer: &mut W, answer: Answer) -> Result<(), WriteFault>
+    ensures { Writes (W.contents writer.old) (W.contents writer.new) (answer_text answer ++ 10 ∷ []) result }
+{
+    match answer {
+        Answer::Done(value) => print_value(writer, value),
+        Answer::Refused(code, extended) => print_refusal(writer, code, extended),
+    }
+}
+
+/// Writes an ErrorEvent.
+fn print_error<W: Write>(
+    writer: &mut W,
+    code: Code,
+    extended: u32,
+    locus: Locus,
+) -> Result<(), WriteFault>
+    ensures { Writes (W.contents writer.old) (W.contents writer.new)
+        (event_text (Event.Error code extended locus) ++ 10 ∷ []) result }
+{
+    let mut code_buffer = Buffer::new();
+    let mut extended_buffer = Buffer::new();
+    let mut locus_buffer = Buffer::new();
+    let code = code_buffer.format(code.number());
+    let extended = extended_buffer.format(extended);
+    let locus = locus_buffer.format(locus.number());
+    write_parts(
+        writer,
+        &["event ErrorEvent ", code, " ", extended, " ", locus, "\n"],
+    )
+}
+
+/// Writes an event that is delivered.
+fn print_event<W: Write>(writer: &mut W, event: Event) -> Result<(), WriteFault>
+    ensures { Writes (W.contents writer.old) (W.contents writer.new) (event_text event ++ 10 ∷ []) result }
+{
+    match event {
+        Event::StatusUpdate(number) => {
+            let mut buffer = Buffer::new();
+            write_parts(
+                writer,
+                &["event StatusUpdateEvent ", buffer.format(number), "\n"],
+            )
+        }
+        Event::Data => write_parts(writer, &["event DataEvent 0\n"]),
+        Event::Error(code, extended, locus) => print_error(writer, code, extended, locus),
+        Event::OutputComplete(id) => {
+            let mut buffer = Buffer::new();
+            write_parts(
+                writer,
+                &["event OutputCompleteEvent ", buffer.format(id), "\n"],
+            )
+        }
+    }
+}
+
+/// Writes the event that was delivered, or that there was none.
+fn print_delivered<W: Write>(writer: &mut W, event: Option<Event>) -> Result<(), WriteFault>
+    ensures { Writes (W.contents writer.old) (W.contents writer.new) (delivered_text event ++ 10 ∷ []) result }
+{
+    match event {
+        Some(event) => print_event(writer, event),
+        None => write_parts(writer, &["none\n"]),
+    }
+}
+
+/// Writes `ok` and a display's cells: all characters, and then all attributes.
+fn print_cells<W: Write>(writer: &mut W, cells: &[DisplayCell]) -> Result<(), WriteFault>
+    ensures { Writes (W.contents writer.old) (W.contents writer.new)
+        (codes "ok " ++ cells_text cells.now ++ 10 ∷ []) result }
+{
+    write_parts(writer, &["ok "])?;
+    write_glyphs(writer, " ", cells)?;
+    write_parts(writer, &["\n"])
+}
+
+/// Writes `ok` and what a printer is physically.
+fn print_receipt<W: Write>(writer: &mut W, receipt: &Receipt) -> Result<(), WriteFault>
+    ensures { Writes (W.contents writer.old) (W.contents writer.new)
+        (codes "ok " ++ printer_text receipt.now ++ 10 ∷ []) result }
+{
+    write_parts(writer, &["ok "])?;
+    write_receipt(writer, receipt)?;
+    write_parts(writer, &["\n"])
+}
+
+/// Writes what a device is physically.
+fn print_plant<W: Write>(writer: &mut W, snapshot: Snapshot) -> Result<(), WriteFault>
+    ensures { Writes (W.contents writer.old) (W.contents writer.new) (plant_text snapshot.0 ++ 10 ∷ []) result }
+{
+    match snapshot.0 {
+        Plant::Drawer(true) => write_parts(writer, &["ok open\n"]),
+        Plant::Drawer(false) => write_parts(writer, &["ok closed\n"]),
+        Plant::Scanner => write_parts(writer, &["ok\n"]),
+        Plant::Display(shown) => print_cells(writer, shown.as_slice()),
+        Plant::Printer(receipt) => print_receipt(writer, &receipt),
+    }
+}
+
+/// Writes that work on output has failed, with its code and extended code.
+fn print_failed<W: Write>(writer: &mut W, code: Code, extended: u32) -> Result<(), WriteFault>
+    ensures { Writes (W.contents writer.old) (W.contents writer.new)
+        (worked_text (Worked.Failed code extended) ++ 10 ∷ []) result }
+{
+    let mut code_buffer = Buffer::new();
+    let mut extended_buffer = Buffer::new();
+    let code = code_buffer.format(code.number());
+    let extended = extended_buffer.format(extended);
+    write_parts(writer, &["failed ", code, " ", extended, "\n"])
+}
+
+/// Writes what came of work on a device's output.
+fn print_worked<W: Write>(writer: &mut W, worked: Worked) -> Result<(), WriteFault>
+    ensures { Writes (W.contents writer.old) (W.contents writer.new) (worked_text worked ++ 10 ∷ []) result }
+{
+    match worked {
+        Worked::Idle => write_parts(writer, &["idle\n"]),
+        Worked::Done(id) => {
+            let mut buffer = Buffer::new();
+            write_parts(writer, &["done ", buffer.format(id), "\n"])
+        }
+        Worked::Failed(code, extended) => print_failed(writer, code, extended),
+    }
+}
+
+/// Writes why a peripheral was not attached or detached.
+fn print_exchange<W: Write>(writer: &mut W, refusal: Refusal) -> Result<(), WriteFault>
+    ensures { Writes (W.contents writer.old) (W.contents writer.new) (refusal_text refusal ++ 10 ∷ []) result }
+{
+    match refusal {
+        Refusal::Unknown => write_parts(writer, &["refused Unknown\n"]),
+        Refusal::Vacant => write_parts(writer, &["refused Vacant\n"]),
+        Refusal::InUse => write_parts(writer, &["refused InUse\n"]),
+        Refusal::KindDiffers => write_parts(writer, &["refused KindDiffers\n"]),
+    }
+}
+
+/// Writes the reply to a line, as a line of its own.
+fn print_reply<W: Write>(writer: &mut W, reply: Reply) -> Result<(), WriteFault>
+    ensures { Writes (W.contents writer.old) (W.contents writer.new) (reply_text reply ++ 10 ∷ []) result }
+{
+    match reply {
+        Reply::BadLine => write_parts(writer, &["bad line\n"]),
+        Reply::BadControl => write_parts(writer, &["bad control\n"]),
+        Reply::BadDevice => write_parts(writer, &["bad device\n"]),
+        Reply::BadInput => write_parts(writer, &["bad input\n"]),
+        Reply::BadSpare => write_parts(writer, &["bad spare\n"]),
+        Reply::Memory => write_parts(writer, &["memory\n"]),
+        Reply::Full => write_parts(writer, &["refused Full\n"]),
+        Reply::Refused(refusal) => print_exchange(writer, refusal),
+        Reply::Ok => write_parts(writer, &["ok\n"]),
+        Reply::Answered(answer) => print_answer(writer, answer),
+        Reply::Delivered(event) => print_delivered(writer, event),
+        Reply::Shown(snapshot) => print_plant(writer, snapshot),
+        Reply::Worked(worked) => print_worked(writer, worked),
+    }
+}
+
+/// Writes what a line prints: its reply as a line of its own, or nothing where there is no reply (docs/CONSOLE.md,
+/// "Answers"). It takes no memory. At a fault a front of the text is written, and not all of it.
+pub fn print_line<W: Write>(writer: &mut W, reply: Option<Reply>) -> Result<(), WriteFault>
+    ensures { Writes (W.contents writer.old) (W.contents writer.new) (printed (option_map reply_text reply)) result }
+{
+    match reply {
+        Some(reply) => print_reply(writer, reply),
+        None => Ok(()),
+    }
+}

@@ -1,0 +1,52 @@
+ghost use Rattle.std.specs.Prelude.{◌≡◌, ◌∷◌, [], flat_map};
+ghost use Rattle.hex.specs.Hex.{encode_lower};
+ghost use Rattle.pos_script.specs.Writing.{Writes};
+
+use std::io::Write;
+
+/// A write failed, or took nothing.
+#[derive(Clone, Copy, Debug, PartialEq, Eq)]
+pub struct WriteFault;
+
+/// Writes all bytes, and stops at the first write that fails or takes none.
+pub fn write_bytes<W: Write>(writer: &mut W, bytes: &[u8]) -> Result<(), WriteFault>
+    ensures { Writes (W.contents writer.old) (W.contents writer.new) bytes.now result }
+{
+    let mut rest = bytes;
+    while !rest.is_empty() {
+        match writer.write(rest) {
+            Ok(0) => return Err(WriteFault),
+            Ok(count) => rest = &rest[count..],
+            Err(_) => return Err(WriteFault),
+        }
+    }
+    Ok(())
+}
+
+/// Writes texts one after another.
+pub fn write_parts<W: Write>(writer: &mut W, parts: &[&str]) -> Result<(), WriteFault>
+    ensures { Writes (W.contents writer.old) (W.contents writer.new) (flat_map (λ part. part.now) parts.now) result }
+{
+    for part in parts {
+        write_bytes(writer, part.as_bytes())?;
+    }
+    Ok(())
+}
+
+fn hex_pair(b: u8) -> [u8; 2]
+    ensures { result ≡ encode_lower (b ∷ []) }
+{
+    let mut pair = [0u8; 2];
+    hex::encode_to_slice([b], &mut pair).unwrap();
+    pair
+}
+
+/// Writes bytes as lower-case hex.
+pub fn write_hex<W: Write>(writer: &mut W, bytes: &[u8]) -> Result<(), WriteFault>
+    ensures { Writes (W.contents writer.old) (W.contents writer.new) (encode_lower bytes.now) result }
+{
+    for b in bytes {
+        write_bytes(writer, &hex_pair(*b))?;
+    }
+    Ok(())
+}

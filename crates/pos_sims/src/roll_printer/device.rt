@@ -1,0 +1,108 @@
+ghost use Rattle.std.specs.Prelude.{◌≡◌, ◌≤◌, true, false, IsOk};
+ghost use Rattle.pos_service.specs.Peripherals.{Asked, Fed, input_fits, order_fits};
+ghost use Rattle.pos_service.specs.Receipts.{empty_roll};
+ghost use Rattle.pos_sims.specs.ReceiptPrinters.{printer_state, reply_of, state_of};
+
+use super::RollPrinter;
+use crate::roll::Roll;
+use pos_service::receipt_text::Outcome;
+use pos_service::{
+    Input, Kind, NoMemory, Order, PaperLevel, Peripheral, Plant, Receipt, Reply, Signs, Snapshot,
+    Taken,
+};
+use std::alloc::Global;
+
+impl RollPrinter {
+    /// A printer of 1 to 255 characters a line that is in service and has printed nothing, with 0 to 100,000 lines of
+    /// paper left, which are near their end at 1 to `near`, 0 to 100,000. The cover is closed.
+    pub fn new(alloc: Global, chars: u32, lines: u32, near: u32) -> Self
+        requires chars { (1 ≤ chars) × (chars ≤ 255) }
+        requires lines { lines ≤ 100000 }
+        requires near { near ≤ 100000 }
+        ensures { state_of result ≡ printer_state (empty_roll chars lines) near false }
+    {
+        RollPrinter {
+            alloc,
+            roll: Roll::new(alloc, chars, lines),
+            near,
+            is_parked: false,
+        }
+    }
+}
+
+/// What a printer replies, once this has come of a request.
+fn reply_of(outcome: Outcome) -> Reply
+    ensures { result ≡ reply_of outcome }
+{
+    match outcome {
+        Outcome::Done => Reply::Done,
+        Outcome::CoverOpen => Reply::CoverOpen,
+        Outcome::PaperEnd => Reply::PaperEnd,
+    }
+}
+
+impl Peripheral for RollPrinter {
+    ghost state = { λ printer. state_of printer };
+
+    fn kind(&self) -> Kind {
+        Kind::Printer {
+            chars: self.roll.chars(),
+            near: self.near,
+        }
+    }
+
+    fn signs(&self) -> Signs {
+        Signs {
+            drawer_open: false,
+            cover_open: self.roll.is_cover_open(),
+            paper: PaperLevel::of_lines(self.near, self.roll.lines_left()),
+        }
+    }
+
+    fn ask(&mut self, order: &Order) -> Result<Reply, NoMemory> {
+        match order {
+            Order::Print { bytes } => Ok(reply_of(self.roll.print(bytes.as_slice())?)),
+            Order::Cut { percentage } => Ok(reply_of(self.roll.cut(*percentage)?)),
+            _ => unreachable!(),
+        }
+    }
+
+    fn feed(&mut self, input: &Input) -> Result<Taken, NoMemory>
+        requires unparked { (state_of self.old).is_parked ≡ false }
+        requires fits { input_fits (state_of self.old).kind input.now ≡ true }
+        ensures fed { Fed (state_of self.old) input.now result (state_of self.new) }
+        ensures takes_no_memory { IsOk result }
+    {
+        match input {
+            Input::CoverMoved(is_open) => {
+                self.roll.move_cover(*is_open);
+                Ok(Taken::Quiet)
+            }
+            Input::PaperLoaded(lines) => {
+                self.roll.load(*lines);
+                Ok(Taken::Quiet)
+            }
+            _ => unreachable!(),
+        }
+    }
+
+    fn snapshot(&self) -> Result<Snapshot, NoMemory> {
+        let (marks, characters) = self.roll.printed();
+        let receipt = Receipt::new(
+            self.roll.chars(),
+            Vec::from_slice(self.alloc, marks)?,
+            Vec::from_slice(self.alloc, characters)?,
+            self.roll.lines_left(),
+            self.roll.is_cover_open(),
+        );
+        Ok(Snapshot(Plant::Printer(receipt)))
+    }
+
+    fn park(&mut self) {
+        self.is_parked = true;
+    }
+
+    fn is_parked(&self) -> bool {
+        self.is_parked
+    }
+}

@@ -1,0 +1,193 @@
+#!/usr/bin/env bash
+# Tries the words, the statuses and the messages of the program on real files. Usage: tests/program.sh [PROGRAM]. Without a
+# word it builds the program, and needs rt; with one it takes that one. Its last line is 'N passed, M failed'; it ends
+# with 0 where none failed.
+set -u
+top=$(cd "$(dirname "$0")/.." && pwd)
+program=${1:-$top/crates/pos_console/out/pos_console}
+if [ $# -eq 0 ]; then
+  (cd "$top/crates/pos_console" && rt run < /dev/null > /dev/null) || exit 1
+fi
+work=$(mktemp -d)
+trap 'rm -rf "$work"' EXIT
+cd "$work" || exit 1
+passed=0
+failed=0
+
+# told NAME WANTED FOUND: whether two texts are the same
+told() {
+  if [ "$2" = "$3" ]; then
+    passed=$((passed + 1))
+  else
+    failed=$((failed + 1))
+    printf 'failed: %s\n  wanted: %s\n  found:  %s\n' "$1" "$2" "$3"
+  fi
+}
+
+# ends NAME STATUS MESSAGE WORD ..: whether the program ends so on the words, over the script in the file `script`;
+# MESSAGE is the whole of standard error. What it prints stays in the file `out`.
+ends() {
+  local name=$1 status=$2 message=$3 found
+  shift 3
+  "$program" "$@" < script > out 2> err
+  found=$?
+  told "$name: status" "$status" "$found"
+  told "$name: message" "$message" "$(cat err)"
+  told "$name: lines of the message" "$([ -z "$message" ] && echo 0 || echo 1)" "$(wc -l < err)"
+}
+
+# refuses_words NAME WORD ..: whether the words ask for nothing
+refuses_words() {
+  local name=$1
+  shift
+  ends "$name" 2 "pos_console: $ask" "$@"
+  told "$name: output" "" "$(cat out)"
+}
+
+# refuses_profile NAME MESSAGE: whether the profile in the file `profile.toml` is refused so
+refuses_profile() {
+  ends "$1" 3 "pos_console: profile.toml: $2" run --profile profile.toml --disk till.disk
+  told "$1: output" "" "$(cat out)"
+}
+
+# first_bytes FILE COUNT: its first bytes in hex
+first_bytes() {
+  head -c "$2" "$1" | od -An -tx1 | tr -d ' \n'
+}
+
+ask='the words ask for nothing: give none, `run --profile FILE --disk FILE` or `format --disk FILE`'
+
+profile() {
+  cat <<'PROFILE'
+[[device]]
+name = "d1"
+category = "CashDrawer"
+
+[[device]]
+name = "p1"
+category = "LineDisplay"
+rows = 2
+columns = 4
+
+[[device]]
+name = "t1"
+category = "HardTotals"
+
+[[spare]]
+category = "CashDrawer"
+PROFILE
+}
+
+totals_script() {
+  printf 'new a HardTotals\nopen a t1\nset a DeviceEnabled true\n'
+  printf 'call a create 41 4 false\ncall a read 1 0 4\nget a FreeData\nget a NumberOfFiles\n'
+}
+
+# --- words
+: > script
+refuses_words 'a misspelt command' rum --profile p --disk d
+refuses_words 'a command in capitals' RUN --profile p --disk d
+refuses_words 'an empty word' ''
+refuses_words 'help' --help
+refuses_words 'help of a command' run --help
+refuses_words 'the word help' help
+refuses_words 'version' --version
+refuses_words 'run without options' run
+refuses_words 'run without a disk' run --profile p
+refuses_words 'run without a profile' run --disk d
+refuses_words 'an option without its word' run --profile p --disk
+refuses_words 'a word too many' format --disk d e
+refuses_words 'an option twice' format --disk d --disk d
+refuses_words 'an option of another command' format --disk d --profile p
+told 'no file is made for words that ask for nothing' '' "$(ls | grep -v -x -e script -e out -e err)"
+
+# --- no words: the built-in profile over a disk in memory
+totals_script > script
+ends 'no words' 0 ''
+told 'no words: output' "$(printf 'ok\nok\nok\nok 1\nok 00000000\nok 8188\nok 1')" "$(cat out)"
+told 'no file is made without words' '' "$(ls | grep -v -x -e script -e out -e err)"
+
+# --- formatting
+: > script
+ends 'format makes a file' 0 '' format --disk till.disk
+told 'format: output' '' "$(cat out)"
+told 'format: length' 327680 "$(wc -c < till.disk)"
+told 'format: bytes' a50000000000000001000000020000 "$(first_bytes till.disk 15)"
+cp till.disk kept
+formatted='is formatted already: remove it first if its totals may go'
+ends 'format refuses totals' 4 "pos_console: till.disk: $formatted" format --disk till.disk
+told 'format keeps the bytes of totals' same "$(cmp -s till.disk kept && echo same)"
+printf abc > short.disk
+ends 'format lengthens a file' 0 '' format "--disk=short.disk"
+told 'format lengthens: length' 327680 "$(wc -c < short.disk)"
+head -c 400000 /dev/zero | tr '\0' '\1' > long.disk
+ends 'format takes a longer file' 0 '' format --disk long.disk
+told 'format keeps a longer length' 400000 "$(wc -c < long.disk)"
+printf '\245\007' > marked.disk
+ends 'format refuses a short file with a mark' 4 "pos_console: marked.disk: $formatted" format --disk marked.disk
+told 'format lengthens it first' 327680 "$(wc -c < marked.disk)"
+told 'format keeps its bytes' a50700 "$(first_bytes marked.disk 3)"
+opened="can't be opened for reading and writing"
+ends 'format in no folder' 4 "pos_console: none/till.disk: $opened: No such file or directory (os error 2)" \
+  format --disk none/till.disk
+ends 'format of a folder' 4 "pos_console: .: $opened: Is a directory (os error 21)" format --disk .
+ends 'a path with a line feed' 4 \
+  'pos_console: none/a\nb: '"$opened: No such file or directory (os error 2)" format --disk "$(printf 'none/a\nb')"
+
+# --- profiles
+profile > sound.toml
+rm -f profile.toml
+refuses_profile 'no profile' "can't be read: No such file or directory (os error 2)"
+printf '# a\n# \377\n' > profile.toml
+refuses_profile 'a profile that is no text' 'line 2: not UTF-8'
+printf '[[device\n' > profile.toml
+"$program" run --profile profile.toml --disk till.disk < script > out 2> err
+told 'a profile that is no TOML: status' 3 $?
+told 'a profile that is no TOML: message' 1 "$(grep -c '^pos_console: profile.toml: line 1: not TOML: .' err)"
+printf 'foo = 1\n' > profile.toml
+refuses_profile 'an unknown key of the root' 'unknown key: foo'
+printf '"a\\nb" = 1\n' > profile.toml
+refuses_profile 'a key with a line feed' 'unknown key: a\nb'
+sed 's/rows = 2/rows = 9/' sound.toml > profile.toml
+refuses_profile 'a number out of its range' 'device 2: rows must be 1 to 8'
+sed '/columns/d' sound.toml > profile.toml
+refuses_profile 'a number that is missing' 'device 2: columns must be 1 to 80'
+sed 's/"p1"/"p 1"/' sound.toml > profile.toml
+refuses_profile 'a name that is none' 'device 2: name must be 1 to 16 letters, digits or hyphens'
+{ cat sound.toml; printf '[[spare]]\ncategory = "LineDisplay"\nrows = 2\ncolumns = 0\n'; } > profile.toml
+refuses_profile 'a spare by its own number' 'spare 2: columns must be 1 to 80'
+{ cat sound.toml; printf '[[device]]\nname = "t2"\ncategory = "HardTotals"\n'; } > profile.toml
+refuses_profile 'a second device of Hard Totals' 'device 4: a second device of category HardTotals'
+sed 's/"p1"/"d1"/' sound.toml > profile.toml
+refuses_profile 'a name twice' 'two devices have the name d1'
+
+# --- the order of faults, and the disk of a run
+ends 'a profile before a disk' 3 "pos_console: none.toml: can't be read: No such file or directory (os error 2)" \
+  run --profile none.toml --disk none.disk
+ends 'no disk' 4 "pos_console: none.disk: $opened: No such file or directory (os error 2)" \
+  run --profile sound.toml --disk none.disk
+told 'a run makes no disk' '' "$(ls none.disk 2> /dev/null)"
+
+# --- runs
+totals_script > script
+ends 'the first run on a formatted file' 0 '' run --profile sound.toml --disk till.disk
+told 'the first run: output' "$(printf 'ok\nok\nok\nok 1\nok 00000000\nok 8188\nok 1')" "$(cat out)"
+ends 'the second run on it' 0 '' run --disk=till.disk --profile=sound.toml
+told 'the second run finds the file' "$(printf 'ok\nok\nok\nerr 110\nok 00000000\nok 8188\nok 1')" "$(cat out)"
+printf 'new a CashDrawer\nopen a d1\ndetach d1\nnew b HardTotals\nopen b t1\nset b DeviceEnabled true\n' > script
+printf abc > short.disk
+ends 'a run over a short file' 0 '' run --profile sound.toml --disk short.disk
+told 'a short file is no hardware' "$(printf 'ok\nok\nrefused InUse\nok\nok\nerr 107')" "$(cat out)"
+told 'a run keeps a short file' abc "$(cat short.disk)"
+
+# --- faults of a run
+printf 'new a CashDrawer\n' > script
+"$program" run --profile sound.toml --disk till.disk < script > /dev/full 2> err
+told 'an output that takes nothing: status' 5 $?
+told 'an output that takes nothing: message' "pos_console: the answers can't be written" "$(cat err)"
+"$program" run --profile sound.toml --disk till.disk < . > out 2> err
+told 'an input that can'"'"'t be read: status' 5 $?
+told 'an input that can'"'"'t be read: message' "pos_console: the script can't be read" "$(cat err)"
+
+echo "$passed passed, $failed failed"
+[ "$failed" -eq 0 ]
