@@ -1,24 +1,21 @@
-//! A display whose line fails with every order.
-ghost use Rattle.std.specs.Prelude.{◌≡◌, ◌≤◌, Some, true, false};
-ghost use Rattle.pos_service.specs.Displays.{blank_display, is_cursor_place};
-ghost use Rattle.pos_service.specs.Kinds.{is_display, rows_of, columns_of};
+//! A plain display, and one whose line fails with every order.
+ghost use Rattle.std.specs.Prelude.{◌≡◌, ◌≤◌, false};
+ghost use Rattle.pos_service.specs.Displays.{blank_display};
 ghost use Rattle.pos_service.specs.Peripherals.{PeripheralState, Fed};
-ghost use Rattle.pos_service.specs.Stations.{StaysInService};
-ghost use Rattle.pos_service.specs.declared.category.Category.TheVariants as category;
 ghost use Rattle.pos_service.specs.declared.kind.Kind.TheVariants as kind;
 ghost use Rattle.pos_service.specs.declared.plant.Plant.TheVariants as plant;
 
-use crate::call;
-use pos_common::{Claims, Control};
-use pos_service::display_text::{BLANK, Cursor, DisplayCell, Place};
+mod steps;
+
+use pos_service::display_text::BLANK;
 use pos_service::{
-    Answer, Bytes, Call, Category, Code, DisplayCells, Finding, HasState, Input, Kind, NoMemory,
-    Order, PaperLevel, Peripheral, PeripheralBox, Plant, Property, Reply, Signs, Snapshot, Taken,
-    Value,
+    Code, DisplayCells, Input, Kind, NoMemory, Order, PaperLevel, Peripheral, PeripheralBox, Plant,
+    Reply, Signs, Snapshot, Taken,
 };
 use pos_sims::PlainDisplay;
 use std::alloc::Global;
 use std::test::Fail;
+use steps::{FAILED, ILLEGAL, Line, Outcome, Step, play};
 
 /// A blank display of two rows of four columns whose line fails with every order.
 #[derive(Drop)]
@@ -97,388 +94,149 @@ impl Peripheral for CutDisplay {
     }
 }
 
-/// A control that has the display at place 0 open and enabled, with this cursor.
-fn control(alloc: Global, cursor: Cursor) -> Control
-    ensures category { result.control.category ≡ category.LineDisplay }
-    ensures device { result.control.device ≡ Some 0 }
-    ensures place { result.control.cursor.place ≡ cursor.place }
-{
-    let mut control = Control::new(alloc, Category::LineDisplay);
-    control.open(Finding::At(0));
-    let on = Value::Truth(true);
-    let update = Value::Truth(cursor.update);
-    control.set(0, Some(0), None, Property::DeviceEnabled, &on);
-    control.set(0, Some(0), None, Property::CursorUpdate, &update);
-    control.move_cursor(cursor.place);
-    control
-}
-
-/// What the control with the number 0 and with this cursor is answered, where the display has this holder, and its
-/// cursor then.
-fn asked(
+/// Goes through these lines with a blank display of so many rows and columns, with the cursor at its first place, that
+/// the control with the number `holder` holds.
+fn shown_on(
     alloc: Global,
-    cursor: Cursor,
+    rows: u32,
+    columns: u32,
     holder: Option<usize>,
-    display: &mut PeripheralBox,
-    asked: &Call,
-) -> Result<(Answer, Cursor), NoMemory>
-    requires unparked { (⟦<PeripheralBox as HasState>⟧.state display.old).is_parked ≡ false }
-    requires display { is_display (⟦<PeripheralBox as HasState>⟧.state display.old).kind ≡ true }
-    requires cursor { let at = (⟦<PeripheralBox as HasState>⟧.state display.old).kind in
-        is_cursor_place (rows_of (Some at)) (columns_of (Some at)) cursor.place ≡ true }
-    ensures { let state = ⟦<PeripheralBox as HasState>⟧.state in
-        StaysInService (state display.old) (state display.new) }
+    lines: &[Line<'_>],
+) -> Result<(), Fail>
+    requires rows { (1 ≤ rows) × (rows ≤ 8) }
+    requires columns { (1 ≤ columns) × (columns ≤ 80) }
 {
-    let mut controls = [control(alloc, cursor)];
-    let mut claims = Claims::new(alloc, 1)?;
-    if let Some(number) = holder {
-        claims.claim(0, number);
-    }
-    let answer = call(alloc, &mut controls, 0, &claims, display, asked)?;
-    Ok((answer, controls[0].cursor()))
-}
-
-/// A cursor at a row and a column.
-fn at(row: u32, column: u32, update: bool) -> Cursor
-    ensures row { result.place.row ≡ row }
-    ensures column { result.place.column ≡ column }
-{
-    Cursor {
-        place: Place { row, column },
-        update,
-    }
-}
-
-/// Whether the display shows these characters and attributes, row by row.
-fn shows(shown: &Snapshot, characters: &[u8], attributes: &[u32]) -> bool {
-    match shown {
-        Snapshot(Plant::Display(cells)) => {
-            cells
-                .as_slice()
-                .iter()
-                .map(|cell: &DisplayCell| cell.character)
-                .eq(characters.iter().copied())
-                && cells
-                    .as_slice()
-                    .iter()
-                    .map(|cell: &DisplayCell| cell.attribute.number())
-                    .eq(attributes.iter().copied())
-        }
-        _ => false,
-    }
-}
-
-/// Whether a call is done and leaves the cursor at a row and a column.
-fn is_done(answered: &(Answer, Cursor), row: u32, column: u32) -> bool {
-    matches!(answered.0, Answer::Done(Value::Empty)) && answered.1.place == Place { row, column }
-}
-
-/// Whether a call is refused with this code and leaves the cursor at the first place.
-fn is_refused(answered: &(Answer, Cursor), code: Code) -> bool {
-    matches!(answered.0, Answer::Refused(told, 0) if told == code)
-        && answered.1.place == Place { row: 0, column: 0 }
+    let device: Box<dyn Peripheral> = Box::new(alloc, PlainDisplay::new(alloc, rows, columns)?)?;
+    let mut display = PeripheralBox::new(device);
+    let result = play(alloc, holder, (0, 0), &mut display, lines);
+    display.end();
+    result
 }
 
 #[test]
 fn texts_are_shown_and_move_the_cursor(rt: HostRuntime) -> Result<(), Fail> {
-    let (first, second) = (
-        Bytes::from_slice(rt.alloc(), b"ABCDEFGH")?,
-        Bytes::from_slice(rt.alloc(), b"I")?,
-    );
-    let device: Box<dyn Peripheral> = Box::new(rt.alloc(), PlainDisplay::new(rt.alloc(), 2, 4)?)?;
-    let mut display = PeripheralBox::new(device);
-    let full = asked(
-        rt.alloc(),
-        at(0, 0, true),
-        Some(0),
-        &mut display,
-        &Call::DisplayText(first, 0),
-    );
-    let shown = display.snapshot();
-    let next = asked(
-        rt.alloc(),
-        at(1, 4, true),
-        Some(0),
-        &mut display,
-        &Call::DisplayText(second, 2),
-    );
-    let scrolled = display.snapshot();
-    let illegal = asked(
-        rt.alloc(),
-        at(0, 0, true),
-        Some(0),
-        &mut display,
-        &Call::ScrollText(1, 3),
-    );
-    let cleared = asked(
-        rt.alloc(),
-        at(1, 1, false),
-        Some(0),
-        &mut display,
-        &Call::ClearText,
-    );
-    let blank = display.snapshot();
-    display.end();
-    assert!(rt; is_done(&full?, 1, 4));
-    assert!(rt; shows(&shown?, b"ABCDEFGH", &[0; 8]));
-    assert!(rt; is_done(&next?, 1, 1));
-    assert!(rt; shows(&scrolled?, b"EFGHI   ", &[0, 0, 0, 0, 2, 0, 0, 0]));
-    assert!(rt; is_refused(&illegal?, Code::Illegal));
-    assert!(rt; is_done(&cleared?, 0, 0));
-    assert!(rt; shows(&blank?, b"        ", &[0; 8]));
-    Ok(())
+    let lines = [
+        (Step::Text(b"ABCDEFGH", 0), Outcome::Done, (1, 4)),
+        (Step::Shows(b"ABCDEFGH", b"00000000"), Outcome::Done, (1, 4)),
+        (Step::Text(b"I", 2), Outcome::Done, (1, 1)),
+        (Step::Shows(b"EFGHI   ", b"00002000"), Outcome::Done, (1, 1)),
+        (Step::Scroll(1, 3), ILLEGAL, (1, 1)),
+        (Step::Update(false), Outcome::Done, (1, 1)),
+        (Step::Clear, Outcome::Done, (0, 0)),
+        (Step::Shows(b"        ", b"00000000"), Outcome::Done, (0, 0)),
+    ];
+    shown_on(rt.alloc(), 2, 4, Some(0), &lines)
 }
 
 #[test]
 fn the_cursor_stays_without_updates(rt: HostRuntime) -> Result<(), Fail> {
-    let (first, second) = (
-        Bytes::from_slice(rt.alloc(), b"A\rB")?,
-        Bytes::from_slice(rt.alloc(), b"C")?,
-    );
-    let device: Box<dyn Peripheral> = Box::new(rt.alloc(), PlainDisplay::new(rt.alloc(), 2, 4)?)?;
-    let mut display = PeripheralBox::new(device);
-    let stays = asked(
-        rt.alloc(),
-        at(0, 4, false),
-        Some(0),
-        &mut display,
-        &Call::DisplayText(first, 1),
-    );
-    let shown = display.snapshot();
-    let scrolls = asked(
-        rt.alloc(),
-        at(0, 4, false),
-        Some(0),
-        &mut display,
-        &Call::ScrollText(4, 1),
-    );
-    let scrolled = display.snapshot();
-    let moves = asked(
-        rt.alloc(),
-        at(0, 0, false),
-        Some(0),
-        &mut display,
-        &Call::DisplayTextAt(1, 2, second, 0),
-    );
-    display.end();
-    assert!(rt; is_done(&stays?, 0, 4));
-    assert!(rt; shows(&shown?, b"    B   ", &[0, 0, 0, 0, 1, 0, 0, 0]));
-    assert!(rt; is_done(&scrolls?, 0, 4));
-    assert!(rt; shows(&scrolled?, b"     B  ", &[0, 0, 0, 0, 0, 1, 0, 0]));
-    assert!(rt; is_done(&moves?, 1, 2));
-    Ok(())
+    let lines = [
+        (Step::TextAt(0, 4, b"", 0), Outcome::Done, (0, 4)),
+        (Step::Update(false), Outcome::Done, (0, 4)),
+        (Step::Text(b"A\rB", 1), Outcome::Done, (0, 4)),
+        (Step::Shows(b"    B   ", b"00001000"), Outcome::Done, (0, 4)),
+        (Step::Scroll(4, 1), Outcome::Done, (0, 4)),
+        (Step::Shows(b"     B  ", b"00000100"), Outcome::Done, (0, 4)),
+        (Step::TextAt(1, 2, b"C", 0), Outcome::Done, (1, 2)),
+    ];
+    shown_on(rt.alloc(), 2, 4, Some(0), &lines)
 }
 
 #[test]
 fn refused_calls_show_nothing(rt: HostRuntime) -> Result<(), Fail> {
-    let (first, second) = (
-        Bytes::from_slice(rt.alloc(), b"A")?,
-        Bytes::from_slice(rt.alloc(), b"\t")?,
-    );
-    let device: Box<dyn Peripheral> = Box::new(rt.alloc(), PlainDisplay::new(rt.alloc(), 2, 4)?)?;
-    let mut display = PeripheralBox::new(device);
-    let row = asked(
-        rt.alloc(),
-        at(0, 0, true),
-        Some(0),
-        &mut display,
-        &Call::DisplayTextAt(2, 0, first, 0),
-    );
-    let text = asked(
-        rt.alloc(),
-        at(0, 0, true),
-        Some(0),
-        &mut display,
-        &Call::DisplayText(second, 0),
-    );
-    let free = asked(
-        rt.alloc(),
-        at(0, 0, true),
-        None,
-        &mut display,
-        &Call::ClearText,
-    );
-    let held = asked(
-        rt.alloc(),
-        at(0, 0, true),
-        Some(1),
-        &mut display,
-        &Call::ScrollText(9, 9),
-    );
-    let foreign = asked(
-        rt.alloc(),
-        at(0, 0, true),
-        None,
-        &mut display,
-        &Call::ClearInput,
-    );
-    let shown = display.snapshot();
-    display.end();
-    assert!(rt; is_refused(&row?, Code::Illegal) && is_refused(&text?, Code::Illegal));
-    assert!(rt; is_refused(&free?, Code::NotClaimed) && is_refused(&held?, Code::Claimed));
-    assert!(rt; is_refused(&foreign?, Code::Illegal));
-    assert!(rt; shows(&shown?, b"        ", &[0; 8]));
-    Ok(())
-}
-
-/// Whether a call has failed and leaves the cursor at a row and a column.
-fn has_failed(answered: &(Answer, Cursor), row: u32, column: u32) -> bool {
-    matches!(answered.0, Answer::Refused(Code::Failure, 0))
-        && answered.1.place == Place { row, column }
+    let blank = Step::Shows(b"        ", b"00000000");
+    let lines = [
+        (Step::TextAt(2, 0, b"A", 0), ILLEGAL, (0, 0)),
+        (Step::Text(b"\t", 0), ILLEGAL, (0, 0)),
+        (blank, Outcome::Done, (0, 0)),
+    ];
+    shown_on(rt.alloc(), 2, 4, Some(0), &lines)?;
+    let lines = [
+        (Step::Clear, Outcome::Refused(Code::NotClaimed), (0, 0)),
+        (Step::ClearInput, ILLEGAL, (0, 0)),
+        (blank, Outcome::Done, (0, 0)),
+    ];
+    shown_on(rt.alloc(), 2, 4, None, &lines)?;
+    let lines = [
+        (Step::Scroll(9, 9), Outcome::Refused(Code::Claimed), (0, 0)),
+        (blank, Outcome::Done, (0, 0)),
+    ];
+    shown_on(rt.alloc(), 2, 4, Some(1), &lines)
 }
 
 #[test]
 fn a_line_that_fails_changes_nothing(rt: HostRuntime) -> Result<(), Fail> {
-    let (first, second) = (
-        Bytes::from_slice(rt.alloc(), b"A")?,
-        Bytes::from_slice(rt.alloc(), b"B")?,
-    );
+    let lines = [
+        (Step::Text(b"A", 1), FAILED, (1, 3)),
+        (Step::TextAt(0, 0, b"B", 1), FAILED, (1, 3)),
+        (Step::Scroll(1, 0), FAILED, (1, 3)),
+        (Step::Scroll(0, 1), ILLEGAL, (1, 3)),
+        (Step::Update(false), Outcome::Done, (1, 3)),
+        (Step::Clear, FAILED, (1, 3)),
+        (Step::Shows(b"        ", b"00000000"), Outcome::Done, (1, 3)),
+    ];
     let device: Box<dyn Peripheral> = Box::new(rt.alloc(), CutDisplay::new(rt.alloc()))?;
     let mut display = PeripheralBox::new(device);
-    let text = asked(
-        rt.alloc(),
-        at(1, 3, true),
-        Some(0),
-        &mut display,
-        &Call::DisplayText(first, 1),
-    );
-    let elsewhere = asked(
-        rt.alloc(),
-        at(1, 3, true),
-        Some(0),
-        &mut display,
-        &Call::DisplayTextAt(0, 0, second, 1),
-    );
-    let clear = asked(
-        rt.alloc(),
-        at(1, 3, false),
-        Some(0),
-        &mut display,
-        &Call::ClearText,
-    );
-    let scroll = asked(
-        rt.alloc(),
-        at(1, 3, true),
-        Some(0),
-        &mut display,
-        &Call::ScrollText(1, 0),
-    );
-    let illegal = asked(
-        rt.alloc(),
-        at(0, 0, true),
-        Some(0),
-        &mut display,
-        &Call::ScrollText(0, 1),
-    );
-    let shown = display.snapshot();
+    let result = play(rt.alloc(), Some(0), (1, 3), &mut display, &lines);
     display.end();
-    assert!(rt; has_failed(&text?, 1, 3) && has_failed(&elsewhere?, 1, 3));
-    assert!(rt; has_failed(&clear?, 1, 3) && has_failed(&scroll?, 1, 3));
-    assert!(rt; is_refused(&illegal?, Code::Illegal));
-    assert!(rt; shows(&shown?, b"        ", &[0; 8]));
-    Ok(())
+    result
 }
 
 #[test]
 fn a_display_of_one_cell_shows_the_last_character(rt: HostRuntime) -> Result<(), Fail> {
-    let (text, none) = (
-        Bytes::from_slice(rt.alloc(), b"ABC")?,
-        Bytes::from_slice(rt.alloc(), b"")?,
-    );
-    let device: Box<dyn Peripheral> = Box::new(rt.alloc(), PlainDisplay::new(rt.alloc(), 1, 1)?)?;
-    let mut display = PeripheralBox::new(device);
-    let full = asked(
-        rt.alloc(),
-        at(0, 0, true),
-        Some(0),
-        &mut display,
-        &Call::DisplayText(text, 3),
-    );
-    let shown = display.snapshot();
-    let right = asked(
-        rt.alloc(),
-        at(0, 0, true),
-        Some(0),
-        &mut display,
-        &Call::DisplayTextAt(0, 2, none, 0),
-    );
-    let far = asked(
-        rt.alloc(),
-        at(0, 0, true),
-        Some(0),
-        &mut display,
-        &Call::ScrollText(3, 2),
-    );
-    let scrolls = asked(
-        rt.alloc(),
-        at(0, 1, true),
-        Some(0),
-        &mut display,
-        &Call::ScrollText(3, 1),
-    );
-    let blank = display.snapshot();
-    display.end();
-    assert!(rt; is_done(&full?, 0, 1));
-    assert!(rt; shows(&shown?, b"C", &[3]));
-    assert!(rt; is_refused(&right?, Code::Illegal) && is_refused(&far?, Code::Illegal));
-    assert!(rt; is_done(&scrolls?, 0, 1));
-    assert!(rt; shows(&blank?, b" ", &[0]));
-    Ok(())
+    let lines = [
+        (Step::Text(b"ABC", 3), Outcome::Done, (0, 1)),
+        (Step::Shows(b"C", b"3"), Outcome::Done, (0, 1)),
+        (Step::TextAt(0, 2, b"", 0), ILLEGAL, (0, 1)),
+        (Step::Scroll(3, 2), ILLEGAL, (0, 1)),
+        (Step::Scroll(3, 1), Outcome::Done, (0, 1)),
+        (Step::Shows(b" ", b"0"), Outcome::Done, (0, 1)),
+    ];
+    shown_on(rt.alloc(), 1, 1, Some(0), &lines)
 }
 
-/// A text of 4,096 bytes for a display of 80 columns: 44 rows of A, one of S, six of T, and 16 Z.
-fn longest(alloc: Global) -> Result<Bytes, NoMemory> {
-    let mut bytes = [b'A'; 4096];
-    bytes[3520..3600].fill(b'S');
-    bytes[3600..4080].fill(b'T');
-    bytes[4080..].fill(b'Z');
-    Bytes::from_slice(alloc, &bytes)
+/// The longest text, for a display of 80 columns: 44 rows of A, one of S, six of T, and 16 Z.
+fn longest() -> [u8; 4096] {
+    let mut text = [b'A'; 4096];
+    text[3520..3600].fill(b'S');
+    text[3600..4080].fill(b'T');
+    text[4080..].fill(b'Z');
+    text
 }
 
-/// Whether the largest display shows the end of that text, with the attribute 2.
-fn shows_its_end(shown: &Snapshot) -> bool {
-    let (mut characters, mut attributes) = ([b'T'; 640], [2; 640]);
+/// The end of that text on the largest display, with the attribute 2.
+fn its_end() -> ([u8; 640], [u8; 640]) {
+    let (mut characters, mut attributes) = ([b'T'; 640], [b'2'; 640]);
     characters[..80].fill(b'S');
     characters[560..576].fill(b'Z');
     characters[576..].fill(b' ');
-    attributes[576..].fill(0);
-    shows(shown, &characters, &attributes)
+    attributes[576..].fill(b'0');
+    (characters, attributes)
 }
 
 #[test]
 fn the_longest_text_scrolls_the_largest_display(rt: HostRuntime) -> Result<(), Fail> {
-    let text = longest(rt.alloc())?;
-    let device: Box<dyn Peripheral> = Box::new(rt.alloc(), PlainDisplay::new(rt.alloc(), 8, 80)?)?;
-    let mut display = PeripheralBox::new(device);
-    let full = asked(
-        rt.alloc(),
-        at(0, 0, true),
-        Some(0),
-        &mut display,
-        &Call::DisplayText(text, 2),
-    );
-    let shown = display.snapshot();
-    display.end();
-    assert!(rt; is_done(&full?, 7, 16));
-    assert!(rt; shows_its_end(&shown?));
-    Ok(())
+    let (text, (characters, attributes)) = (longest(), its_end());
+    let lines = [
+        (Step::Text(&text, 2), Outcome::Done, (7, 16)),
+        (
+            Step::Shows(&characters, &attributes),
+            Outcome::Done,
+            (7, 16),
+        ),
+    ];
+    shown_on(rt.alloc(), 8, 80, Some(0), &lines)
 }
 
 #[test]
 fn a_longer_text_shows_nothing(rt: HostRuntime) -> Result<(), Fail> {
-    let text = Bytes::from_slice(rt.alloc(), &[b'A'; 4097])?;
-    let device: Box<dyn Peripheral> = Box::new(rt.alloc(), PlainDisplay::new(rt.alloc(), 8, 80)?)?;
-    let mut display = PeripheralBox::new(device);
-    let refused = asked(
-        rt.alloc(),
-        at(0, 0, true),
-        Some(0),
-        &mut display,
-        &Call::DisplayText(text, 0),
-    );
-    let shown = display.snapshot();
-    display.end();
-    assert!(rt; is_refused(&refused?, Code::Illegal));
-    assert!(rt; shows(&shown?, &[b' '; 640], &[0; 640]));
-    Ok(())
+    let lines = [
+        (Step::Text(&[b'A'; 4097], 0), ILLEGAL, (0, 0)),
+        (
+            Step::Shows(&[b' '; 640], &[b'0'; 640]),
+            Outcome::Done,
+            (0, 0),
+        ),
+    ];
+    shown_on(rt.alloc(), 8, 80, Some(0), &lines)
 }
