@@ -10,6 +10,7 @@ use Rattle.pos_script.specs.Commands.{Asking, asked_by}
 use Rattle.pos_script.specs.Text.{printed}
 use Rattle.pos_script.specs.Writing.{Writes}
 use Rattle.pos_console.specs.Names.{ControlNames}
+use Rattle.pos_console.specs.Running.{Finishes, Stops}
 use Rattle.pos_console.specs.Spares.{SpareStates}
 use Rattle.pos_console.specs.Transcript.{Leads, Session, Outcome, RequestBecomes, AskingBecomes, ReadingBecomes, LineBecomes, CarriesOut, LinesPrint, Transcript, request_of, session_after, gives_name, rebuke, session_with, passed_over, turned_down, responded, response_text}
 
@@ -139,3 +140,33 @@ renamed Runs old becomes reply spares names after new e carried = resumed Runs o
 -- the same spares, written another way
 pub respared : {C : Type 0} (Runs : Leads C) (old : C) (becomes : Outcome → Type 0) (reply : Option (List ℕ)) (names : ControlNames) (spares after : SpareStates) (new : C) → after ≡ spares → CarriesOut Runs old becomes reply (session_with names spares) new → CarriesOut Runs old becomes reply (session_with names after) new
 respared Runs old becomes reply names spares after new e carried = resumed Runs old becomes reply (session_with names spares) (session_with names after) new (ap (λ ss. session_with names ss) e) carried
+
+-- a script by other runs, which each run is one of too
+module _ {C : Type 0} (Runs Through : Leads C) (goes : (a b : C) (steps : List (Request × Response)) → Runs a steps b → Through a steps b) (old : C) (spares : SpareStates) (lines : List (List ℕ)) (before after : Option (List ℕ)) (left : SpareStates) (new : C) where
+  pub finishes_through : Finishes Runs old spares lines before after left new → Finishes Through old spares lines before after left new
+  finishes_through done = record {
+    text = done.text;
+    names = done.names;
+    transcript = record { steps = done.transcript.steps; run = goes _ _ _ done.transcript.run; prints = done.transcript.prints };
+    written = done.written;
+  }
+
+  pub stops_through : Stops Runs old spares lines before after left new → Stops Through old spares lines before after left new
+  stops_through done = record {
+    earlier = done.earlier;
+    line = done.line;
+    later = done.later;
+    text = done.text;
+    session = done.session;
+    mid = done.mid;
+    reply = done.reply;
+    names_after = done.names_after;
+    front = done.front;
+    back = done.back;
+    split = done.split;
+    transcript = record { steps = done.transcript.steps; run = goes _ _ _ done.transcript.run; prints = done.transcript.prints };
+    carried = record { steps = done.carried.steps; run = goes _ _ _ done.carried.run; becomes = done.carried.becomes };
+    cut = done.cut;
+    unwritten = done.unwritten;
+    written = done.written;
+  }

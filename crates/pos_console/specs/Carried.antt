@@ -4,7 +4,10 @@ use Rattle.pos_disk.specs.declared.device.Disk.{Ghosts as DiskGhosts}
 use Rattle.pos_service.specs.declared.peripheral_box.PeripheralBox.{PeripheralBox}
 use Rattle.pos_service.specs.declared.peripheral_box.HasState.{Ghosts}
 use Rattle.pos_counter.specs.declared.counter.Counter.{Counter}
-use Rattle.pos_counter.specs.Counters.{IsRun}
+use Rattle.pos_store.specs.Standing.{Standing}
+use Rattle.pos_counter.specs.Counters.{IsRun, RunsFrom}
+use Rattle.pos_counter.specs.Parts.{Leaves}
+use Rattle.pos_counter.specs.Steps.{Request, Response}
 use Rattle.pos_console.specs.declared.names.Names.{Names}
 use Rattle.pos_console.specs.declared.spares.Spares.{Spares}
 use Rattle.pos_script.specs.declared.reply.Reply.{Reply}
@@ -60,3 +63,11 @@ CarriesOutLines bound boxes old spares input before after result left new =
     MatchResult result
     (λ u. Finishes (IsRun bound boxes) old spares (lines_of input) before after left new)
     (λ fault. Stops (IsRun bound boxes) old spares (lines_of input) before after left new)
+
+-- from an old counter to a new one, a run; and for all that the disk may leave before it, a crash at any moment of the
+-- run leaves what may be left before or after one of its steps, and one after the run what may be left after the last
+abbrev pub RunsThrough : {D X : Type 0} {O : X → Type 0} → DiskGhosts D → Ghosts (PeripheralBox X O)
+    → Counter D X O → List (Request × Response) → Counter D X O → Type 0
+RunsThrough bound boxes old steps new =
+    IsRun bound boxes old steps new
+    × ((left : List Standing) → Leaves bound old.totals left → RunsFrom bound boxes left old steps new)

@@ -1,7 +1,7 @@
 -- What a run of a script leaves (docs/CONSOLE.md, "The program").
 use Rattle.std.specs.Prelude.{◌≡◌, ◌++◌, ◌<◌, ◌∷◌, [], ℕ, false, length, replicate, List, Option, Some, None, Result, Ok, Err, IfSome, codes, option_map}
 use Rattle.std.specs.Io.KnownBytes.{Appends, Keeps}
-use Rattle.pos_counter.specs.Machine.{Device, Machine, kind_named, station_named}
+use Rattle.pos_counter.specs.Machine.{Device, Machine}
 use Rattle.pos_sims.specs.Drawers.{drawer_state}
 use Rattle.pos_sims.specs.LineDisplays.{display_state}
 use Rattle.pos_sims.specs.ReceiptPrinters.{printer_state}
@@ -93,34 +93,19 @@ device_with name kind state = record { name = name; kind = Some kind; station = 
 abbrev pub totals_device : Device
 totals_device = record { name = codes "t1"; kind = None; station = None }
 
--- the devices of the built profile, with these peripherals: the drawer `d1`, the scanner `s1`, the display `p1` of 2
--- rows of 4 columns, and the printer `r1` of 8 characters a line, whose paper is near its end at 2 lines
-abbrev pub devices_with : Option PeripheralState → Option PeripheralState → Option PeripheralState
-    → Option PeripheralState → List Device
-devices_with drawer scanner display printer =
-    device_with (codes "d1") kind.Drawer drawer ∷ device_with (codes "s1") kind.Scanner scanner
-    ∷ device_with (codes "p1") (kind.Display 2 4) display ∷ device_with (codes "r1") (kind.Printer 8 2) printer
-    ∷ totals_device ∷ []
-
--- those devices, each vacant
-abbrev pub vacant_devices : List Device
-vacant_devices = devices_with None None None None
-
--- those devices with the program's peripherals in service: a closed drawer, a scanner, a blank display, and a printer
--- with 5 lines of paper
+-- the devices of the built profile, served by the program's peripherals: a closed drawer, a scanner, a blank display
+-- of 2 rows of 4 columns, and a printer of 8 characters a line with 5 lines of paper, which are near their end at 2
 abbrev pub start_devices : List Device
 start_devices =
-    devices_with (Some (drawer_state false false)) (Some (scanner_state false 0))
-    (Some (display_state (blank_display 2 4) false)) (Some (printer_state (empty_roll 8 5) 2 false))
+    device_with (codes "d1") kind.Drawer (Some (drawer_state false false))
+    ∷ device_with (codes "s1") kind.Scanner (Some (scanner_state false 0))
+    ∷ device_with (codes "p1") (kind.Display 2 4) (Some (display_state (blank_display 2 4) false))
+    ∷ device_with (codes "r1") (kind.Printer 8 2) (Some (printer_state (empty_roll 8 5) 2 false))
+    ∷ totals_device ∷ []
 
 -- the program's spares in service: a closed drawer
 abbrev pub start_spares : SpareStates
 start_spares = Some (drawer_state false false) ∷ []
-
--- the device of this name is vacant and of this kind
-pub record IsVacantFor (machine : Machine) (name : List ℕ) (wanted : Kind) : Type 0 where
-  pub kind : kind_named machine name ≡ Some wanted
-  pub vacant : station_named machine name ≡ None
 
 -- the machine with these devices, no control and no claim
 abbrev pub begun_with : List Device → TotalsPart → Machine
@@ -144,12 +129,6 @@ pub record IsNewDisk (disk : Memory) : Type 0 where
   pub at_rest : IsAtRest (state_of disk)
   pub image : HasNewImage no_files 1 (state_of disk).reading
 
--- What a run over the program's counter and its spares leaves of a writer.
-pub record RunsFromStart (unread before after : Option (List ℕ)) (result : Result (Unit {0}) RunFault) : Type 0 where
-  pub end : Machine
-  pub left : SpareStates
-  pub run : RunsScript Run start start_spares unread before after result left end
-
 -- A front of the lines was carried out, and a front of their text is written.
 pub record ReachesFront (old : Machine) (spares : SpareStates) (lines : List (List ℕ))
     (before after : Option (List ℕ)) : Type 0 where
@@ -164,18 +143,24 @@ pub record ReachesFront (old : Machine) (spares : SpareStates) (lines : List (Li
   pub written : Appends before after front
 
 -- what the program leaves of its writer, with what that holds back, for a script of these bytes
-abbrev pub ServeLeaves : List ℕ → Option (List ℕ) → Option (List ℕ) → Result (Unit {0}) RunFault → Type 0
-ServeLeaves bytes before after (Ok u) =
-    (end : Machine) × (left : SpareStates) × Finishes Run start start_spares (lines_of bytes) before after left end
-ServeLeaves bytes before after (Err fault.Read) = Keeps before after
-ServeLeaves bytes before after (Err fault.Write) = ReachesFront start start_spares (lines_of bytes) before after
-ServeLeaves bytes before after (Err fault.NoMemory) = Keeps before after
+abbrev pub ServeLeaves : Machine → SpareStates → List ℕ → Option (List ℕ) → Option (List ℕ)
+    → Result (Unit {0}) RunFault → Type 0
+ServeLeaves old spares bytes before after (Ok u) =
+    (end : Machine) × (left : SpareStates) × Finishes Run old spares (lines_of bytes) before after left end
+ServeLeaves old spares bytes before after (Err fault.Read) = Keeps before after
+ServeLeaves old spares bytes before after (Err fault.Write) = ReachesFront old spares (lines_of bytes) before after
+ServeLeaves old spares bytes before after (Err fault.NoMemory) = Keeps before after
 
--- What the program does with a script: a run from where it begins.
-pub record Serves (unread before after : Option (List ℕ)) (result : Result (Unit {0}) RunFault) : Type 0 where
+-- What the program does with a script: a run from this machine and these spares.
+pub record ServesFrom (old : Machine) (spares : SpareStates) (unread before after : Option (List ℕ))
+    (result : Result (Unit {0}) RunFault) : Type 0 where
   pub input : List ℕ
   pub whole : ReadsWhole unread input result
-  pub leaves : ServeLeaves input before after result
+  pub leaves : ServeLeaves old spares input before after result
+
+-- what the program without words does with a script: a run from where it begins
+abbrev pub Serves : Option (List ℕ) → Option (List ℕ) → Option (List ℕ) → Result (Unit {0}) RunFault → Type 0
+Serves = ServesFrom start start_spares
 
 -- the status that the program ends with
 abbrev pub status : Result (Unit {0}) RunFault → ℕ

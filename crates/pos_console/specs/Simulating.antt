@@ -1,5 +1,5 @@
 -- What is simulated for the entries of a profile (docs/CONSOLE.md, "The program").
-use Rattle.std.specs.Prelude.{◌≡◌, ◌≤◌, ◌⊎◌, ℕ, false, List, Option, Some, None, Result, Err, IfSome, Box, map, option_map}
+use Rattle.std.specs.Prelude.{◌≡◌, ◌≤◌, ◌⊎◌, ◌++◌, ℕ, false, List, Option, Some, None, Result, Err, IfSome, Box, map, option_map}
 use Rattle.std.specs.declared.alloc.Global.{Global}
 use Rattle.pos_service.specs.declared.category.Category.{Category}
 use Rattle.pos_service.specs.declared.category.Category.TheVariants.{CashDrawer, Scanner, LineDisplay, PosPrinter, HardTotals}
@@ -16,15 +16,14 @@ use Rattle.std.specs.Io.KnownBytes.{Keeps}
 use Rattle.std.specs.List.{filter_map}
 use Rattle.pos_disk.specs.State.{DiskState}
 use Rattle.pos_profile.specs.Entries.{Contents}
-use Rattle.pos_service.specs.Stations.{station_of}
 use Rattle.pos_store.specs.Standing.{Standing, LeavesOneOf}
-use Rattle.pos_counter.specs.Machine.{Machine}
-use Rattle.pos_counter.specs.Parts.{profile_devices}
-use Rattle.pos_counter.specs.Steps.{Attach, Request, Response, Run}
+use Rattle.pos_counter.specs.Machine.{Device, Machine}
+use Rattle.pos_counter.specs.Parts.{totals_devices, totals_name}
+use Rattle.pos_counter.specs.Steps.{Run}
 use Rattle.pos_counter.specs.Totals.{TotalsPart}
 use Rattle.pos_console.specs.declared.run.RunFault.{RunFault}
 use Rattle.pos_console.specs.declared.run.RunFault.TheVariants as fault
-use Rattle.pos_console.specs.Running.{RunsScript, begun_with, new_totals}
+use Rattle.pos_console.specs.Running.{RunsScript, ServesFrom, begun_with, device_with, new_totals}
 use Rattle.pos_console.specs.Spares.{SpareStates}
 use Rattle.pos_console.specs.declared.simulation.Simulation.{Simulation}
 use Rattle.pos_console.specs.declared.simulation.Simulation.TheVariants as simulation
@@ -63,23 +62,29 @@ pub record IsSimulable (entry : Entry) : Type 0 where
   pub kind : IfSome (kind_of entry) IsInRange
   pub lines : entry.lines ≤ 100000
 
--- each device that has a peripheral is to be served by what is simulated for it, in order
-abbrev pub requests_for : List Entry → List Request
-requests_for entries =
-    filter_map (λ entry. option_map (λ state. Attach entry.name (station_of state)) (simulated_for entry)) entries
+-- the device of an entry that may have a peripheral, with this one or none
+abbrev pub device_for : Option PeripheralState → Entry → Option Device
+device_for state entry = option_map (λ kind. device_with entry.name kind state) (kind_of entry)
 
--- What a run over a profile leaves of a writer, from totals that are off: what is simulated was attached to the
--- devices, one after another, each of which was vacant, and the spares are what is simulated for them; then comes the
--- script.
+-- the devices of entries in order, each served by what is simulated for it, and behind them that of Hard Totals
+abbrev pub simulated_devices : List Entry → List Device
+simulated_devices entries =
+    filter_map (λ entry. device_for (simulated_for entry) entry) entries ++ totals_devices (totals_name entries)
+
+-- What a run over a profile leaves of a writer: it is one from the profile's devices, each served by what is simulated
+-- for it, and totals that are off, with what is simulated for the spares.
 pub record RunsOverProfile (contents : Contents) (part : TotalsPart) (unread before after : Option (List ℕ))
     (result : Result (Unit {0}) RunFault) : Type 0 where
-  pub fills : List (Request × Response)
-  pub begin : Machine
-  pub asked : map (λ step. step.0) fills ≡ requests_for contents.devices
-  pub filled : Run (begun_with (profile_devices contents.devices) part) fills begin
   pub end : Machine
   pub left : SpareStates
-  pub run : RunsScript Run begin (simulated_all contents.spares) unread before after result left end
+  pub run : RunsScript Run (begun_with (simulated_devices contents.devices) part) (simulated_all contents.spares)
+      unread before after result left end
+
+-- what the program leaves of a writer, with what that holds back, where it runs over a profile
+abbrev pub ServesOverProfile : Contents → TotalsPart → Option (List ℕ) → Option (List ℕ) → Option (List ℕ)
+    → Result (Unit {0}) RunFault → Type 0
+ServesOverProfile contents part =
+    ServesFrom (begun_with (simulated_devices contents.devices) part) (simulated_all contents.spares)
 
 -- there was no memory, and nothing was written
 abbrev pub FindsNoMemory : Option (List ℕ) → Option (List ℕ) → Result (Unit {0}) RunFault → Type 0
@@ -92,3 +97,11 @@ ProfileLeaves contents Honest disk unread before after result =
     (left : List Standing) → Honest → LeavesOneOf left disk
     → FindsNoMemory before after result
     ⊎ RunsOverProfile contents (new_totals left disk.failures) unread before after result
+
+-- what the program does over a profile and a disk, for all that an honest disk may leave before it
+abbrev pub ProfileServes : Contents → Type 0 → DiskState → Option (List ℕ) → Option (List ℕ) → Option (List ℕ)
+    → Result (Unit {0}) RunFault → Type 0
+ProfileServes contents Honest disk unread before after result =
+    (left : List Standing) → Honest → LeavesOneOf left disk
+    → FindsNoMemory before after result
+    ⊎ ServesOverProfile contents (new_totals left disk.failures) unread before after result

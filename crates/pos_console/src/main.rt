@@ -5,7 +5,8 @@
 ghost use Rattle.std.specs.Prelude.{◌≡◌, [], OnOk};
 ghost use Rattle.std.specs.Io.Buffered.{writer_buffer, writer_contents};
 ghost use Rattle.pos_program.specs.Faults.{status_of};
-ghost use Rattle.pos_console.specs.Running.{RunsFromStart, Serves, status};
+ghost use Rattle.pos_console.specs.Running.{Serves, status};
+ghost use Rattle.pos_console.specs.Simulating.{ProfileServes};
 
 mod devices;
 mod disk;
@@ -14,83 +15,35 @@ mod profiled;
 mod read;
 mod run;
 mod session;
-mod simulated;
 mod simulation;
 mod spares;
 #[cfg(test)]
 mod tests;
 
-use devices::{end_counter, fill, keep_spare};
 use disk::format_disk;
-use pos_counter::Counter;
 use pos_disk::Disk;
 use pos_profile::Profile;
 use pos_program::{Fault, Task, choice, format_file, open_run, read_words, status_of};
-use pos_service::PeripheralBox;
 use profiled::run_over_profile;
-use run::{RunFault, run};
-use simulated::{Simulated, simulate};
+use run::RunFault;
 use std::alloc::Global;
 use std::io::{BufWriter, Read, Write};
 use std::process::ExitCode;
 
-/// Runs a script over a counter of the built profile, whose devices are a simulated cash drawer, `d1`, a simulated
-/// scanner, `s1`, a simulated line display of 2 rows of 4 columns, `p1`, a simulated receipt printer, `r1`, and Hard
-/// Totals, `t1`, on a disk in memory; with a simulated cash drawer as a spare.
-fn run_over_devices<R: Read, W: Write>(
-    alloc: Global,
-    reader: &mut R,
-    writer: &mut W,
-) -> Result<(), RunFault>
-    ensures { RunsFromStart (R.remaining reader.old) (W.contents writer.old) (W.contents writer.new) result }
-{
-    let Ok(made) = simulate(alloc) else {
-        return Err(RunFault::NoMemory);
-    };
-    let Ok(profile) = Profile::built(alloc) else {
-        return Err(RunFault::NoMemory);
-    };
-    let Ok(disk) = format_disk(alloc) else {
-        return Err(RunFault::NoMemory);
-    };
-    let Ok(mut counter) = Counter::new(alloc, &profile, Vec::new(alloc), disk) else {
-        return Err(RunFault::NoMemory);
-    };
-    let Ok(boxes) = Vec::with_capacity(alloc, 1) else {
-        end_counter(counter);
-        return Err(RunFault::NoMemory);
-    };
-    let Simulated {
-        drawer,
-        scanner,
-        display,
-        printer,
-        spare,
-    } = made;
-    let drawer = PeripheralBox::new(drawer);
-    let scanner = PeripheralBox::new(scanner);
-    let display = PeripheralBox::new(display);
-    let printer = PeripheralBox::new(printer);
-    let spare = PeripheralBox::new(spare);
-    fill(&mut counter, drawer, scanner, display, printer);
-    let mut spares = keep_spare(boxes, spare);
-    let result = run(alloc, reader, writer, &mut counter, &mut spares);
-    end_counter(counter);
-    spares.park_all();
-    result
-}
-
-/// Runs a script over a counter of simulated devices, and writes what the writer holds back of its text.
-fn serve<R: Read, W: Write + Drop>(
+/// Runs a script over a counter of a profile's simulated devices and spares and a disk, and writes what the writer
+/// holds back of its text.
+fn serve<R: Read, W: Write + Drop, D: Disk + Drop>(
     alloc: Global,
     reader: &mut R,
     writer: &mut BufWriter<W>,
+    profile: &Profile,
+    disk: D,
 ) -> Result<(), RunFault>
-    ensures script { Serves (R.remaining reader.old) (writer_contents W.contents writer.old)
-        (writer_contents W.contents writer.new) result }
+    ensures script { ProfileServes profile.now (D.honest disk) (D.state disk) (R.remaining reader.old)
+        (writer_contents W.contents writer.old) (writer_contents W.contents writer.new) result }
     ensures flushed { OnOk result (writer_buffer writer.new ≡ []) }
 {
-    match run_over_devices(alloc, reader, writer) {
+    match run_over_profile(alloc, reader, writer, profile, disk) {
         Ok(()) => match writer.flush() {
             Ok(()) => Ok(()),
             Err(_) => Err(RunFault::Write),
@@ -99,17 +52,25 @@ fn serve<R: Read, W: Write + Drop>(
     }
 }
 
-/// Runs a script over a counter of a profile's simulated devices and a disk, and writes what the writer holds back of
-/// its text.
-fn serve_profile<R: Read, W: Write + Drop, D: Disk + Drop>(
+/// Runs a script over the built profile and a formatted disk in memory: a simulated cash drawer, `d1`, a simulated
+/// scanner, `s1`, a simulated line display of 2 rows of 4 columns, `p1`, a simulated receipt printer, `r1`, and Hard
+/// Totals, `t1`, with a simulated cash drawer as a spare.
+fn serve_built<R: Read, W: Write + Drop>(
     alloc: Global,
     reader: &mut R,
     writer: &mut BufWriter<W>,
-    profile: &Profile,
-    disk: D,
-) -> Result<(), RunFault> {
-    run_over_profile(alloc, reader, writer, profile, disk)?;
-    writer.flush().map_err(|_| RunFault::Write)
+) -> Result<(), RunFault>
+    ensures script { Serves (R.remaining reader.old) (writer_contents W.contents writer.old)
+        (writer_contents W.contents writer.new) result }
+    ensures flushed { OnOk result (writer_buffer writer.new ≡ []) }
+{
+    let Ok(profile) = Profile::built(alloc) else {
+        return Err(RunFault::NoMemory);
+    };
+    let Ok(disk) = format_disk(alloc) else {
+        return Err(RunFault::NoMemory);
+    };
+    serve(alloc, reader, writer, &profile, disk)
 }
 
 /// What a run's end is to the program.
@@ -130,7 +91,7 @@ fn run_demo(rt: &HostRuntime) -> Result<(), Fault<'static>> {
     let Ok(mut writer) = BufWriter::new(alloc, rt.stdout()) else {
         return Err(Fault::NoMemory);
     };
-    ended(serve(alloc, &mut rt.stdin(), &mut writer))
+    ended(serve_built(alloc, &mut rt.stdin(), &mut writer))
 }
 
 /// Runs the script on standard input over the profile in one file and the disk in another.
@@ -140,7 +101,7 @@ fn run_files<'a>(rt: &HostRuntime, profile: &'a str, disk: &'a str) -> Result<()
     let Ok(mut writer) = BufWriter::new(alloc, rt.stdout()) else {
         return Err(Fault::NoMemory);
     };
-    ended(serve_profile(alloc, &mut rt.stdin(), &mut writer, &profile, disk))
+    ended(serve(alloc, &mut rt.stdin(), &mut writer, &profile, disk))
 }
 
 /// Formats the disk in a file.

@@ -1,8 +1,8 @@
 ghost use Rattle.std.specs.Prelude.{◌≡◌};
 ghost use Rattle.pos_console.specs.declared.run.RunFault.TheVariants as run_fault;
-ghost use Rattle.pos_counter.specs.Counters.{IsRun, IsCounterSound};
+ghost use Rattle.pos_counter.specs.Counters.{IsCounterSound};
 ghost use Rattle.pos_console.specs.Running.{RunsScript};
-ghost use Rattle.pos_console.specs.Carried.{CarriesOutLines};
+ghost use Rattle.pos_console.specs.Carried.{CarriesOutLines, RunsThrough};
 ghost use Rattle.pos_console.specs.Spares.{AreSparesSound, spares_in};
 
 use crate::names::Names;
@@ -80,7 +80,8 @@ fn carry_out_lines<W: Write, D: Disk>(
 ///
 /// At a fault of the reader, or want of memory for the input, no line was carried out and nothing is written. At a
 /// fault of the writer the earlier lines were carried out and their text is written; the line at which it came was
-/// carried out too, and no later one.
+/// carried out too, and no later one. A crash at any moment leaves what it may leave inside a step of the lines that
+/// were carried out.
 pub fn run<R: Read, W: Write, D: Disk>(
     alloc: Global,
     reader: &mut R,
@@ -91,7 +92,7 @@ pub fn run<R: Read, W: Write, D: Disk>(
     requires sound { IsCounterSound ⟦<PeripheralBox as HasState>⟧ counter.old }
     requires spares { AreSparesSound ⟦<PeripheralBox as HasState>⟧ spares.old }
     ensures script { let boxes = ⟦<PeripheralBox as HasState>⟧ in
-        RunsScript (IsRun D.Disk boxes) counter.old (spares_in boxes spares.old) (R.remaining reader.old)
+        RunsScript (RunsThrough D.Disk boxes) counter.old (spares_in boxes spares.old) (R.remaining reader.old)
         (W.contents writer.old) (W.contents writer.new) result (spares_in boxes spares.new) counter.new }
     ensures sound { IsCounterSound ⟦<PeripheralBox as HasState>⟧ counter.new }
     ensures spares { AreSparesSound ⟦<PeripheralBox as HasState>⟧ spares.new }

@@ -1,16 +1,17 @@
 //! Whole scripts over the program's devices, with readers and writers that cut and fail.
 ghost use Rattle.std.specs.Prelude.{None};
 
-use crate::devices::{end_counter, fill, keep_spare};
+use crate::devices::{end_counter, offer};
 use crate::disk::format_disk;
 use crate::profiled::run_over_profile;
 use crate::run::{RunFault, run};
-use crate::simulated::{Simulated, simulate};
-use crate::{run_over_devices, serve};
+use crate::serve_built;
+use crate::spares::Spares;
 use pos_counter::Counter;
 use pos_profile::Profile;
 use pos_script::{Command, LineFault, read_command};
 use pos_service::{Bytes, Call, PeripheralBox, Plant, Snapshot};
+use pos_sims::PlainDrawer;
 use std::alloc::{AllocError, Global};
 use std::io;
 use std::io::{BufWriter, Read, Write};
@@ -85,10 +86,32 @@ impl Write for Narrow {
     }
 }
 
+/// Runs a script over a profile and a disk in memory.
+fn run_over<R: Read, W: Write>(
+    alloc: Global,
+    reader: &mut R,
+    writer: &mut W,
+    profile: &Profile,
+) -> Result<(), RunFault> {
+    let disk = format_disk(alloc)?;
+    run_over_profile(alloc, reader, writer, profile, disk)
+}
+
+/// Runs a script over the built profile and a disk in memory.
+fn run_built<R: Read, W: Write>(
+    alloc: Global,
+    reader: &mut R,
+    writer: &mut W,
+) -> Result<(), RunFault> {
+    let profile = Profile::built(alloc)?;
+    run_over(alloc, reader, writer, &profile)
+}
+
+/// What a script prints over the built profile.
 fn text_of(alloc: Global, script: &[u8]) -> Result<Vec<u8>, RunFault> {
     let mut text = Vec::new(alloc);
     let mut reader = script;
-    run_over_devices(alloc, &mut reader, &mut text)?;
+    run_built(alloc, &mut reader, &mut text)?;
     Ok(text)
 }
 
@@ -450,33 +473,6 @@ fn scripts_print_their_answers(rt: HostRuntime) -> Result<(), Fail> {
     Ok(())
 }
 
-/// What a script prints over the devices of a profile.
-fn text_over(alloc: Global, profile: &Profile, script: &[u8]) -> Result<Vec<u8>, RunFault> {
-    let disk = format_disk(alloc)?;
-    let mut text = Vec::new(alloc);
-    let mut reader = script;
-    run_over_profile(alloc, &mut reader, &mut text, profile, disk)?;
-    Ok(text)
-}
-
-#[test]
-fn scripts_run_over_a_profile(rt: HostRuntime) -> Result<(), Fail> {
-    let alloc = rt.alloc();
-    let profile = Profile::built(alloc)?;
-    let rows = [
-        (FIRST, FIRST_TEXT),
-        (ONE_FILE, ONE_FILE_TEXT),
-        (RECEIPTS, RECEIPTS_TEXT),
-        (EXCHANGES, EXCHANGES_TEXT),
-        (OPEN_DEVICES, OPEN_DEVICES_TEXT),
-    ];
-    for (script, want) in rows {
-        let text = text_over(alloc, &profile, script)?;
-        assert_eq!(rt; text.as_slice(), want);
-    }
-    Ok(())
-}
-
 /// Another profile: a display of another size, a device of each kind of spare, and no Hard Totals.
 const OTHER_PROFILE: &str =
     "[[device]]\nname = \"front\"\ncategory = \"LineDisplay\"\nrows = 1\ncolumns = 3\n\
@@ -501,7 +497,9 @@ fn a_profile_has_its_own_devices(rt: HostRuntime) -> Result<(), Fail> {
     let Ok(profile) = Profile::from_text(alloc, OTHER_PROFILE) else {
         return Err(Fail::new("no profile"));
     };
-    let text = text_over(alloc, &profile, OTHER)?;
+    let mut text = Vec::new(alloc);
+    let mut reader = OTHER;
+    run_over(alloc, &mut reader, &mut text, &profile)?;
     assert_eq!(rt; text.as_slice(), OTHER_TEXT);
     Ok(())
 }
@@ -599,7 +597,7 @@ fn the_cut_of_the_input_does_not_matter(rt: HostRuntime) -> Result<(), Fail> {
             reads_left: 1000,
         };
         let mut text = Vec::new(rt.alloc());
-        run_over_devices(rt.alloc(), &mut reader, &mut text)?;
+        run_built(rt.alloc(), &mut reader, &mut text)?;
         assert_eq!(rt; text.as_slice(), STATES_TEXT);
     }
     Ok(())
@@ -614,7 +612,7 @@ fn the_input_may_come_byte_by_byte(rt: HostRuntime) -> Result<(), Fail> {
         reads_left: 2_102,
     };
     let mut text = Vec::new(rt.alloc());
-    run_over_devices(rt.alloc(), &mut reader, &mut text)?;
+    run_built(rt.alloc(), &mut reader, &mut text)?;
     assert_eq!(rt; text.as_slice(), b"ok closed\n".as_slice());
     Ok(())
 }
@@ -630,7 +628,7 @@ fn the_text_is_written_on(rt: HostRuntime) -> Result<(), Fail> {
         };
         let mut writer = BufWriter::new(rt.alloc(), narrow)?;
         let mut reader = FIRST;
-        let result = serve(rt.alloc(), &mut reader, &mut writer);
+        let result = serve_built(rt.alloc(), &mut reader, &mut writer);
         assert_eq!(rt; result, want);
         assert_eq!(rt; writer.get_ref().taken.as_slice(), FIRST_TEXT);
     }
@@ -726,7 +724,7 @@ fn a_failed_read_writes_nothing(rt: HostRuntime) -> Result<(), Fail> {
             reads_left,
         };
         let mut text = Vec::new(rt.alloc());
-        let result = run_over_devices(rt.alloc(), &mut reader, &mut text);
+        let result = run_built(rt.alloc(), &mut reader, &mut text);
         if (reads_left as usize) < reads {
             assert_eq!(rt; result, Err(RunFault::Read));
             assert_eq!(rt; text.len(), 0);
@@ -749,7 +747,7 @@ fn a_failed_write_leaves_a_front(rt: HostRuntime) -> Result<(), Fail> {
                 end,
             };
             let mut reader = FIRST;
-            let result = run_over_devices(rt.alloc(), &mut reader, &mut writer);
+            let result = run_built(rt.alloc(), &mut reader, &mut writer);
             let taken = (writes_left as usize).min(FIRST_TEXT.len());
             assert_eq!(rt; writer.taken.as_slice(), &FIRST_TEXT[..taken]);
             if taken < FIRST_TEXT.len() {
@@ -769,7 +767,6 @@ fn drawer_after(
     script: &[u8],
     writes_left: u32,
 ) -> Result<(Result<(), RunFault>, Option<bool>), AllocError> {
-    let made = simulate(alloc)?;
     let Ok(profile) = Profile::built(alloc) else {
         return Err(AllocError);
     };
@@ -779,24 +776,12 @@ fn drawer_after(
     let Ok(mut counter) = Counter::new(alloc, &profile, Vec::new(alloc), disk) else {
         return Err(AllocError);
     };
-    let Ok(boxes) = Vec::with_capacity(alloc, 1) else {
+    let Ok(drawer) = Box::new(alloc, PlainDrawer::new()) else {
         end_counter(counter);
         return Err(AllocError);
     };
-    let Simulated {
-        drawer,
-        scanner,
-        display,
-        printer,
-        spare,
-    } = made;
-    let drawer = PeripheralBox::new(drawer);
-    let scanner = PeripheralBox::new(scanner);
-    let display = PeripheralBox::new(display);
-    let printer = PeripheralBox::new(printer);
-    let spare = PeripheralBox::new(spare);
-    fill(&mut counter, drawer, scanner, display, printer);
-    let mut spares = keep_spare(boxes, spare);
+    offer(&mut counter, b"d1", PeripheralBox::new(drawer));
+    let mut spares = Spares::new(Vec::new(alloc));
     let mut writer = Narrow {
         taken: Vec::new(alloc),
         size: 1,

@@ -1,4 +1,4 @@
-use Rattle.std.proofs.Common.{◌≡◌, ◌∙◌, ◌<◌, ◌≤◌, ◌++◌, ◌∷◌, [], inr, All, None, Some, get_or, length, map, option_map, take, vec_len, ap, arith, refl, rules, subst, sym}
+use Rattle.std.proofs.Common.{◌≡◌, ◌∙◌, ◌<◌, ◌≤◌, ◌∷◌, [], inr, All, None, Some, get_or, length, option_map, ap, arith, refl, subst, sym}
 use Rattle.std.proofs.lemmas.List.{map-append, take_all}
 use denote.Param.Object.{read_made}
 use Rattle.pos_service.specs.Peripherals.{PeripheralState}
@@ -8,7 +8,8 @@ use Rattle.pos_counter.specs.Counters.{boxes_of, machine}
 use Rattle.pos_counter.specs.Steps.{Attach, Step}
 use Rattle.pos_console.specs.Simulating.{boxed_state, simulated_all, simulated_for, state_of}
 use Rattle.pos_console.specs.Spares.{IsInService, spares_in, states_in}
-use Rattle.pos_console.proofs.Profiling.{IsFilled, all_serve, fills_more, fills_skip, simulable, spares_more}
+use Rattle.pos_console.proofs.Filling.{begins_partly, ends_whole, serves_more, skips}
+use Rattle.pos_console.proofs.Profiling.{all_serve, simulable, spares_more}
 use Rattle.pos_console.proofs.Starting.{begun_leaves, runs_over}
 use Rattle.pos_console.proofs.profiled.run_over_profile.OwnLists.{at-1-1, own-1}
 use Rattle.pos_console.proofs.profiled.run_over_profile.Goals as goal
@@ -17,7 +18,7 @@ pub loop-entry-init : goal.loop-entry-init
 loop-entry-init g c = record {
   sound = c.in-Ok.ensures.sound;
   totals = c.in-Ok.ensures.begins.totals;
-  filled = λ part. record { fills = []; asked = refl; run = c.in-Ok.ensures.begins.machine part };
+  served = λ part. c.in-Ok.ensures.begins.machine part ∙ begins_partly c.args.profile.now.devices part;
 }
 
 pub simulate_boxed-requires : goal.simulate_boxed-requires
@@ -39,7 +40,7 @@ loop-entry-preserved-in_default-made g c =
     record {
       sound = c.loop-entry.invariant.sound;
       totals = c.loop-entry.invariant.totals;
-      filled = λ part. fills_skip devices i entry lt is part _ none (c.loop-entry.invariant.filled part);
+      served = λ part. c.loop-entry.invariant.served part ∙ skips devices i entry lt is part none;
     }
 
 pub loop-entry-preserved : goal.loop-entry-preserved
@@ -59,7 +60,7 @@ loop-entry-preserved g c =
     record {
       sound = c.offer.ensures.sound;
       totals = step.1.totals ∙ c.loop-entry.invariant.totals;
-      filled = λ part. fills_more devices i entry lt is part (machine boxes old part) (machine boxes new part) state step.0 some (c.loop-entry.invariant.filled part)
+      served = λ part. serves_more devices i entry lt is part (machine boxes old part) (machine boxes new part) state step.0 some (c.is_profile.ensures.names i) (c.loop-entry.invariant.served part)
           (subst (λ name. Step (machine boxes old part) (Attach name (station_of state)) step.0 (machine boxes new part)) c.as_bytes.ensures (step.1.step part));
     }
 
@@ -117,5 +118,5 @@ returns g c =
     let totals = c.loop-entry.invariant.totals in
     let spares = c.new-spares.ensures.spares ∙ c.loop-entry-2.invariant.states ∙ ap simulated_all (take_all j profile.spares every) in
     λ left honest leaves. inr (runs_over g.D.Disk boxes counter left (begun_leaves g.D.Disk boxes c.args.disk counter totals left honest leaves) (spares_in boxes c.new-spares.result) profile c.args.disk totals
-    (λ part. subst (λ some. IsFilled profile.devices part some (machine boxes counter part)) (take_all i profile.devices all) (c.loop-entry.invariant.filled part))
+    (λ part. c.loop-entry.invariant.served part ∙ ends_whole profile.devices i part all)
     _ _ _ _ (spares_in boxes c.run-result.new.spares) _ spares c.run-result.ensures.script)

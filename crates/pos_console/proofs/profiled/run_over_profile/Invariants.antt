@@ -4,19 +4,19 @@ use Rattle.pos_counter.specs.Counters.{IsCounterSound, machine}
 use Rattle.pos_counter.specs.Totals.{TotalsPart}
 use Rattle.pos_console.specs.Simulating.{simulated_all}
 use Rattle.pos_console.specs.Spares.{states_in}
-use Rattle.pos_console.proofs.Profiling.{IsFilled}
+use Rattle.pos_console.proofs.Filling.{begun_partly}
 use Rattle.pos_console.proofs.Starting.{begun_totals}
 use Rattle.pos_console.proofs.profiled.run_over_profile.OwnLists.{own-1}
 use Rattle.pos_console.proofs.profiled.run_over_profile.Given as goal
 
--- the devices so far are filled
+-- the devices so far are served
 abbrev pub invariant-loop-entry : goal.invariant-loop-entry
 invariant-loop-entry g l =
     let boxes : Ghosts _ = record { state = λ b. (own-1.entry b.device.vtable).1.state b.device.value } in
     record {
       sound : IsCounterSound boxes l.counter;
       totals : l.counter.totals ≡ begun_totals l.fn.disk;
-      filled : (part : TotalsPart) → IsFilled l.fn.profile.devices part (take l.entry-index l.fn.profile.devices) (machine boxes l.counter part);
+      served : (part : TotalsPart) → machine boxes l.counter part ≡ begun_partly l.fn.profile.devices l.entry-index part;
     }
 
 -- the spares so far are there
