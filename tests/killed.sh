@@ -2,7 +2,8 @@
 # Kills the program at a hundred random moments while it changes Hard Totals in a file, and opens the file again: it has
 # to hold each change that was printed as `ok`, and nothing that was not asked for.
 # This tries the end of the process. What a loss of power leaves is the crash model of docs/DISK.md.
-# Usage: tests/killed.sh [TIMES [PROGRAM]]. Without a program it builds it, and needs rt.
+# Usage: tests/killed.sh [TIMES [PROGRAM]]. Without a program it builds it, and needs rt. Its last line is
+# 'N passed, M failed', a round each.
 set -eu
 top=$(cd "$(dirname "$0")/.." && pwd)
 times=${1:-100}
@@ -59,5 +60,6 @@ for ((round = 1; round <= times; round++)); do
     lost=$((lost + 1))
   fi
 done
-echo "$times rounds: $inside killed while it ran, $whole ended before; $lost lost a change"
+echo "$times rounds: $inside killed while it ran, $whole ended before"
+echo "$((times - lost)) passed, $lost failed"
 [ "$lost" -eq 0 ]

@@ -7,8 +7,6 @@ mod controls;
 mod need;
 mod reader;
 mod status;
-#[cfg(test)]
-mod tests;
 mod writer;
 
 pub use claims::Claims;

@@ -1,5 +1,5 @@
 /// What a call asks of its control, besides that it is open.
-#[derive(Clone, Copy, Debug, PartialEq, Eq)]
+#[derive(Clone, Copy, PartialEq, Eq)]
 pub struct Need {
     /// What it asks of the claim of the device.
     pub claim: ClaimNeed,
@@ -8,7 +8,7 @@ pub struct Need {
 }
 
 /// What a call asks of the claim of its control's device (common chapter, sharable and exclusive-use devices).
-#[derive(Clone, Copy, Debug, PartialEq, Eq)]
+#[derive(Clone, Copy, PartialEq, Eq)]
 pub enum ClaimNeed {
     /// Nothing.
     Any,

@@ -1,7 +1,1 @@
-pub mod NameLemmas
-pub mod SpareLemmas
-pub mod Sessions
-pub mod Starting
 pub mod Serving
-pub mod Filling
-pub mod Profiling

@@ -1,25 +1,32 @@
 -- What the program leaves of its writer, from what a run leaves.
-use Rattle.std.proofs.Common.{◌≡◌, ◌++◌, ◌∷◌, ◌∙◌, [], inl, inr, ℕ, List, Option, sym, ap, subst, append_assoc, append-nil}
+use Rattle.std.proofs.Common.{◌≡◌, ◌++◌, ◌∷◌, ◌∙◌, [], inl, inr, ℕ, List, Option, arith, refl, sym, ap, subst, append_assoc, append-nil}
 use Rattle.std.specs.Prelude.{◌⊎◌, Result, Ok, Err}
 use Rattle.std.specs.Io.KnownBytes.{Keeps}
 use Rattle.std.proofs.KnownBytes.{Appends-kept}
+use Rattle.pos_disk.proofs.Moments.{rest_leaves}
 use Rattle.pos_disk.specs.Memory.{Memory, state_of}
 use Rattle.pos_profile.specs.Built.{built}
 use Rattle.pos_profile.specs.Entries.{Contents}
-use Rattle.pos_store.specs.Standing.{Stands}
+use Rattle.pos_store.specs.Standing.{LeavesOneOf, Stands, StandsForOneOf}
 use Rattle.pos_counter.specs.Machine.{Machine}
 use Rattle.pos_counter.specs.Steps.{Run}
 use Rattle.pos_counter.specs.Totals.{TotalsPart}
 use Rattle.pos_counter.proofs.Runs.{run_append}
-use Rattle.pos_console.specs.declared.run.RunFault.{RunFault}
-use Rattle.pos_console.specs.declared.run.RunFault.TheVariants as fault
+use Rattle.pos_run.specs.declared.scripts.RunFault.{RunFault}
+use Rattle.pos_run.specs.declared.scripts.RunFault.TheVariants as fault
 use Rattle.pos_script.specs.Lines.{lines_of}
-use Rattle.pos_console.specs.Transcript.{Transcript, session_with}
-use Rattle.pos_console.specs.Running.{IsNewDisk, ReachesFront, RunsScript, Serves, ServesFrom, Stops, new_totals}
-use Rattle.pos_console.specs.Simulating.{FindsNoMemory, ProfileServes, RunsOverProfile, ServesOverProfile}
-use Rattle.pos_console.specs.Spares.{SpareStates}
-use Rattle.pos_console.proofs.Sessions.{session_more}
-use Rattle.pos_console.proofs.Starting.{new_disk_leaves}
+use Rattle.pos_run.specs.Transcript.{Transcript, session_with}
+use Rattle.pos_run.specs.Running.{RunsScript, Stops, new_totals}
+use Rattle.pos_run.specs.Simulating.{FindsNoMemory, RunsOverProfile}
+use Rattle.pos_run.specs.Spares.{SpareStates}
+use Rattle.pos_run.proofs.Sessions.{session_more}
+use Rattle.pos_console.specs.Serving.{IsNewDisk, ProfileServes, ReachesFront, Serves, ServesFrom, ServesOverProfile}
+
+-- a disk that was formatted leaves no files, with sequence 1
+pub new_disk_leaves : (disk : Memory) → IsNewDisk disk → LeavesOneOf (Stands [] 1 ∷ []) (state_of disk)
+new_disk_leaves disk new bytes may =
+    subst (StandsForOneOf (Stands [] 1 ∷ [])) (sym (rest_leaves (state_of disk) bytes new.at_rest may))
+    (inl (record { count = omega arith; size = omega arith; named = refl; distinct = refl }, new.image.image))
 
 -- a run over all lines has found memory
 not_refused : (before after : Option (List ℕ)) → FindsNoMemory before after (Ok tt) → ⊥

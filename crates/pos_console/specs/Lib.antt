@@ -1,6 +1,1 @@
-pub mod Names
-pub mod Spares
-pub mod Transcript
-pub mod Running
-pub mod Carried
-pub mod Simulating
+pub mod Serving

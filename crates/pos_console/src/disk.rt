@@ -1,5 +1,5 @@
 ghost use Rattle.std.specs.Prelude.{IfOk};
-ghost use Rattle.pos_console.specs.Running.{IsNewDisk};
+ghost use Rattle.pos_console.specs.Serving.{IsNewDisk};
 
 use pos_disk::MemDisk;
 use pos_image::Images;

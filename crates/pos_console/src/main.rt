@@ -5,27 +5,15 @@
 ghost use Rattle.std.specs.Prelude.{◌≡◌, [], OnOk};
 ghost use Rattle.std.specs.Io.Buffered.{writer_buffer, writer_contents};
 ghost use Rattle.pos_program.specs.Faults.{status_of};
-ghost use Rattle.pos_console.specs.Running.{Serves, status};
-ghost use Rattle.pos_console.specs.Simulating.{ProfileServes};
+ghost use Rattle.pos_console.specs.Serving.{ProfileServes, Serves, status};
 
-mod devices;
 mod disk;
-mod names;
-mod profiled;
-mod read;
-mod run;
-mod session;
-mod simulation;
-mod spares;
-#[cfg(test)]
-mod tests;
 
 use disk::format_disk;
 use pos_disk::Disk;
 use pos_profile::Profile;
 use pos_program::{Fault, Task, choice, format_file, open_run, read_words, status_of};
-use profiled::run_over_profile;
-use run::RunFault;
+use pos_run::{RunFault, run_over_profile};
 use std::alloc::Global;
 use std::io::{BufWriter, Read, Write};
 use std::process::ExitCode;

@@ -7,7 +7,7 @@ use pos_service::{
 };
 
 /// What may be asked of a counter: controls by their numbers, devices by their names.
-#[derive(Debug, Drop)]
+#[derive(Drop)]
 pub enum Request {
     /// A new control of a category.
     NewControl(Category),
@@ -24,7 +24,7 @@ pub enum Request {
 }
 
 /// What a counter answers to a request.
-#[derive(Debug, Drop)]
+#[derive(Drop)]
 pub enum Response {
     /// The new control's number.
     Made(usize),

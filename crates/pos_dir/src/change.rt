@@ -2,7 +2,7 @@ use crate::bytes::{Bytes, Name};
 
 /// A change of the files of Hard Totals (UnifiedPOS 1.16, Hard Totals: create, delete, rename,
 /// write, setAll). A file is named by its index at the moment of the change.
-#[derive(Debug, Drop)]
+#[derive(Drop)]
 pub enum Change {
     /// Adds a file of zero bytes behind the others.
     Create {

@@ -10,7 +10,7 @@ use std::marker::Model;
 /// The files of Hard Totals in index order, which is the order of their creation: names of 1 to 10
 /// bytes of 0x20 to 0x7F, no two the same, at most 64 files of at most 8,192 bytes in sum
 /// (UnifiedPOS 1.16, Hard Totals). Contracts see it as the list of its files.
-#[derive(Debug, Drop)]
+#[derive(Drop)]
 pub struct Directory {
     pub(crate) files: Vec<File>,
 }

@@ -6,7 +6,7 @@ use crate::limits::Limits;
 
 /// A file of Hard Totals: its name and its bytes, whose number, 0 allowed, stays as the file was
 /// created (UnifiedPOS 1.16, Hard Totals).
-#[derive(Debug, Drop)]
+#[derive(Drop)]
 pub struct File {
     /// Its name: 1 to 10 bytes of 0x20 to 0x7F.
     pub name: Name,

@@ -19,7 +19,7 @@ const GROUP_LIMIT: usize = 65_535;
 
 /// A list of changes, to be applied in order, all or none, as a transaction of Hard Totals is
 /// (UnifiedPOS 1.16, Hard Totals). Contracts see the list.
-#[derive(Debug, Drop)]
+#[derive(Drop)]
 pub struct Group {
     pub(crate) changes: Vec<Change>,
 }

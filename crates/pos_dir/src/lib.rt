@@ -34,5 +34,3 @@ pub use outlines::check_group;
 pub use reading::{decode, decode_group};
 pub use writing::{encode, encode_group};
 
-#[cfg(test)]
-mod tests;

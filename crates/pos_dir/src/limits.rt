@@ -1,5 +1,5 @@
 /// How much a directory may hold.
-#[derive(Clone, Copy, Debug, PartialEq, Eq)]
+#[derive(Clone, Copy, PartialEq, Eq)]
 pub struct Limits {
     /// The most bytes of all files in sum.
     pub bytes: u32,

@@ -1,7 +1,7 @@
 // What a crash puts into the loose places of a disk in memory.
 
 /// What a crash puts into the loose places: what stood there at the last sync, what a read gives, or one byte.
-#[derive(Clone, Copy, Debug, PartialEq, Eq)]
+#[derive(Clone, Copy, PartialEq, Eq)]
 pub enum Fill {
     /// The byte that stood there at the last sync.
     Old,

@@ -6,8 +6,6 @@ mod fill;
 mod fuse;
 mod memory;
 mod past;
-#[cfg(test)]
-mod tests;
 
 pub use device::{Disk, DiskFault};
 pub use fill::Fill;

@@ -3,7 +3,5 @@
 
 mod calls;
 mod plans;
-#[cfg(test)]
-mod tests;
 
 pub use calls::call;

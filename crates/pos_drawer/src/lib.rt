@@ -3,8 +3,6 @@
 
 mod calls;
 mod inputs;
-#[cfg(test)]
-mod tests;
 
 pub use calls::call;
 pub use inputs::take_input;

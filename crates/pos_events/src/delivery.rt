@@ -3,7 +3,7 @@ ghost use Rattle.std.specs.Prelude.{◌≡◌};
 use pos_service::{Event, Scan};
 
 /// An event that leaves a queue for its application.
-#[derive(Debug, Drop)]
+#[derive(Drop)]
 pub struct Delivery {
     /// The event.
     pub event: Event,

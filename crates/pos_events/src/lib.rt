@@ -4,8 +4,6 @@
 mod delivery;
 mod others;
 mod queue;
-#[cfg(test)]
-mod tests;
 mod told;
 
 pub use delivery::Delivery;

@@ -8,7 +8,7 @@ use std::alloc::Global;
 use std::collections::VecDeque;
 
 /// An event that doesn't wait, in its place among those that wait.
-#[derive(Clone, Copy, Debug, PartialEq, Eq)]
+#[derive(Clone, Copy, PartialEq, Eq)]
 pub(crate) struct Other {
     /// How many waiting events stand directly before it.
     pub(crate) before: usize,

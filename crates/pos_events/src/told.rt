@@ -6,7 +6,7 @@ use crate::delivery::{Delivery, without_scan};
 use pos_service::{Code, Event, Locus};
 
 /// An event that doesn't wait for DataEventEnabled.
-#[derive(Clone, Copy, Debug, PartialEq, Eq)]
+#[derive(Clone, Copy, PartialEq, Eq)]
 pub(crate) enum Told {
     /// StatusUpdateEvent, with the status.
     Status(u32),

@@ -10,10 +10,6 @@ mod layout;
 mod reading;
 mod slot;
 mod steps;
-#[cfg(test)]
-mod test_disks;
-#[cfg(test)]
-mod tests;
 
 pub use fault::ImageFault;
 pub use images::Images;

@@ -4,7 +4,7 @@ ghost use Rattle.pos_image.specs.Layout.{start, other};
 
 use crate::layout::SECOND;
 
-#[derive(Clone, Copy, Debug, PartialEq, Eq)]
+#[derive(Clone, Copy, PartialEq, Eq)]
 pub enum Slot {
     First,
     Second,

@@ -3,8 +3,6 @@
 
 mod fault;
 mod queue;
-#[cfg(test)]
-mod tests;
 
 pub use fault::PutFault;
 pub use queue::OutputQueue;

@@ -5,8 +5,6 @@
 mod calls;
 mod inputs;
 mod requests;
-#[cfg(test)]
-mod tests;
 mod working;
 
 pub use calls::call;

@@ -5,7 +5,7 @@ use crate::text::Text;
 use pos_service::{Category, Kind};
 
 /// A device of the profile, or a spare. A number that its category doesn't have is 0, and a spare's name is empty.
-#[derive(Debug, Drop)]
+#[derive(Drop)]
 pub struct Entry {
     /// The name by which controls open it, 1 to 16 ASCII letters, digits or hyphens.
     pub name: Text,

@@ -18,16 +18,10 @@ mod profile;
 mod reading;
 mod registry;
 mod registry_fault;
-#[cfg(test)]
-mod registry_tests;
 mod role;
 mod root;
 mod slot;
 mod table;
-#[cfg(test)]
-mod test_drawer;
-#[cfg(test)]
-mod tests;
 mod text;
 
 pub use entry::Entry;

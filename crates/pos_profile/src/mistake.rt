@@ -4,7 +4,7 @@ use crate::text::Text;
 use std::fmt;
 
 /// Where a profile isn't sound.
-#[derive(Clone, Copy, Debug, PartialEq, Eq)]
+#[derive(Clone, Copy, PartialEq, Eq)]
 pub enum Place {
     /// At its root.
     Root,
@@ -13,7 +13,7 @@ pub enum Place {
 }
 
 /// What isn't sound at a place of a profile.
-#[derive(Debug, Drop)]
+#[derive(Drop)]
 pub enum Reason {
     /// The value of the root's key is no array.
     NotAnArray(Role),
@@ -32,7 +32,7 @@ pub enum Reason {
 }
 
 /// The first thing in a profile that isn't sound, for its writer.
-#[derive(Debug, Drop)]
+#[derive(Drop)]
 pub struct Mistake {
     /// The number that the refusal of the profile tells.
     pub number: usize,

@@ -2,7 +2,7 @@ ghost use Rattle.std.specs.Prelude.{◌≡◌};
 ghost use Rattle.pos_profile.specs.Numbers.{key_of_number, least_of, most_of};
 
 /// A number of a display or of a printer.
-#[derive(Clone, Copy, Debug, PartialEq, Eq)]
+#[derive(Clone, Copy, PartialEq, Eq)]
 pub enum NumberKey {
     /// The rows of a display, 1 to 8.
     Rows,

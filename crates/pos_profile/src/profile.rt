@@ -16,7 +16,7 @@ use std::marker::Model;
 use toml::Table;
 
 /// The devices of a counter and its spares, each in the order of the profile (docs/PROFILE.md).
-#[derive(Debug, Drop)]
+#[derive(Drop)]
 pub struct Profile {
     pub(crate) devices: Vec<Entry>,
     pub(crate) spares: Vec<Entry>,

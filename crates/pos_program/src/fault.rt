@@ -11,7 +11,7 @@ use std::fmt::Write;
 
 /// Why the program ends with another status than 0. A fault is told in one line, whatever the paths and the file have
 /// in them. docs/CONSOLE.md, "The program".
-#[derive(Debug, Drop)]
+#[derive(Drop)]
 pub enum Fault<'a> {
     /// The words are those of no command.
     Words,

@@ -10,8 +10,6 @@ mod one_line;
 mod opening;
 mod profile_fault;
 mod profile_file;
-#[cfg(test)]
-mod tests;
 mod words;
 
 pub use fault::{Fault, status_of};

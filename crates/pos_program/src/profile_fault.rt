@@ -4,7 +4,7 @@ use pos_profile::{Mistake, Place, Text};
 use std::{fmt, io};
 
 /// Why a file gives no profile, for its writer.
-#[derive(Debug, Drop)]
+#[derive(Drop)]
 pub enum ProfileFileFault {
     /// It can't be read.
     Unreadable(io::Error),

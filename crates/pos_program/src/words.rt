@@ -13,7 +13,7 @@ use std::{env, io};
 use thiserror::Error;
 
 /// What the words of the command line ask for. A path is its word as it stands.
-#[derive(Clone, Copy, Debug, PartialEq, Eq)]
+#[derive(Clone, Copy, PartialEq, Eq)]
 pub enum Task<'a> {
     /// No words: to run a script over the built-in profile and a formatted disk in memory.
     Demo,

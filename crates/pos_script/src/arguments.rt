@@ -138,7 +138,7 @@ impl Argument for Bytes {
 }
 
 /// The name of a device, which a call keeps.
-#[derive(Debug, Drop)]
+#[derive(Drop)]
 pub struct DeviceName {
     /// Its bytes.
     pub name: Bytes,

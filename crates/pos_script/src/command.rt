@@ -14,7 +14,7 @@ use std::alloc::Global;
 
 /// What a line of a script asks (docs/CONSOLE.md, "Lines"). The first part is the name of the control or of the
 /// device, as it stands in the line: 1 to 16 letters of ASCII, digits or hyphens.
-#[derive(Debug, Drop)]
+#[derive(Drop)]
 pub enum Command<'a> {
     /// A control of a category, under a name: `new`.
     New(&'a [u8], Category),

@@ -1,7 +1,7 @@
 use pos_service::{Answer, Event, Snapshot, Worked};
 
 /// Why a peripheral was not attached to a device, or not detached from it.
-#[derive(Clone, Copy, Debug, PartialEq, Eq)]
+#[derive(Clone, Copy, PartialEq, Eq)]
 pub enum Refusal {
     /// No device that may have a peripheral has the name.
     Unknown,
@@ -14,7 +14,7 @@ pub enum Refusal {
 }
 
 /// The reply to a line that isn't quiet (docs/CONSOLE.md, "Answers").
-#[derive(Debug, Drop)]
+#[derive(Drop)]
 pub enum Reply {
     /// Its shape is wrong: `bad line`.
     BadLine,

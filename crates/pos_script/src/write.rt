@@ -5,7 +5,7 @@ ghost use Rattle.pos_script.specs.Writing.{Writes};
 use std::io::Write;
 
 /// A write failed, or took nothing.
-#[derive(Clone, Copy, Debug, PartialEq, Eq)]
+#[derive(Clone, Copy, PartialEq, Eq)]
 pub struct WriteFault;
 
 /// Writes all bytes, and stops at the first write that fails or takes none.

@@ -2,7 +2,7 @@ use crate::bytes::Bytes;
 use crate::code::Code;
 
 /// A value of a property, and what a call gives back.
-#[derive(Debug, Drop)]
+#[derive(Drop)]
 pub enum Value {
     /// Nothing.
     Empty,
@@ -17,7 +17,7 @@ pub enum Value {
 }
 
 /// What a call answers.
-#[derive(Debug, Drop)]
+#[derive(Drop)]
 pub enum Answer {
     /// It did what it does, and gives this.
     Done(Value),

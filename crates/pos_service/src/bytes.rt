@@ -5,7 +5,7 @@ use std::alloc::Global;
 use std::marker::Model;
 
 /// A list of bytes: the name of a device, or the data of a call. Contracts see the list.
-#[derive(Debug, Drop)]
+#[derive(Drop)]
 pub struct Bytes {
     items: Vec<u8>,
 }

@@ -3,7 +3,7 @@ use crate::bytes::Bytes;
 use crate::property::Property;
 
 /// A call of an application on one of its controls.
-#[derive(Debug, Drop)]
+#[derive(Drop)]
 pub enum Call {
     /// `open`: the control is for the device of this name from now on (common chapter).
     Open(Bytes),

@@ -7,7 +7,7 @@ use crate::kind::Kind;
 use crate::property::Property;
 
 /// The category of a control and of the devices that it may open.
-#[derive(Clone, Copy, Debug, PartialEq, Eq)]
+#[derive(Clone, Copy, PartialEq, Eq)]
 pub enum Category {
     /// Chapter Cash Drawer.
     CashDrawer,

@@ -2,7 +2,7 @@ ghost use Rattle.std.specs.Prelude.{◌≡◌};
 ghost use Rattle.pos_service.specs.Codes.{number_of};
 
 /// A result code of the standard (common chapter, ErrorCode).
-#[derive(Clone, Copy, Debug, PartialEq, Eq)]
+#[derive(Clone, Copy, PartialEq, Eq)]
 pub enum Code {
     /// E_SUCCESS: the call did what it does.
     Success,

@@ -6,7 +6,7 @@ ghost use Rattle.pos_service.specs.Displays.{attribute_number_of, attribute_of, 
 use crate::numbers::to_natural;
 
 /// How a character is shown (chapter Line Display, the attribute of displayText).
-#[derive(Clone, Copy, Debug, PartialEq, Eq)]
+#[derive(Clone, Copy, PartialEq, Eq)]
 pub enum Attribute {
     /// DISP_DT_NORMAL.
     Normal,
@@ -55,7 +55,7 @@ impl Attribute {
 }
 
 /// Where scrollText moves what is shown (chapter Line Display).
-#[derive(Clone, Copy, Debug, PartialEq, Eq)]
+#[derive(Clone, Copy, PartialEq, Eq)]
 pub enum Direction {
     /// DISP_ST_UP.
     Up,
@@ -115,7 +115,7 @@ impl Direction {
 }
 
 /// A character of a display, 0x20 to 0x7E, with its attribute.
-#[derive(Clone, Copy, Debug, PartialEq, Eq)]
+#[derive(Clone, Copy, PartialEq, Eq)]
 pub struct DisplayCell {
     /// The character, 0x20 to 0x7E.
     pub character: u8,
@@ -130,7 +130,7 @@ pub const BLANK: DisplayCell = DisplayCell {
 };
 
 /// A place on a display, counted from 0. Its column is at most the number of columns, which is one right of the last.
-#[derive(Clone, Copy, Debug, PartialEq, Eq)]
+#[derive(Clone, Copy, PartialEq, Eq)]
 pub struct Place {
     /// The row, from 0.
     pub row: u32,
@@ -143,7 +143,7 @@ pub const ORIGIN: Place = Place { row: 0, column: 0 };
 
 /// Where the texts of a control begin, and whether they move that place (chapter Line Display, CursorRow, CursorColumn
 /// and CursorUpdate).
-#[derive(Clone, Copy, Debug, PartialEq, Eq)]
+#[derive(Clone, Copy, PartialEq, Eq)]
 pub struct Cursor {
     /// The place of CursorRow and CursorColumn.
     pub place: Place,

@@ -4,7 +4,7 @@ ghost use Rattle.pos_service.specs.Codes.{locus_number_of};
 use crate::code::Code;
 
 /// An event as it is delivered to an application (common chapter).
-#[derive(Clone, Copy, Debug, PartialEq, Eq)]
+#[derive(Clone, Copy, PartialEq, Eq)]
 pub enum Event {
     /// StatusUpdateEvent: the device has this status now.
     StatusUpdate(u32),
@@ -17,7 +17,7 @@ pub enum Event {
 }
 
 /// Where an error stands (common chapter, ErrorLocus).
-#[derive(Clone, Copy, Debug, PartialEq, Eq)]
+#[derive(Clone, Copy, PartialEq, Eq)]
 pub enum Locus {
     /// EL_OUTPUT.
     Output,
@@ -42,7 +42,7 @@ impl Locus {
 
 /// What an application answers to an ErrorEvent (common chapter, ErrorResponse). It is handed in with the delivery,
 /// and no other event looks at it.
-#[derive(Clone, Copy, Debug, PartialEq, Eq)]
+#[derive(Clone, Copy, PartialEq, Eq)]
 pub enum ErrorReply {
     /// What the locus has by default.
     Default,

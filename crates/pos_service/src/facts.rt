@@ -2,7 +2,7 @@ use crate::kind::Kind;
 use crate::signs::Signs;
 
 /// What the properties of a control tell that the control itself doesn't keep.
-#[derive(Clone, Copy, Debug, PartialEq, Eq)]
+#[derive(Clone, Copy, PartialEq, Eq)]
 pub struct Facts {
     /// Whether the control holds its device by a claim.
     pub is_claimed: bool,
@@ -21,7 +21,7 @@ pub struct Facts {
 }
 
 /// What is known of the files of totals that are ready (chapter Hard Totals).
-#[derive(Clone, Copy, Debug, PartialEq, Eq)]
+#[derive(Clone, Copy, PartialEq, Eq)]
 pub struct FileFacts {
     /// FreeData.
     pub free: usize,

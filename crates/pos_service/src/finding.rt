@@ -1,5 +1,5 @@
 /// What `open` finds under a name in the profile (common chapter).
-#[derive(Clone, Copy, Debug, PartialEq, Eq)]
+#[derive(Clone, Copy, PartialEq, Eq)]
 pub enum Finding {
     /// No device of the control's category has the name.
     NotThere,

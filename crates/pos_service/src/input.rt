@@ -5,7 +5,7 @@ use crate::bytes::Bytes;
 use crate::kind::Kind;
 
 /// What happens at a peripheral from outside.
-#[derive(Debug, Drop)]
+#[derive(Drop)]
 pub enum Input {
     /// A drawer is open from now on, or closed.
     DrawerMoved(bool),
@@ -47,7 +47,7 @@ impl Input {
 }
 
 /// How a peripheral has taken an input.
-#[derive(Clone, Copy, Debug, PartialEq, Eq)]
+#[derive(Clone, Copy, PartialEq, Eq)]
 pub enum Taken {
     /// There is nothing to tell but the signs.
     Quiet,

@@ -2,7 +2,7 @@ ghost use Rattle.std.specs.Prelude.{◌≡◌};
 ghost use Rattle.pos_service.specs.Kinds.{is_drawer, is_display, is_printer, rows_of, columns_of, chars_of};
 
 /// What a device is, with the numbers that don't change while it lives.
-#[derive(Clone, Copy, Debug, PartialEq, Eq)]
+#[derive(Clone, Copy, PartialEq, Eq)]
 pub enum Kind {
     /// A cash drawer.
     Drawer,

@@ -23,8 +23,6 @@ mod property;
 pub mod receipt_text;
 mod scan;
 mod signs;
-#[cfg(test)]
-mod tests;
 mod worked;
 
 pub use answer::{Answer, Value};

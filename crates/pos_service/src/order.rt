@@ -9,7 +9,7 @@ use crate::kind::{Kind, columns_of, rows_of};
 use crate::receipt_text::is_printable;
 
 /// What a control asks of a peripheral.
-#[derive(Debug, Drop)]
+#[derive(Drop)]
 pub enum Order {
     /// A drawer opens.
     OpenDrawer,
@@ -77,7 +77,7 @@ fn units_fit(kind: Kind, direction: Direction, units: u32) -> bool
 }
 
 /// What a peripheral says to an order.
-#[derive(Clone, Copy, Debug, PartialEq, Eq)]
+#[derive(Clone, Copy, PartialEq, Eq)]
 pub enum Reply {
     /// It is done.
     Done,

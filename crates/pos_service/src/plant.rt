@@ -6,7 +6,7 @@ use crate::receipt_text::{Mark, PrintedCharacter};
 use std::marker::Model;
 
 /// What a peripheral is physically.
-#[derive(Debug, Drop)]
+#[derive(Drop)]
 pub enum Plant {
     /// A drawer, open or not.
     Drawer(bool),
@@ -19,7 +19,7 @@ pub enum Plant {
 }
 
 /// What a line display shows. Contracts see its rows, its columns, and the list of its cells row by row.
-#[derive(Debug, Drop)]
+#[derive(Drop)]
 pub struct DisplayCells {
     rows: u32,
     columns: u32,
@@ -82,7 +82,7 @@ impl DisplayCells {
 
 /// A receipt printer's paper and cover. Contracts see how many characters a line has, the list of what is printed, the
 /// line buffer, how many lines of paper are left, and whether the cover is open.
-#[derive(Debug, Drop)]
+#[derive(Drop)]
 pub struct Receipt {
     chars: u32,
     marks: Vec<Mark>,
@@ -164,5 +164,5 @@ impl Receipt {
 }
 
 /// A copy of what a peripheral is physically.
-#[derive(Debug, Drop)]
+#[derive(Drop)]
 pub struct Snapshot(pub Plant);

@@ -3,7 +3,7 @@ ghost use Rattle.pos_service.specs.Calls.{is_settable, needs_open, needs_holder,
 
 /// A property of a control (common chapter, and chapters Cash Drawer, Scanner, Line Display, POS Printer and Hard
 /// Totals).
-#[derive(Clone, Copy, Debug, PartialEq, Eq)]
+#[derive(Clone, Copy, PartialEq, Eq)]
 pub enum Property {
     /// What the control is at: closed 1, idle 2, busy 3, in error 4.
     State,

@@ -8,7 +8,7 @@ mod number;
 use self::number::{count_digits, count_inner, is_upper_byte, number_in};
 
 /// Where the characters of a line stand (escape sequences cA, rA and N).
-#[derive(Clone, Copy, Debug, PartialEq, Eq)]
+#[derive(Clone, Copy, PartialEq, Eq)]
 pub enum Alignment {
     /// At the left.
     Left,
@@ -19,7 +19,7 @@ pub enum Alignment {
 }
 
 /// A piece of the data of a request (chapter POS Printer, printNormal and its escape sequences).
-#[derive(Clone, Copy, Debug, PartialEq, Eq)]
+#[derive(Clone, Copy, PartialEq, Eq)]
 pub enum Piece {
     /// A character.
     Character(u8),
@@ -40,7 +40,7 @@ pub enum Piece {
 }
 
 /// What stands at the front of some bytes.
-#[derive(Clone, Copy, Debug, PartialEq, Eq)]
+#[derive(Clone, Copy, PartialEq, Eq)]
 pub enum Token {
     /// Bytes that are dropped.
     Nothing,
@@ -51,7 +51,7 @@ pub enum Token {
 }
 
 /// A character as it is printed.
-#[derive(Clone, Copy, Debug, PartialEq, Eq)]
+#[derive(Clone, Copy, PartialEq, Eq)]
 pub struct PrintedCharacter {
     /// The character, 0x20 to 0x7E.
     pub byte: u8,
@@ -60,7 +60,7 @@ pub struct PrintedCharacter {
 }
 
 /// What stands on a roll: a line that has ended, with its alignment and the number of its characters, or a cut.
-#[derive(Clone, Copy, Debug, PartialEq, Eq)]
+#[derive(Clone, Copy, PartialEq, Eq)]
 pub enum Mark {
     /// A line of so many characters.
     Line(Alignment, usize),
@@ -69,7 +69,7 @@ pub enum Mark {
 }
 
 /// What comes of a request to a printer.
-#[derive(Clone, Copy, Debug, PartialEq, Eq)]
+#[derive(Clone, Copy, PartialEq, Eq)]
 pub enum Outcome {
     /// It is done.
     Done,

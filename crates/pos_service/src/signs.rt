@@ -2,7 +2,7 @@ ghost use Rattle.std.specs.Prelude.{◌≡◌};
 ghost use Rattle.pos_service.specs.Receipts.{paper_level, is_empty, is_near_end};
 
 /// How much paper a printer has (chapter POS Printer).
-#[derive(Clone, Copy, Debug, PartialEq, Eq)]
+#[derive(Clone, Copy, PartialEq, Eq)]
 pub enum PaperLevel {
     /// More than near the end.
     Good,
@@ -48,7 +48,7 @@ impl PaperLevel {
 }
 
 /// What a peripheral shows of itself. A part that its kind lacks is false, or good.
-#[derive(Clone, Copy, Debug, PartialEq, Eq)]
+#[derive(Clone, Copy, PartialEq, Eq)]
 pub struct Signs {
     /// Whether the drawer is open.
     pub drawer_open: bool,

@@ -1,7 +1,7 @@
 use crate::code::Code;
 
 /// What comes of work on a device's output (common chapter, asynchronous output).
-#[derive(Clone, Copy, Debug, PartialEq, Eq)]
+#[derive(Clone, Copy, PartialEq, Eq)]
 pub enum Worked {
     /// There is nothing to do.
     Idle,

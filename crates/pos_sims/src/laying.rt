@@ -5,7 +5,7 @@ use crate::scrolling::shift_to_front;
 use pos_service::display_text::{Attribute, DisplayCell, Place};
 
 /// How a text is shown: the size of the display, and the text's attribute.
-#[derive(Clone, Copy, Debug)]
+#[derive(Clone, Copy)]
 pub(crate) struct Manner {
     pub rows: u32,
     pub columns: u32,

@@ -10,8 +10,6 @@ mod roll;
 mod roll_printer;
 mod scrolling;
 mod tape;
-#[cfg(test)]
-mod tests;
 mod window;
 
 pub use plain_display::PlainDisplay;

@@ -13,7 +13,7 @@ use std::alloc::Global;
 
 /// A line display of 1 to 8 rows of 1 to 80 columns whose line never fails (chapter Line Display). Its cells are made
 /// by `new`; after that a snapshot alone takes memory.
-#[derive(Debug, Drop)]
+#[derive(Drop)]
 pub struct PlainDisplay {
     alloc: Global,
     window: Window,

@@ -7,7 +7,7 @@ use pos_service::{
 };
 
 /// A cash drawer whose line never fails and which takes no memory (chapter Cash Drawer).
-#[derive(Debug, Drop)]
+#[derive(Drop)]
 pub struct PlainDrawer {
     is_open: bool,
     is_parked: bool,

@@ -7,7 +7,7 @@ use pos_service::{
 };
 
 /// A scanner that takes no memory (chapter Scanner). Its line fails with orders alone, none of which a scanner takes.
-#[derive(Debug, Drop)]
+#[derive(Drop)]
 pub struct PlainScanner {
     is_parked: bool,
     failures: u64,

@@ -2,8 +2,6 @@ ghost use Rattle.std.specs.Prelude.{◌≡◌, ◌≤◌, List, false, None, IfO
 ghost use Rattle.pos_service.specs.declared.receipt_text.Piece.{Piece};
 ghost use Rattle.pos_service.specs.Receipts.{Prints, empty_roll, pieces, cut_pieces, items_from, buffer_from};
 
-#[cfg(test)]
-mod tests;
 
 use crate::tape::{Stop, Tape};
 use pos_service::NoMemory;
@@ -13,7 +11,7 @@ use std::marker::Model;
 
 /// The roll of a receipt printer: what is printed on it, the line buffer, how many lines of paper are left, and
 /// whether the cover is open (UnifiedPOS 1.16, chapter POS Printer). A request is printed whole or not at all.
-#[derive(Debug, Drop)]
+#[derive(Drop)]
 pub struct Roll {
     tape: Tape,
     left: u32,

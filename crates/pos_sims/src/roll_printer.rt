@@ -7,7 +7,7 @@ use std::alloc::Global;
 
 /// A receipt printer of 1 to 255 characters a line, whose paper is near its end at up to 100,000 lines, and whose line
 /// never fails (chapter POS Printer). A request is printed whole or not at all.
-#[derive(Debug, Drop)]
+#[derive(Drop)]
 pub struct RollPrinter {
     alloc: Global,
     roll: Roll,

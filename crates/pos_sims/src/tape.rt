@@ -5,7 +5,7 @@ use pos_service::receipt_text::{Alignment, Mark, PrintedCharacter};
 
 /// What is printed, in two flat lists that only grow at their ends or go back to an earlier length, and the request
 /// that prints.
-#[derive(Debug, Drop)]
+#[derive(Drop)]
 pub(crate) struct Tape {
     /// The characters of a line.
     pub chars: usize,
@@ -32,7 +32,7 @@ pub(crate) struct Tape {
 }
 
 /// Why a request stops before its end.
-#[derive(Clone, Copy, Debug, PartialEq, Eq)]
+#[derive(Clone, Copy, PartialEq, Eq)]
 pub(crate) enum Stop {
     /// A growth was refused.
     NoMemory,

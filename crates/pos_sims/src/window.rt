@@ -4,8 +4,6 @@ ghost use Rattle.pos_service.specs.declared.plant.Plant.TheVariants as plant;
 ghost use Rattle.pos_service.specs.Displays.{ShowsText, Scrolls, blank_display, is_cursor_place, most_units};
 ghost use Rattle.pos_service.specs.Peripherals.{IsInRange, IsPlantOf};
 
-#[cfg(test)]
-mod tests;
 
 use crate::laying::{Manner, lay_text};
 use crate::scrolling::scroll_cells;
@@ -16,7 +14,7 @@ use std::marker::Model;
 
 /// The device window of a line display, 1 to 8 rows of 1 to 80 columns (UnifiedPOS 1.16, chapter Line Display).
 /// Contracts see its size and its cells row by row. Only `new` takes memory.
-#[derive(Debug, Drop)]
+#[derive(Drop)]
 pub struct Window {
     rows: u32,
     columns: u32,

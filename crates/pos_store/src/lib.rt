@@ -14,7 +14,3 @@ pub use fault::StoreFault;
 pub use mode::Mode;
 pub use store::Store;
 
-#[cfg(test)]
-mod support;
-#[cfg(test)]
-mod tests;

@@ -21,5 +21,3 @@ mod transactions;
 pub use fault::RecoveryFault;
 pub use totals::Totals;
 
-#[cfg(test)]
-mod tests;

@@ -78,7 +78,7 @@ impl EventQueue {
 }
 
 /// A kind of event that waits for DataEventEnabled.
-#[derive(Clone, Copy, Debug, PartialEq, Eq)]
+#[derive(Clone, Copy, PartialEq, Eq)]
 pub(crate) enum Waiting {
     /// The ErrorEvent with EL_INPUT_DATA.
     InputData,

@@ -1,0 +1,103 @@
+-- The spares, where one is taken or put back.
+use Rattle.std.proofs.Common.{◌≡◌, ◌∙◌, ◌<◌, ◌≤◌, ℕ, zero, suc, List, [], ◌∷◌, Option, Some, None, false, All, IfSome, get_or, length, option_and_then, set, slice_get, refl, sym, ap, subst, arith}
+use Rattle.std.specs.Prelude.{option_map}
+use Rattle.std.proofs.lemmas.List.{get_or-map, length-map, map-set}
+use Rattle.std.proofs.lemmas.List.Elements.{All-set}
+use Rattle.std.proofs.lemmas.Option.{slice_get-map, slice_get_past, slice_get_read, slice_get_within}
+use Rattle.pos_service.specs.declared.peripheral_box.PeripheralBox.{PeripheralBox}
+use Rattle.pos_service.specs.declared.peripheral_box.HasState.{Ghosts}
+use Rattle.pos_service.specs.Peripherals.{PeripheralState}
+use Rattle.pos_run.specs.Spares.{IsEmptyAt, IsInService, SpareStates, spare_at, states_in, with_spare}
+
+-- past the end nothing is changed
+set_past : (spares : SpareStates) (place : ℕ) (spare : Option PeripheralState) → length spares ≤ place → set spares place spare ≡ spares
+set_past [] place spare past = refl
+set_past (first ∷ spares) zero spare past = absurd (omega (arith, past))
+set_past (first ∷ spares) (suc place) spare past = ap (λ (ss : SpareStates). first ∷ ss) (set_past spares place spare (omega (arith, past)))
+
+-- a number behind the last has no spare
+pub none_past : (spares : SpareStates) (number : ℕ) → length spares < number → spare_at spares number ≡ None
+none_past spares zero past = refl
+none_past spares (suc place) past = ap (option_and_then (λ spare. spare)) (slice_get_past spares place (omega (arith, past)))
+
+pub stays_past : (spares : SpareStates) (number : ℕ) → length spares < number → spares ≡ with_spare spares number None
+stays_past spares zero past = refl
+stays_past spares (suc place) past = sym (set_past spares place None (omega (arith, past)))
+
+-- an empty place stays one
+vacated : (spares : SpareStates) (place : ℕ) → option_and_then (λ spare. spare) (slice_get spares place) ≡ None → set spares place None ≡ spares
+vacated [] place none = refl
+vacated (None ∷ spares) zero none = refl
+vacated (Some state ∷ spares) zero none = cc
+vacated (first ∷ spares) (suc place) none = ap (λ (ss : SpareStates). first ∷ ss) (vacated spares place none)
+
+pub none_taken : (spares : SpareStates) (number : ℕ) → spare_at spares number ≡ None → with_spare spares number None ≡ spares
+none_taken spares zero none = refl
+none_taken spares (suc place) none = vacated spares place none
+
+-- a spare that is put back is where it was
+returned : (spares : SpareStates) (place : ℕ) (state : PeripheralState) → option_and_then (λ spare. spare) (slice_get spares place) ≡ Some state → set (set spares place None) place (Some state) ≡ spares
+returned [] place state there = cc
+returned (None ∷ spares) zero state there = cc
+returned (Some first ∷ spares) zero state there = ap (λ (s : Option PeripheralState). s ∷ spares) (sym there)
+returned (first ∷ spares) (suc place) state there = ap (λ (ss : SpareStates). first ∷ ss) (returned spares place state there)
+
+pub put_back : (spares : SpareStates) (number : ℕ) (state : PeripheralState) → spare_at spares number ≡ Some state → with_spare (with_spare spares number None) number (Some state) ≡ spares
+put_back spares zero state there = cc
+put_back spares (suc place) state there = returned spares place state there
+
+-- the place of one that was taken is empty
+emptied : (spares : SpareStates) (place : ℕ) (state : PeripheralState) → option_and_then (λ spare. spare) (slice_get spares place) ≡ Some state → slice_get (set spares place None) place ≡ Some None
+emptied [] place state there = cc
+emptied (first ∷ spares) zero state there = refl
+emptied (first ∷ spares) (suc place) state there = emptied spares place state there
+
+pub empty_taken : (spares : SpareStates) (number : ℕ) (state : PeripheralState) → spare_at spares number ≡ Some state → IsEmptyAt (with_spare spares number None) number
+empty_taken spares zero state there = cc
+empty_taken spares (suc place) state there = (place, refl, emptied spares place state there)
+
+-- the spare of a number is what its place has
+pub spare_is : (spares : SpareStates) (number place : ℕ) (spare : Option PeripheralState) → number ≡ suc place → slice_get spares place ≡ Some spare → spare_at spares number ≡ spare
+spare_is spares number place spare is at = ap (spare_at spares) is ∙ ap (option_and_then (λ s. s)) at
+
+pub with_is : (spares : SpareStates) (number place : ℕ) (spare : Option PeripheralState) → number ≡ suc place → set spares place spare ≡ with_spare spares number spare
+with_is spares number place spare is = sym (ap (λ n. with_spare spares n spare) is)
+
+-- a place isn't empty and taken
+not_both : (spares : SpareStates) (number place : ℕ) (state : PeripheralState) → number ≡ suc place → IsEmptyAt spares number → slice_get spares place ≡ Some (Some state) → ⊥
+not_both spares number place state is (other, same, none) at =
+    let places : place ≡ other = omega (arith, is, same) in
+    let here : slice_get spares place ≡ Some None = ap (slice_get spares) places ∙ none in
+    let both : Some (Some state) ≡ Some None = sym at ∙ here in
+    cc
+
+module _ {X : Type 0} {O : X → Type 0} (boxes : Ghosts (PeripheralBox X O)) (list : List (Option (PeripheralBox X O))) (place : ℕ) where
+  -- what is at the place of a box
+  pub state_there : (spare : Option (PeripheralBox X O)) → place < length list → spare ≡ get_or list place spare → slice_get (states_in boxes list) place ≡ Some (option_map boxes.state spare)
+  state_there spare within at =
+      slice_get-map (option_map boxes.state) list place ∙ ap (option_map (option_map boxes.state)) (slice_get_read list (length list) place spare refl within at)
+
+  -- the box that is there is in service
+  serving : (spare : Option (PeripheralBox X O)) → IsInService (option_map boxes.state spare) → IfSome spare (λ b. (boxes.state b).is_parked ≡ false)
+  serving None h = tt
+  serving (Some b) h = h
+
+  pub serves_there : (spare : Option (PeripheralBox X O)) → All IsInService (states_in boxes list) → place < length list → spare ≡ get_or list place spare → IfSome spare (λ b. (boxes.state b).is_parked ≡ false)
+  serves_there spare all within at =
+      let count : length (states_in boxes list) ≡ length list = length-map list (option_map boxes.state) in
+      let there : get_or (states_in boxes list) place (option_map boxes.state spare) ≡ option_map boxes.state spare = get_or-map (option_map boxes.state) list place spare (option_map boxes.state spare) within ∙ ap (option_map boxes.state) (sym at) in
+      serving spare (subst IsInService there (all place (option_map boxes.state spare) (omega (arith, count, within))))
+
+  -- another box, or none, is put there
+  pub states_set : (spare : Option (PeripheralBox X O)) → states_in boxes (set list place spare) ≡ set (states_in boxes list) place (option_map boxes.state spare)
+  states_set spare = map-set (option_map boxes.state) list place spare
+
+  pub service_set : (spare : Option (PeripheralBox X O)) → All IsInService (states_in boxes list) → IsInService (option_map boxes.state spare) → All IsInService (states_in boxes (set list place spare))
+  service_set spare all one = subst (All IsInService) (sym (states_set spare)) (All-set IsInService (states_in boxes list) place (option_map boxes.state spare) one all)
+
+  -- the place of a number that is empty has no box
+  pub no_box : (number : ℕ) (spare : Option (PeripheralBox X O)) (other : PeripheralBox X O) → number ≡ suc place → IsEmptyAt (states_in boxes list) number → spare ≡ get_or list place spare → spare ≡ Some other → ⊥
+  no_box number spare other is (empty, same, none) at some =
+      let count : length (states_in boxes list) ≡ length list = length-map list (option_map boxes.state) in
+      let within : place < length list = omega (arith, is, same, count, slice_get_within (states_in boxes list) empty None none) in
+      not_both (states_in boxes list) number place (boxes.state other) is (empty, same, none) (state_there spare within at ∙ ap (λ (o : Option (PeripheralBox X O)). Some (option_map boxes.state o)) some)

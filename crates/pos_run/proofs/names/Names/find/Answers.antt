@@ -1,0 +1,6 @@
+use Rattle.std.proofs.Common.{◌∙◌}
+use Rattle.pos_run.proofs.NameLemmas.{lookup_named}
+use Rattle.pos_run.proofs.names.Names.find.Goals as goal
+
+pub returns : goal.returns
+returns c = c.copied.ensures ∙ c.get.ensures.value ∙ lookup_named (λ k. k.items) c.args.self.now.numbers.entries c.args.name.now

@@ -1,0 +1,6 @@
+pub mod Names
+pub mod Spares
+pub mod Transcript
+pub mod Running
+pub mod Carried
+pub mod Simulating

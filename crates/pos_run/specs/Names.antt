@@ -1,0 +1,21 @@
+-- The names of a script's controls (docs/CONSOLE.md, "Lines").
+use Rattle.std.specs.Prelude.{ℕ, List, [], ◌∷◌, Option, Some, None, bytes_eq, map, if◌then◌else◌}
+use Rattle.indexmap.specs.IndexMap.{spare}
+use Rattle.pos_run.specs.declared.names.Names.{Names}
+
+-- the controls of a script by their names, in the order in which they were made
+abbrev pub ControlNames : Type 0
+ControlNames = List (List ℕ × ℕ)
+
+-- the number of the control with a name
+abbrev pub number_named : ControlNames → List ℕ → Option ℕ
+number_named [] name = None
+number_named (named ∷ names) name = if bytes_eq name named.0 then Some named.1 else number_named names name
+
+-- the controls with their numbers, in the order in which they were made
+abbrev pub names_of : Names → ControlNames
+names_of names = map (λ entry. (entry.0.items, entry.1)) names.numbers.entries
+
+-- for how many further names there is room
+abbrev pub room_of : Names → ℕ
+room_of names = spare names.numbers

@@ -1,0 +1,71 @@
+ghost use Rattle.std.specs.Prelude.{◌≡◌, false};
+ghost use Rattle.pos_service.specs.declared.kind.Kind.TheVariants as kind;
+ghost use Rattle.pos_service.specs.declared.plant.Plant.TheVariants as plant;
+
+use pos_service::{
+    Input, Kind, NoMemory, Order, PaperLevel, Peripheral, Plant, Reply, Signs, Snapshot, Taken,
+};
+
+/// The driver of a cash drawer. Its contracts are the trait's, which speak of the state that it says it has.
+#[derive(Drop)]
+pub struct Drawer {
+    is_open: bool,
+    is_parked: bool,
+}
+
+impl Drawer {
+    /// The driver of a closed drawer, in service.
+    pub fn new() -> Self
+        ensures { result.is_parked ≡ false }
+    {
+        Drawer {
+            is_open: false,
+            is_parked: false,
+        }
+    }
+}
+
+impl Peripheral for Drawer {
+    ghost state = { λ drawer. record {
+      kind = kind.Drawer;
+      plant = plant.Drawer drawer.is_open;
+      is_parked = drawer.is_parked;
+      failures = 0;
+    } };
+
+    fn kind(&self) -> Kind {
+        Kind::Drawer
+    }
+
+    fn signs(&self) -> Signs {
+        Signs {
+            drawer_open: self.is_open,
+            cover_open: false,
+            paper: PaperLevel::Good,
+        }
+    }
+
+    fn ask(&mut self, _: &Order) -> Result<Reply, NoMemory> {
+        self.is_open = true;
+        Ok(Reply::Done)
+    }
+
+    fn feed(&mut self, input: &Input) -> Result<Taken, NoMemory> {
+        if let Input::DrawerMoved(is_open) = input {
+            self.is_open = *is_open;
+        }
+        Ok(Taken::Quiet)
+    }
+
+    fn snapshot(&self) -> Result<Snapshot, NoMemory> {
+        Ok(Snapshot(Plant::Drawer(self.is_open)))
+    }
+
+    fn park(&mut self) {
+        self.is_parked = true;
+    }
+
+    fn is_parked(&self) -> bool {
+        self.is_parked
+    }
+}

@@ -1,0 +1,81 @@
+//! A till with one cash drawer: it opens the drawer, and prints what is told of it.
+#![tactic(auto)]
+
+ghost use Rattle.pos_counter.specs.Counters.{IsCounterSound};
+
+mod drawer;
+
+use anyhow::{anyhow, bail};
+use drawer::Drawer;
+use pos_counter::{Counter, Ended};
+use pos_disk::MemDisk;
+use pos_image::Images;
+use pos_profile::{Profile, Slot};
+use pos_service::{
+    Answer, Bytes, Call, Category, ErrorReply, Event, HasState, NoMemory, PeripheralBox, Property,
+    Value,
+};
+
+/// The devices of the counter.
+const PROFILE: &str = "[[device]]\nname = \"drawer\"\ncategory = \"CashDrawer\"\n";
+
+/// A call has to be done.
+fn done(answer: Result<Answer, NoMemory>) -> anyhow::Result<()> {
+    match answer? {
+        Answer::Done(_) => Ok(()),
+        Answer::Refused(code, _) => bail!("refused with {}", code.number()),
+    }
+}
+
+/// Opens the drawer, and prints what is told of it.
+fn open_drawer(rt: &HostRuntime, counter: &mut Counter<MemDisk>) -> anyhow::Result<()>
+    requires { IsCounterSound ⟦<PeripheralBox as HasState>⟧ counter.old }
+    ensures { IsCounterSound ⟦<PeripheralBox as HasState>⟧ counter.new }
+{
+    let name = Bytes::from_slice(rt.alloc(), b"drawer")?;
+    let enable = Call::Set(Property::DeviceEnabled, Value::Truth(true));
+    let drawer = counter.control(Category::CashDrawer)?;
+    done(counter.call(drawer, &Call::Open(name)))?;
+    done(counter.call(drawer, &Call::Claim(0)))?;
+    done(counter.call(drawer, &enable))?;
+    done(counter.call(drawer, &Call::OpenDrawer))?;
+    if let Some(Event::StatusUpdate(status)) = counter.deliver(drawer, ErrorReply::Default) {
+        println!(rt; "StatusUpdateEvent {status}")?;
+    }
+    Ok(())
+}
+
+/// Ends the devices of a counter that was shut down, and their drivers.
+fn end_all(mut entries: Vec<Slot>)
+    requires { Unit {0} }
+{
+    while let Some(entry) = entries.pop() {
+        let Slot {
+            name: _,
+            kind: _,
+            peripheral,
+        } = entry;
+        if let Some(peripheral) = peripheral {
+            peripheral.end();
+        }
+    }
+    entries.destroy_empty();
+}
+
+fn main(rt: HostRuntime) -> anyhow::Result<()> {
+    let alloc = rt.alloc();
+    let profile = Profile::from_text(alloc, PROFILE)?;
+    let disk = MemDisk::new(alloc, vec![in alloc; 0; 327_680]?)?;
+    let disk = Images::format(disk).map_err(|refusal| refusal.0)?;
+    let driver = Box::new(alloc, Drawer::new())?;
+    let Ok(mut counter) = Counter::new(alloc, &profile, Vec::new(alloc), disk) else {
+        bail!("no memory for the counter");
+    };
+    if let Err((_, refused)) = counter.attach(b"drawer", PeripheralBox::new(driver)) {
+        refused.end();
+    }
+    let outcome = open_drawer(&rt, &mut counter);
+    let Ended { disk: _, entries } = counter.shutdown();
+    end_all(entries);
+    outcome
+}

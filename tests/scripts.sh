@@ -1,0 +1,111 @@
+#!/usr/bin/env bash
+# Runs each script of crates/pos_console/scripts over the program and compares what it prints byte by byte. Beside the
+# script NAME stands
+#   NAME.stdout   what it has to print;
+#   NAME.profile  the profile that it runs over, with a disk in a file. Without it the program is given no words;
+#   NAME.disk     the disks that it runs over in place of a formatted one, each a paragraph: places and the bytes that stand
+#                 from there on, in hex, among zero bytes. It has to print the same over each;
+#   NAME.left     places and the bytes that have to stand there in the end, written likewise.
+# Usage: tests/scripts.sh [PROGRAM]. Without a word it takes the program that was built in crates/pos_console/out. Its
+# last line is 'N passed, M failed'; it ends with 0 where none failed.
+set -u
+top=$(cd "$(dirname "$0")/.." && pwd)
+scripts=$top/crates/pos_console/scripts
+program=$(realpath "${1:-$top/crates/pos_console/out/pos_console}")
+work=$(mktemp -d)
+trap 'rm -rf "$work"' EXIT
+cd "$work" || exit 1
+passed=0
+failed=0
+
+# lay_disk FILE: makes the file `disk` by places and bytes
+lay_disk() {
+  local place hex
+  rm -f disk
+  truncate -s 327680 disk
+  while read -r place hex; do
+    [ "$place" = '#' ] && continue
+    printf "$(sed 's/ //g; s/../\\x&/g' <<< "$hex")" | dd of=disk bs=1 seek="$place" conv=notrunc status=none
+  done < "$1"
+}
+
+# tell_left FILE: tells the places where the file `disk` has other bytes
+tell_left() {
+  local place hex found
+  while read -r place hex; do
+    [ "$place" = '#' ] && continue
+    hex=${hex// /}
+    found=$(tail -c +$((place + 1)) disk | head -c $((${#hex} / 2)) | od -An -v -tx1 | tr -d ' \n')
+    [ "$hex" = "$found" ] || printf 'place %s of the disk\n< %s\n> %s\n' "$place" "$hex" "$found"
+  done < "$1"
+}
+
+# run_script NAME SCRIPT STDOUT LEFT WORD ..: runs the program with these words over a script; an empty LEFT asks nothing
+run_script() {
+  local name=$1 script=$2 wanted=$3 left=$4 status
+  shift 4
+  "$program" "$@" < "$script" > out 2> err
+  status=$?
+  {
+    [ "$status" -eq 0 ] || echo "it ended with $status"
+    cat err
+    cmp -s "$wanted" out || diff "$wanted" out 2>&1 | head -n 12
+    [ -z "$left" ] || tell_left "$left"
+  } > wrong
+  if [ -s wrong ]; then
+    failed=$((failed + 1))
+    echo "failed: $name (< is wanted)"
+    sed 's/^/  /' wrong
+  else
+    passed=$((passed + 1))
+  fi
+}
+
+for script in "$scripts"/*; do
+  case $script in
+    *.stdout | *.profile | *.disk | *.left) continue ;;
+  esac
+  name=${script##*/}
+  left=$script.left
+  [ -f "$left" ] || left=
+  over=(run --profile "$script.profile" --disk disk)
+  if [ ! -f "$script.profile" ]; then
+    run_script "$name" "$script" "$script.stdout" ''
+  elif [ ! -f "$script.disk" ]; then
+    rm -f disk
+    "$program" format --disk disk
+    run_script "$name" "$script" "$script.stdout" "$left" "${over[@]}"
+  else
+    rm -f paragraph-*
+    awk -v RS= '{ print > sprintf("paragraph-%02d", NR) }' "$script.disk"
+    for paragraph in paragraph-*; do
+      lay_disk "$paragraph"
+      run_script "$name over its ${paragraph/-/ }" "$script" "$script.stdout" "$left" "${over[@]}"
+    done
+  fi
+done
+
+# Lines at their greatest length and behind it, with each end of a line, and as many controls as there may be: too long to
+# be kept.
+{
+  printf 'show d1%139993s\n'
+  printf 'show d1%139993s\r\n'
+  printf 'show d1%139994s\n'
+  printf 'show d1%139994s\r\n'
+  printf '#%140000s\n%140001s\nshow s1\n'
+} > script
+printf 'ok closed\nok closed\nbad line\nbad line\nok\n' > stdout
+run_script 'lines of the greatest length' script stdout ''
+
+{
+  seq -f 'new c%g CashDrawer' 4097
+  printf 'new c1 CashDrawer\nget c4096 State\nget c4097 State\nopen c1 d1\nclose c1\nnew c4097 CashDrawer\n'
+} > script
+{
+  seq 4096 | sed 's/.*/ok/'
+  printf 'refused Full\nbad control\nok 1\nbad control\nok\nok\nrefused Full\n'
+} > stdout
+run_script 'as many controls as there may be' script stdout ''
+
+echo "$passed passed, $failed failed"
+[ "$failed" -eq 0 ]
