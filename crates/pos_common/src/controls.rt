@@ -1,12 +1,37 @@
-ghost use Rattle.std.specs.Prelude.{◌≡◌, [], ◌∷◌, ℕ, ◌+◌, All, OnOk, OnErr, IfOk};
+ghost use Rattle.std.specs.Prelude.{◌≡◌, ◌<◌, [], ◌∷◌, ℕ, ◌+◌, None, Some, All, MatchOption, MatchResult, OnOk, OnErr, IfOk, length, slice_get};
 ghost use Rattle.pos_service.specs.declared.scan.Scan.{Scan};
+ghost use Rattle.pos_service.specs.Claims.{holder_at};
 ghost use Rattle.pos_service.specs.Controls.{all_listening, heard, read, failed};
+ghost use Rattle.pos_service.specs.Refusals.{first_refusal};
 ghost use Rattle.pos_service.specs.Statuses.{status_events};
 ghost use Rattle.pos_common.specs.Held.{HasRoom, AreCopies, ReadsCopy, controls_of, sign_events, scan_events, fault_events};
+ghost use Rattle.pos_common.specs.Needs.{need_rows};
 
+use crate::claims::Claims;
 use crate::control::Control;
-use pos_service::{Bytes, NoMemory, Scan, Signs};
+use crate::need::Need;
+use pos_service::{Answer, Bytes, Code, NoMemory, Scan, Signs};
 use std::alloc::Global;
+
+/// Whether the control with a number is as a call asks it to be. The claims are those of all devices.
+///
+/// Refused as `Control::check` says.
+pub fn check_caller(
+    controls: &[Control],
+    caller: usize,
+    claims: &Claims,
+    need: Need,
+) -> Result<(), Code>
+    requires { caller < length controls.now }
+    ensures { MatchOption (slice_get (controls_of controls.now) caller) ⊥ (λ control.
+        let rows = need_rows control caller (holder_at claims.now control.device) need in
+        MatchResult result
+        (λ _. first_refusal rows ≡ None)
+        (λ code. first_refusal rows ≡ Some (Answer.Refused code 0))) }
+{
+    let control = &controls[caller];
+    control.check(caller, claims.holder(control.device()), need)
+}
 
 /// Makes room for so many events in each control that has the device at a place open and enabled. Want of memory
 /// changes nothing that the machine sees.

@@ -11,5 +11,5 @@ mod writer;
 
 pub use claims::Claims;
 pub use control::{Control, FAULT_EVENTS, SCAN_EVENTS, SIGN_EVENTS, WORK_EVENTS};
-pub use controls::{copy_for_all, fail_all, hear_all, read_all, room_all};
+pub use controls::{check_caller, copy_for_all, fail_all, hear_all, read_all, room_all};
 pub use need::{ClaimNeed, Need};

@@ -33,4 +33,3 @@ pub use names::is_name;
 pub use outlines::check_group;
 pub use reading::{decode, decode_group};
 pub use writing::{encode, encode_group};
-

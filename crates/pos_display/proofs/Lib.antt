@@ -1,1 +1,3 @@
+pub mod AskLemmas
+pub mod CallLemmas
 pub mod ReplyLemmas

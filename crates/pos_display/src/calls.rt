@@ -1,17 +1,20 @@
-ghost use Rattle.std.specs.Prelude.{◌≡◌, ◌<◌, true, false, length, slice_set, MatchOption, slice_get};
+ghost use Rattle.std.specs.Prelude.{◌≡◌, ◌<◌, true, false, Some, length, slice_set, MatchOption, slice_get};
 ghost use Rattle.pos_service.specs.declared.category.Category.TheVariants as category;
+ghost use Rattle.pos_service.specs.Calls.{own_rows};
 ghost use Rattle.pos_service.specs.Controls.{with_place};
 ghost use Rattle.pos_service.specs.DisplayCalls.{display_rows, DisplayDoes, HasCursor};
 ghost use Rattle.pos_service.specs.Kinds.{is_display};
-ghost use Rattle.pos_service.specs.Peripherals.{order_fits};
+ghost use Rattle.pos_service.specs.Peripherals.{IsInRange, order_fits};
 ghost use Rattle.pos_service.specs.Stations.{station_of, IsOpen, CalledBy, StaysInService};
 ghost use Rattle.pos_common.specs.Held.{controls_of};
-ghost use Rattle.pos_display.specs.Plans.{Carries};
+ghost use Rattle.pos_display.specs.Plans.{Allows, Carries};
 
 use crate::plans::{Plan, plan_call};
-use pos_common::{ClaimNeed, Claims, Control, Need};
+use pos_common::{ClaimNeed, Claims, Control, Need, check_caller};
 use pos_service::display_text::Place;
-use pos_service::{Answer, Call, Category, Code, HasState, NoMemory, PeripheralBox, Reply, Value};
+use pos_service::{
+    Answer, Call, Category, Code, HasState, Kind, NoMemory, PeripheralBox, Reply, Value,
+};
 use std::alloc::Global;
 
 /// What each call asks of its control: that it holds the display, and is enabled.
@@ -54,18 +57,41 @@ pub fn call(
     ensures in_service { let state = ⟦<PeripheralBox as HasState>⟧.state in
         StaysInService (state display.old) (state display.new) }
 {
+    match allowed_plan(alloc, controls, caller, claims, display.kind(), call)? {
+        Ok(plan) => carry_out(controls, caller, display, plan),
+        Err(code) => Ok(Answer::Refused(code, 0)),
+    }
+}
+
+/// The plan of a call of the control with a number, at a display of this kind. It changes nothing.
+///
+/// Refused as `call` says, before the display is asked.
+fn allowed_plan(
+    alloc: Global,
+    controls: &[Control],
+    caller: usize,
+    claims: &Claims,
+    kind: Kind,
+    call: &Call,
+) -> Result<Result<Plan, Code>, NoMemory>
+    requires open { IsOpen category.LineDisplay (controls_of controls.now) caller }
+    requires display { is_display kind ≡ true }
+    requires in_range { IsInRange kind }
+    requires cursor { HasCursor kind (controls_of controls.now) caller }
+    ensures { MatchOption (slice_get (controls_of controls.now) caller) ⊥ (λ control.
+        Allows kind control call.now (own_rows control call.now
+        (display_rows claims.now caller (Some kind) control call.now)) result) }
+{
     if !Category::LineDisplay.has_call(call) {
-        return Ok(Answer::Refused(Code::Illegal, 0));
+        return Ok(Err(Code::Illegal));
     }
-    let holder = claims.holder(controls[caller].device());
-    if let Err(code) = controls[caller].check(caller, holder, READY) {
-        return Ok(Answer::Refused(code, 0));
+    if let Err(code) = check_caller(controls, caller, claims, READY) {
+        return Ok(Err(code));
     }
-    let cursor = controls[caller].cursor();
-    let Some(plan) = plan_call(alloc, display.kind(), cursor, call)? else {
-        return Ok(Answer::Refused(Code::Illegal, 0));
-    };
-    carry_out(controls, caller, display, plan)
+    match plan_call(alloc, kind, controls[caller].cursor(), call)? {
+        Some(plan) => Ok(Ok(plan)),
+        None => Ok(Err(Code::Illegal)),
+    }
 }
 
 /// Gives the display the order of a plan, and has the caller's cursor where the plan says once that is done.

@@ -1,12 +1,18 @@
-ghost use Rattle.std.specs.Prelude.{◌≡◌, false};
+ghost use Rattle.std.specs.Prelude.{◌≡◌, false, MatchResult};
 ghost use Rattle.pos_service.specs.declared.category.Category.TheVariants as category;
 ghost use Rattle.pos_service.specs.declared.kind.Kind.TheVariants as kind;
-ghost use Rattle.pos_service.specs.DrawerCalls.{drawer_rows, DrawerDoes};
-ghost use Rattle.pos_service.specs.Stations.{station_of, IsOpen, CalledBy, StaysInService};
+ghost use Rattle.pos_service.specs.DrawerCalls.{drawer_rows, DrawerDoes, DrawerOpens};
+ghost use Rattle.pos_service.specs.Stations.{station_of, IsOpen, CalledBy, SameStation, StaysInService};
 ghost use Rattle.pos_common.specs.Held.{controls_of};
 
-use pos_common::{ClaimNeed, Claims, Control, Need, SIGN_EVENTS, hear_all, room_all};
+use pos_common::{ClaimNeed, Claims, Control, Need, SIGN_EVENTS, check_caller, hear_all, room_all};
 use pos_service::{Answer, Call, Code, HasState, NoMemory, Order, PeripheralBox, Reply, Value};
+
+/// What `openDrawer` asks of its control: that no other holds the drawer, and that it is enabled.
+const READY: Need = Need {
+    claim: ClaimNeed::NoOther,
+    is_enabled: true,
+};
 
 /// A call on a drawer's control that is open. The claims are those of all devices, the peripheral is that of the
 /// caller's device.
@@ -36,8 +42,7 @@ pub fn call(
     }
 }
 
-/// `openDrawer`: the drawer opens, by one order, once there is room for what the controls will hear. Each control that
-/// has it open and enabled hears of it where it was closed.
+/// `openDrawer`: the drawer opens.
 ///
 /// Refused with E_CLAIMED where another control holds the drawer, E_DISABLED where the caller is disabled, E_FAILURE
 /// where the line to the drawer fails.
@@ -57,15 +62,32 @@ fn open_drawer(
     ensures in_service { let state = ⟦<PeripheralBox as HasState>⟧.state in
         StaysInService (state drawer.old) (state drawer.new) }
 {
-    let need = Need {
-        claim: ClaimNeed::NoOther,
-        is_enabled: true,
-    };
-    let holder = claims.holder(controls[caller].device());
-    if let Err(code) = controls[caller].check(caller, holder, need) {
+    if let Err(code) = check_caller(controls, caller, claims, READY) {
         return Ok(Answer::Refused(code, 0));
     }
     let place = controls[caller].place();
+    open_at(controls, place, drawer)
+}
+
+/// Opens the drawer at a place, by one order, once there is room for what the controls will hear. Each control that has
+/// it open and enabled hears of it where it was closed. Want of memory changes nothing.
+///
+/// Refused with E_FAILURE where the line to the drawer fails.
+fn open_at(
+    controls: &mut [Control],
+    place: usize,
+    drawer: &mut PeripheralBox,
+) -> Result<Answer, NoMemory>
+    requires unparked { (⟦<PeripheralBox as HasState>⟧.state drawer.old).is_parked ≡ false }
+    requires drawer { (⟦<PeripheralBox as HasState>⟧.state drawer.old).kind ≡ kind.Drawer }
+    ensures opens { let state = ⟦<PeripheralBox as HasState>⟧.state in MatchResult result
+        (λ answer. DrawerOpens place answer (controls_of controls.old) (station_of (state drawer.old))
+        (controls_of controls.new) (station_of (state drawer.new)))
+        (λ _. SameStation (controls_of controls.old) (station_of (state drawer.old))
+        (controls_of controls.new) (station_of (state drawer.new))) }
+    ensures in_service { let state = ⟦<PeripheralBox as HasState>⟧.state in
+        StaysInService (state drawer.old) (state drawer.new) }
+{
     room_all(controls, place, SIGN_EVENTS)?;
     let old = drawer.signs();
     match drawer.ask(&Order::OpenDrawer)? {

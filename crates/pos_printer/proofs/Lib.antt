@@ -1,5 +1,4 @@
 pub mod CallLemmas
-pub mod OpenLemmas
 pub mod OrderLemmas
 pub mod ReplyLemmas
 pub mod RequestLemmas

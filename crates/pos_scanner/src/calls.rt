@@ -1,13 +1,11 @@
-ghost use Rattle.std.specs.Prelude.{◌≡◌, ◌<◌, false, Some, None, IfSome, MatchOption, MatchResult, length, slice_get, slice_set};
+ghost use Rattle.std.specs.Prelude.{◌≡◌, ◌<◌, false, MatchOption, length, slice_get, slice_set};
 ghost use Rattle.pos_service.specs.declared.category.Category.TheVariants as category;
 ghost use Rattle.pos_service.specs.declared.kind.Kind.TheVariants as kind;
-ghost use Rattle.pos_service.specs.Claims.{held_rows, holder_at};
-ghost use Rattle.pos_service.specs.Refusals.{first_refusal};
 ghost use Rattle.pos_service.specs.ScannerCalls.{scanner_rows, ScannerDoes, without_input, without_scan};
 ghost use Rattle.pos_service.specs.Stations.{station_of, IsOpen, CalledBy, StaysInService};
 ghost use Rattle.pos_common.specs.Held.{controls_of};
 
-use pos_common::{ClaimNeed, Claims, Control, Need};
+use pos_common::{ClaimNeed, Claims, Control, Need, check_caller};
 use pos_service::{Answer, Call, Code, HasState, NoMemory, PeripheralBox, Value};
 
 /// What each call asks of its control: that it holds the scanner.
@@ -44,14 +42,14 @@ pub fn call(
 {
     match call {
         Call::ClearInput => {
-            if let Err(code) = check_held(controls, caller, claims) {
+            if let Err(code) = check_caller(controls, caller, claims, HELD) {
                 return Ok(Answer::Refused(code, 0));
             }
             clear_input(controls, caller);
             Ok(Answer::Done(Value::Empty))
         }
         Call::ClearInputProperties => {
-            if let Err(code) = check_held(controls, caller, claims) {
+            if let Err(code) = check_caller(controls, caller, claims, HELD) {
                 return Ok(Answer::Refused(code, 0));
             }
             clear_input_properties(controls, caller);
@@ -59,21 +57,6 @@ pub fn call(
         }
         _ => Ok(Answer::Refused(Code::Illegal, 0)),
     }
-}
-
-/// Whether the control with a number holds its device.
-///
-/// Refused with E_CLAIMED where another control holds it, E_NOTCLAIMED where nobody does.
-fn check_held(controls: &[Control], caller: usize, claims: &Claims) -> Result<(), Code>
-    requires { IsOpen category.Scanner (controls_of controls.now) caller }
-    ensures { IfSome (slice_get (controls_of controls.now) caller) (λ control.
-        let rows = held_rows caller (holder_at claims.now control.device) in
-        MatchResult result
-        (λ _. first_refusal rows ≡ None)
-        (λ code. first_refusal rows ≡ Some (Answer.Refused code 0))) }
-{
-    let holder = claims.holder(controls[caller].device());
-    controls[caller].check(caller, holder, HELD)
 }
 
 /// `clearInput` of the control with a number.

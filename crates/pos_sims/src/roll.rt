@@ -2,7 +2,6 @@ ghost use Rattle.std.specs.Prelude.{◌≡◌, ◌≤◌, List, false, None, IfO
 ghost use Rattle.pos_service.specs.declared.receipt_text.Piece.{Piece};
 ghost use Rattle.pos_service.specs.Receipts.{Prints, empty_roll, pieces, cut_pieces, items_from, buffer_from};
 
-
 use crate::tape::{Stop, Tape};
 use pos_service::NoMemory;
 use pos_service::receipt_text::{Mark, Outcome, PrintedCharacter};

@@ -4,7 +4,6 @@ ghost use Rattle.pos_service.specs.declared.plant.Plant.TheVariants as plant;
 ghost use Rattle.pos_service.specs.Displays.{ShowsText, Scrolls, blank_display, is_cursor_place, most_units};
 ghost use Rattle.pos_service.specs.Peripherals.{IsInRange, IsPlantOf};
 
-
 use crate::laying::{Manner, lay_text};
 use crate::scrolling::scroll_cells;
 use pos_service::display_text::{Attribute, BLANK, Direction, DisplayCell, Place};

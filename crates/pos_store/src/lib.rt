@@ -13,4 +13,3 @@ mod store;
 pub use fault::StoreFault;
 pub use mode::Mode;
 pub use store::Store;
-

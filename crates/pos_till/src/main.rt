@@ -5,7 +5,7 @@ ghost use Rattle.pos_counter.specs.Counters.{IsCounterSound};
 
 mod drawer;
 
-use anyhow::{anyhow, bail};
+use anyhow::bail;
 use drawer::Drawer;
 use pos_counter::{Counter, Ended};
 use pos_disk::MemDisk;
@@ -17,7 +17,7 @@ use pos_service::{
 };
 
 /// The devices of the counter.
-const PROFILE: &str = "[[device]]\nname = \"drawer\"\ncategory = \"CashDrawer\"\n";
+const PROFILE: &str = "[[device]]\nname = 'drawer'\ncategory = 'CashDrawer'\n";
 
 /// A call has to be done.
 fn done(answer: Result<Answer, NoMemory>) -> anyhow::Result<()> {
@@ -46,9 +46,7 @@ fn open_drawer(rt: &HostRuntime, counter: &mut Counter<MemDisk>) -> anyhow::Resu
 }
 
 /// Ends the devices of a counter that was shut down, and their drivers.
-fn end_all(mut entries: Vec<Slot>)
-    requires { Unit {0} }
-{
+fn end_all(mut entries: Vec<Slot>) {
     while let Some(entry) = entries.pop() {
         let Slot {
             name: _,

@@ -20,4 +20,3 @@ mod transactions;
 
 pub use fault::RecoveryFault;
 pub use totals::Totals;
-

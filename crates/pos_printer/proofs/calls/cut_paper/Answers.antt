@@ -9,7 +9,7 @@ use Rattle.pos_service.specs.declared.category.Category.TheVariants as category
 use Rattle.pos_service.specs.Claims.{holder_at}
 use Rattle.pos_service.specs.Numbers.{is_up_to}
 use Rattle.pos_service.specs.PrinterCalls.{is_busy}
-use Rattle.pos_printer.proofs.OpenLemmas.{opened_there}
+use Rattle.pos_common.proofs.OpenLemmas.{opened_there}
 use Rattle.pos_printer.proofs.CallLemmas.{called, cut_allowed}
 use Rattle.pos_printer.proofs.calls.cut_paper.Goals as goal
 

@@ -7,7 +7,7 @@ use Rattle.pos_service.specs.declared.category.Category.TheVariants as category
 use Rattle.pos_service.specs.Claims.{holder_at}
 use Rattle.pos_service.specs.PrinterCalls.{is_busy, is_receipt}
 use Rattle.pos_service.specs.Receipts.{is_printable_text}
-use Rattle.pos_printer.proofs.OpenLemmas.{opened_there}
+use Rattle.pos_common.proofs.OpenLemmas.{opened_there}
 use Rattle.pos_printer.proofs.CallLemmas.{called, normal_allowed}
 use Rattle.pos_printer.proofs.calls.print_normal.Goals as goal
 

@@ -1,6 +1,6 @@
 use Rattle.std.proofs.Common.{◌∙◌, sym}
 use Rattle.pos_service.specs.declared.category.Category.TheVariants as category
-use Rattle.pos_printer.proofs.OpenLemmas.{opened_there}
+use Rattle.pos_common.proofs.OpenLemmas.{opened_there}
 use Rattle.pos_printer.proofs.RequestLemmas.{requests_at_once, requests_later}
 use Rattle.pos_printer.proofs.requests.request.Goals as goal
 

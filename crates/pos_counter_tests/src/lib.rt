@@ -1,0 +1,14 @@
+//! What only tests can say of a counter: drivers that find no memory, disks that fail and crashes, which very
+//! peripherals are handed back, what is answered where memory is ample, and the texts of the faults.
+#![tactic(auto)]
+
+#[cfg(test)]
+mod crashes;
+#[cfg(test)]
+mod drivers;
+#[cfg(test)]
+mod exchanges;
+#[cfg(test)]
+mod requests;
+#[cfg(test)]
+mod support;

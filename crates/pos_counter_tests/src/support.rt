@@ -1,0 +1,84 @@
+//! Counters over the built profile, and what scripts print over them.
+ghost use Rattle.std.specs.Prelude.{◌≡◌, false, IfOk};
+ghost use Rattle.pos_counter.specs.Counters.{IsCounterSound};
+
+use pos_counter::{Counter, Ended};
+use pos_disk::{Disk, MemDisk};
+use pos_image::Images;
+use pos_profile::{Profile, Slot};
+use pos_run::{Spares, run};
+use pos_service::{HasState, PeripheralBox};
+use std::alloc::{AllocError, Global};
+use std::test::Fail;
+
+/// A disk that is formatted.
+pub fn formatted(alloc: Global) -> Result<MemDisk, AllocError> {
+    let disk = MemDisk::new(alloc, vec![in alloc; 0u8; 327_680]?)?;
+    Images::format(disk).map_err(|_| AllocError)
+}
+
+/// A counter over a disk and the devices of the built profile, each of them vacant.
+pub fn vacant<D: Disk + Drop>(alloc: Global, disk: D) -> Result<Counter<D>, Fail>
+    ensures { IfOk result (λ counter. IsCounterSound ⟦<PeripheralBox as HasState>⟧ counter) }
+{
+    let profile = Profile::built(alloc)?;
+    match Counter::new(alloc, &profile, Vec::new(alloc), disk) {
+        Ok(counter) => Ok(counter),
+        Err(_) => Err(Fail::new("no memory for a counter")),
+    }
+}
+
+/// Has a peripheral serve a device. One that is refused is ended.
+pub fn serve<D: Disk>(counter: &mut Counter<D>, name: &[u8], peripheral: PeripheralBox)
+    requires sound { IsCounterSound ⟦<PeripheralBox as HasState>⟧ counter.old }
+    requires unparked { (⟦<PeripheralBox as HasState>⟧.state peripheral).is_parked ≡ false }
+    ensures { IsCounterSound ⟦<PeripheralBox as HasState>⟧ counter.new }
+{
+    if let Err((_, refused)) = counter.attach(name, peripheral) {
+        refused.end();
+    }
+}
+
+/// What a script prints over a counter.
+pub fn text_of<D: Disk>(alloc: Global, counter: &mut Counter<D>, script: &[u8]) -> Vec<u8>
+    requires { IsCounterSound ⟦<PeripheralBox as HasState>⟧ counter.old }
+    ensures { IsCounterSound ⟦<PeripheralBox as HasState>⟧ counter.new }
+{
+    let mut spares = Spares::new(Vec::new(alloc));
+    let mut text = Vec::new(alloc);
+    let mut reader = script;
+    let _ = run(alloc, &mut reader, &mut text, counter, &mut spares);
+    spares.park_all();
+    text
+}
+
+/// Ends devices and their peripherals: how many had one that was out of service.
+pub fn end_all(mut entries: Vec<Slot>) -> usize
+    requires { Unit {0} }
+{
+    let mut parked: usize = 0;
+    while let Some(entry) = entries.pop() {
+        let Slot {
+            name: _,
+            kind: _,
+            peripheral,
+        } = entry;
+        if let Some(peripheral) = peripheral {
+            if peripheral.is_parked() {
+                parked = parked.saturating_add(1);
+            }
+            peripheral.end();
+        }
+    }
+    entries.destroy_empty();
+    parked
+}
+
+/// Ends a counter: its disk.
+pub fn end<D: Disk>(counter: Counter<D>) -> D
+    requires { IsCounterSound ⟦<PeripheralBox as HasState>⟧ counter }
+{
+    let Ended { disk, entries } = counter.shutdown();
+    end_all(entries);
+    disk
+}

@@ -1,0 +1,130 @@
+use crate::steps::{Step, played};
+use pos_service::display_text::DisplayCell;
+use pos_service::receipt_text::{Alignment, Mark, PrintedCharacter};
+use pos_service::{Bytes, Call, Category, Code, Event, Input, Locus, NoMemory, Plant, Snapshot};
+use pos_sims::{PlainDisplay, PlainDrawer, PlainScanner, RollPrinter};
+use std::alloc::Global;
+use std::test::Fail;
+
+#[test]
+fn a_drawer_opens_and_is_shut(rt: HostRuntime) -> Result<(), Fail> {
+    let drawer = Box::new(rt.alloc(), PlainDrawer::new())?;
+    let steps = [
+        Step::Asked(Call::OpenDrawer),
+        Step::Fed(Input::DrawerMoved(false)),
+        Step::Asked(Call::OpenDrawer),
+    ];
+    let (opened, shut) = (Event::StatusUpdate(1), Event::StatusUpdate(0));
+    let events = [opened, shut, opened];
+    let shown = played(rt.alloc(), Category::CashDrawer, drawer, &steps, &events)?;
+    assert!(rt; matches!(shown, Snapshot(Plant::Drawer(true))));
+    Ok(())
+}
+
+/// A scan and a fault, behind which the last scan is cleared.
+fn scanner_steps(alloc: Global) -> Result<[Step; 3], NoMemory> {
+    let scan = Input::Scan {
+        kind: 104,
+        bytes: Bytes::from_slice(alloc, b"AB")?,
+        label: Bytes::from_slice(alloc, b"B")?,
+    };
+    let (fault, clear) = (Input::ScanFault, Call::ClearInputProperties);
+    Ok([Step::Fed(scan), Step::Fed(fault), Step::Asked(clear)])
+}
+
+#[test]
+fn a_scan_and_a_fault_reach_the_control(rt: HostRuntime) -> Result<(), Fail> {
+    let steps = scanner_steps(rt.alloc())?;
+    let scanner = Box::new(rt.alloc(), PlainScanner::new())?;
+    let events = [
+        Event::Error(Code::Failure, 0, Locus::InputData),
+        Event::Data,
+    ];
+    let shown = played(rt.alloc(), Category::Scanner, scanner, &steps, &events)?;
+    assert!(rt; matches!(shown, Snapshot(Plant::Scanner)));
+    Ok(())
+}
+
+/// Each call of a display.
+fn display_steps(alloc: Global) -> Result<[Step; 4], NoMemory> {
+    let text = Call::DisplayText(Bytes::from_slice(alloc, b"ABCDEFGHI")?, 2);
+    let letter = Call::DisplayTextAt(0, 1, Bytes::from_slice(alloc, b"J")?, 0);
+    let (clear, scroll) = (Call::ClearText, Call::ScrollText(4, 1));
+    Ok([
+        Step::Asked(clear),
+        Step::Asked(text),
+        Step::Asked(letter),
+        Step::Asked(scroll),
+    ])
+}
+
+/// Whether a display shows these characters, row by row.
+fn has_characters(display: &Snapshot, characters: &[u8]) -> bool {
+    let Snapshot(Plant::Display(cells)) = display else {
+        return false;
+    };
+    let shown = cells.as_slice().iter();
+    shown
+        .map(|cell: &DisplayCell| cell.character)
+        .eq(characters.iter().copied())
+}
+
+#[test]
+fn a_display_shows_what_is_asked(rt: HostRuntime) -> Result<(), Fail> {
+    let steps = display_steps(rt.alloc())?;
+    let display = Box::new(rt.alloc(), PlainDisplay::new(rt.alloc(), 2, 4)?)?;
+    let shown = played(rt.alloc(), Category::LineDisplay, display, &steps, &[])?;
+    assert!(rt; has_characters(&shown, b" EJG I  "));
+    Ok(())
+}
+
+/// Requests of a printer, of which two wait, work on these, and its inputs.
+fn printer_steps(alloc: Global) -> Result<[Step; 8], NoMemory> {
+    let later = Call::PrintNormal(2, Bytes::from_slice(alloc, b"J\n")?);
+    let sooner = Call::PrintImmediate(2, Bytes::from_slice(alloc, b"ABCDEFGHI\x1b|cA\n")?);
+    Ok([
+        Step::Asked(later),
+        Step::Asked(Call::CutPaper(50)),
+        Step::Asked(sooner),
+        Step::Fed(Input::CoverMoved(true)),
+        Step::Fed(Input::CoverMoved(false)),
+        Step::Worked,
+        Step::Worked,
+        Step::Fed(Input::PaperLoaded(100)),
+    ])
+}
+
+/// Whether a printer has printed these lines, cuts and characters.
+fn has_printed(printer: &Snapshot, marks: &[Mark], bytes: &[u8]) -> bool {
+    let Snapshot(Plant::Printer(receipt)) = printer else {
+        return false;
+    };
+    let (told, characters) = receipt.printed();
+    let characters = characters.iter().map(|c: &PrintedCharacter| c.byte);
+    told == marks && characters.eq(bytes.iter().copied())
+}
+
+/// What a printer's control delivers after those steps: the cover is opened and closed, the paper is near its end, two
+/// requests are done, and paper is put in.
+const EVENTS: [Event; 6] = [
+    Event::StatusUpdate(11),
+    Event::StatusUpdate(12),
+    Event::StatusUpdate(25),
+    Event::OutputComplete(1),
+    Event::OutputComplete(2),
+    Event::StatusUpdate(26),
+];
+
+#[test]
+fn a_printer_prints_what_is_asked_and_queued(rt: HostRuntime) -> Result<(), Fail> {
+    let steps = printer_steps(rt.alloc())?;
+    let printer = Box::new(rt.alloc(), RollPrinter::new(rt.alloc(), 8, 5, 2))?;
+    let shown = played(rt.alloc(), Category::PosPrinter, printer, &steps, &EVENTS)?;
+    let (full, centred) = (
+        Mark::Line(Alignment::Left, 8),
+        Mark::Line(Alignment::Center, 1),
+    );
+    let marks = [full, centred, Mark::Line(Alignment::Left, 1), Mark::Cut(50)];
+    assert!(rt; has_printed(&shown, &marks, b"ABCDEFGHIJ"));
+    Ok(())
+}

@@ -1,0 +1,84 @@
+ghost use Rattle.std.specs.Prelude.{◌≡◌, false, IfOk};
+ghost use Rattle.pos_profile.specs.Registries.{IsRegistrySound};
+
+use pos_profile::{Profile, Registry, Slot};
+use pos_service::{HasState, NoMemory, Peripheral, PeripheralBox};
+use pos_sims::PlainDrawer;
+use std::alloc::Global;
+
+/// The registry of the built profile, each device vacant. Where it finds no memory it is made once more.
+fn built(alloc: Global) -> Result<Registry, NoMemory>
+    ensures { IfOk result (λ registry. IsRegistrySound ⟦<PeripheralBox as HasState>⟧ registry) }
+{
+    let profile = Profile::built(alloc)?;
+    match Registry::new(alloc, &profile, Vec::new(alloc)) {
+        Err(NoMemory) => Registry::new(alloc, &profile, Vec::new(alloc)),
+        made => made,
+    }
+}
+
+/// Whether a device gets its peripheral.
+fn attaches(registry: &mut Registry, name: &[u8], peripheral: PeripheralBox) -> bool
+    requires sound { IsRegistrySound ⟦<PeripheralBox as HasState>⟧ registry.old }
+    requires unparked { (⟦<PeripheralBox as HasState>⟧.state peripheral).is_parked ≡ false }
+    ensures { IsRegistrySound ⟦<PeripheralBox as HasState>⟧ registry.new }
+{
+    match registry.attach(name, peripheral) {
+        Ok(()) => true,
+        Err((_, peripheral)) => {
+            peripheral.end();
+            false
+        }
+    }
+}
+
+/// Whether a device hands out its peripheral, which ends.
+fn detaches(registry: &mut Registry, name: &[u8]) -> bool
+    requires { IsRegistrySound ⟦<PeripheralBox as HasState>⟧ registry.old }
+    ensures { IsRegistrySound ⟦<PeripheralBox as HasState>⟧ registry.new }
+{
+    match registry.detach(name, false) {
+        Ok(peripheral) => {
+            peripheral.end();
+            true
+        }
+        Err(_) => false,
+    }
+}
+
+/// Ends slots and their peripherals: how many had one, each out of service.
+fn end_all(mut slots: Vec<Slot>) -> usize
+    requires { Unit {0} }
+{
+    let mut parked: usize = 0;
+    while let Some(slot) = slots.pop() {
+        let Slot {
+            name: _,
+            kind: _,
+            peripheral,
+        } = slot;
+        if let Some(peripheral) = peripheral {
+            parked = parked.saturating_add(usize::from(peripheral.is_parked()));
+            peripheral.end();
+        }
+    }
+    slots.destroy_empty();
+    parked
+}
+
+#[test]
+fn a_drawer_is_exchanged(rt: HostRuntime) {
+    let mut registry = built(rt.alloc()).expect(&rt, "ample memory");
+    let first = Box::new(rt.alloc(), PlainDrawer::new()).expect(&rt, "ample memory");
+    let first: Box<dyn Peripheral> = first;
+    let second = Box::new(rt.alloc(), PlainDrawer::new()).expect(&rt, "ample memory");
+    let second: Box<dyn Peripheral> = second;
+    let attached = attaches(&mut registry, b"d1", PeripheralBox::new(first));
+    let detached = detaches(&mut registry, b"d1");
+    let attached_then = attaches(&mut registry, b"d1", PeripheralBox::new(second));
+    let ended = end_all(registry.into_entries());
+    assert_eq!(rt;
+        (attached, detached, attached_then, ended),
+        (true, true, true, 1)
+    );
+}

@@ -1,0 +1,71 @@
+use pos_disk::Disk;
+use pos_program::{Fault, FileFault, ProfileFileFault, format_file, open_run, read_profile};
+use std::fs;
+use std::test::Fail;
+
+/// The bytes that a formatted disk begins with; zeros follow.
+const FORMATTED: [u8; 15] = [0xA5, 0, 0, 0, 0, 0, 0, 0, 1, 0, 0, 0, 2, 0, 0];
+
+/// Whether a file that holds these bytes is formatted, and the bytes that it holds then.
+fn formatted(rt: &HostRuntime, path: &str, bytes: &[u8]) -> Result<(bool, Vec<u8>), Fail> {
+    fs::write(rt, path, bytes)?;
+    let is_formatted = format_file(rt, path).is_ok();
+    let after = fs::read(rt, path)?;
+    fs::remove_file(rt, path)?;
+    Ok((is_formatted, after))
+}
+
+#[test]
+fn a_file_is_formatted_once(rt: HostRuntime) -> Result<(), Fail> {
+    let path = "a_file_is_formatted_once";
+    let (is_formatted, bytes) = formatted(&rt, path, b"abc")?;
+    assert!(rt; is_formatted && bytes.len() == 327_680);
+    assert!(rt; bytes.starts_with(&FORMATTED) && bytes[15..].iter().all(|byte| *byte == 0));
+    let (is_formatted, same) = formatted(&rt, path, bytes.as_slice())?;
+    assert!(rt; !is_formatted && same == bytes);
+    Ok(())
+}
+
+#[test]
+fn files_of_other_lengths(rt: HostRuntime) -> Result<(), Fail> {
+    let path = "files_of_other_lengths";
+    let ones = vec![in rt.alloc(); 1u8; 327_681]?;
+    let (is_formatted, long) = formatted(&rt, path, ones.as_slice())?;
+    assert!(rt; is_formatted && long.len() == 327_681 && long.ends_with(&[1]));
+    let (is_formatted, totals) = formatted(&rt, path, &[0xA5, 7])?;
+    assert!(rt; !is_formatted && totals.len() == 327_680 && totals.starts_with(&[0xA5, 7, 0]));
+    Ok(())
+}
+
+#[test]
+fn files_that_cannot_be_read(rt: HostRuntime) {
+    assert!(rt; matches!(format_file(&rt, "."), Err(FileFault::Open(_))));
+    let outcome = read_profile(&rt, ".");
+    assert!(rt; matches!(outcome, Err(ProfileFileFault::Unreadable(_))));
+    assert!(rt; matches!(open_run(&rt, "", ""), Err(Fault::Profile { path: "", .. })));
+}
+
+#[test]
+fn files_of_a_run(rt: HostRuntime) -> Result<(), Fail> {
+    let (profile, disk) = ("files_of_a_run/p", "files_of_a_run/d");
+    let _ = fs::remove_dir_all(&rt, "files_of_a_run");
+    fs::create_dir(&rt, "files_of_a_run")?;
+    fs::write(&rt, profile, "device=[{name='t1',category='HardTotals'}]")?;
+    let outcome = open_run(&rt, profile, disk);
+    assert!(rt;
+        matches!(
+            outcome,
+            Err(Fault::Disk {
+                path: "files_of_a_run/d",
+                ..
+            })
+        )
+    );
+    fs::write(&rt, disk, "abc")?;
+    let Ok((profile, disk)) = open_run(&rt, profile, disk) else {
+        panic!(rt; "two files");
+    };
+    assert_eq!(rt; (profile.devices().len(), disk.len()), (1, 3));
+    fs::remove_dir_all(&rt, "files_of_a_run")?;
+    Ok(())
+}

@@ -1,0 +1,143 @@
+use pos_program::{
+    ChoiceFault, Fault, FileDisk, FileFault, OneLine, ProfileFileFault, Task, choice,
+    profile_of_bytes, status_of,
+};
+use std::alloc::Global;
+use std::fmt::Write;
+use std::io;
+use std::test::Fail;
+
+/// Whether a fault is told so, and ends the program with this status.
+fn ends(alloc: Global, fault: Fault<'_>, status: u8, told: &str) -> Result<bool, Fail> {
+    let line = format!(in alloc; "{fault}")?;
+    Ok(line.as_str() == told && fault.status() == status && status_of(&Err(fault)) == status)
+}
+
+#[test]
+fn a_text_on_one_line(rt: HostRuntime) -> Result<(), Fail> {
+    let mut line = String::new(rt.alloc());
+    OneLine::over(&mut line).write_str(
+        "till \u{e9} \\n\n\r\t\u{1b}[2J\u{85}\u{2028}\u{2029}\u{7f}",
+    )?;
+    let told = "till \u{e9} \\n\\n\\r\\t\\u{1b}[2J\\u{85}\\u{2028}\\u{2029}\\u{7f}";
+    assert!(rt; line.as_str() == told);
+    Ok(())
+}
+
+#[test]
+fn faults_of_words_and_of_a_run(rt: HostRuntime) -> Result<(), Fail> {
+    let words =
+        "the words ask for nothing: give none, `run --profile FILE --disk FILE` or `format --disk FILE`";
+    assert!(rt; ends(rt.alloc(), Fault::Words, 2, words)?);
+    assert!(rt; ends(rt.alloc(), Fault::Read, 5, "the script can't be read")?);
+    assert!(rt; ends(rt.alloc(), Fault::Write, 5, "the answers can't be written")?);
+    assert!(rt; ends(rt.alloc(), Fault::NoMemory, 6, "no memory")?);
+    assert!(rt; status_of(&Ok(())) == 0);
+    Ok(())
+}
+
+#[test]
+fn texts_of_files(rt: HostRuntime) -> Result<(), Fail> {
+    let cause = io::Error::from(io::ErrorKind::Other);
+    let (measure, folder) = (FileFault::Measure(cause), FileFault::Folder(cause));
+    let (lengthen, sync) = (FileFault::Lengthen(cause), FileFault::Sync(cause));
+    let (formatted, device) = (FileFault::Formatted, FileFault::Device);
+    let alloc = rt.alloc();
+    let told = format!(in alloc; "{measure}\n{folder}\n{lengthen}\n{sync}\n{formatted}\n{device}")?;
+    let wanted = "its length can't be told: other error\n\
+        its folder can't be opened and synced: other error\n\
+        can't be lengthened: other error\n\
+        can't be synced: other error\n\
+        is formatted already: remove it first if its totals may go\n\
+        a read, a write or a sync failed while it was formatted";
+    assert!(rt; told.as_str() == wanted);
+    Ok(())
+}
+
+#[test]
+fn a_file_that_is_not_there(rt: HostRuntime) -> Result<(), Fail> {
+    let path = "no\nfolder/d";
+    let Err(cause) = FileDisk::open(&rt, path) else {
+        panic!(rt; "a file that isn't there");
+    };
+    let told =
+        "no\\nfolder/d: can't be opened for reading and writing: No such file or directory (os error 2)";
+    assert!(rt; ends(rt.alloc(), Fault::Disk { path, cause }, 4, told)?);
+    Ok(())
+}
+
+/// Whether the bytes of a profile's file are refused so. Where they find no memory they are read once more.
+fn is_refused(alloc: Global, bytes: &[u8], told: &str) -> Result<bool, Fail> {
+    let outcome = match profile_of_bytes(alloc, bytes) {
+        Err(ProfileFileFault::NoMemory) => profile_of_bytes(alloc, bytes),
+        outcome => outcome,
+    };
+    match outcome {
+        Ok(_) => Ok(false),
+        Err(cause) => ends(alloc, Fault::Profile { path: "p", cause }, 3, told),
+    }
+}
+
+const TWICE: &[u8] = b"device=[{name='d',category='Scanner'},{name='d',category='Scanner'}]";
+
+#[test]
+fn faults_of_a_profile(rt: HostRuntime) -> Result<(), Fail> {
+    for (bytes, told) in [
+        (b"# a\n# \xff\n".as_slice(), "p: line 2: not UTF-8"),
+        (b"spare=1".as_slice(), "p: spare must be an array of tables"),
+        (b"\"a\\nb\"=1".as_slice(), "p: unknown key: a\\nb"),
+        (b"spare=[3]".as_slice(), "p: spare 1: must be a table"),
+        (TWICE, "p: two devices have the name d"),
+    ] {
+        assert!(rt; is_refused(rt.alloc(), bytes, told)?, "{told}");
+    }
+    let cause = ProfileFileFault::NoMemory;
+    let path = "p";
+    assert!(rt;
+        ends(
+            rt.alloc(),
+            Fault::Profile { path, cause },
+            6,
+            "p: no memory to read it"
+        )?
+    );
+    let outcome = profile_of_bytes(rt.alloc(), b"# a\n\n[[device\n");
+    assert!(rt; matches!(outcome, Err(ProfileFileFault::NotToml { line: 3, .. })));
+    Ok(())
+}
+
+/// Whether the words of a line, split at its blanks, ask for this. Where they find no memory they are read once more.
+fn asks(alloc: Global, line: &str, wanted: Result<Task<'_>, ChoiceFault>) -> Result<bool, Fail> {
+    let words = line.split(' ').collect::<Vec<&str>>(alloc)?;
+    let words = words.as_slice();
+    Ok(choice(alloc, words) == wanted || choice(alloc, words) == wanted)
+}
+
+#[test]
+fn words_of_each_command(rt: HostRuntime) -> Result<(), Fail> {
+    let (profile, disk) = ("p", "-");
+    let none: [&str; 0] = [];
+    assert!(rt; choice(rt.alloc(), &none) == Ok(Task::Demo));
+    for (line, task) in [
+        ("run --profile p --disk -", Task::Run { profile, disk }),
+        ("run --disk=- --profile=p", Task::Run { profile, disk }),
+        ("format --disk=-", Task::Format { disk }),
+    ] {
+        assert!(rt; asks(rt.alloc(), line, Ok(task))?, "{line}");
+    }
+    Ok(())
+}
+
+/// Lines of words of no command.
+const NO_COMMANDS: &str =
+    "|--|Run --profile p --disk d|help|--help|--version|--disk d|run --help|run --disk d|\
+    run --profile p --disk|format|format -h|format --disk d --version|format --disk d e|\
+    format --disk d --disk d|format --disk d --profile p";
+
+#[test]
+fn words_of_no_command(rt: HostRuntime) -> Result<(), Fail> {
+    for line in NO_COMMANDS.split('|') {
+        assert!(rt; asks(rt.alloc(), line, Err(ChoiceFault::Words))?, "{line}");
+    }
+    Ok(())
+}

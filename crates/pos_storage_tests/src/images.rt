@@ -1,0 +1,95 @@
+// Bytes of layout 1, and disks that aren't of it.
+ghost use Rattle.std.specs.Prelude.{IfOk};
+ghost use Rattle.pos_image.specs.Images.{IsReady};
+
+use crate::support::{FORMATTED, SECOND, bytes_of, disk_of, has};
+use pos_disk::{Disk, MemDisk};
+use pos_image::{ImageFault, Images};
+use std::alloc::Global;
+use std::test::Fail;
+
+// The second image, with the body 1, 2, 3.
+const OTHER: [u8; 16] = [0xA5, 0, 0, 0, 0, 0, 0, 0, 2, 0, 0, 0, 3, 1, 2, 3];
+
+fn format(disk: MemDisk) -> Result<MemDisk, ImageFault> {
+    match Images::format(disk) {
+        Ok(disk) => Ok(disk),
+        Err((fault, _)) => Err(fault),
+    }
+}
+
+fn open<D: Disk + Drop>(alloc: Global, disk: D) -> Result<Images<D>, ImageFault>
+    ensures { IfOk result (λ images. IsReady D.Disk images) }
+{
+    match Images::open(alloc, disk) {
+        Ok(images) => Ok(images),
+        Err((fault, _)) => Err(fault),
+    }
+}
+
+// Opens a disk, replaces the body, and gives the disk back.
+fn replace_body(alloc: Global, disk: MemDisk, body: &[u8]) -> Result<MemDisk, ImageFault> {
+    let mut images = open(alloc, disk)?;
+    images.prepare(body)?;
+    images.publish()?;
+    Ok(images.into_disk())
+}
+
+#[test]
+fn bytes_of_the_layout(rt: HostRuntime) -> Result<(), Fail> {
+    let alloc = rt.alloc();
+    let mut disk = format(disk_of(alloc, 0x5A, &[])?)?;
+    let bytes = bytes_of(alloc, &mut disk)?;
+    assert!(rt; has(&bytes, 0, &FORMATTED) && has(&bytes, 15, &[0x5A]));
+    for gate in [16_384, SECOND, 49_152, 65_536, 196_608] {
+        assert!(rt; has(&bytes, gate - 1, &[0x5A, 0, 0x5A]), "{gate}");
+    }
+    let mut disk = replace_body(alloc, disk, &[1, 2, 3])?;
+    let bytes = bytes_of(alloc, &mut disk)?;
+    assert!(rt; has(&bytes, 0, &FORMATTED) && has(&bytes, SECOND, &OTHER));
+    let mut disk = replace_body(alloc, disk, &[7; 16_371])?;
+    let bytes = bytes_of(alloc, &mut disk)?;
+    let third = [0xA5, 0, 0, 0, 0, 0, 0, 0, 3, 0, 0, 0x3F, 0xF3, 7];
+    assert!(rt; has(&bytes, 0, &third) && has(&bytes, 16_383, &[7, 0, 0x5A]));
+    assert!(rt; has(&bytes, SECOND, &OTHER));
+    Ok(())
+}
+
+// What opening a disk of zero bytes but for these runs answers: the sequence of its image, or the fault.
+fn opened(alloc: Global, runs: &[(usize, &[u8])]) -> Result<u64, ImageFault> {
+    let images = open(alloc, disk_of(alloc, 0, runs)?)?;
+    Ok(images.sequence())
+}
+
+#[test]
+fn disks_that_are_opened(rt: HostRuntime) -> Result<(), Fail> {
+    let [open, shut] = [[0xA5], [0xA4]];
+    let too_long = [0xA5, 0, 0, 0, 0, 0, 0, 0, 1, 0, 0, 0x3F, 0xF4];
+    let later = [0xA5, 0, 0, 0, 0, 0, 0, 1, 0, 0, 0, 0, 1, 5];
+    let first = (0, FORMATTED.as_slice());
+    let second = (SECOND, OTHER.as_slice());
+    let damaged = Err(ImageFault::Damaged);
+    for (one, other, wanted) in [
+        (first, (1, [].as_slice()), Ok(1)),
+        (first, second, Ok(2)),
+        ((0, later.as_slice()), second, Ok(256)),
+        ((0, shut.as_slice()), second, Ok(2)),
+        (first, (SECOND, FORMATTED.as_slice()), damaged),
+        (first, (65_536, open.as_slice()), damaged),
+        (first, (196_608, open.as_slice()), damaged),
+        ((0, too_long.as_slice()), (SECOND, shut.as_slice()), damaged),
+    ] {
+        assert_eq!(rt; opened(rt.alloc(), &[one, other]), wanted);
+    }
+    Ok(())
+}
+
+#[test]
+fn disks_that_are_not_formatted(rt: HostRuntime) -> Result<(), Fail> {
+    for gate in [0, SECOND, 65_536, 196_608] {
+        let disk = disk_of(rt.alloc(), 0, &[(gate, [0xA5].as_slice())])?;
+        let fault = format(disk).err();
+        assert_eq!(rt; fault, Some(ImageFault::AlreadyFormatted), "{gate}");
+    }
+    Ok(())
+}

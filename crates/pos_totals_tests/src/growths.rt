@@ -1,0 +1,83 @@
+// Refused growths, answers that ample memory gives, and texts.
+use crate::changes::{BEFORE, CHANGES, Change, carry_out, is_after};
+use crate::support::{disk_with_files, over, spell};
+use pos_disk::MemDisk;
+use pos_service::{Answer, Value};
+use pos_totals::{RecoveryFault, Totals};
+use std::alloc::Global;
+use std::test::Fail;
+
+// A recovery and a change, each once more where a growth was refused: whether nothing had changed then.
+fn with_repeats(alloc: Global, totals: &mut Totals<MemDisk>, change: Change) -> Result<bool, Fail> {
+    let mut is_unchanged = true;
+    if totals.recover() == Err(RecoveryFault::NoMemory) {
+        is_unchanged = !totals.is_ready();
+        totals.recover()?;
+    }
+    if carry_out(totals, change).is_err() {
+        is_unchanged &= spell(alloc, totals, 1)?.as_slice() == BEFORE.as_slice();
+        carry_out(totals, change)?;
+    }
+    Ok(is_unchanged)
+}
+
+#[test]
+fn a_refused_growth_changes_nothing(rt: HostRuntime) -> Result<(), Fail> {
+    for change in CHANGES {
+        let mut totals = over(rt.alloc(), disk_with_files(rt.alloc())?)?;
+        assert!(rt; with_repeats(rt.alloc(), &mut totals, change)?);
+        let first = if change == Change::Delete { 2 } else { 1 };
+        assert!(rt; is_after(rt.alloc(), &totals, change, first)?);
+    }
+    Ok(())
+}
+
+// Buffers a write, and commits what is buffered: whether the write is on the disk where it was answered, and not where
+// a growth was refused.
+fn buffers_once(alloc: Global, totals: &mut Totals<MemDisk>) -> Result<bool, Fail> {
+    let _ = totals.begin_trans(0);
+    let is_buffered = totals.write(0, 1, 1, &[8, 9]).is_ok();
+    totals.commit_trans(0)?;
+    Ok(is_after(alloc, totals, Change::Write, 1)? == is_buffered)
+}
+
+#[test]
+fn a_refused_growth_buffers_nothing(rt: HostRuntime) -> Result<(), Fail> {
+    let mut totals = over(rt.alloc(), disk_with_files(rt.alloc())?)?;
+    totals.recover()?;
+    assert!(rt; buffers_once(rt.alloc(), &mut totals)?);
+    Ok(())
+}
+
+// Fills what is free with a third file, and gives what a read of it answers.
+fn fill_up(totals: &mut Totals<MemDisk>, bytes: &[u8]) -> Result<Answer, Fail> {
+    totals.create(0, b"C", bytes.len() as i128, false)?;
+    totals.write(0, 3, 0, bytes)?;
+    Ok(totals.read(0, 3, 0, bytes.len() as i128)?)
+}
+
+#[test]
+fn the_largest_write(rt: HostRuntime) -> Result<(), Fail> {
+    let bytes = vec![in rt.alloc(); 7u8; 8_186]?;
+    let mut totals = over(rt.alloc(), disk_with_files(rt.alloc())?)?;
+    totals.recover()?;
+    let read = fill_up(&mut totals, &bytes)?;
+    assert!(rt;
+        matches!(&read, Answer::Done(Value::Bytes(it)) if it.as_slice() == bytes.as_slice())
+    );
+    Ok(())
+}
+
+#[test]
+fn faults_are_told(rt: HostRuntime) -> Result<(), Fail> {
+    for (fault, wanted) in [
+        (RecoveryFault::Unformatted, "the disk isn't formatted"),
+        (RecoveryFault::Damaged, "the disk is damaged"),
+        (RecoveryFault::Handles, "the file handles have run out"),
+        (RecoveryFault::NoMemory, "out of memory"),
+        (RecoveryFault::Device, "the disk failed"),
+    ] {
+        assert_eq!(rt; format!(in rt.alloc(); "{fault}")?.as_str(), wanted);
+    }
+    Ok(())
+}
