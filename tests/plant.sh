@@ -22,17 +22,17 @@ cp -a "$top/crates" "$top/crates.txt" "$top/HANDLES" "$work" && cd "$work" || ex
 passed=0
 failed=0
 
-# plant CRATE: writes the list of a crate to the file `found`; whether each body was tried
+# plant CRATE: writes the list of a crate to the file `found`; whether the crate is proved and each body was tried
 plant() {
   (cd "crates/$1" && rt plant --jobs 1 --max 100000 --minutes 100000) > said || return 1
   tail -n 1 said
   grep -E '^(proves|no-ensures|untested) ' said | sed -E 's/^(\S+ +\S+):[0-9]+ /\1 /' | LC_ALL=C sort > found
-  grep -q '^plants .* not-run=0$' said
+  ! grep -q '^note: the crate is not proved' said && grep -q '^plants .* not-run=0$' said
 }
 
 for crate in "$@"; do
   if ! plant "$crate"; then
-    echo "$crate: not all was tried"
+    echo "$crate: it is not proved, or not each body was tried"
     failed=$((failed + 1))
     continue
   fi
