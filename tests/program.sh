@@ -36,11 +36,11 @@ ends() {
   told "$name: lines of the message" "$([ -z "$message" ] && echo 0 || echo 1)" "$(wc -l < err)"
 }
 
-# refuses_words NAME WORD ..: whether the words ask for nothing
+# refuses_words NAME MESSAGE WORD ..: whether the words ask for nothing, for this reason
 refuses_words() {
-  local name=$1
-  shift
-  ends "$name" 2 "pos_console: $ask" "$@"
+  local name=$1 message=$2
+  shift 2
+  ends "$name" 2 "pos_console: $message: $usage" "$@"
   told "$name: output" "" "$(cat out)"
 }
 
@@ -55,7 +55,7 @@ first_bytes() {
   head -c "$2" "$1" | od -An -tx1 | tr -d ' \n'
 }
 
-ask='the words ask for nothing: give none, `run --profile FILE --disk FILE` or `format --disk FILE`'
+usage='give no words, `run --profile FILE --disk FILE` or `format --disk FILE`'
 
 profile() {
   cat <<'PROFILE'
@@ -85,20 +85,29 @@ totals_script() {
 
 # --- words
 : > script
-refuses_words 'a misspelt command' rum --profile p --disk d
-refuses_words 'a command in capitals' RUN --profile p --disk d
-refuses_words 'an empty word' ''
-refuses_words 'help' --help
-refuses_words 'help of a command' run --help
-refuses_words 'the word help' help
-refuses_words 'version' --version
-refuses_words 'run without options' run
-refuses_words 'run without a disk' run --profile p
-refuses_words 'run without a profile' run --disk d
-refuses_words 'an option without its word' run --profile p --disk
-refuses_words 'a word too many' format --disk d e
-refuses_words 'an option twice' format --disk d --disk d
-refuses_words 'an option of another command' format --disk d --profile p
+nothing='no command has the name'
+refuses_words 'a misspelt command' "$nothing rum" rum --profile p --disk d
+refuses_words 'a command in capitals' "$nothing RUN" RUN --profile p --disk d
+refuses_words 'a command with a line feed' "$nothing r\nn" "$(printf 'r\nn')"
+refuses_words 'an empty word' "$nothing " ''
+refuses_words 'a version' "$nothing --version" --version
+refuses_words 'a word that is no text' 'a word is not UTF-8' "$(printf '\377')"
+refuses_words 'help' usage --help
+refuses_words 'help in short' usage -h
+refuses_words 'the word help' usage help
+refuses_words 'help of a command' usage run --help
+missing='error: the following required arguments were not provided:'
+refuses_words 'run without options' "$missing --profile <profile> --disk <disk>" run
+refuses_words 'run without a disk' "$missing --disk <disk>" run --profile p
+refuses_words 'run without a profile' "$missing --profile <profile>" run --disk d
+refuses_words 'an option without its word' \
+  "error: a value is required for '--disk <disk>' but none was supplied" run --profile p --disk
+refuses_words 'a word too many' "error: unexpected argument 'e' found" format --disk d e
+refuses_words 'a misspelt option' "error: unexpected argument '--dsk' found" format --dsk d
+refuses_words 'an option twice' "error: the argument '--disk <disk>' cannot be used multiple times" \
+  format --disk d --disk d
+refuses_words 'an option of another command' "error: unexpected argument '--profile' found" \
+  format --disk d --profile p
 told 'no file is made for words that ask for nothing' '' "$(ls | grep -v -x -e script -e out -e err)"
 
 # --- no words: the built-in profile over a disk in memory
@@ -188,6 +197,37 @@ told 'an output that takes nothing: message' "pos_console: the answers can't be 
 "$program" run --profile sound.toml --disk till.disk < . > out 2> err
 told 'an input that can'"'"'t be read: status' 5 $?
 told 'an input that can'"'"'t be read: message' "pos_console: the script can't be read" "$(cat err)"
+
+# --- faults of the disk in a run: a file that takes no byte behind so many KiB
+# limited KIB ANSWERS: whether a script that makes a file of 2,000 bytes prints so over such a disk
+limited() {
+  rm -f small.disk
+  "$program" format --disk small.disk
+  (trap '' XFSZ; ulimit -f "$1"; exec "$program" run --profile sound.toml --disk small.disk < script > out 2> err)
+  told "a disk that takes $1 KiB: status" 0 $?
+  told "a disk that takes $1 KiB: output" "$(printf 'ok\nok\nok\n'"$2")" "$(cat out)"
+}
+printf 'new a HardTotals\nopen a t1\nset a DeviceEnabled true\ncall a create 41 2000 false\ncall a find 41\n' > script
+limited 32 'err 111\nerr 111' # the first write is refused
+limited 33 'err 111\nerr 111' # the second is cut short
+limited 48 'err 111\nerr 111' # the third is refused
+limited 49 'ok 1\nok 1 2000'
+
+# --- syncs, where strace is there: between what has to settle and what follows, and before an answer is written
+# calls WORD ..: the calls of the program on the words that change a file: w where bytes are written, l where it is
+# lengthened, s where it is synced, and t where answers are written; several writes in turn are one w
+calls() {
+  strace -e trace=ftruncate,pwrite64,fsync,write -o trace "$program" "$@" < script > out 2> err
+  sed -n 's/^pwrite64(.*/w/p; s/^ftruncate(.*/l/p; s/^fsync(.*/s/p; s/^write(1,.*/t/p' trace | tr -d '\n' | tr -s w
+}
+if strace -o /dev/null true 2> /dev/null; then
+  rm -f traced.disk
+  told 'the calls of format' slswswsws "$(calls format --disk traced.disk)"
+  printf 'new a HardTotals\nopen a t1\nset a DeviceEnabled true\ncall a create 41 4 false\ncall a setAll 1 7\n' > script
+  told 'the calls of two changes' swswswswswst "$(calls run --profile sound.toml --disk traced.disk)"
+  printf 'new a HardTotals\nopen a t1\nset a DeviceEnabled true\ncall a create 41 4 false\ncall a read 1 0 4\n' > script
+  told 'the calls of a refused change and a read' st "$(calls run --profile sound.toml --disk traced.disk)"
+fi
 
 echo "$passed passed, $failed failed"
 [ "$failed" -eq 0 ]

@@ -86,13 +86,6 @@ pub record ServesFrom (old : Machine) (spares : SpareStates) (unread before afte
 abbrev pub Serves : Option (List ℕ) → Option (List ℕ) → Option (List ℕ) → Result (Unit {0}) RunFault → Type 0
 Serves = ServesFrom start start_spares
 
--- the status that the program ends with
-abbrev pub status : Result (Unit {0}) RunFault → ℕ
-status (Ok u) = 0
-status (Err fault.Read) = 5
-status (Err fault.Write) = 5
-status (Err fault.NoMemory) = 6
-
 -- what the program leaves of a writer, with what that holds back, where it runs over a profile
 abbrev pub ServesOverProfile : Contents → TotalsPart → Option (List ℕ) → Option (List ℕ) → Option (List ℕ)
     → Result (Unit {0}) RunFault → Type 0

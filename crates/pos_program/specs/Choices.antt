@@ -1,15 +1,18 @@
 -- The program's command lines, and what words ask for (docs/CONSOLE.md, "The program").
-use Rattle.std.specs.Prelude.{◌≡◌, ◌≢◌, ◌⊎◌, List, [], Option, Some, true, false, codes, Result, Ok, Err, slice_get}
-use Rattle.clap.specs.Words.{App, Rule, Text, fault_of, first_of, matches_of, new_app, new_rule, with_rule}
+use Rattle.std.specs.Prelude.{◌≡◌, ◌≢◌, ◌⊎◌, List, [], Option, Some, Bool, true, false, ◌||◌, bytes_eq, codes, Result, Ok, Err, slice_get}
+use Rattle.std.specs.declared.io.ErrorKind.{ErrorKind as IoKind}
+use Rattle.std.specs.declared.io.ErrorKind.TheVariants as io
+use Rattle.clap.specs.Words.{App, IsAmong, Rule, Text, fault_of, first_of, kind_of, matches_of, new_app, new_rule, with_rule}
 use Rattle.clap.specs.Built.{IsPlainArg}
 use Rattle.clap.specs.declared.builder.ArgAction.TheVariants.{Set}
 use Rattle.clap.specs.declared.builder.arg.Arg.{Arg}
+use Rattle.clap.specs.declared.error.Error.{Error}
 use Rattle.clap.specs.declared.error.kind.ErrorKind.{ErrorKind}
-use Rattle.clap.specs.declared.error.kind.ErrorKind.TheVariants.{OutOfMemory}
+use Rattle.clap.specs.declared.error.kind.ErrorKind.TheVariants.{DisplayHelp, OutOfMemory}
 use Rattle.pos_program.specs.declared.words.Task.{Task}
 use Rattle.pos_program.specs.declared.words.Task.TheVariants.{Demo, Run, Format}
-use Rattle.pos_program.specs.declared.words.ChoiceFault.{ChoiceFault}
-use Rattle.pos_program.specs.declared.words.ChoiceFault.TheVariants.{Words, NoMemory}
+use Rattle.pos_program.specs.declared.choice_fault.ChoiceFault.{ChoiceFault}
+use Rattle.pos_program.specs.declared.choice_fault.ChoiceFault.TheVariants.{Help, Unknown, Refused, NotUtf8, NoMemory}
 
 -- an option `--NAME FILE` that has to be there
 abbrev pub path_rule : Text → Rule
@@ -52,21 +55,47 @@ pub record AsksToFormat (words : List Text) (disk : Text) : Type 0 where
   pub accepts : Accepts format_line words
   pub disk_path : path_of format_line (codes "disk") words ≡ Some disk
 
--- There are words, and they are those of no command: the first names none, or `clap` finds a fault in them.
-pub record AsksNothing (words : List Text) : Type 0 where
-  pub some : words ≢ []
-  pub run : Names (codes "run") words → ¬ (Accepts run_line words)
-  pub format : Names (codes "format") words → ¬ (Accepts format_line words)
+-- a first word that asks for help
+abbrev pub is_help : Text → Bool
+is_help word = bytes_eq word (codes "--help") || bytes_eq word (codes "-h") || bytes_eq word (codes "help")
+
+-- `clap` finds this kind of fault in the words of a command
+abbrev pub HasFault : List Text → ErrorKind → Type 0
+HasFault words kind = Names (codes "run") words × IsAmong kind (fault_of run_line words)
+    ⊎ Names (codes "format") words × IsAmong kind (fault_of format_line words)
+
+-- the first word asks for help, or one behind the name of a command does
+abbrev pub AsksForHelp : List Text → Type 0
+AsksForHelp words = ((first : Text) × Names first words × (is_help first ≡ true)) ⊎ HasFault words DisplayHelp
+
+-- This is the first word, which names no command and doesn't ask for help.
+pub record NamesNothing (words : List Text) (first : Text) : Type 0 where
+  pub names : Names first words
+  pub run : first ≢ codes "run"
+  pub format : first ≢ codes "format"
+  pub help : is_help first ≡ false
 
 -- what the words ask for, or why they ask for nothing; memory can run out over a command alone
 abbrev pub Chooses : List Text → Result Task ChoiceFault → Type 0
 Chooses words (Ok Demo) = words ≡ []
 Chooses words (Ok (Run profile disk)) = AsksToRun words profile.now disk.now
 Chooses words (Ok (Format disk)) = AsksToFormat words disk.now
-Chooses words (Err Words) = AsksNothing words
+Chooses words (Err Help) = AsksForHelp words
+Chooses words (Err (Unknown first)) = NamesNothing words first.now
+Chooses words (Err (Refused error)) = HasFault words (kind_of error)
+Chooses words (Err NotUtf8) = ⊥
 Chooses words (Err NoMemory) = Names (codes "run") words ⊎ Names (codes "format") words
 
--- a parse that failed for want of memory says so, and any other found a fault in the words
-abbrev pub TellsWhy : ErrorKind → ChoiceFault → Type 0
-TellsWhy kind Words = kind ≢ OutOfMemory
-TellsWhy kind NoMemory = kind ≡ OutOfMemory
+-- what an error of `clap` is told as: want of memory, a call for help, or itself
+abbrev pub TellsWhy : Error → ChoiceFault → Type 0
+TellsWhy error Help = kind_of error ≡ DisplayHelp
+TellsWhy error (Unknown first) = ⊥
+TellsWhy error (Refused told) = (told ≡ error) × (kind_of error ≢ OutOfMemory)
+TellsWhy error NotUtf8 = ⊥
+TellsWhy error NoMemory = kind_of error ≡ OutOfMemory
+
+-- what an error of the system is told as that reads the words: want of memory, or that one of them is no UTF-8
+abbrev pub TellsUnread : IoKind → ChoiceFault → Type 0
+TellsUnread kind NotUtf8 = kind ≢ io.OutOfMemory
+TellsUnread kind NoMemory = kind ≡ io.OutOfMemory
+TellsUnread kind other = ⊥

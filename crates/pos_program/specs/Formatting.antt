@@ -1,5 +1,5 @@
 -- What formatting a disk answers, and what it leaves (docs/DISK.md, "Formatting").
-use Rattle.std.specs.Prelude.{◌≡◌, ◌⊎◌, true, false}
+use Rattle.std.specs.Prelude.{◌≡◌, ◌⊎◌, true, false, Result, Ok, Err}
 use Rattle.pos_disk.specs.State.{DiskState, IsAtRest, Watches}
 use Rattle.pos_image.specs.Images.{HasFailed}
 use Rattle.pos_image.specs.NewDisk.{HasClosedGates, no_files}
@@ -19,3 +19,8 @@ pub record IsUnformatted (old new : DiskState) (why : FileFault) : Type 0 where
   pub why_told : (why ≡ Formatted) ⊎ (why ≡ Device)
   pub formatted : why ≡ Formatted → (is_marked old.reading ≡ true) × Watches old new
   pub device : why ≡ Device → HasFailed old new
+
+-- what is answered where a disk was formatted, or why it wasn't
+abbrev pub Answers : {D : Type 0} → Result D (FileFault × D) → Result (Unit {0}) FileFault → Type 0
+Answers (Ok disk) result = result ≡ Ok tt
+Answers (Err why) result = result ≡ Err why.0

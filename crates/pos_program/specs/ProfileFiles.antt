@@ -1,5 +1,8 @@
 -- What the bytes of a profile's file give (docs/PROFILE.md, docs/CONSOLE.md).
-use Rattle.std.specs.Prelude.{◌≡◌, ◌+◌, ℕ, List, Option, Some, Result, Ok, Err, ◌==◌, count_by, take, IsUtf8, ⊤}
+use Rattle.std.specs.Prelude.{◌≡◌, ◌≢◌, ◌+◌, ℕ, List, Option, Some, Result, Ok, Err, ◌==◌, count_by, take, IsUtf8, ⊤, Vec}
+use Rattle.std.specs.IoError.{error_kind}
+use Rattle.std.specs.declared.io.Error.{Error}
+use Rattle.std.specs.declared.io.ErrorKind.TheVariants.{OutOfMemory}
 use Rattle.std.specs.Str.Lossy.{utf8_valid_len}
 use Rattle.toml.specs.Data.{Members}
 use Rattle.toml.specs.Parse.{parse_document}
@@ -34,3 +37,15 @@ line_at text place = count_by (λ byte. byte == 10) (take place text) + 1
 abbrev pub ReadsBytes : List ℕ → Result Contents ProfileFileFault → Type 0
 ReadsBytes bytes (Err (fault.NotUtf8 line)) = ¬ (IsUtf8 bytes) × (line ≡ line_at bytes (utf8_valid_len bytes))
 ReadsBytes bytes result = IsUtf8 bytes × Reads (parse_document bytes) result
+
+-- why a file that can't be read gives no profile: want of memory, or what the system says
+abbrev pub TellsRead : Error → ProfileFileFault → Type 0
+TellsRead cause fault.NoMemory = error_kind cause ≡ OutOfMemory
+TellsRead cause (fault.Unreadable told) = (told ≡ cause) × (error_kind cause ≢ OutOfMemory)
+TellsRead cause other = ⊥
+
+-- what reading a file gives: what its bytes give, or why it can't be read
+abbrev pub ReadsFile : {A : Type 0} → Result (Vec ℕ A) Error → Result Contents ProfileFileFault → Type 0
+ReadsFile (Ok bytes) result = ReadsBytes bytes.items result
+ReadsFile (Err cause) (Ok contents) = ⊥
+ReadsFile (Err cause) (Err why) = TellsRead cause why

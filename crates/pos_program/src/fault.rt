@@ -1,11 +1,11 @@
 //! What the program ends with.
 ghost use Rattle.std.specs.Prelude.{◌≡◌};
-ghost use Rattle.pos_program.specs.Faults.{profile_status, status, status_of};
+ghost use Rattle.pos_program.specs.Faults.{choice_status, disk_status, profile_status, status, status_of};
 
+use crate::choice_fault::ChoiceFault;
 use crate::file_fault::FileFault;
 use crate::one_line::OneLine;
 use crate::profile_fault::ProfileFileFault;
-use crate::words::ChoiceFault;
 use std::fmt;
 use std::fmt::Write;
 
@@ -13,8 +13,8 @@ use std::fmt::Write;
 /// in them. docs/CONSOLE.md, "The program".
 #[derive(Drop)]
 pub enum Fault<'a> {
-    /// The words are those of no command.
-    Words,
+    /// The words ask for nothing.
+    Words(ChoiceFault<'a>),
     /// The profile's file gives no profile.
     Profile {
         /// Its path, as its word stood.
@@ -37,6 +37,16 @@ pub enum Fault<'a> {
     NoMemory,
 }
 
+// The status where the words ask for nothing.
+fn choice_status(fault: &ChoiceFault<'_>) -> u8
+    ensures { result ≡ choice_status fault.now }
+{
+    match fault {
+        ChoiceFault::NoMemory => 6,
+        _ => 2,
+    }
+}
+
 // The status of a profile's fault.
 fn profile_status(cause: &ProfileFileFault) -> u8
     ensures { result ≡ profile_status cause.now }
@@ -47,16 +57,26 @@ fn profile_status(cause: &ProfileFileFault) -> u8
     }
 }
 
+// The status of a fault of the disk's file.
+fn disk_status(cause: &FileFault) -> u8
+    ensures { result ≡ disk_status cause.now }
+{
+    match cause {
+        FileFault::NoMemory => 6,
+        _ => 4,
+    }
+}
+
 impl Fault<'_> {
     /// The status that the program ends with: 2 for its words, 3 for the profile, 4 for the disk's file, 5 where the
-    /// script can't be read or the answers not be written, and 6 for want of memory, also to read the profile.
+    /// script can't be read or the answers not be written, and 6 for want of memory, for whichever of them.
     pub fn status(&self) -> u8
         ensures { result ≡ status self.now }
     {
         match self {
-            Fault::Words => 2,
+            Fault::Words(fault) => choice_status(fault),
             Fault::Profile { cause, .. } => profile_status(cause),
-            Fault::Disk { .. } => 4,
+            Fault::Disk { cause, .. } => disk_status(cause),
             Fault::Read | Fault::Write => 5,
             Fault::NoMemory => 6,
         }
@@ -73,25 +93,11 @@ pub fn status_of(outcome: &Result<(), Fault<'_>>) -> u8
     }
 }
 
-impl From<ChoiceFault> for Fault<'_> {
-    ghost use Rattle.std.specs.Prelude.{◌≡◌};
-    ghost use Rattle.pos_program.specs.Faults.{fault_of_choice};
-
-    ghost from_gives = { λ choice fault. fault ≡ fault_of_choice choice };
-
-    fn from(fault: ChoiceFault) -> Self {
-        match fault {
-            ChoiceFault::Words => Fault::Words,
-            ChoiceFault::NoMemory => Fault::NoMemory,
-        }
-    }
-}
-
 impl fmt::Display for Fault<'_> {
     fn fmt<W: fmt::Write>(&self, f: &mut fmt::Formatter<W>) -> fmt::Result {
         let mut line = OneLine::over(f);
         match self {
-            Fault::Words => write!(line, "{}", ChoiceFault::Words),
+            Fault::Words(fault) => write!(line, "{fault}"),
             Fault::Profile { path, cause } => write!(line, "{path}: {cause}"),
             Fault::Disk { path, cause } => write!(line, "{path}: {cause}"),
             Fault::Read => write!(line, "the script can't be read"),

@@ -1,10 +1,12 @@
 //! A disk in a file.
-ghost use Rattle.std.specs.Prelude.{◌≡◌, ◌≤◌, ◌+◌, ◌↔◌, IfOk, IsOk, Ok, false, length, max};
+ghost use Rattle.std.specs.Prelude.{◌≡◌, ◌≤◌, ◌+◌, ◌↔◌, IfOk, IsOk, Ok, true, false, length, max};
+ghost use Rattle.std.specs.Fs.{new_options, with_create, with_read, with_write};
+ghost use Rattle.pos_program.specs.Faults.{TellsOpen};
 ghost use Rattle.pos_program.specs.Files.{Fails, is_fault, unknown_state};
 
 use crate::file_fault::FileFault;
 use pos_disk::{Disk, DiskFault};
-use std::fs::{File, OpenFile};
+use std::fs::{File, OpenFile, OpenOptions};
 use std::io;
 use std::os::unix::fs::FileExt;
 use std::path::Path;
@@ -24,14 +26,31 @@ pub struct FileDisk<F: FileExt + OpenFile + Drop> {
     has_failed: bool,
 }
 
-// Opens a file for reading and writing, and makes it where it isn't there, if it may.
+// How a file is opened: for reading and writing, and made where it isn't there, if it may.
+fn options(may_make: bool) -> OpenOptions
+    ensures { result ≡ with_create (with_write (with_read new_options true) true) may_make }
+{
+    let mut options = File::options();
+    options.read(true).write(true).create(may_make);
+    options
+}
+
+// Why a file can't be opened.
+fn fault_of_open(cause: io::Error) -> FileFault
+    ensures { TellsOpen cause result }
+{
+    if cause.kind() == io::ErrorKind::OutOfMemory {
+        return FileFault::NoMemory;
+    }
+    FileFault::Open(cause)
+}
+
+// Opens a file, and makes it where it isn't there, if it may.
 fn open_file<R: Files>(files: &R, path: &str, may_make: bool) -> Result<R::File, FileFault> {
-    let opened = File::options()
-        .read(true)
-        .write(true)
-        .create(may_make)
-        .open(files, path);
-    opened.map_err(FileFault::Open)
+    match options(may_make).open(files, path) {
+        Ok(file) => Ok(file),
+        Err(cause) => Err(fault_of_open(cause)),
+    }
 }
 
 // How long a file is.

@@ -6,6 +6,9 @@ use thiserror::Error;
 /// Why a file can't serve as a disk, or not be formatted, with what the system says of it.
 #[derive(Clone, Copy, Debug, Error)]
 pub enum FileFault {
+    /// No memory was found to open it.
+    #[error("no memory to open it")]
+    NoMemory,
     /// It isn't there, or may not be read and written.
     #[error("can't be opened for reading and writing: {0}")]
     Open(io::Error),

@@ -1,7 +1,7 @@
 //! Formatting a file.
 ghost use Rattle.std.specs.Prelude.{◌≡◌, ◌≤◌, ◌⊎◌, IfErr, IfOk};
 ghost use Rattle.pos_image.specs.Layout.{disk_size};
-ghost use Rattle.pos_program.specs.Formatting.{IsFormatted, IsUnformatted};
+ghost use Rattle.pos_program.specs.Formatting.{Answers, IsFormatted, IsUnformatted};
 
 use crate::file_disk::FileDisk;
 use crate::file_fault::FileFault;
@@ -28,6 +28,16 @@ pub fn format_disk<D: Disk + Drop>(disk: D) -> Result<D, (FileFault, D)>
     }
 }
 
+// What formatting answers, without the disk.
+fn without_disk<D: Drop>(formatted: Result<D, (FileFault, D)>) -> Result<(), FileFault>
+    ensures { Answers formatted result }
+{
+    match formatted {
+        Ok(_) => Ok(()),
+        Err((fault, _)) => Err(fault),
+    }
+}
+
 /// Formats the disk in a file. The file is made where it isn't there, and lengthened with zero bytes to 327,680 where
 /// it is shorter; a longer one keeps its length. Then `format_disk` puts no files on it, and refuses it where totals
 /// are there. Each step is synced before the next.
@@ -35,8 +45,5 @@ pub fn format_file<F: FileExt + OpenFile + Drop, R: Files<File = F>>(
     files: &R,
     path: &str,
 ) -> Result<(), FileFault> {
-    match format_disk(FileDisk::make(files, path, LENGTH)?) {
-        Ok(_) => Ok(()),
-        Err((fault, _)) => Err(fault),
-    }
+    without_disk(format_disk(FileDisk::make(files, path, LENGTH)?))
 }

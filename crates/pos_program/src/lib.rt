@@ -2,22 +2,28 @@
 //! file that is formatted, the profile in a file, and the faults that it ends with.
 #![tactic(auto)]
 
+mod choice_fault;
 mod fault;
 mod file_disk;
 mod file_fault;
+mod first_paragraph;
 mod formatting;
+mod named_files;
 mod one_line;
 mod opening;
 mod profile_fault;
 mod profile_file;
 mod words;
 
+pub use choice_fault::ChoiceFault;
 pub use fault::{Fault, status_of};
 pub use file_disk::FileDisk;
 pub use file_fault::FileFault;
+pub use first_paragraph::FirstParagraph;
 pub use formatting::{format_disk, format_file};
+pub use named_files::{NamedFiles, SystemFiles};
 pub use one_line::OneLine;
 pub use opening::open_run;
 pub use profile_fault::ProfileFileFault;
 pub use profile_file::{profile_of_bytes, profile_of_text, read_profile};
-pub use words::{ChoiceFault, Task, choice, read_words};
+pub use words::{Task, choice, read_words};

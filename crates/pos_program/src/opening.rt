@@ -1,38 +1,43 @@
 //! What a run needs of files.
-ghost use Rattle.std.specs.Prelude.{IfErr};
-ghost use Rattle.pos_program.specs.Faults.{BlamesEither};
+ghost use Rattle.pos_program.specs.Opening.{FirstFault, OpensRun};
 
 use crate::fault::Fault;
-use crate::file_disk::FileDisk;
-use crate::profile_file::read_profile;
+use crate::file_fault::FileFault;
+use crate::named_files::NamedFiles;
+use crate::profile_fault::ProfileFileFault;
 use pos_profile::Profile;
-use std::fs::OpenFile;
-use std::os::unix::fs::FileExt;
-use std::rt::Files;
 
-/// The profile in one file, and the disk in another. The profile is read first: where both files are at fault, it is
-/// told.
-pub fn open_run<'a, F: FileExt + OpenFile + Drop, R: Files<File = F> + AllocGlobal>(
-    rt: &R,
+// What a run needs, of what both files gave; or the first fault, which is the profile's where both are at fault.
+fn first_fault<'a, D: Drop>(
     profile_path: &'a str,
+    profile: Result<Profile, ProfileFileFault>,
     disk_path: &'a str,
-) -> Result<(Profile, FileDisk<F>), Fault<'a>>
-    ensures { IfErr result (BlamesEither profile_path.entry.now disk_path.entry.now) }
+    disk: Result<D, FileFault>,
+) -> Result<(Profile, D), Fault<'a>>
+    ensures { FirstFault profile_path.entry.now profile disk_path.entry.now disk result }
 {
-    let profile = match read_profile(rt, profile_path) {
-        Ok(profile) => profile,
-        Err(cause) => {
-            return Err(Fault::Profile {
-                path: profile_path,
-                cause,
-            });
-        }
-    };
-    match FileDisk::open(rt, disk_path) {
-        Ok(disk) => Ok((profile, disk)),
-        Err(cause) => Err(Fault::Disk {
+    match (profile, disk) {
+        (Ok(profile), Ok(disk)) => Ok((profile, disk)),
+        (Err(cause), _) => Err(Fault::Profile {
+            path: profile_path,
+            cause,
+        }),
+        (Ok(_), Err(cause)) => Err(Fault::Disk {
             path: disk_path,
             cause,
         }),
     }
+}
+
+/// The profile in one file, and the disk in another. Where both files are at fault, the profile's fault is told.
+pub fn open_run<'a, F: NamedFiles>(
+    files: &F,
+    profile_path: &'a str,
+    disk_path: &'a str,
+) -> Result<(Profile, F::Disk), Fault<'a>>
+    ensures { OpensRun F.NamedFiles files.now profile_path.entry.now disk_path.entry.now result }
+{
+    let profile = files.read_profile(profile_path);
+    let disk = files.open_disk(disk_path);
+    first_fault(profile_path, profile, disk_path, disk)
 }

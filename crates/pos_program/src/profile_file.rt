@@ -2,7 +2,7 @@
 ghost use Rattle.std.specs.Prelude.{◌≡◌, ◌≤◌, length, None, Err};
 ghost use Rattle.toml.specs.Parse.{parse_document};
 ghost use Rattle.pos_profile.specs.Mistakes.{Explains};
-ghost use Rattle.pos_program.specs.ProfileFiles.{Reads, ReadsBytes, line_at};
+ghost use Rattle.pos_program.specs.ProfileFiles.{Reads, ReadsBytes, ReadsFile, TellsRead, line_at};
 
 use crate::profile_fault::ProfileFileFault;
 use pos_profile::{Profile, ProfileFault, find_mistake};
@@ -62,6 +62,16 @@ pub fn profile_of_text(alloc: Global, text: &str) -> Result<Profile, ProfileFile
     }
 }
 
+// Why a file can't be read.
+fn fault_of_read(cause: io::Error) -> ProfileFileFault
+    ensures { TellsRead cause result }
+{
+    if cause.kind() == io::ErrorKind::OutOfMemory {
+        return ProfileFileFault::NoMemory;
+    }
+    ProfileFileFault::Unreadable(cause)
+}
+
 /// The profile that the bytes of a file are: that of their text, if they are UTF-8.
 pub fn profile_of_bytes(alloc: Global, bytes: &[u8]) -> Result<Profile, ProfileFileFault>
     ensures { ReadsBytes bytes.entry.now result }
@@ -74,14 +84,20 @@ pub fn profile_of_bytes(alloc: Global, bytes: &[u8]) -> Result<Profile, ProfileF
     }
 }
 
+// The profile that was read from a file, or why it wasn't.
+fn profile_of_read(alloc: Global, read: io::Result<Vec<u8>>) -> Result<Profile, ProfileFileFault>
+    ensures { ReadsFile read result }
+{
+    match read {
+        Ok(bytes) => profile_of_bytes(alloc, &bytes),
+        Err(cause) => Err(fault_of_read(cause)),
+    }
+}
+
 /// The profile in a file.
 pub fn read_profile<R: Files + AllocGlobal>(
     rt: &R,
     path: &str,
 ) -> Result<Profile, ProfileFileFault> {
-    match fs::read(rt, path) {
-        Ok(bytes) => profile_of_bytes(rt.alloc(), &bytes),
-        Err(cause) if cause.kind() == io::ErrorKind::OutOfMemory => Err(ProfileFileFault::NoMemory),
-        Err(cause) => Err(ProfileFileFault::Unreadable(cause)),
-    }
+    profile_of_read(rt.alloc(), fs::read(rt, path))
 }

@@ -1,16 +1,17 @@
 //! What the words of the command line ask for.
 ghost use Rattle.std.specs.Prelude.{◌≡◌, codes, map};
-ghost use Rattle.clap.specs.Words.{kind_of, rule_of};
+ghost use Rattle.std.specs.IoError.{error_kind};
+ghost use Rattle.clap.specs.Words.{rule_of};
 ghost use Rattle.clap.specs.Built.{TakesValue};
-ghost use Rattle.pos_program.specs.Choices.{Chooses, FitsAlone, Names, TellsWhy, path_rule};
+ghost use Rattle.pos_program.specs.Choices.{Chooses, FitsAlone, Names, TellsUnread, TellsWhy, is_help, path_rule};
 
+use crate::choice_fault::ChoiceFault;
 use clap::error::ErrorKind;
 use clap::{Arg, ArgAction, Command};
 use std::alloc::Global;
 use std::convert::AsStr;
 use std::rt::Env;
 use std::{env, io};
-use thiserror::Error;
 
 /// What the words of the command line ask for. A path is its word as it stands.
 #[derive(Clone, Copy, PartialEq, Eq)]
@@ -23,25 +24,21 @@ pub enum Task<'a> {
     Format { disk: &'a str },
 }
 
-/// Why the words of the command line ask for nothing.
-#[derive(Clone, Copy, Debug, PartialEq, Eq, Error)]
-pub enum ChoiceFault {
-    /// The words are those of no command.
-    #[error("the words ask for nothing: give none, `run --profile FILE --disk FILE` or `format --disk FILE`")]
-    Words,
-    /// There was no memory to read the words of a command.
-    #[error("no memory")]
-    NoMemory,
+// Why the words can't be read.
+fn fault_of_unread<'a>(cause: &io::Error) -> ChoiceFault<'a>
+    ensures { TellsUnread (error_kind cause.now) result }
+{
+    if cause.kind() == io::ErrorKind::OutOfMemory {
+        return ChoiceFault::NoMemory;
+    }
+    ChoiceFault::NotUtf8
 }
 
-/// The words after the program's name. `Words` where one of them is no UTF-8.
-pub fn read_words<R: Env + AllocGlobal>(rt: &R) -> Result<Vec<String>, ChoiceFault> {
+/// The words after the program's name. Answers `NotUtf8` or `NoMemory` where they can't be read.
+pub fn read_words<'a, R: Env + AllocGlobal>(rt: &R) -> Result<Vec<String>, ChoiceFault<'a>> {
     let words = match env::args(rt) {
         Ok(words) => words,
-        Err(cause) if cause.kind() == io::ErrorKind::OutOfMemory => {
-            return Err(ChoiceFault::NoMemory);
-        }
-        Err(_) => return Err(ChoiceFault::Words),
+        Err(cause) => return Err(fault_of_unread(&cause)),
     };
     match words.skip(1).collect::<Vec<String>>(rt.alloc()) {
         Ok(words) => Ok(words),
@@ -63,17 +60,21 @@ fn path_option<'a>(alloc: Global, name: &'a str) -> Arg<'a>
 }
 
 // Why `clap` gave no matches.
-fn fault_of_error(error: &clap::Error) -> ChoiceFault
-    ensures { TellsWhy (kind_of error.now) result }
+fn fault_of_error<'a>(error: clap::Error) -> ChoiceFault<'a>
+    ensures { TellsWhy error result }
 {
-    if error.kind() == ErrorKind::OutOfMemory {
+    let kind = error.kind();
+    if kind == ErrorKind::OutOfMemory {
         return ChoiceFault::NoMemory;
     }
-    ChoiceFault::Words
+    if kind == ErrorKind::DisplayHelp {
+        return ChoiceFault::Help;
+    }
+    ChoiceFault::Refused(error)
 }
 
 // What the words of `run` ask for.
-fn run_task<'a, S: AsStr>(alloc: Global, words: &'a [S]) -> Result<Task<'a>, ChoiceFault>
+fn run_task<'a, S: AsStr>(alloc: Global, words: &'a [S]) -> Result<Task<'a>, ChoiceFault<'a>>
     requires { Names (codes "run") (map S.text words.now) }
     ensures { Chooses (map S.text words.entry.now) result }
 {
@@ -87,7 +88,7 @@ fn run_task<'a, S: AsStr>(alloc: Global, words: &'a [S]) -> Result<Task<'a>, Cho
     };
     let matches = match line.try_get_matches_from(words) {
         Ok(matches) => matches,
-        Err(error) => return Err(fault_of_error(&error)),
+        Err(error) => return Err(fault_of_error(error)),
     };
     let Some(profile) = matches.get_str("profile") else {
         unreachable!()
@@ -99,7 +100,7 @@ fn run_task<'a, S: AsStr>(alloc: Global, words: &'a [S]) -> Result<Task<'a>, Cho
 }
 
 // What the words of `format` ask for.
-fn format_task<'a, S: AsStr>(alloc: Global, words: &'a [S]) -> Result<Task<'a>, ChoiceFault>
+fn format_task<'a, S: AsStr>(alloc: Global, words: &'a [S]) -> Result<Task<'a>, ChoiceFault<'a>>
     requires { Names (codes "format") (map S.text words.now) }
     ensures { Chooses (map S.text words.entry.now) result }
 {
@@ -109,7 +110,7 @@ fn format_task<'a, S: AsStr>(alloc: Global, words: &'a [S]) -> Result<Task<'a>, 
     };
     let matches = match line.try_get_matches_from(words) {
         Ok(matches) => matches,
-        Err(error) => return Err(fault_of_error(&error)),
+        Err(error) => return Err(fault_of_error(error)),
     };
     let Some(disk) = matches.get_str("disk") else {
         unreachable!()
@@ -117,11 +118,18 @@ fn format_task<'a, S: AsStr>(alloc: Global, words: &'a [S]) -> Result<Task<'a>, 
     Ok(Task::Format { disk })
 }
 
-/// What the words after the program's name ask for. Answers `Words` where they are those of no command: an unknown
-/// first word, or where `clap` refuses the words after it, as an option that is missing or repeated, a word too many,
-/// a call for help. Answers `NoMemory` where there was none to read the words of a command. docs/CONSOLE.md,
-/// "The program".
-pub fn choice<'a, S: AsStr>(alloc: Global, words: &'a [S]) -> Result<Task<'a>, ChoiceFault>
+// Whether a first word asks for help.
+fn is_help(word: &str) -> bool
+    ensures { result ≡ is_help word.now }
+{
+    word == "--help" || word == "-h" || word == "help"
+}
+
+/// What the words after the program's name ask for. Where they are those of no command the answer says why: `Help`
+/// where help is asked for, `Unknown` with a first word that names no command, `Refused` where `clap` refuses the words
+/// after it, as an option that is missing or repeated, or a word too many. Answers `NoMemory` where there was none to
+/// read the words of a command. docs/CONSOLE.md, "The program".
+pub fn choice<'a, S: AsStr>(alloc: Global, words: &'a [S]) -> Result<Task<'a>, ChoiceFault<'a>>
     ensures { Chooses (map S.text words.entry.now) result }
 {
     let Some(first) = words.first() else {
@@ -134,5 +142,8 @@ pub fn choice<'a, S: AsStr>(alloc: Global, words: &'a [S]) -> Result<Task<'a>, C
     if name == "format" {
         return format_task(alloc, words);
     }
-    Err(ChoiceFault::Words)
+    if is_help(name) {
+        return Err(ChoiceFault::Help);
+    }
+    Err(ChoiceFault::Unknown(name))
 }

@@ -1,5 +1,7 @@
 use pos_disk::Disk;
-use pos_program::{Fault, FileFault, ProfileFileFault, format_file, open_run, read_profile};
+use pos_program::{
+    Fault, FileFault, ProfileFileFault, SystemFiles, format_file, open_run, read_profile,
+};
 use std::fs;
 use std::test::Fail;
 
@@ -42,7 +44,8 @@ fn files_that_cannot_be_read(rt: HostRuntime) {
     assert!(rt; matches!(format_file(&rt, "."), Err(FileFault::Open(_))));
     let outcome = read_profile(&rt, ".");
     assert!(rt; matches!(outcome, Err(ProfileFileFault::Unreadable(_))));
-    assert!(rt; matches!(open_run(&rt, "", ""), Err(Fault::Profile { path: "", .. })));
+    let outcome = open_run(&SystemFiles::of(&rt), "", "");
+    assert!(rt; matches!(outcome, Err(Fault::Profile { path: "", .. })));
 }
 
 #[test]
@@ -51,7 +54,7 @@ fn files_of_a_run(rt: HostRuntime) -> Result<(), Fail> {
     let _ = fs::remove_dir_all(&rt, "files_of_a_run");
     fs::create_dir(&rt, "files_of_a_run")?;
     fs::write(&rt, profile, "device=[{name='t1',category='HardTotals'}]")?;
-    let outcome = open_run(&rt, profile, disk);
+    let outcome = open_run(&SystemFiles::of(&rt), profile, disk);
     assert!(rt;
         matches!(
             outcome,
@@ -62,7 +65,7 @@ fn files_of_a_run(rt: HostRuntime) -> Result<(), Fail> {
         )
     );
     fs::write(&rt, disk, "abc")?;
-    let Ok((profile, disk)) = open_run(&rt, profile, disk) else {
+    let Ok((profile, disk)) = open_run(&SystemFiles::of(&rt), profile, disk) else {
         panic!(rt; "two files");
     };
     assert_eq!(rt; (profile.devices().len(), disk.len()), (1, 3));

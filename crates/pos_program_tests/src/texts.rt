@@ -26,9 +26,31 @@ fn a_text_on_one_line(rt: HostRuntime) -> Result<(), Fail> {
 
 #[test]
 fn faults_of_words_and_of_a_run(rt: HostRuntime) -> Result<(), Fail> {
-    let words =
-        "the words ask for nothing: give none, `run --profile FILE --disk FILE` or `format --disk FILE`";
-    assert!(rt; ends(rt.alloc(), Fault::Words, 2, words)?);
+    let usage = "give no words, `run --profile FILE --disk FILE` or `format --disk FILE`";
+    let alloc = rt.alloc();
+    let help = format!(in alloc; "usage: {usage}")?;
+    assert!(rt; ends(alloc, Fault::Words(ChoiceFault::Help), 2, &help)?);
+    let unknown = format!(in alloc; "no command has the name r\\nn: {usage}")?;
+    assert!(rt;
+        ends(
+            alloc,
+            Fault::Words(ChoiceFault::Unknown("r\nn")),
+            2,
+            &unknown
+        )?
+    );
+    let unread = format!(in alloc; "a word is not UTF-8: {usage}")?;
+    assert!(rt; ends(alloc, Fault::Words(ChoiceFault::NotUtf8), 2, &unread)?);
+    assert!(rt; ends(alloc, Fault::Words(ChoiceFault::NoMemory), 6, "no memory")?);
+    let (path, cause) = ("d", FileFault::NoMemory);
+    assert!(rt;
+        ends(
+            alloc,
+            Fault::Disk { path, cause },
+            6,
+            "d: no memory to open it"
+        )?
+    );
     assert!(rt; ends(rt.alloc(), Fault::Read, 5, "the script can't be read")?);
     assert!(rt; ends(rt.alloc(), Fault::Write, 5, "the answers can't be written")?);
     assert!(rt; ends(rt.alloc(), Fault::NoMemory, 6, "no memory")?);
@@ -106,38 +128,70 @@ fn faults_of_a_profile(rt: HostRuntime) -> Result<(), Fail> {
     Ok(())
 }
 
-/// Whether the words of a line, split at its blanks, ask for this. Where they find no memory they are read once more.
-fn asks(alloc: Global, line: &str, wanted: Result<Task<'_>, ChoiceFault>) -> Result<bool, Fail> {
+/// What words ask for. Where they find no memory they are read once more.
+fn chosen<'a>(alloc: Global, words: &'a [&'a str]) -> Result<Task<'a>, ChoiceFault<'a>> {
+    match choice(alloc, words) {
+        Err(ChoiceFault::NoMemory) => choice(alloc, words),
+        outcome => outcome,
+    }
+}
+
+/// Whether the words of a line, split at its blanks, ask for this.
+fn asks(alloc: Global, line: &str, wanted: Task<'_>) -> Result<bool, Fail> {
     let words = line.split(' ').collect::<Vec<&str>>(alloc)?;
-    let words = words.as_slice();
-    Ok(choice(alloc, words) == wanted || choice(alloc, words) == wanted)
+    Ok(matches!(chosen(alloc, words.as_slice()), Ok(task) if task == wanted))
+}
+
+/// Whether the words of a line ask for nothing, and are told so with a text that begins like this.
+fn refuses(alloc: Global, line: &str, told: &str) -> Result<bool, Fail> {
+    let words = line.split(' ').collect::<Vec<&str>>(alloc)?;
+    match chosen(alloc, words.as_slice()) {
+        Ok(_) => Ok(false),
+        Err(fault) => Ok(format!(in alloc; "{fault}")?.starts_with(told)),
+    }
 }
 
 #[test]
 fn words_of_each_command(rt: HostRuntime) -> Result<(), Fail> {
     let (profile, disk) = ("p", "-");
     let none: [&str; 0] = [];
-    assert!(rt; choice(rt.alloc(), &none) == Ok(Task::Demo));
+    assert!(rt; matches!(choice(rt.alloc(), &none), Ok(Task::Demo)));
     for (line, task) in [
         ("run --profile p --disk -", Task::Run { profile, disk }),
         ("run --disk=- --profile=p", Task::Run { profile, disk }),
         ("format --disk=-", Task::Format { disk }),
     ] {
-        assert!(rt; asks(rt.alloc(), line, Ok(task))?, "{line}");
+        assert!(rt; asks(rt.alloc(), line, task)?, "{line}");
     }
     Ok(())
 }
 
-/// Lines of words of no command.
-const NO_COMMANDS: &str =
-    "|--|Run --profile p --disk d|help|--help|--version|--disk d|run --help|run --disk d|\
-    run --profile p --disk|format|format -h|format --disk d --version|format --disk d e|\
-    format --disk d --disk d|format --disk d --profile p";
-
 #[test]
 fn words_of_no_command(rt: HostRuntime) -> Result<(), Fail> {
-    for line in NO_COMMANDS.split('|') {
-        assert!(rt; asks(rt.alloc(), line, Err(ChoiceFault::Words))?, "{line}");
+    for (line, told) in [
+        ("", "no command has the name : "),
+        ("Run --disk d", "no command has the name Run: "),
+        ("--version", "no command has the name --version: "),
+        ("help", "usage: "),
+        ("-h", "usage: "),
+        ("run --help", "usage: "),
+        ("format -h", "usage: "),
+        (
+            "run --disk d",
+            "error: the following required arguments were not provided: --profile",
+        ),
+        ("format --disk", "error: a value is required for '--disk"),
+        (
+            "format --disk d e",
+            "error: unexpected argument 'e' found: give",
+        ),
+        ("format --disk d --disk d", "error: the argument '--disk"),
+        (
+            "format --disk d --profile p",
+            "error: unexpected argument '--profile' found: give",
+        ),
+    ] {
+        assert!(rt; refuses(rt.alloc(), line, told)?, "{line}");
     }
     Ok(())
 }

@@ -1,0 +1,27 @@
+-- What a run's files give (docs/CONSOLE.md, "The program").
+use Rattle.std.specs.Prelude.{◌≡◌, ℕ, List, Result, Ok, Err}
+use Rattle.pos_profile.specs.Entries.{Contents}
+use Rattle.pos_program.specs.declared.fault.Fault.{Fault}
+use Rattle.pos_program.specs.declared.fault.Fault.TheVariants as fault
+use Rattle.pos_program.specs.declared.file_fault.FileFault.{FileFault}
+use Rattle.pos_program.specs.declared.named_files.NamedFiles.{Ghosts}
+use Rattle.pos_program.specs.declared.profile_fault.ProfileFileFault.{ProfileFileFault}
+
+-- what both files gave; or the first fault with the path of its file, the profile's where both are at fault
+abbrev pub FirstFault : {P D : Type 0} → List ℕ → Result P ProfileFileFault → List ℕ → Result D FileFault
+    → Result (P × D) Fault → Type 0
+FirstFault profile_path profile disk_path disk (Ok both) = (profile ≡ Ok both.0) × (disk ≡ Ok both.1)
+FirstFault profile_path profile disk_path disk (Err (fault.Profile path cause)) =
+    (path.now ≡ profile_path) × (profile ≡ Err cause)
+FirstFault {P} profile_path profile disk_path disk (Err (fault.Disk path cause)) =
+    (path.now ≡ disk_path) × (disk ≡ Err cause) × ((p : P) × (profile ≡ Ok p))
+FirstFault profile_path profile disk_path disk (Err other) = ⊥
+
+-- What a run's two files give: what each of them answered, and what is made of both answers.
+pub record OpensRun {F D : Type 0} (files : Ghosts F D) (them : F) (profile_path disk_path : List ℕ)
+    (result : Result (Contents × D) Fault) : Type 0 where
+  pub profile : Result Contents ProfileFileFault
+  pub disk : Result D FileFault
+  pub profile_read : files.gives_profile them profile_path profile
+  pub disk_opened : files.gives_disk them disk_path disk
+  pub first : FirstFault profile_path profile disk_path disk result

@@ -1,0 +1,72 @@
+//! The files that the program's words name.
+ghost use Rattle.std.specs.Prelude.{ℕ, List, Result, ⊤};
+ghost use Rattle.pos_profile.specs.Entries.{Contents};
+ghost use Rattle.pos_program.specs.declared.file_fault.FileFault.{FileFault};
+ghost use Rattle.pos_program.specs.declared.profile_fault.ProfileFileFault.{ProfileFileFault};
+
+use crate::file_disk::FileDisk;
+use crate::file_fault::FileFault;
+use crate::formatting::format_file;
+use crate::profile_fault::ProfileFileFault;
+use crate::profile_file::read_profile;
+use pos_disk::Disk;
+use pos_profile::Profile;
+use std::fs::File;
+use std::rt::Files;
+
+/// Files that the program's words name by their paths. Contracts of functions over them say what is made of what they
+/// answer; what they answer themselves is for each such type to say.
+pub trait NamedFiles {
+    /// A disk in a file.
+    type Disk: Disk + Drop;
+
+    /// What reading the profile in a file may answer.
+    ghost gives_profile: { Self → List ℕ → Result Contents ProfileFileFault → Type 0 } = { λ _ _ _. ⊤ };
+
+    /// What opening the disk in a file may answer.
+    ghost gives_disk: { Self → List ℕ → Result Self.Disk FileFault → Type 0 } = { λ _ _ _. ⊤ };
+
+    /// What formatting the disk in a file may answer.
+    ghost formats: { Self → List ℕ → Result (Unit {0}) FileFault → Type 0 } = { λ _ _ _. ⊤ };
+
+    /// The profile in a file.
+    fn read_profile(&self, path: &str) -> Result<Profile, ProfileFileFault>
+        ensures { gives_profile self.now path.now result };
+
+    /// The disk in a file that is there, as long as the file is.
+    fn open_disk(&self, path: &str) -> Result<Self::Disk, FileFault>
+        ensures { gives_disk self.now path.now result };
+
+    /// Formats the disk in a file, as `format_file` does.
+    fn format_disk(&self, path: &str) -> Result<(), FileFault>
+        ensures { formats self.now path.now result };
+}
+
+/// The files of the system. No clause can say what they hold.
+#[derive(Drop)]
+pub struct SystemFiles<'a, R> {
+    rt: &'a R,
+}
+
+impl<'a, R> SystemFiles<'a, R> {
+    /// Those that a handle gives.
+    pub fn of(rt: &'a R) -> SystemFiles<'a, R> {
+        SystemFiles { rt }
+    }
+}
+
+impl<R: Files<File = File> + AllocGlobal> NamedFiles for SystemFiles<'_, R> {
+    type Disk = FileDisk<File>;
+
+    fn read_profile(&self, path: &str) -> Result<Profile, ProfileFileFault> {
+        read_profile(self.rt, path)
+    }
+
+    fn open_disk(&self, path: &str) -> Result<FileDisk<File>, FileFault> {
+        FileDisk::open(self.rt, path)
+    }
+
+    fn format_disk(&self, path: &str) -> Result<(), FileFault> {
+        format_file(self.rt, path)
+    }
+}
