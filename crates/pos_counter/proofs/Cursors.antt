@@ -35,7 +35,8 @@ pub none_applies : (rows : List Row) → first_refusal rows ≡ None → NoneApp
 none_applies [] none = tt
 none_applies (row ∷ rows) none = by row.applies none (none_applies rows)
   where
-    by : (b : Bool) → cond b (Some (answer.Refused row.code row.extended)) (first_refusal rows) ≡ None → (first_refusal rows ≡ None → NoneApplies rows) → (b ≡ false) × NoneApplies rows
+    by : (b : Bool) → cond b (Some (answer.Refused row.code row.extended)) (first_refusal rows) ≡ None
+        → (first_refusal rows ≡ None → NoneApplies rows) → (b ≡ false) × NoneApplies rows
     by true same rest = cc
     by false same rest = (refl, rest same)
 

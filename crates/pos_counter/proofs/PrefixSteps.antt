@@ -98,11 +98,13 @@ stored_claimed test claim (Ready files sequence) = ap (λ fs. StoreReady fs sequ
 -- ---- refusals
 
 -- what a table refuses acknowledges no change
-refused_undone : (rows : List Row) (refusal result : Answer) → first_refusal rows ≡ Some refusal → result ≡ refusal → IsUndone (Answered result)
+refused_undone : (rows : List Row) (refusal result : Answer) → first_refusal rows ≡ Some refusal → result ≡ refusal
+    → IsUndone (Answered result)
 refused_undone [] refusal result is same = absurd cc
 refused_undone (row ∷ rows) refusal result is same = by row.applies is (λ rest. refused_undone rows refusal result rest same)
   where
-    by : (b : Bool) → cond b (Some (answer.Refused row.code row.extended)) (first_refusal rows) ≡ Some refusal → (first_refusal rows ≡ Some refusal → IsUndone (Answered result)) → IsUndone (Answered result)
+    by : (b : Bool) → cond b (Some (answer.Refused row.code row.extended)) (first_refusal rows) ≡ Some refusal
+        → (first_refusal rows ≡ Some refusal → IsUndone (Answered result)) → IsUndone (Answered result)
     by true first rest = subst (λ a. IsUndone (Answered a)) (same_Some (answer.Refused row.code row.extended) refusal first ∙ sym same) tt
     by false first rest = rest first
 

@@ -87,8 +87,8 @@ fn queue(controls: &mut [Control], caller: usize, order: Order) -> Result<Answer
 /// Gives the printer at a place the order of a request, once there is room for what the controls will hear. Each
 /// control that has the printer open and enabled hears the statuses that have changed. Want of memory changes nothing.
 ///
-/// Refused with E_EXTENDED: EPTR_COVER_OPEN where the cover is open, else EPTR_REC_EMPTY where no line of paper is left,
-/// or fewer than the request needs; with E_FAILURE where the line to the printer fails.
+/// Refused with E_EXTENDED: EPTR_COVER_OPEN where the cover is open, else EPTR_REC_EMPTY where no line of paper is
+/// left, or fewer than the request needs; with E_FAILURE where the line to the printer fails.
 fn give(
     controls: &mut [Control],
     place: usize,

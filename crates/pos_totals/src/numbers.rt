@@ -3,18 +3,15 @@ ghost use Rattle.std.specs.Prelude.{◌≡◌, ◌<◌, pos, false, MatchOption}
 ghost use Rattle.pos_service.specs.HardTotals.{is_range, is_up_to};
 ghost use Rattle.pos_totals.specs.Checks.{IsRange};
 
-use pos_service::numbers::to_natural;
+use pos_service::numbers::{to_count, to_natural};
 
 /// A number of a call, where it is the value of a byte.
 pub fn to_byte(number: i128) -> Option<u8>
     ensures { MatchOption result (is_up_to 255 number ≡ false) (λ n. (number ≡ pos n) × (n < 256)) }
 {
-    let Some(number) = to_natural(number) else {
+    let Some(number) = to_count(number, 255) else {
         return None;
     };
-    if number > 255 {
-        return None;
-    }
     Some(number as u8)
 }
 
