@@ -12,13 +12,13 @@ use Rattle.pos_common.specs.declared.need.Need.{Need}
 abbrev pub needs_no_other : ClaimNeed → Bool
 needs_no_other claim_need.Any = false
 needs_no_other claim_need.NoOther = true
-needs_no_other claim_need.Held = true
+needs_no_other claim_need.Own = true
 
 -- the call asks that somebody holds the device
 abbrev pub needs_holder : ClaimNeed → Bool
 needs_holder claim_need.Any = false
 needs_holder claim_need.NoOther = false
-needs_holder claim_need.Held = true
+needs_holder claim_need.Own = true
 
 -- the refusals of an open control that isn't as a call asks it to be, by its number and the holder of its device
 abbrev pub need_rows : Control → ℕ → Option ℕ → Need → List Row

@@ -1,5 +1,5 @@
 ghost use Rattle.std.specs.Prelude.{◌≡◌, ◌<◌, Some, None, IfOk, length, replicate};
-ghost use Rattle.pos_service.specs.Claims.{claimed_by, holder_at, is_foreign, released_by};
+ghost use Rattle.pos_service.specs.Claims.{claimed_by, holder_at, released_by};
 
 use pos_service::NoMemory;
 use std::alloc::Global;
@@ -59,15 +59,5 @@ impl Claims {
         if self.holder(device) == Some(number) {
             self.holders[place] = None;
         }
-    }
-}
-
-/// Whether a control holds the device, and another than the one with a number.
-pub(crate) fn is_foreign(number: usize, holder: Option<usize>) -> bool
-    ensures { result ≡ is_foreign number holder }
-{
-    match holder {
-        Some(holder) => holder != number,
-        None => false,
     }
 }

@@ -15,5 +15,5 @@ pub enum ClaimNeed {
     /// That no other control holds the device.
     NoOther,
     /// That the control holds the device.
-    Held,
+    Own,
 }

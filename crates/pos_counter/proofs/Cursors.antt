@@ -13,6 +13,7 @@ use Rattle.pos_service.specs.declared.kind.Kind.{Kind}
 use Rattle.pos_service.specs.declared.kind.Kind.TheVariants as kind
 use Rattle.pos_service.specs.declared.property.Property.{Property}
 use Rattle.pos_service.specs.declared.property.Property.TheVariants as property
+use Rattle.pos_service.specs.declared.answer.Answer.TheVariants as answer
 use Rattle.pos_service.specs.declared.answer.Value.{Value}
 use Rattle.pos_service.specs.declared.answer.Value.TheVariants as value
 use Rattle.pos_service.specs.Calls.{takes, cursor_after}
@@ -34,7 +35,8 @@ pub none_applies : (rows : List Row) → first_refusal rows ≡ None → NoneApp
 none_applies [] none = tt
 none_applies (row ∷ rows) none = by row.applies none (none_applies rows)
   where
-    by : (b : Bool) → cond b (Some row.answer) (first_refusal rows) ≡ None → (first_refusal rows ≡ None → NoneApplies rows) → (b ≡ false) × NoneApplies rows
+    by : (b : Bool) → cond b (Some (answer.Refused row.code row.extended)) (first_refusal rows) ≡ None
+        → (first_refusal rows ≡ None → NoneApplies rows) → (b ≡ false) × NoneApplies rows
     by true same rest = cc
     by false same rest = (refl, rest same)
 

@@ -1,7 +1,6 @@
 -- What each step of the machine does to the totals' files.
 use Rattle.std.proofs.Common.{◌≡◌, ◌∙◌, ◌+◌, ℕ, Bool, true, false, not, List, [], ◌∷◌, Option, Some, cond, inl, inr, refl, sym, ap, subst}
 use Rattle.std.specs.Bool.{MatchBool}
-use Rattle.std.specs.List.{AllByRecursion}
 use Rattle.std.specs.Prelude.{⊤, slice_get, is_some, Ok, None}
 use Rattle.std.proofs.lemmas.Bool.{and_parts}
 use Rattle.std.proofs.lemmas.Option.{same_Some}
@@ -16,17 +15,15 @@ use Rattle.pos_service.specs.declared.call.Call.TheVariants as call
 use Rattle.pos_service.specs.declared.category.Category.{Category}
 use Rattle.pos_service.specs.declared.category.Category.TheVariants as category
 use Rattle.pos_service.specs.declared.code.Code.TheVariants as code
-use Rattle.pos_service.specs.declared.kind.Kind.{Kind}
 use Rattle.pos_service.specs.declared.property.Property.{Property}
 use Rattle.pos_service.specs.Claims.{after_release}
 use Rattle.pos_service.specs.Controls.{Control, closed}
-use Rattle.pos_service.specs.DisplayCalls.{DisplayDoes, argument_rows}
-use Rattle.pos_service.specs.HardTotals.{File, Totals, Mode, Off, Ready, Change, Create, Delete, Rename, Write, SetAll, Question, Find, FindByIndex, Read, Done, DoesCommit, DoesTogether, IsAmong, sequences_after, mode_after, files_after_all, files_of, is_called, is_last, is_own_claim, is_ready, question_rows, change_rows, commit_rows, while_ready, with_each, with_files, with_transaction, claimed as claimed_file, changes_in, in_transaction, spent_by, transaction_of, layout_1, number_rows, after_disk_fault}
-use Rattle.pos_service.specs.HardTotals.{Arrangement, ClaimFile, ReleaseFile, BeginTrans, Rollback, after_arrangement, arrangement_rows}
-use Rattle.pos_service.specs.PrinterCalls.{request_rows}
+use Rattle.pos_service.specs.DisplayCalls.{DisplayDoes}
+use Rattle.pos_service.specs.HardTotals.{File, Totals, Mode, Off, Ready, Change, Done, DoesCommit, DoesTogether, IsAmong, sequences_after, mode_after, files_after_all, files_of, is_called, is_last, is_own_claim, is_ready, with_each, with_files, with_transaction, claimed as claimed_file, changes_in, in_transaction, transaction_of, number_rows, after_disk_fault}
+use Rattle.pos_service.specs.HardTotals.{Arrangement, ClaimFile, ReleaseFile, BeginTrans, Rollback, after_arrangement}
 use Rattle.pos_service.specs.Refusals.{Row, Decided, first_refusal, when}
 use Rattle.pos_service.specs.Stations.{Effect, Station}
-use Rattle.pos_service.specs.TotalsCalls.{FileCall, Arranges, Asks, Commits, Makes, Nothing, file_call, file_rows}
+use Rattle.pos_service.specs.TotalsCalls.{FileCall, Arranges, Asks, Commits, Makes, Nothing, file_call}
 use Rattle.pos_disk.specs.State.{Rises}
 use Rattle.pos_store.specs.Modes.{Ready as StoreReady}
 use Rattle.pos_store.specs.Standing.{Stands, IsOneOf}
@@ -35,8 +32,8 @@ use Rattle.pos_totals.specs.Groups.{group_of}
 use Rattle.pos_totals.specs.Recoveries.{numbered}
 use Rattle.pos_totals.specs.Views.{plain, stored}
 use Rattle.pos_counter.specs.History.{NothingDone, changes_asked, event_between, event_of}
-use Rattle.pos_counter.specs.Machine.{Machine, kind_of, with_control}
-use Rattle.pos_counter.specs.Steps.{Request, NewControl, CallOf, InputTo, WorkOn, Deliver, Snapshot, Attach, Detach, Response, Made, Full, Answered, TakenIn, NoDevice, WrongInput, Worked, Delivered, Shown, Attached, NotAttached, Detached, NotDetached, OutOfMemory, OnStation, Step, Called, Does, CategoryDoes, Stays, Sets, SetsByRecovery, refusals, category_rows, device_rows, claimed, dropped, released}
+use Rattle.pos_counter.specs.Machine.{Machine, with_control}
+use Rattle.pos_counter.specs.Steps.{Request, NewControl, CallOf, InputTo, WorkOn, Deliver, Snapshot, Attach, Detach, Response, Made, Full, Answered, TakenIn, NoDevice, WrongInput, Worked, Delivered, Shown, Attached, NotAttached, Detached, NotDetached, OutOfMemory, OnStation, Step, Called, Does, CategoryDoes, Stays, Sets, SetsByRecovery, refusals, claimed, dropped, released}
 use Rattle.pos_counter.specs.Totals.{TotalsPart, ChangesTotals, CommitsTotals, TotalsDo, Recovered, Rests, asks_recovery, in_doubt, left_after, put_at_once, recovers, settled}
 use Rattle.pos_counter.proofs.FileCalls.{kept_left, plain_claimed}
 use Rattle.pos_counter.proofs.Lifts.{match_cases}
@@ -98,97 +95,18 @@ stored_claimed : (test : File → Bool) (claim : Option ℕ) (mode : Mode) → s
 stored_claimed test claim Off = refl
 stored_claimed test claim (Ready files sequence) = ap (λ fs. StoreReady fs sequence) (plain_claimed test claim files)
 
--- ---- tables of refusals
+-- ---- refusals
 
--- a refusal is no success
-abbrev IsRefusal : Answer → Type 0
-IsRefusal (answer.Done given) = ⊥
-IsRefusal (answer.Refused code extended) = ⊤
-
-abbrev AllRefuse : List Row → Type 0
-AllRefuse rows = AllByRecursion (λ (row : Row). IsRefusal row.answer) rows
-
-refusal_undone : (result : Answer) → IsRefusal result → IsUndone (Answered result)
-refusal_undone (answer.Done given) is = absurd is
-refusal_undone (answer.Refused code extended) is = tt
-
--- the answer of a table is a refusal
-refusal_of : (rows : List Row) (refusal : Answer) → AllRefuse rows → first_refusal rows ≡ Some refusal → IsRefusal refusal
-refusal_of [] refusal all is = absurd cc
-refusal_of (row ∷ rows) refusal all is = by row.applies is (refusal_of rows refusal all.1)
+-- what a table refuses acknowledges no change
+refused_undone : (rows : List Row) (refusal result : Answer) → first_refusal rows ≡ Some refusal → result ≡ refusal
+    → IsUndone (Answered result)
+refused_undone [] refusal result is same = absurd cc
+refused_undone (row ∷ rows) refusal result is same = by row.applies is (λ rest. refused_undone rows refusal result rest same)
   where
-    by : (b : Bool) → cond b (Some row.answer) (first_refusal rows) ≡ Some refusal → (first_refusal rows ≡ Some refusal → IsRefusal refusal) → IsRefusal refusal
-    by true same rest = subst IsRefusal (same_Some row.answer refusal same) all.0
-    by false same rest = rest same
-
-changes_refuse : (files : List File) (number : ℕ) (spent : Option ℕ) (change : Change) → AllRefuse (change_rows layout_1 files number spent change)
-changes_refuse files number spent (Create name size) = (tt, (tt, (tt, tt)))
-changes_refuse files number spent (Delete name) = (tt, (tt, (tt, tt)))
-changes_refuse files number spent (Rename handle name) = (tt, (tt, (tt, tt)))
-changes_refuse files number spent (Write handle offset bytes) = (tt, (tt, (tt, tt)))
-changes_refuse files number spent (SetAll handle n) = (tt, (tt, (tt, tt)))
-
-questions_refuse : (files : List File) (number : ℕ) (question : Question) → AllRefuse (question_rows files number question)
-questions_refuse files number (Find name) = (tt, tt)
-questions_refuse files number (FindByIndex index) = (tt, tt)
-questions_refuse files number (Read handle offset count) = (tt, (tt, tt))
-
-arrangements_refuse : (area : Option ℕ) (place : Option (Option (List Change))) (files : List File) (number : ℕ) (arrangement : Arrangement) → AllRefuse (arrangement_rows area place files number arrangement)
-arrangements_refuse area place files number (ClaimFile handle timeout) = (tt, (tt, tt))
-arrangements_refuse area place files number (ReleaseFile handle) = (tt, tt)
-arrangements_refuse area place files number BeginTrans = (tt, tt)
-arrangements_refuse area place files number Rollback = (tt, tt)
-
-commits_refuse : (files : List File) (number : ℕ) (transaction : Option (List Change)) → AllRefuse (commit_rows files number transaction)
-commits_refuse files number None = (tt, tt)
-commits_refuse files number (Some buffer) = (tt, (tt, tt))
-
-ready_refuse : (mode : Mode) (rows : List File → List Row) → ((files : List File) → AllRefuse (rows files)) → AllRefuse (while_ready mode rows)
-ready_refuse Off rows all = (tt, tt)
-ready_refuse (Ready files sequence) rows all = all files
-
-files_refuse : (totals : Totals) (number : ℕ) (asked : FileCall) → AllRefuse (file_rows totals number asked)
-files_refuse totals number (Asks question) = (tt, ready_refuse totals.mode (λ files. question_rows files number question) (λ files. questions_refuse files number question))
-files_refuse totals number (Makes change) = (tt, ready_refuse totals.mode (λ files. change_rows layout_1 files number (spent_by totals number) change) (λ files. changes_refuse files number (spent_by totals number) change))
-files_refuse totals number (Arranges arrangement) =
-    ready_refuse totals.mode (λ files. arrangement_rows totals.area (slice_get totals.transactions number) files number arrangement) (λ files. arrangements_refuse totals.area (slice_get totals.transactions number) files number arrangement)
-files_refuse totals number Commits = (tt, ready_refuse totals.mode (λ files. commit_rows files number (transaction_of totals number)) (λ files. commits_refuse files number (transaction_of totals number)))
-files_refuse totals number Nothing = tt
-
-arguments_refuse : (at : Option Kind) (own : Call) → AllRefuse (argument_rows at own)
-arguments_refuse at (call.DisplayText text attribute) = (tt, (tt, tt))
-arguments_refuse at (call.DisplayTextAt row column text attribute) = (tt, (tt, (tt, (tt, tt))))
-arguments_refuse at (call.ScrollText direction units) = (tt, (tt, tt))
-arguments_refuse at own = tt
-
-requests_refuse : (c : Control) (own : Call) → AllRefuse (request_rows c own)
-requests_refuse c (call.PrintNormal station text) = (tt, (tt, (tt, (tt, tt))))
-requests_refuse c (call.PrintImmediate station text) = (tt, (tt, (tt, tt)))
-requests_refuse c (call.CutPaper percentage) = (tt, (tt, (tt, tt)))
-requests_refuse c own = tt
-
-device_refuse : (k : Category) (claims : List (Option ℕ)) (n : ℕ) (at : Option Kind) (c : Control) (own : Call) → AllRefuse (device_rows k claims n at c own)
-device_refuse category.CashDrawer claims n at c call.OpenDrawer = (tt, (tt, tt))
-device_refuse category.CashDrawer claims n at c own = tt
-device_refuse category.Scanner claims n at c call.ClearInput = (tt, (tt, tt))
-device_refuse category.Scanner claims n at c call.ClearInputProperties = (tt, (tt, tt))
-device_refuse category.Scanner claims n at c own = tt
-device_refuse category.LineDisplay claims n at c own = (tt, (tt, (tt, arguments_refuse at own)))
-device_refuse category.PosPrinter claims n at c own = (tt, (tt, requests_refuse c own))
-device_refuse category.HardTotals claims n at c own = tt
-
-category_refuse : (k : Category) (m : Machine) (n : ℕ) (c : Control) (own : Call) → AllRefuse (category_rows k m n c own)
-category_refuse category.HardTotals m n c own = (tt, (tt, files_refuse m.totals.totals n (file_call own)))
-category_refuse k m n c own = device_refuse k m.claims n (kind_of m c) c own
-
-all_refuse : (m : Machine) (n : ℕ) (c : Control) (asked : Call) → AllRefuse (refusals m n c asked)
-all_refuse m n c (call.Open name) = (tt, (tt, (tt, tt)))
-all_refuse m n c call.Close = (tt, tt)
-all_refuse m n c (call.Claim timeout) = (tt, (tt, (tt, tt)))
-all_refuse m n c call.Release = (tt, (tt, tt))
-all_refuse m n c (call.Set p v) = (tt, (tt, (tt, (tt, (tt, tt)))))
-all_refuse m n c (call.Get p) = (tt, (tt, (tt, (tt, (tt, (tt, tt))))))
-all_refuse m n c own = (tt, (tt, category_refuse c.category m n c own))
+    by : (b : Bool) → cond b (Some (answer.Refused row.code row.extended)) (first_refusal rows) ≡ Some refusal
+        → (first_refusal rows ≡ Some refusal → IsUndone (Answered result)) → IsUndone (Answered result)
+    by true first rest = subst (λ a. IsUndone (Answered a)) (same_Some (answer.Refused row.code row.extended) refusal first ∙ sym same) tt
+    by false first rest = rest first
 
 -- ---- changes
 
@@ -245,8 +163,8 @@ module _ (old new : TotalsPart) (result : Answer) (is : old.left ≡ settled old
           })
 
   -- a group that a number refuses, that is done, or in which the disk fails
-  group_told : (failed : Type 0) (rows : List Row) (given : Value) → AllRefuse rows → Decided rows result (new.totals ≡ old.totals) (Done failed ended all given result new.totals) → Told all old (Answered result) new
-  group_told failed rows given refuse h =
+  group_told : (failed : Type 0) (rows : List Row) (given : Value) → Decided rows result (new.totals ≡ old.totals) (Done failed ended all given result new.totals) → Told all old (Answered result) new
+  group_told failed rows given h =
       elim (match_cases (first_refusal rows) _ _ h.outcome) [
         | inl x ↦ elim x.1 [
           | inl done ↦ subst (λ a. Told all old (Answered a) new) (sym done.0) (done_told given done.1)
@@ -255,7 +173,7 @@ module _ (old new : TotalsPart) (result : Answer) (is : old.left ≡ settled old
         | inr x ↦
             let same = ap (λ (t : Totals). t.mode) x.2.1 in
             rest all old new (Answered result)
-            (undone all old.totals.mode new.totals.mode (Answered result) (refusal_undone result (subst IsRefusal (sym x.2.0) (refusal_of rows x.0 refuse x.1))) (ap stored same))
+            (undone all old.totals.mode new.totals.mode (Answered result) (refused_undone rows x.0 result x.1 x.2.0) (ap stored same))
             (ap stored same) (left ∙ ap (left_after old all) same ∙ kept_left all old is)
       ]
 
@@ -270,7 +188,7 @@ changed_told change old new number result is h =
           let out : put_at_once (in_transaction old.totals number) change ≡ change ∷ [] = ap (λ (o : Option (List Change)). put_at_once (is_some o) change) x.0 in
           subst (λ changes. Told changes old (Answered result) new) (sym out)
           (group_told old new result is old.totals refl refl change [] (subst (λ changes. IsOneGroup old.totals changes) out h.group) (h.left ∙ ap (λ changes. left_after old changes new.totals.mode) out)
-          _ (number_rows old.totals change) _ (tt, tt) x.1)
+          _ (number_rows old.totals change) _ x.1)
       | inr x ↦
           let kept : put_at_once (in_transaction old.totals number) change ≡ [] = ap (λ (o : Option (List Change)). put_at_once (is_some o) change) x.1 in
           subst (λ changes. Told changes old (Answered result) new) (sym kept)
@@ -285,7 +203,7 @@ commit_told old new number result is h = by (changes_in (transaction_of old.tota
 
     by : (changes : List Change) → IsOneGroup old.totals changes → new.left ≡ left_after old changes new.totals.mode → DoesCommit (Rises old.failures new.failures) old.totals ended changes result new.totals → Told changes old (Answered result) new
     by [] group left does = still_told old new (Answered result) is left (ap (λ (t : Totals). t.mode) does.1)
-    by (change ∷ changes) group left does = group_told old new result is ended refl refl change changes group left _ (when (is_last old.totals.mode) code.Failure ∷ []) _ (tt, tt) does
+    by (change ∷ changes) group left does = group_told old new result is ended refl refl change changes group left _ (when (is_last old.totals.mode) code.Failure ∷ []) _ does
 
 -- an arrangement leaves the files as they are, but for their claims
 stored_arranged : (old : Totals) (number : ℕ) (arrangement : Arrangement) → stored (after_arrangement old number arrangement).mode ≡ stored old.mode
@@ -398,8 +316,7 @@ called_told old new n c asked result is h =
     elim (match_cases (first_refusal (refusals old n c asked)) _ _ h.outcome) [
       | inl x ↦ does_told old new n c asked result is x.1
       | inr x ↦ rest_undone (changes_asked old.totals.totals n (file_call asked)) old.totals new.totals (Answered result)
-          (refusal_undone result (subst IsRefusal (sym x.2.0) (refusal_of (refusals old n c asked) x.0 (all_refuse old n c asked) x.1)))
-          (ap (λ (m : Machine). m.totals) x.2.1)
+          (refused_undone (refusals old n c asked) x.0 result x.1 x.2.0) (ap (λ (m : Machine). m.totals) x.2.1)
     ]
 
 -- want of memory
@@ -419,7 +336,7 @@ step_told old (NewControl k) Full new is h = same_machine old new old Full h.1 r
 step_told old (NewControl k) OutOfMemory new is h = same_machine old new old OutOfMemory h.1 refl
 step_told old (CallOf n asked) (Answered result) new is h =
     elim (match_cases (slice_get old.controls n) _ _ h) [
-      | inl x ↦ rest_undone (changes_asked old.totals.totals n (file_call asked)) old.totals new.totals (Answered result) (refusal_undone result (subst IsRefusal (sym x.1.0) tt)) (ap (λ (m : Machine). m.totals) x.1.1)
+      | inl x ↦ rest_undone (changes_asked old.totals.totals n (file_call asked)) old.totals new.totals (Answered result) (subst (λ a. IsUndone (Answered a)) (sym x.1.0) tt) (ap (λ (m : Machine). m.totals) x.1.1)
       | inr x ↦ called_told old new n x.0 asked result is x.2
     ]
 step_told old (CallOf n asked) OutOfMemory new is h =

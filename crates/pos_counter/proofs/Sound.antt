@@ -34,7 +34,7 @@ use Rattle.pos_service.specs.Calls.{serves, takes, place_found, after_set, curso
 use Rattle.pos_service.specs.DisplayCalls.{DisplayDoes, OrdersDisplay, argument_rows, display_order, place_after_call}
 use Rattle.pos_service.specs.Displays.{origin}
 use Rattle.pos_service.specs.Peripherals.{IsInRange}
-use Rattle.pos_service.specs.PrinterCalls.{DoesAtOnce, DoesLater, Ordered, Printed, PrinterDoes, Queued, Requests, Work, WorksAt, WorksOn, after_work, id_rows, work_at}
+use Rattle.pos_service.specs.PrinterCalls.{DoesAtOnce, DoesLater, Ordered, Printed, PrinterDoes, Queued, DueRequest, Requests, WorksAt, WorksOn, after_work, id_rows, due_request_at}
 use Rattle.pos_service.specs.Claims.{after_release, holder_at, is_exclusive}
 use Rattle.pos_service.specs.ScannerCalls.{ChangesItself, ScannerDoes, without_input, without_scan}
 use Rattle.pos_service.specs.Stations.{Station, Effect, SameStation, TakesIn, reaction}
@@ -301,11 +301,11 @@ requests_keep ds given r number place old before new after h = elim (match_cases
       | inl x ↦ queued_keeps ds given number c r old before new after e x.1
       | inr x ↦ same_keeps ds old before new after x.2.1
     ]
-    by c e false h = ordered_keeps ds given place h.told old before new after h.ordered
+    by c e false h = ordered_keeps ds given place h.said old before new after h.ordered
 
 printer_keeps : (ds : List Device) (asked : Call) (r : Answer) (number place : ℕ) (old : List Control) (before : Station) (new : List Control) (after : Station) → PrinterDoes asked number place r old before new after → Keeps ds before old after new
 printer_keeps ds (call.PrintNormal station text) r number place old before new after h = requests_keep ds (order.Print text) r number place old before new after h
-printer_keeps ds (call.PrintImmediate station text) r number place old before new after h = ordered_keeps ds (order.Print text) place h.told old before new after h.ordered
+printer_keeps ds (call.PrintImmediate station text) r number place old before new after h = ordered_keeps ds (order.Print text) place h.said old before new after h.ordered
 printer_keeps ds (call.CutPaper percentage) r number place old before new after h = requests_keep ds _ r number place old before new after h
 printer_keeps ds call.ClearOutput r number place old before new after h = itself_keeps ds without_output number r old before new after (record { category = λ c. refl; device = λ c. refl; cursor = λ c. refl }) h
 printer_keeps ds asked r number place old before new after h = absurd h
@@ -317,18 +317,18 @@ work_keeps id reply.CoverOpen = record { category = λ c. refl; device = λ c. r
 work_keeps id reply.PaperEnd = record { category = λ c. refl; device = λ c. refl; cursor = λ c. refl }
 work_keeps id reply.LineFault = record { category = λ c. refl; device = λ c. refl; cursor = λ c. refl }
 
-worked_keeps : (ds : List Device) (work : Work) (place : ℕ) (r : WorkResult) (old : List Control) (before : Station) (new : List Control) (after : Station) → WorksOn work place r old before new after → Keeps ds before old after new
+worked_keeps : (ds : List Device) (work : DueRequest) (place : ℕ) (r : WorkResult) (old : List Control) (before : Station) (new : List Control) (after : Station) → WorksOn work place r old before new after → Keeps ds before old after new
 worked_keeps ds work place r old before new after h =
-    let done = ordered_keeps ds work.given place h.told old before h.controls after h.ordered in record {
+    let done = ordered_keeps ds work.given place h.said old before h.controls after h.ordered in record {
       kind = done.kind;
-      seats = λ all. one_keeps ds (after_work work.id h.told) work.holder h.controls new (work_keeps work.id h.told) h.worked (done.seats all);
+      seats = λ all. one_keeps ds (after_work work.id h.said) work.holder h.controls new (work_keeps work.id h.said) h.worked (done.seats all);
     }
 
 -- work, or nothing to do
 works_keep : (ds : List Device) (holder : Option ℕ) (place : ℕ) (outcome : Result WorkResult NoMemory) (old : List Control) (before : Station) (new : List Control) (after : Station) → WorksAt holder place outcome old before new after → Keeps ds before old after new
-works_keep ds holder place outcome old before new after h = elim (match_cases (work_at before.kind place holder old) _ _ h) [ inl x ↦ same_keeps ds old before new after x.1.1 | inr x ↦ by x.0 outcome x.2 ]
+works_keep ds holder place outcome old before new after h = elim (match_cases (due_request_at before.kind place holder old) _ _ h) [ inl x ↦ same_keeps ds old before new after x.1.1 | inr x ↦ by x.0 outcome x.2 ]
   where
-    by : (work : Work) (outcome : Result WorkResult NoMemory) → MatchResult outcome (λ r. WorksOn work place r old before new after) (λ want. SameStation old before new after) → Keeps ds before old after new
+    by : (work : DueRequest) (outcome : Result WorkResult NoMemory) → MatchResult outcome (λ r. WorksOn work place r old before new after) (λ want. SameStation old before new after) → Keeps ds before old after new
     by work (Ok r) h = worked_keeps ds work place r old before new after h
     by work (Err want) h = same_keeps ds old before new after h
 

@@ -18,7 +18,7 @@ use Rattle.pos_service.specs.Claims.{holder_at}
 use Rattle.pos_service.specs.Controls.{Control}
 use Rattle.pos_service.specs.DisplayCalls.{HasCursor}
 use Rattle.pos_service.specs.Kinds.{is_display}
-use Rattle.pos_service.specs.PrinterCalls.{WorksAt, work_at}
+use Rattle.pos_service.specs.PrinterCalls.{WorksAt, due_request_at}
 use Rattle.pos_service.specs.Refusals.{Row, first_refusal, when}
 use Rattle.pos_service.specs.Stations.{Station, Effect, CalledAt, IsOpen, SameStation}
 use Rattle.pos_common.specs.Held.{Held, controls_of}
@@ -101,8 +101,8 @@ pub finds_fit : (hs : List Held) (ds : List Device) (shared : Shared) (name : Li
 finds_fit hs ds shared name place given fits finds fit = subst (λ o. FindsFit o given fits) (sym (named hs ds shared name place finds)) fit
 
 -- where work finds no memory, there is a request that is to be done, and nothing has changed
-wants_work : (holder : Option ℕ) (place : ℕ) (want : NoMemory) (old : List Control) (before : Station) (new : List Control) (after : Station) → WorksAt holder place (Err want) old before new after → IsSome (work_at before.kind place holder old) × SameStation old before new after
-wants_work holder place want old before new after h = elim (match_cases (work_at before.kind place holder old) _ _ h) [
+wants_work : (holder : Option ℕ) (place : ℕ) (want : NoMemory) (old : List Control) (before : Station) (new : List Control) (after : Station) → WorksAt holder place (Err want) old before new after → IsSome (due_request_at before.kind place holder old) × SameStation old before new after
+wants_work holder place want old before new after h = elim (match_cases (due_request_at before.kind place holder old) _ _ h) [
   | inl x ↦ absurd (let no : Err want ≡ Ok worked.Idle = x.1.0 in cc)
   | inr x ↦ (subst IsSome (sym x.1) refl, x.2)
 ]

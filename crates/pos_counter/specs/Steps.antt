@@ -28,7 +28,7 @@ use Rattle.pos_service.specs.Calls.{serves, own_rows, place_found, open_rows, cl
 use Rattle.pos_service.specs.Stations.{Station, Effect, TakesIn, signs_in}
 use Rattle.pos_service.specs.DisplayCalls.{display_rows, DisplayDoes}
 use Rattle.pos_service.specs.DrawerCalls.{drawer_rows, DrawerDoes}
-use Rattle.pos_service.specs.PrinterCalls.{printer_rows, work_at, PrinterDoes, WorksAt}
+use Rattle.pos_service.specs.PrinterCalls.{printer_rows, due_request_at, PrinterDoes, WorksAt}
 use Rattle.pos_service.specs.ScannerCalls.{scanner_rows, ScannerDoes}
 use Rattle.pos_service.specs.declared.property.Property.{Property}
 use Rattle.pos_service.specs.declared.answer.Value.{Value}
@@ -245,7 +245,7 @@ pub record FindsWork (machine : Machine) (name : List ℕ) : Type 0 where
   pub before : Station
   pub is_at : place_of machine.devices name ≡ Some place
   pub is_attached : station_named machine name ≡ Some before
-  pub work : IsSome (work_at before.kind place (holder_at machine.claims (Some place)) machine.controls)
+  pub work : IsSome (due_request_at before.kind place (holder_at machine.claims (Some place)) machine.controls)
 
 -- The device of this name, which is vacant, has a peripheral of its kind from now on.
 pub record IsAttached (old : Machine) (name : List ℕ) (station : Station) (new : Machine) : Type 0 where

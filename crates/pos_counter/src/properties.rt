@@ -1,7 +1,6 @@
 //! The properties of a control, by what is known of its device (common chapter, and those of the categories).
 ghost use Rattle.std.specs.Prelude.{◌≡◌, ◌<◌, ◌&&◌, [], ℕ, List, Option, length, not};
 ghost use Rattle.pos_service.specs.declared.call.Call.TheVariants as call;
-ghost use Rattle.pos_service.specs.Claims.{is_own, is_foreign};
 ghost use Rattle.pos_store.specs.Standing.{Standing};
 ghost use Rattle.pos_counter.specs.Parts.{ArePartsSound, Serves, devices_in, machine_with, part_of};
 ghost use Rattle.pos_counter.specs.Machine.{holder_in};
@@ -14,6 +13,7 @@ use crate::devices::Devices;
 use crate::totals_calls::is_totals;
 use pos_common::{Claims, Control};
 use pos_disk::Disk;
+use pos_service::claims::{is_foreign, is_own};
 use pos_service::{Answer, Facts, FileFacts, HasState, NoMemory, PeripheralBox, Property, Value};
 use pos_totals::Totals;
 
@@ -60,26 +60,6 @@ fn find_facts<D: Disk>(
         signs: devices.signs_at(device),
         totals_size: totals.size(),
         files: find_file_facts(totals),
-    }
-}
-
-/// Whether the control with a number is the holder of a device.
-fn is_own(number: usize, holder: Option<usize>) -> bool
-    ensures { result ≡ is_own number holder }
-{
-    match holder {
-        Some(holder) => holder == number,
-        None => false,
-    }
-}
-
-/// Whether another control than the one with a number is the holder of a device.
-fn is_foreign(number: usize, holder: Option<usize>) -> bool
-    ensures { result ≡ is_foreign number holder }
-{
-    match holder {
-        Some(holder) => holder != number,
-        None => false,
     }
 }
 

@@ -25,7 +25,7 @@ use Rattle.pos_display.proofs.CallLemmas.{Found}
 
 -- what each call asks of its control
 abbrev pub ready : Need
-ready = record { claim = claim_need.Held; is_enabled = true }
+ready = record { claim = claim_need.Own; is_enabled = true }
 
 -- what the check of the control with a number has found
 abbrev pub Checked : List (Option ℕ) → ℕ → List Control → Option Answer → Type 0

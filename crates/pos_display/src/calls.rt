@@ -19,7 +19,7 @@ use std::alloc::Global;
 
 /// What each call asks of its control: that it holds the display, and is enabled.
 const READY: Need = Need {
-    claim: ClaimNeed::Held,
+    claim: ClaimNeed::Own,
     is_enabled: true,
 };
 

@@ -10,7 +10,7 @@ use Rattle.pos_service.specs.Events.{Enqueued, Status, Data, Error, Complete, is
 use Rattle.pos_events.specs.declared.others.Other.{Other}
 use Rattle.pos_events.specs.declared.told.Told.{Told}
 use Rattle.pos_events.specs.declared.told.Told.TheVariants as told
-use Rattle.pos_events.specs.Parts.{waiting_in, told_event, weave, events_in, list_of, tolds, is_error, without_errors}
+use Rattle.pos_events.specs.QueueParts.{waiting_in, told_event, weave, events_in, list_of, tolds, is_error, without_errors}
 use Rattle.pos_events.proofs.DeliveringLemmas.{IsWaiting, all_wait}
 
 -- the test of an event that stays when input is deleted, and when output is

@@ -16,7 +16,7 @@ use Rattle.pos_events.specs.Waiting.{first_waiting}
 use Rattle.pos_events.specs.declared.others.Other.{Other}
 use Rattle.pos_events.specs.declared.told.Told.{Told}
 use Rattle.pos_events.specs.declared.told.Told.TheVariants as told
-use Rattle.pos_events.specs.Parts.{waiting_in, told_event, weave, events_in, before_first, lead, one_less, first_told, without_first, list_of, Fits}
+use Rattle.pos_events.specs.QueueParts.{waiting_in, told_event, weave, events_in, before_first, lead, one_less, first_told, without_first, list_of, Fits}
 
 -- it waits
 abbrev pub IsWaiting : Enqueued → Type 0

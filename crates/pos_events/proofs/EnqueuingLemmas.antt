@@ -9,7 +9,7 @@ use Rattle.pos_service.specs.Events.{Enqueued, Status, Data, Error, Complete, in
 use Rattle.pos_events.specs.declared.others.Other.{Other}
 use Rattle.pos_events.specs.declared.told.Told.{Told}
 use Rattle.pos_events.specs.declared.told.Told.TheVariants as told
-use Rattle.pos_events.specs.Parts.{told_event, weave, events_in, all_before, list_of, Fits}
+use Rattle.pos_events.specs.QueueParts.{told_event, weave, events_in, all_before, list_of, Fits}
 
 -- one more of the others adds what stands before it
 pub all_before_push : (others : List Other) (other : Other) → all_before (others ++ other ∷ []) ≡ all_before others + other.before

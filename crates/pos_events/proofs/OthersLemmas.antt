@@ -3,7 +3,7 @@ use Rattle.std.proofs.Common.{◌≡◌, ℕ, ◌+◌, ◌<◌, ◌≤◌, true,
 use Rattle.std.proofs.lemmas.List.{map-set, set-get_or, get_or-map, take_more_set}
 use Rattle.pos_service.specs.Events.{Enqueued}
 use Rattle.pos_events.specs.declared.others.Other.{Other}
-use Rattle.pos_events.specs.Parts.{told_event, all_before, tolds, is_error, without_errors}
+use Rattle.pos_events.specs.QueueParts.{told_event, all_before, tolds, is_error, without_errors}
 
 -- what stands before two parts
 pub all_before-append : (others more : List Other) → all_before (others ++ more) ≡ all_before others + all_before more

@@ -8,7 +8,7 @@ use Rattle.pos_service.specs.Events.{Enqueued, Status, Data, Error, Complete, in
 use Rattle.pos_events.specs.declared.others.Other.{Other}
 use Rattle.pos_events.specs.declared.told.Told.{Told}
 use Rattle.pos_events.specs.declared.told.Told.TheVariants as told
-use Rattle.pos_events.specs.Parts.{waiting_in, told_event, weave, events_in}
+use Rattle.pos_events.specs.QueueParts.{waiting_in, told_event, weave, events_in}
 
 -- what an event counts
 abbrev worth : Enqueued → ℕ

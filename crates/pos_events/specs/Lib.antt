@@ -1,3 +1,3 @@
 pub mod Queue
-pub mod Parts
+pub mod QueueParts
 pub mod Waiting

@@ -1,7 +1,7 @@
 ghost use Rattle.std.specs.Prelude.{◌≡◌, ◌+◌, ◌<◌, ◌≤◌, ◌^◌, [], ◌∷◌, ◌++◌};
 ghost use Rattle.std.specs.VecDeque.{deque_len, deque_capacity};
 ghost use Rattle.pos_events.specs.declared.others.Other.{Other};
-ghost use Rattle.pos_events.specs.Parts.{all_before, before_first, one_less, first_told, without_first, without_errors, tolds};
+ghost use Rattle.pos_events.specs.QueueParts.{all_before, before_first, one_less, first_told, without_first, without_errors, tolds};
 
 use crate::told::Told;
 use std::alloc::Global;

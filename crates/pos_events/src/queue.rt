@@ -32,7 +32,7 @@ impl Model for EventQueue {
 
     ghost Value = { Queue };
 
-    ghost use Rattle.pos_events.specs.Parts.{Fits, list_of};
+    ghost use Rattle.pos_events.specs.QueueParts.{Fits, list_of};
 
     ghost view = { λ a. record {
       list = list_of a.input_data a.in_error a.scans.items a.others.events.items;

@@ -1,6 +1,6 @@
 ghost use Rattle.std.specs.Prelude.{◌≡◌};
 ghost use Rattle.pos_events.specs.Queue.{delivery_of};
-ghost use Rattle.pos_events.specs.Parts.{is_error, told_event};
+ghost use Rattle.pos_events.specs.QueueParts.{is_error, told_event};
 
 use crate::delivery::{Delivery, without_scan};
 use pos_service::{Code, Event, Locus};

@@ -17,7 +17,7 @@ use Rattle.pos_service.specs.Events.{Enqueued}
 use Rattle.pos_service.specs.Kinds.{is_printer}
 use Rattle.pos_service.specs.Output.{request_to_do}
 use Rattle.pos_service.specs.Peripherals.{Asked, PeripheralState, signs_of}
-use Rattle.pos_service.specs.PrinterCalls.{after_work, first_request, work_of, worked_by, Ordered, WorksAt, WorksOn}
+use Rattle.pos_service.specs.PrinterCalls.{after_work, first_request, due_request, worked_by, Ordered, WorksAt, WorksOn}
 use Rattle.pos_service.specs.Stations.{Station, SameStation, station_of}
 use Rattle.pos_service.specs.Statuses.{status_events}
 use Rattle.pos_common.specs.Held.{Held, HasRoom, controls_of, work_events}
@@ -26,7 +26,7 @@ use Rattle.pos_printer.specs.Requests.{HasRequest}
 use Rattle.pos_printer.proofs.OrderLemmas.{heard_of, ordered_done}
 
 -- there is a request to do
-pub works : (at : Option ℕ) (holder place : ℕ) (outcome : Result Worked NoMemory) (old new : List Control) (before after : Station) (request : ℕ × Order) → at ≡ Some holder → is_printer before.kind ≡ true → option_and_then (first_request place) (slice_get old holder) ≡ Some request → MatchResult outcome (λ result. WorksOn (work_of holder request) place result old before new after) (λ want. SameStation old before new after) → WorksAt at place outcome old before new after
+pub works : (at : Option ℕ) (holder place : ℕ) (outcome : Result Worked NoMemory) (old new : List Control) (before after : Station) (request : ℕ × Order) → at ≡ Some holder → is_printer before.kind ≡ true → option_and_then (first_request place) (slice_get old holder) ≡ Some request → MatchResult outcome (λ result. WorksOn (due_request holder request) place result old before new after) (λ want. SameStation old before new after) → WorksAt at place outcome old before new after
 works at holder place outcome old new before after request is printer found h = rw (is, printer, found) h
 
 none_of : {A B : Type 0} (f : A → B) (o : Option A) (P : Type 0) (Q : B → Type 0) → is_some o ≡ false → P → MatchOption (option_map f o) P Q
@@ -36,7 +36,7 @@ none_of f (Some x) P Q none p = absurd (true≢false none)
 -- there is none
 pub idles : (at : Option ℕ) (holder place : ℕ) (old : List Control) (before : Station) → at ≡ Some holder → is_printer before.kind ≡ true → is_some (option_and_then (first_request place) (slice_get old holder)) ≡ false → WorksAt at place (Ok worked.Idle) old before old before
 idles at holder place old before is printer none =
-    rw (is, printer) (none_of (work_of holder) (option_and_then (first_request place) (slice_get old holder)) _ _ none (refl, record { controls = refl; station = refl }))
+    rw (is, printer) (none_of (due_request holder) (option_and_then (first_request place) (slice_get old holder)) _ _ none (refl, record { controls = refl; station = refl }))
 
 -- nobody holds the printer
 pub idles_unclaimed : (at : Option ℕ) (place : ℕ) (old : List Control) (before : Station) → at ≡ None → WorksAt at place (Ok worked.Idle) old before old before
@@ -128,13 +128,13 @@ first_done place holder request mid new result f h =
     (of_request.0, rw f.there of_request.1)
 
 -- work by its parts
-pub works_on : (holder place : ℕ) (told : Reply) (result : Worked) (old mid new : List Control) (before after : Station) (request : ℕ × Order) → Ordered request.1 place told old before mid after → MatchOption (slice_get mid holder) ⊥ (λ control. new ≡ slice_set mid holder (after_work request.0 told control)) → result ≡ worked_by request.0 told → WorksOn (work_of holder request) place result old before new after
-works_on holder place told result old mid new before after request ordered changed said = record {
-  told = told;
+pub works_on : (holder place : ℕ) (said : Reply) (result : Worked) (old mid new : List Control) (before after : Station) (request : ℕ × Order) → Ordered request.1 place said old before mid after → MatchOption (slice_get mid holder) ⊥ (λ control. new ≡ slice_set mid holder (after_work request.0 said control)) → result ≡ worked_by request.0 said → WorksOn (due_request holder request) place result old before new after
+works_on holder place said result old mid new before after request ordered changed answered = record {
+  said = said;
   controls = mid;
   ordered = ordered;
   worked = changed;
-  answer = said;
+  answer = answered;
 }
 
 -- what there is of a request to do: room for its event
@@ -145,8 +145,8 @@ room_for_first place holder old hs found same room =
 
 -- work on a request that the printer does
 pub does : (at : Option ℕ) (holder place : ℕ) (result : Worked) (old mid new : List Control) (hs : List Held) (d : Held) (s t : PeripheralState) (a b : Signs) → at ≡ Some holder → is_printer s.kind ≡ true → is_some (option_and_then (first_request place) (slice_get old holder)) ≡ true → controls_of hs ≡ old → MatchOption (first_request place (get_or hs holder d).control) ⊥ (λ r. Asked s r.1 (Ok reply.Done) t) → a ≡ signs_of s.kind s.plant → b ≡ signs_of t.kind t.plant → mid ≡ all_listening place (heard (status_events a b)) (controls_of hs) → MatchOption (slice_get mid holder) ⊥ (λ control. MatchOption (request_to_do control.writer.output) ⊥ (λ r. (result ≡ worked.Done r.0) × (new ≡ slice_set mid holder (completed r.0 control)))) → WorksAt at place (Ok result) old (station_of s) new (station_of t)
-does at holder place result old mid new hs d s t a b is printer found same asked was now told done =
-    let heard_all = heard_of place s t a b old (controls_of hs) mid was now same told in
+does at holder place result old mid new hs d s t a b is printer found same asked was now said done =
+    let heard_all = heard_of place s t a b old (controls_of hs) mid was now same said in
     let f = first_found place holder old found in
     let given = first_asked place holder f.0 hs d (Ok reply.Done) s t (subst (IsFirst place holder f.0) (sym same) f.1) asked in
     let events = status_events (signs_of s.kind s.plant) (signs_of t.kind t.plant) in
@@ -155,9 +155,9 @@ does at holder place result old mid new hs d s t a b is printer found same asked
     (works_on holder place reply.Done result old mid new (station_of s) (station_of t) f.0 (ordered_done f.0.1 place s t old mid given heard_all) worked.1 worked.0)
 
 -- work on a request that the printer doesn't do
-pub fails : (at : Option ℕ) (holder place : ℕ) (told : Reply) (result : Worked) (old new : List Control) (hs : List Held) (d : Held) (s t : PeripheralState) → at ≡ Some holder → is_printer s.kind ≡ true → is_some (option_and_then (first_request place) (slice_get old holder)) ≡ true → controls_of hs ≡ old → MatchOption (first_request place (get_or hs holder d).control) ⊥ (λ r. Asked s r.1 (Ok told) t) → ((given : Order) → Asked s given (Ok told) t → Ordered given place told old (station_of s) old (station_of t)) → ((id : ℕ) → MatchOption (slice_get old holder) ⊥ (λ control. new ≡ slice_set old holder (after_work id told control))) → ((id : ℕ) → result ≡ worked_by id told) → WorksAt at place (Ok result) old (station_of s) new (station_of t)
-fails at holder place told result old new hs d s t is printer found same asked ordered changed said =
+pub fails : (at : Option ℕ) (holder place : ℕ) (said : Reply) (result : Worked) (old new : List Control) (hs : List Held) (d : Held) (s t : PeripheralState) → at ≡ Some holder → is_printer s.kind ≡ true → is_some (option_and_then (first_request place) (slice_get old holder)) ≡ true → controls_of hs ≡ old → MatchOption (first_request place (get_or hs holder d).control) ⊥ (λ r. Asked s r.1 (Ok said) t) → ((given : Order) → Asked s given (Ok said) t → Ordered given place said old (station_of s) old (station_of t)) → ((id : ℕ) → MatchOption (slice_get old holder) ⊥ (λ control. new ≡ slice_set old holder (after_work id said control))) → ((id : ℕ) → result ≡ worked_by id said) → WorksAt at place (Ok result) old (station_of s) new (station_of t)
+fails at holder place said result old new hs d s t is printer found same asked ordered changed answered =
     let f = first_found place holder old found in
-    let given = first_asked place holder f.0 hs d (Ok told) s t (subst (IsFirst place holder f.0) (sym same) f.1) asked in
+    let given = first_asked place holder f.0 hs d (Ok said) s t (subst (IsFirst place holder f.0) (sym same) f.1) asked in
     works at holder place (Ok result) old new (station_of s) (station_of t) f.0 is printer (first_is place holder f.0 old f.1)
-    (works_on holder place told result old old new (station_of s) (station_of t) f.0 (ordered f.0.1 given) (changed f.0.0) (said f.0.0))
+    (works_on holder place said result old old new (station_of s) (station_of t) f.0 (ordered f.0.1 given) (changed f.0.0) (answered f.0.0))

@@ -15,13 +15,13 @@ use std::alloc::Global;
 
 /// What each request asks of its control: that it holds the printer, and is enabled.
 const READY: Need = Need {
-    claim: ClaimNeed::Held,
+    claim: ClaimNeed::Own,
     is_enabled: true,
 };
 
 /// What `clearOutput` asks of its control: that it holds the printer.
 const HELD: Need = Need {
-    claim: ClaimNeed::Held,
+    claim: ClaimNeed::Own,
     is_enabled: false,
 };
 

@@ -8,7 +8,10 @@ ghost use Rattle.pos_service.specs.Stations.{Station, station_of, IsOpen, SameSt
 ghost use Rattle.pos_common.specs.Held.{controls_of};
 
 use pos_common::{Control, SIGN_EVENTS, hear_all, room_all};
-use pos_service::{Answer, Code, HasState, NoMemory, Order, PeripheralBox, Reply, Value};
+use pos_service::{
+    Answer, Code, EPTR_COVER_OPEN, EPTR_REC_EMPTY, HasState, NoMemory, Order, PeripheralBox, Reply,
+    Value,
+};
 
 /// A request of the control with a number: with AsyncMode true it is queued, else it is done at once. Want of memory
 /// changes nothing.
@@ -84,8 +87,8 @@ fn queue(controls: &mut [Control], caller: usize, order: Order) -> Result<Answer
 /// Gives the printer at a place the order of a request, once there is room for what the controls will hear. Each
 /// control that has the printer open and enabled hears the statuses that have changed. Want of memory changes nothing.
 ///
-/// Refused with E_EXTENDED 201 where the cover is open, else 203 where no line of paper is left, or fewer than the
-/// request needs; with E_FAILURE where the line to the printer fails.
+/// Refused with E_EXTENDED: EPTR_COVER_OPEN where the cover is open, else EPTR_REC_EMPTY where no line of paper is
+/// left, or fewer than the request needs; with E_FAILURE where the line to the printer fails.
 fn give(
     controls: &mut [Control],
     place: usize,
@@ -109,8 +112,8 @@ fn give(
             hear_all(controls, place, old, printer.signs());
             Ok(Answer::Done(Value::Empty))
         }
-        Reply::CoverOpen => Ok(Answer::Refused(Code::Extended, 201)),
-        Reply::PaperEnd => Ok(Answer::Refused(Code::Extended, 203)),
+        Reply::CoverOpen => Ok(Answer::Refused(Code::Extended, EPTR_COVER_OPEN)),
+        Reply::PaperEnd => Ok(Answer::Refused(Code::Extended, EPTR_REC_EMPTY)),
         Reply::LineFault => Ok(Answer::Refused(Code::Failure, 0)),
     }
 }

@@ -11,7 +11,9 @@ ghost use Rattle.pos_common.specs.Held.{controls_of};
 ghost use Rattle.pos_printer.specs.Requests.{HasRequest};
 
 use pos_common::{Claims, Control, WORK_EVENTS, hear_all, room_all};
-use pos_service::{Code, HasState, NoMemory, PeripheralBox, Reply, Worked};
+use pos_service::{
+    Code, EPTR_COVER_OPEN, EPTR_REC_EMPTY, HasState, NoMemory, PeripheralBox, Reply, Worked,
+};
 
 /// Works on the first request of the control that holds the printer at a place. There is nothing to do where nobody
 /// holds it, where the holder is disabled, where it has no request, and while its first one has failed (common
@@ -20,8 +22,8 @@ use pos_service::{Code, HasState, NoMemory, PeripheralBox, Reply, Worked};
 /// The room for all events is made before the order is given. Once it is done, each control that has the printer open
 /// and enabled hears the statuses that have changed; then the request is removed, and an OutputCompleteEvent enqueued.
 /// Where the printer doesn't do it, the request stays the first, the output error state stands, and an ErrorEvent with
-/// EL_OUTPUT is enqueued: with E_EXTENDED 201 where the cover is open, else 203 where the paper doesn't suffice; with
-/// E_FAILURE where the line fails. Want of memory changes nothing.
+/// EL_OUTPUT is enqueued: with E_EXTENDED EPTR_COVER_OPEN where the cover is open, else EPTR_REC_EMPTY where the paper
+/// doesn't suffice; with E_FAILURE where the line fails. Want of memory changes nothing.
 pub fn work(
     controls: &mut [Control],
     place: usize,
@@ -50,8 +52,8 @@ pub fn work(
             hear_all(controls, place, old, printer.signs());
             Ok(complete(controls, holder))
         }
-        Reply::CoverOpen => Ok(fail(controls, holder, Code::Extended, 201)),
-        Reply::PaperEnd => Ok(fail(controls, holder, Code::Extended, 203)),
+        Reply::CoverOpen => Ok(fail(controls, holder, Code::Extended, EPTR_COVER_OPEN)),
+        Reply::PaperEnd => Ok(fail(controls, holder, Code::Extended, EPTR_REC_EMPTY)),
         Reply::LineFault => Ok(fail(controls, holder, Code::Failure, 0)),
     }
 }

@@ -17,7 +17,8 @@ use Rattle.pos_profile.specs.declared.root.DocumentFault.TheVariants.{Mistaken}
 use Rattle.pos_profile.specs.declared.role.Role.{Role}
 use Rattle.pos_profile.specs.declared.role.Role.TheVariants.{Device, Spare}
 use Rattle.pos_profile.specs.declared.table.Keys.TheVariants.{OfEntry}
-use Rattle.pos_profile.specs.Categories.{category_named, is_totals}
+use Rattle.pos_service.specs.Names.{category_named}
+use Rattle.pos_profile.specs.Categories.{is_totals}
 use Rattle.pos_profile.specs.Entries.{entry_of, entry_with, numbers_of, table_entry}
 use Rattle.pos_profile.specs.Mistakes.{IsFlawedList, IsMistake, IsSoundList, RootHas, mistake_at}
 use Rattle.pos_profile.specs.Profiles.{IsLowest, IsRead, entries_of, is_faulty, is_refused, is_refused_after, is_root, is_totals_entry}

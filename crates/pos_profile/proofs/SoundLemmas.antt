@@ -15,10 +15,9 @@ use Rattle.pos_profile.specs.declared.reading.Numbers.{Numbers}
 use Rattle.pos_profile.specs.declared.role.Role.{Role}
 use Rattle.pos_profile.specs.declared.role.Role.TheVariants.{Device, Spare}
 use Rattle.pos_profile.specs.declared.table.Keys.TheVariants.{OfEntry}
-use Rattle.pos_profile.specs.Categories.{category_named}
+use Rattle.pos_service.specs.Names.{category_named, is_device_name}
 use Rattle.pos_profile.specs.Entries.{Contents, entry_of, entry_with, no_numbers, numbers_of, table_entry}
 use Rattle.pos_profile.specs.Kinds.{kind_with}
-use Rattle.pos_profile.specs.Names.{is_name}
 use Rattle.pos_profile.specs.Numbers.{has_number, key_of_number, least_of, most_of}
 use Rattle.pos_profile.specs.Profiles.{IsRead, entries_of, is_refused, is_repeated, names_of}
 use Rattle.pos_profile.specs.Soundness.{IsInItsRange, IsNamedFor, IsSoundEntry, IsSoundProfile, number_in}
@@ -112,9 +111,9 @@ category_sound role table category is =
 
 name_sound : (role : Role) (table : Members) (name : List ℕ) → name_for role table ≡ Some name → IsNamedFor role name
 name_sound Device table name is =
-    option_and_then_some (λ text. if is_name text then Some text else None) (text_at (codes "name") table) name is (λ text there found.
-    let same = kept (is_name text) text name found in
-    subst (λ (n : List ℕ). is_name n ≡ true) same.1 same.0)
+    option_and_then_some (λ text. if is_device_name text then Some text else None) (text_at (codes "name") table) name is (λ text there found.
+    let same = kept (is_device_name text) text name found in
+    subst (λ (n : List ℕ). is_device_name n ≡ true) same.1 same.0)
 name_sound Spare table name is = sym (same_Some [] name is)
 
 table_sound : (role : Role) (table : Members) (entry : Entry) → table_entry role table ≡ Some entry → IsSoundEntry role entry

@@ -1,5 +1,4 @@
 pub mod Categories
-pub mod Names
 pub mod Numbers
 pub mod Kinds
 pub mod Tables

@@ -1,6 +1,7 @@
 -- What is true of every entry of a profile, and of every profile (docs/PROFILE.md).
 use Rattle.std.specs.Prelude.{◌≡◌, ◌≤◌, ℕ, List, [], Bool, true, false, Some, IfSome, map}
 use Rattle.std.specs.List.{All}
+use Rattle.pos_service.specs.Names.{is_device_name}
 use Rattle.pos_service.specs.Peripherals.{IsInRange}
 use Rattle.pos_profile.specs.declared.entry.Entry.{Entry}
 use Rattle.pos_profile.specs.declared.number.NumberKey.{NumberKey}
@@ -9,7 +10,6 @@ use Rattle.pos_profile.specs.declared.role.Role.{Role}
 use Rattle.pos_profile.specs.declared.role.Role.TheVariants.{Device, Spare}
 use Rattle.pos_profile.specs.Entries.{Contents}
 use Rattle.pos_profile.specs.Kinds.{kind_of}
-use Rattle.pos_profile.specs.Names.{is_name}
 use Rattle.pos_profile.specs.Numbers.{has_number, least_of, most_of}
 use Rattle.pos_profile.specs.Profiles.{is_refused, is_repeated, names_of}
 use Rattle.pos_profile.specs.Tables.{allowed}
@@ -29,7 +29,7 @@ IsInItsRange key false number = number ≡ 0
 
 -- a device has a sound name, a spare none
 abbrev pub IsNamedFor : Role → List ℕ → Type 0
-IsNamedFor Device name = is_name name ≡ true
+IsNamedFor Device name = is_device_name name ≡ true
 IsNamedFor Spare name = name ≡ []
 
 -- an entry of a list is sound: so are its category, its name, each of its numbers, and what its peripheral has to be

@@ -3,13 +3,12 @@ use Rattle.std.specs.Prelude.{◌≡◌, ℕ, ℤ, pos, negsuc, List, [], ◌∷
 use Rattle.toml.specs.Data.{Data, Items, no_items, item, Members, no_members, member, as_array, as_str, as_integer, get_member}
 use Rattle.pos_service.specs.declared.category.Category.{Category}
 use Rattle.pos_service.specs.declared.category.Category.TheVariants.{HardTotals}
+use Rattle.pos_service.specs.Names.{category_named, is_device_name}
 use Rattle.pos_profile.specs.declared.number.NumberKey.{NumberKey}
 use Rattle.pos_profile.specs.declared.role.Role.{Role}
 use Rattle.pos_profile.specs.declared.role.Role.TheVariants.{Device, Spare}
 use Rattle.pos_profile.specs.declared.table.Keys.{Keys}
 use Rattle.pos_profile.specs.declared.table.Keys.TheVariants.{OfRoot, OfEntry}
-use Rattle.pos_profile.specs.Categories.{category_named}
-use Rattle.pos_profile.specs.Names.{is_name}
 use Rattle.pos_profile.specs.Numbers.{key_of_number, least_of, most_of, is_number_key}
 
 -- the key of the root at which a list stands
@@ -87,5 +86,5 @@ category_for role table =
 -- the name of a device, where it is sound; a spare's is empty
 abbrev pub name_for : Role → Members → Option (List ℕ)
 name_for Device table =
-    option_and_then (λ text. if is_name text then Some text else None) (text_at (codes "name") table)
+    option_and_then (λ text. if is_device_name text then Some text else None) (text_at (codes "name") table)
 name_for Spare table = Some []

@@ -10,7 +10,6 @@ mod fault;
 pub mod laws;
 mod listing;
 mod mistake;
-mod names;
 mod number;
 mod places;
 mod planning;

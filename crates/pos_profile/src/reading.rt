@@ -6,15 +6,13 @@ ghost use Rattle.pos_profile.specs.Entries.{ReadsNumbers, entry_with};
 ghost use Rattle.pos_profile.specs.Mistakes.{ReadsTable, ReadsValue};
 ghost use Rattle.pos_profile.specs.Tables.{category_for, name_for};
 
-use crate::category::category_named;
 use crate::entry::Entry;
 use crate::mistake::Reason;
-use crate::names::is_name;
 use crate::number::NumberKey;
 use crate::role::Role;
 use crate::table::{Keys, number_at, text_at, unknown_key};
 use crate::text::Text;
-use pos_service::{Category, NoMemory};
+use pos_service::{Category, NoMemory, is_device_name};
 use std::alloc::Global;
 use toml::{Table, Value};
 
@@ -31,7 +29,7 @@ fn category_for(role: Role, table: &Table) -> Option<Category>
     ensures { result ≡ category_for role (table_view table.now) }
 {
     let category = match text_at(table, "category") {
-        Some(text) => category_named(text),
+        Some(text) => Category::named(text.as_bytes()),
         None => None,
     };
     match (role, category) {
@@ -46,7 +44,7 @@ fn name_for<'a>(role: Role, table: &'a Table) -> Option<&'a str>
 {
     match role {
         Role::Device => match text_at(table, "name") {
-            Some(text) if is_name(text) => Some(text),
+            Some(text) if is_device_name(text.as_bytes()) => Some(text),
             _ => None,
         },
         Role::Spare => Some(""),

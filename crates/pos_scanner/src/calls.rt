@@ -10,7 +10,7 @@ use pos_service::{Answer, Call, Code, HasState, NoMemory, PeripheralBox, Value};
 
 /// What each call asks of its control: that it holds the scanner.
 const HELD: Need = Need {
-    claim: ClaimNeed::Held,
+    claim: ClaimNeed::Own,
     is_enabled: false,
 };
 

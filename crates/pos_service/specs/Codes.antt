@@ -22,6 +22,18 @@ number_of code.Timeout = 112
 number_of code.Busy = 113
 number_of code.Extended = 114
 
+-- E_EXTENDED ETOT_NOROOM: there is no room for what is asked (chapter Hard Totals)
+abbrev pub etot_noroom : ℕ
+etot_noroom = 201
+
+-- E_EXTENDED EPTR_COVER_OPEN: the cover is open (chapter POS Printer)
+abbrev pub eptr_cover_open : ℕ
+eptr_cover_open = 201
+
+-- E_EXTENDED EPTR_REC_EMPTY: the receipt's paper doesn't suffice (chapter POS Printer)
+abbrev pub eptr_rec_empty : ℕ
+eptr_rec_empty = 203
+
 -- the number of an error's locus
 abbrev pub locus_number_of : Locus → ℕ
 locus_number_of locus.Output = 1

@@ -10,6 +10,7 @@ use Rattle.pos_service.specs.declared.code.Code.{Code}
 use Rattle.pos_service.specs.declared.code.Code.TheVariants as code
 use Rattle.pos_service.specs.declared.memory.NoMemory.{NoMemory}
 use Rattle.pos_service.specs.Claims.{is_own, is_foreign, is_timeout}
+use Rattle.pos_service.specs.Codes.{etot_noroom}
 pub use Rattle.pos_service.specs.Numbers.{is_natural, is_up_to}
 use Rattle.pos_service.specs.Refusals.{Row, when, first_refusal, Decided}
 
@@ -20,9 +21,13 @@ pub record TotalsLimits : Type 0 where
   pub files : ℕ
   pub cost : ℕ
 
+-- TotalsSize on a disk of the first layout; a transaction may cost as much
+abbrev pub totals_size : ℕ
+totals_size = 8192
+
 -- the limits of totals on a disk of the first layout
 abbrev pub layout_1 : TotalsLimits
-layout_1 = record { bytes = 8192; files = 64; cost = 8192 }
+layout_1 = record { bytes = totals_size; files = 64; cost = totals_size }
 
 -- the last number of 64 bits: no file gets it as its handle, and no sequence follows it
 abbrev pub last_number : ℕ
@@ -180,7 +185,7 @@ is_range_of (Some file) offset count = is_range (length file.bytes) offset count
 
 -- E_EXTENDED ETOT_NOROOM
 abbrev pub when_no_room : Bool → Row
-when_no_room applies = record { applies = applies; answer = answer.Refused code.Extended 201 }
+when_no_room applies = record { applies = applies; code = code.Extended; extended = etot_noroom }
 
 -- E_FAILURE while the totals are off; while they are ready a table of the files
 abbrev pub while_ready : Mode → (List File → List Row) → List Row

@@ -11,6 +11,7 @@ pub mod Controls
 pub mod Refusals
 pub mod Calls
 pub mod Claims
+pub mod Names
 pub mod Stations
 pub mod DrawerCalls
 pub mod ScannerCalls

@@ -1,5 +1,5 @@
 -- What contracts see of a peripheral, and what its calls do.
-use Rattle.std.specs.Prelude.{◌≡◌, ℕ, ◌-◌, ◌*◌, ◌^◌, ◌<◌, ◌≤◌, ◌⊎◌, nat_le, Bool, true, false, ◌&&◌, Option, Some, List, length, ⊤, Result, MatchResult}
+use Rattle.std.specs.Prelude.{◌≡◌, ℕ, ◌-◌, ◌*◌, ◌^◌, ◌<◌, ◌≤◌, ◌⊎◌, nat_le, Bool, true, false, ◌&&◌, Some, List, length, ⊤, Result, MatchResult}
 use Rattle.pos_service.specs.declared.display_text.Attribute.{Attribute}
 use Rattle.pos_service.specs.declared.display_text.Direction.{Direction}
 use Rattle.pos_service.specs.declared.display_text.Place.{Place}
@@ -22,7 +22,7 @@ use Rattle.pos_service.specs.declared.receipt_text.Outcome.TheVariants as outcom
 use Rattle.pos_service.specs.declared.receipt_text.Piece.{Piece}
 use Rattle.pos_service.specs.Displays.{Display, ShowsText, Scrolls, blank_display, is_cursor_place, is_display_text, most_units}
 use Rattle.pos_service.specs.Kinds.{is_drawer, is_display, is_printer, rows_of, columns_of, near_of}
-use Rattle.pos_service.specs.Receipts.{Printer, Prints, pieces, cut_pieces, is_printable_text, paper_level}
+use Rattle.pos_service.specs.Receipts.{Prints, pieces, cut_pieces, is_printable_text, paper_level}
 
 -- a peripheral: what it is, what it is physically, whether it is out of service, and how often its line has failed
 pub record PeripheralState : Type 0 where
@@ -126,19 +126,19 @@ abbrev pub PrintsOut : List Piece → Plant → Reply → Plant → Type 0
 PrintsOut ps (plant.Printer old) reply.Done (plant.Printer new) = Prints old ps outcome.Done new
 PrintsOut ps (plant.Printer old) reply.CoverOpen (plant.Printer new) = Prints old ps outcome.CoverOpen new
 PrintsOut ps (plant.Printer old) reply.PaperEnd (plant.Printer new) = Prints old ps outcome.PaperEnd new
-PrintsOut ps old told new = ⊥
+PrintsOut ps old said new = ⊥
 
 -- Of a kind, from the old plant, an order that reaches the peripheral may get this reply and leave the new plant: a
 -- drawer opens; a display shows a text, is blank, or scrolls; a printer prints, or its cover is open, or its paper
 -- ends.
 abbrev pub Performs : Kind → Order → Plant → Reply → Plant → Type 0
-Performs is (order.Print bytes) old told new = PrintsOut (pieces bytes) old told new
-Performs is (order.Cut percentage) old told new = PrintsOut (cut_pieces percentage) old told new
+Performs is (order.Print bytes) old said new = PrintsOut (pieces bytes) old said new
+Performs is (order.Cut percentage) old said new = PrintsOut (cut_pieces percentage) old said new
 Performs is order.OpenDrawer old reply.Done new = Opens old new
 Performs is (order.ShowText row column style bytes) old reply.Done new = Shows (place_at row column) style bytes old new
 Performs is order.ClearText old reply.Done new = Clears old new
 Performs is (order.Scroll direction units) old reply.Done new = Moves direction units old new
-Performs is asked old told new = ⊥
+Performs is asked old said new = ⊥
 
 -- Of a kind, from the old plant, an input may be taken so and leave the new plant: a drawer is open or closed as it
 -- was moved, so is a printer's cover, or it has so many lines of paper left, and nothing of a scanner or of a display

@@ -1,14 +1,13 @@
 -- The calls of a receipt printer, and the work on the output that waits for it (chapter POS Printer, and common
 -- chapter, asynchronous output and error handling).
 use Rattle.std.specs.Bool.{MatchBool}
-use Rattle.std.specs.Prelude.{◌≡◌, ℕ, ℤ, pos, negsuc, nat_abs, Bool, true, false, not, ◌&&◌, ◌==◌, List, [], ◌∷◌, Option, Some, None, is_none, Result, Ok, MatchOption, MatchResult, slice_get, slice_set, if◌then◌else◌}
+use Rattle.std.specs.Prelude.{◌≡◌, ℕ, ℤ, pos, negsuc, nat_abs, Bool, false, not, ◌&&◌, ◌==◌, List, [], ◌∷◌, Option, Some, None, is_none, Result, Ok, MatchOption, MatchResult, slice_get, slice_set, if◌then◌else◌}
 use Rattle.std.specs.Option.{option_map, option_and_then}
 use Rattle.pos_service.specs.declared.answer.Answer.{Answer}
 use Rattle.pos_service.specs.declared.answer.Answer.TheVariants as answer
 use Rattle.pos_service.specs.declared.answer.Value.TheVariants as value
 use Rattle.pos_service.specs.declared.call.Call.{Call}
 use Rattle.pos_service.specs.declared.call.Call.TheVariants as call
-use Rattle.pos_service.specs.declared.code.Code.{Code}
 use Rattle.pos_service.specs.declared.code.Code.TheVariants as code
 use Rattle.pos_service.specs.declared.kind.Kind.{Kind}
 use Rattle.pos_service.specs.declared.memory.NoMemory.{NoMemory}
@@ -19,6 +18,7 @@ use Rattle.pos_service.specs.declared.order.Reply.TheVariants as reply
 use Rattle.pos_service.specs.declared.worked.Worked.{Worked}
 use Rattle.pos_service.specs.declared.worked.Worked.TheVariants as worked
 use Rattle.pos_service.specs.Claims.{holder_at, is_foreign}
+use Rattle.pos_service.specs.Codes.{eptr_cover_open, eptr_rec_empty}
 use Rattle.pos_service.specs.Controls.{Control, heard, all_listening, listens, queued, completed, output_failed, without_output}
 use Rattle.pos_service.specs.DrawerCalls.{LineFailed}
 use Rattle.pos_service.specs.Kinds.{is_printer}
@@ -76,9 +76,9 @@ pub record Printed (given : Order) (place : ℕ)
       all_listening place (heard statuses) old)
 
 -- The printer has said why it does nothing, and nothing has changed.
-pub record Hindered (given : Order) (told : Reply)
+pub record Hindered (given : Order) (said : Reply)
     (old : List Control) (before : Station) (new : List Control) (after : Station) : Type 0 where
-  pub plant : Performs before.kind given before.plant told after.plant
+  pub plant : Performs before.kind given before.plant said after.plant
   pub same : SameStation old before new after
 
 -- What comes of an order that the printer says this to.
@@ -92,16 +92,16 @@ Ordered given place reply.LineFault old before new after = LineFailed old before
 -- EPTR_REC_EMPTY
 abbrev pub answer_by : Reply → Answer
 answer_by reply.Done = answer.Done value.Empty
-answer_by reply.CoverOpen = answer.Refused code.Extended 201
-answer_by reply.PaperEnd = answer.Refused code.Extended 203
+answer_by reply.CoverOpen = answer.Refused code.Extended eptr_cover_open
+answer_by reply.PaperEnd = answer.Refused code.Extended eptr_rec_empty
 answer_by reply.LineFault = answer.Refused code.Failure 0
 
 -- A request is done at once: the printer is given its order.
 pub record DoesAtOnce (given : Order) (place : ℕ) (result : Answer)
     (old : List Control) (before : Station) (new : List Control) (after : Station) : Type 0 where
-  pub told : Reply
-  pub ordered : Ordered given place told old before new after
-  pub answer : result ≡ answer_by told
+  pub said : Reply
+  pub ordered : Ordered given place said old before new after
+  pub answer : result ≡ answer_by said
 
 -- The request of the control with a number is queued behind its others, and nothing else changes.
 pub record Queued (given : Order) (number : ℕ) (control : Control) (result : Answer)
@@ -141,7 +141,7 @@ PrinterDoes asked number place result old before new after = ⊥
 -- The work on output.
 
 -- a request that is to be done now: the control whose request it is, its OutputID, and its order
-pub record Work : Type 0 where
+pub record DueRequest : Type 0 where
   pub holder : ℕ
   pub id : ℕ
   pub given : Order
@@ -151,47 +151,47 @@ abbrev pub first_request : ℕ → Control → Option (ℕ × Order)
 first_request place control = if listens place control then request_to_do control.writer.output else None
 
 -- a request of a control, as one that is to be done now
-abbrev pub work_of : ℕ → ℕ × Order → Work
-work_of holder request = record { holder = holder; id = request.0; given = request.1 }
+abbrev pub due_request : ℕ → ℕ × Order → DueRequest
+due_request holder request = record { holder = holder; id = request.0; given = request.1 }
 
 -- the request that is to be done now at a place with a device of this kind: the first of the control that holds the
 -- device; none but at a printer
-abbrev pub work_at : Kind → ℕ → Option ℕ → List Control → Option Work
-work_at is place None controls = None
-work_at is place (Some holder) controls =
+abbrev pub due_request_at : Kind → ℕ → Option ℕ → List Control → Option DueRequest
+due_request_at is place None controls = None
+due_request_at is place (Some holder) controls =
     if is_printer is
-    then option_map (work_of holder) (option_and_then (first_request place) (slice_get controls holder))
+    then option_map (due_request holder) (option_and_then (first_request place) (slice_get controls holder))
     else None
 
 -- what is said of a request with an OutputID, once the printer has said this to its order
 abbrev pub worked_by : ℕ → Reply → Worked
 worked_by id reply.Done = worked.Done id
-worked_by id reply.CoverOpen = worked.Failed code.Extended 201
-worked_by id reply.PaperEnd = worked.Failed code.Extended 203
+worked_by id reply.CoverOpen = worked.Failed code.Extended eptr_cover_open
+worked_by id reply.PaperEnd = worked.Failed code.Extended eptr_rec_empty
 worked_by id reply.LineFault = worked.Failed code.Failure 0
 
 -- the control whose first request has this OutputID, once the printer has said this to its order
 abbrev pub after_work : ℕ → Reply → Control → Control
 after_work id reply.Done control = completed id control
-after_work id reply.CoverOpen control = output_failed code.Extended 201 control
-after_work id reply.PaperEnd control = output_failed code.Extended 203 control
+after_work id reply.CoverOpen control = output_failed code.Extended eptr_cover_open control
+after_work id reply.PaperEnd control = output_failed code.Extended eptr_rec_empty control
 after_work id reply.LineFault control = output_failed code.Failure 0 control
 
 -- A request is worked on: the printer is given its order, and then it is done or has failed. So the statuses that have
 -- changed come before its OutputCompleteEvent.
-pub record WorksOn (work : Work) (place : ℕ) (result : Worked)
+pub record WorksOn (due : DueRequest) (place : ℕ) (result : Worked)
     (old : List Control) (before : Station) (new : List Control) (after : Station) : Type 0 where
-  pub told : Reply
+  pub said : Reply
   pub controls : List Control
-  pub ordered : Ordered work.given place told old before controls after
-  pub worked : MatchOption (slice_get controls work.holder) ⊥ (λ control.
-      new ≡ slice_set controls work.holder (after_work work.id told control))
-  pub answer : result ≡ worked_by work.id told
+  pub ordered : Ordered due.given place said old before controls after
+  pub worked : MatchOption (slice_get controls due.holder) ⊥ (λ control.
+      new ≡ slice_set controls due.holder (after_work due.id said control))
+  pub answer : result ≡ worked_by due.id said
 
 -- Work at a place whose device this control holds: on the request that is to be done there now, where there is one.
 -- Memory is wanted for such a request alone, and then nothing changes.
 abbrev pub WorksAt : Option ℕ → ℕ → Result Worked NoMemory → Effect
-WorksAt holder place outcome old before new after = MatchOption (work_at before.kind place holder old)
+WorksAt holder place outcome old before new after = MatchOption (due_request_at before.kind place holder old)
     ((outcome ≡ Ok worked.Idle) × SameStation old before new after)
     (λ work. MatchResult outcome
     (λ result. WorksOn work place result old before new after)

@@ -1,22 +1,24 @@
--- Refusals in order: a call's table is a list of conditions, each with its answer.
-use Rattle.std.specs.Prelude.{◌≡◌, Bool, List, [], ◌∷◌, Option, Some, None, MatchOption, if◌then◌else◌}
+-- Refusals in order: a call's table is a list of conditions, each with the codes of its refusal.
+use Rattle.std.specs.Prelude.{◌≡◌, ℕ, Bool, List, [], ◌∷◌, Option, Some, None, MatchOption, if◌then◌else◌}
 use Rattle.pos_service.specs.declared.answer.Answer.{Answer}
 use Rattle.pos_service.specs.declared.answer.Answer.TheVariants as answer
 use Rattle.pos_service.specs.declared.code.Code.{Code}
 
--- a condition, and the answer where it is the first that holds
+-- a condition, and the result code and the extended code of the refusal where it is the first that holds
 pub record Row : Type 0 where
   pub applies : Bool
-  pub answer : Answer
+  pub code : Code
+  pub extended : ℕ
 
--- a row of a table: the code where the condition holds
+-- a row of a table: the code where the condition holds, and no extended code
 abbrev pub when : Bool → Code → Row
-when applies code = record { applies = applies; answer = answer.Refused code 0 }
+when applies code = record { applies = applies; code = code; extended = 0 }
 
--- the answer of the first condition that holds
+-- the refusal of the first condition that holds
 abbrev pub first_refusal : List Row → Option Answer
 first_refusal [] = None
-first_refusal (row ∷ rows) = if row.applies then Some row.answer else first_refusal rows
+first_refusal (row ∷ rows) =
+    if row.applies then Some (answer.Refused row.code row.extended) else first_refusal rows
 
 -- The answer is that of the first condition that holds, and then nothing changes. Where none holds, the call does what
 -- it does.

@@ -1,6 +1,7 @@
 ghost use Rattle.std.specs.Prelude.{◌≡◌};
 ghost use Rattle.pos_service.specs.Calls.{serves, has_call, has_property};
 ghost use Rattle.pos_service.specs.Claims.{is_exclusive};
+ghost use Rattle.pos_service.specs.Names.{category_named};
 
 use crate::call::Call;
 use crate::kind::Kind;
@@ -22,6 +23,28 @@ pub enum Category {
 }
 
 impl Category {
+    /// The category of this word, as a profile and a script write it.
+    pub fn named(word: &[u8]) -> Option<Self>
+        ensures { result ≡ category_named word.now }
+    {
+        if word == "CashDrawer".as_bytes() {
+            return Some(Category::CashDrawer);
+        }
+        if word == "Scanner".as_bytes() {
+            return Some(Category::Scanner);
+        }
+        if word == "LineDisplay".as_bytes() {
+            return Some(Category::LineDisplay);
+        }
+        if word == "POSPrinter".as_bytes() {
+            return Some(Category::PosPrinter);
+        }
+        if word == "HardTotals".as_bytes() {
+            return Some(Category::HardTotals);
+        }
+        None
+    }
+
     /// Whether its controls may open a device of this kind; a device of no kind has no peripheral.
     pub fn serves(self, kind: Option<Kind>) -> bool
         ensures { result ≡ serves self kind }

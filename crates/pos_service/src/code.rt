@@ -1,6 +1,15 @@
 ghost use Rattle.std.specs.Prelude.{◌≡◌};
 ghost use Rattle.pos_service.specs.Codes.{number_of};
 
+/// ETOT_NOROOM, the extended code of Hard Totals without room for what is asked (chapter Hard Totals).
+pub const ETOT_NOROOM: u32 = 201;
+
+/// EPTR_COVER_OPEN, the extended code of a printer whose cover is open (chapter POS Printer).
+pub const EPTR_COVER_OPEN: u32 = 201;
+
+/// EPTR_REC_EMPTY, the extended code of a printer whose paper doesn't suffice (chapter POS Printer).
+pub const EPTR_REC_EMPTY: u32 = 203;
+
 /// A result code of the standard (common chapter, ErrorCode).
 #[derive(Clone, Copy, PartialEq, Eq)]
 pub enum Code {

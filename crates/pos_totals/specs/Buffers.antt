@@ -6,7 +6,7 @@ use Rattle.pos_service.specs.declared.answer.Answer.{Answer}
 use Rattle.pos_service.specs.declared.answer.Answer.TheVariants as answer
 use Rattle.pos_service.specs.declared.answer.Value.TheVariants as value
 use Rattle.pos_service.specs.declared.memory.NoMemory.{NoMemory}
-use Rattle.pos_service.specs.HardTotals.{File, Mode, Off, Ready, Change, Create, Delete, Rename, Write, SetAll, is_called, is_range, is_up_to, cost_of_all, transaction_at, without_transactions}
+use Rattle.pos_service.specs.HardTotals.{File, Mode, Off, Ready, Change, Create, Delete, Rename, Write, SetAll, is_called, is_range, is_up_to, cost_of_all, layout_1, transaction_at, without_transactions}
 use Rattle.pos_dir.specs.declared.change.Change.{Change as FileChange}
 use Rattle.pos_dir.specs.declared.change.Change.TheVariants as file
 use Rattle.pos_store.specs.declared.fault.StoreFault.{StoreFault}
@@ -91,7 +91,7 @@ cost_of_checked (checked.SetAll index handle n) = 16
 -- a transaction has so much left
 abbrev pub HasLeft : Option (List Change) → ℕ → Type 0
 HasLeft None cost = ⊥
-HasLeft (Some buffer) cost = cost_of_all buffer + cost ≤ 8192
+HasLeft (Some buffer) cost = cost_of_all buffer + cost ≤ layout_1.cost
 
 -- A checked change may be buffered, and the control is in a transaction that has enough left for it.
 pub record MayBuffer (transactions : List (Option (List Change))) (control : ℕ) (made : Checked) : Type 0 where

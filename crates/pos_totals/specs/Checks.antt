@@ -75,7 +75,7 @@ file_of found = record { handle = found.handle; name = found.name.now; bytes = f
 pub record FindsFile (test : File → Bool) (files : List File) (found : Option Found) : Type 0 where
   pub file : option_map file_of found ≡ find test files
   pub index : IfSome found (λ f. f.index ≡ index_of test files)
-  pub small : IfSome found (λ f. length f.bytes.now ≤ 8192)
+  pub small : IfSome found (λ f. length f.bytes.now ≤ layout_1.bytes)
 
 -- a question about files that are known is answered by its table, and then told; memory is wanted only behind the table
 abbrev pub TellsIn : List File → ℕ → Question → Answer → Type 0

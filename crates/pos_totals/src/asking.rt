@@ -5,11 +5,12 @@ ghost use Rattle.pos_service.specs.HardTotals.{Find, FindByIndex, Read, Tells, M
 ghost use Rattle.pos_totals.specs.Checks.{files_in, file_of, AreFiles, TellsIn, MayTellIn};
 ghost use Rattle.pos_totals.specs.Views.{IsSound, totals_of};
 
-use crate::claims::is_foreign;
 use crate::files::{Files, Found, count_files, find_handle, find_name, get_file, see_files};
 use crate::ledger::Ledger;
-use crate::numbers::{to_natural, to_range};
+use crate::numbers::to_range;
 use pos_disk::Disk;
+use pos_service::claims::is_foreign;
+use pos_service::numbers::to_natural;
 use pos_service::{Answer, Bytes, Code, NoMemory, Value};
 use pos_store::Store;
 use std::alloc::Global;
@@ -19,7 +20,7 @@ pub fn find<D: Disk>(store: &Store<D>, ledger: &Ledger, control: usize, name: &[
     requires sound { IsSound store.now.state ledger.now }
     ensures { Tells (totals_of store.now.state ledger.now) control (Find name.now) result }
 {
-    if is_foreign(ledger.area, control) {
+    if is_foreign(control, ledger.area) {
         return Answer::Refused(Code::Claimed, 0);
     }
     match see_files(store, ledger) {
@@ -53,7 +54,7 @@ pub fn find_by_index<D: Disk>(
     requires sound { IsSound store.now.state ledger.now }
     ensures { MayTell (totals_of store.now.state ledger.now) control (FindByIndex index) result }
 {
-    if is_foreign(ledger.area, control) {
+    if is_foreign(control, ledger.area) {
         return Ok(Answer::Refused(Code::Claimed, 0));
     }
     match see_files(store, ledger) {
@@ -105,7 +106,7 @@ pub fn read<D: Disk>(
     requires sound { IsSound store.now.state ledger.now }
     ensures { MayTell (totals_of store.now.state ledger.now) control (Read handle offset count) result }
 {
-    if is_foreign(ledger.area, control) {
+    if is_foreign(control, ledger.area) {
         return Ok(Answer::Refused(Code::Claimed, 0));
     }
     match see_files(store, ledger) {
@@ -132,7 +133,7 @@ fn read_in(
     let Some((start, size)) = to_range(found.bytes.len(), offset, count) else {
         return Ok(Answer::Refused(Code::Illegal, 0));
     };
-    if is_foreign(found.claim, control) {
+    if is_foreign(control, found.claim) {
         return Ok(Answer::Refused(Code::Claimed, 0));
     }
     let part = &found.bytes[start..start + size];

@@ -7,13 +7,13 @@ ghost use Rattle.pos_totals.specs.Checks.{change_of, file_change_of, answer_of, 
 ghost use Rattle.pos_totals.specs.Views.{HasDirectory, IsSound, totals_of, view_of};
 
 use crate::checking::check;
-use crate::claims::is_foreign;
 use crate::files::see_files;
 use crate::ledger::Ledger;
 use crate::request::{Caller, Checked, Request};
 use crate::transactions::{Action, Buffered, Transactions};
 use pos_dir::{Bytes, Change, Group, Name};
 use pos_disk::Disk;
+use pos_service::claims::is_foreign;
 use pos_service::{Answer, Code, NoMemory, Value};
 use pos_store::laws::leaves_its_files;
 use pos_store::{Store, StoreFault};
@@ -120,7 +120,7 @@ fn check_request<'a, D: Disk>(
     ensures directory { HasDirectory store.now.state }
 {
     let files = see_files(store, ledger);
-    if is_foreign(ledger.area, control) {
+    if is_foreign(control, ledger.area) {
         return Err(Answer::Refused(Code::Claimed, 0));
     }
     let spent = ledger.transactions.spent(control);

@@ -3,19 +3,17 @@ ghost use Rattle.std.specs.Prelude.{◌≡◌, ◌≤◌, ◌+◌};
 ghost use Rattle.pos_service.specs.HardTotals.{Create, Delete, Rename, Write, SetAll, layout_1, is_over};
 ghost use Rattle.pos_totals.specs.Checks.{files_in, change_of, AreFiles, Checks};
 
-use crate::claims::is_foreign;
-use crate::files::{Files, find_handle, find_name, has_room};
-use crate::numbers::{to_byte, to_natural, to_range};
+use crate::files::{Files, TOTALS_SIZE, find_handle, find_name, has_room};
+use crate::numbers::{to_byte, to_range};
 use crate::request::{Caller, Checked, Request};
 use crate::transactions::COST_OF_CHANGE;
 use pos_dir::is_name;
-use pos_service::{Answer, Code};
+use pos_service::claims::is_foreign;
+use pos_service::numbers::to_natural;
+use pos_service::{Answer, Code, ETOT_NOROOM};
 
-/// What the changes of a transaction may cost in sum.
-const MOST_COST: usize = 8_192;
-
-/// ETOT_NOROOM.
-const NO_ROOM: u32 = 201;
+/// What the changes of a transaction may cost in sum: as much as all files may hold.
+const MOST_COST: usize = TOTALS_SIZE;
 
 /// Checks a change by its table.
 pub fn check<'a>(
@@ -62,7 +60,7 @@ fn check_create<'a>(
         return Err(Answer::Refused(Code::Exists, 0));
     }
     if !has_room(files, size) {
-        return Err(Answer::Refused(Code::Extended, NO_ROOM));
+        return Err(Answer::Refused(Code::Extended, ETOT_NOROOM));
     }
     Ok(Checked::Create {
         name,
@@ -81,7 +79,7 @@ fn check_delete<'a>(files: Files<'_>, caller: Caller, name: &'a [u8]) -> Result<
     let Some(found) = find_name(files, name) else {
         return Err(Answer::Refused(Code::NoExist, 0));
     };
-    if is_foreign(found.claim, caller.control) {
+    if is_foreign(caller.control, found.claim) {
         return Err(Answer::Refused(Code::Claimed, 0));
     }
     Ok(Checked::Delete { index: found.index })
@@ -109,7 +107,7 @@ fn check_rename<'a>(
     if find_name(files, name).is_some() {
         return Err(Answer::Refused(Code::Exists, 0));
     }
-    if is_foreign(found.claim, caller.control) {
+    if is_foreign(caller.control, found.claim) {
         return Err(Answer::Refused(Code::Claimed, 0));
     }
     Ok(Checked::Rename {
@@ -135,11 +133,11 @@ fn check_write<'a>(
     let Some((start, _)) = to_range(found.bytes.len(), offset, bytes.len() as i128) else {
         return Err(Answer::Refused(Code::Illegal, 0));
     };
-    if is_foreign(found.claim, caller.control) {
+    if is_foreign(caller.control, found.claim) {
         return Err(Answer::Refused(Code::Claimed, 0));
     }
     if is_too_costly(caller.spent, bytes.len()) {
-        return Err(Answer::Refused(Code::Extended, NO_ROOM));
+        return Err(Answer::Refused(Code::Extended, ETOT_NOROOM));
     }
     Ok(Checked::Write {
         index: found.index,
@@ -165,11 +163,11 @@ fn check_set_all<'a>(
     let Some(value) = to_byte(value) else {
         return Err(Answer::Refused(Code::Illegal, 0));
     };
-    if is_foreign(found.claim, caller.control) {
+    if is_foreign(caller.control, found.claim) {
         return Err(Answer::Refused(Code::Claimed, 0));
     }
     if is_too_costly(caller.spent, 0) {
-        return Err(Answer::Refused(Code::Extended, NO_ROOM));
+        return Err(Answer::Refused(Code::Extended, ETOT_NOROOM));
     }
     Ok(Checked::SetAll {
         index: found.index,
@@ -180,7 +178,7 @@ fn check_set_all<'a>(
 
 /// Whether a change of so many bytes costs more than is left to the transaction in which so much is spent.
 fn is_too_costly(spent: Option<usize>, bytes: usize) -> bool
-    requires { bytes ≤ 8192 }
+    requires { bytes ≤ layout_1.bytes }
     ensures { result ≡ is_over layout_1 spent (bytes + 16) }
 {
     match spent {

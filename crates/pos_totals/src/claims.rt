@@ -1,7 +1,7 @@
 //! Claims: of the area, which is the whole device, and of files.
 ghost use Rattle.std.specs.Prelude.{◌≡◌};
 ghost use Rattle.std.specs.List.{list_any};
-ghost use Rattle.pos_service.specs.Claims.{is_foreign, is_own};
+ghost use Rattle.pos_service.specs.Claims.{is_foreign};
 ghost use Rattle.pos_service.specs.HardTotals.{is_area_taken, Arranges, ClaimFile};
 ghost use Rattle.pos_service.specs.HardTotals.{ReleaseFile, ClaimsArea, ReleasesArea};
 ghost use Rattle.pos_totals.specs.Checks.{files_in, AreFiles, LetsThrough, LetsThroughAt};
@@ -10,30 +10,10 @@ ghost use Rattle.pos_totals.specs.Views.{IsSound, totals_of};
 use crate::files::{Files, find_handle, see_files};
 use crate::handles::Tag;
 use crate::ledger::Ledger;
-use crate::numbers::is_timeout;
 use pos_disk::Disk;
+use pos_service::claims::{is_foreign, is_own, is_timeout};
 use pos_service::{Answer, Code, Value};
 use pos_store::Store;
-
-/// Whether a control has made a claim.
-pub fn is_own(claim: Option<usize>, control: usize) -> bool
-    ensures { result ≡ is_own control claim }
-{
-    match claim {
-        Some(holder) => holder == control,
-        None => false,
-    }
-}
-
-/// Whether another control has made a claim.
-pub fn is_foreign(claim: Option<usize>, control: usize) -> bool
-    ensures { result ≡ is_foreign control claim }
-{
-    match claim {
-        Some(holder) => holder != control,
-        None => false,
-    }
-}
 
 /// Claims the file with a handle.
 pub fn claim_file<D: Disk>(
@@ -91,7 +71,7 @@ fn check_claim_in(
     if !is_timeout(timeout) {
         return Err(Answer::Refused(Code::Illegal, 0));
     }
-    if is_foreign(area, control) || is_foreign(found.claim, control) {
+    if is_foreign(control, area) || is_foreign(control, found.claim) {
         return Err(Answer::Refused(Code::Timeout, 0));
     }
     Ok(found.handle)
@@ -142,7 +122,7 @@ fn check_release_in(files: Files<'_>, control: usize, handle: i128) -> Result<u6
     let Some(found) = find_handle(files, handle) else {
         return Err(Answer::Refused(Code::Illegal, 0));
     };
-    if !is_own(found.claim, control) {
+    if !is_own(control, found.claim) {
         return Err(Answer::Refused(Code::Illegal, 0));
     }
     Ok(found.handle)
@@ -171,7 +151,7 @@ fn is_area_taken<D: Disk>(store: &Store<D>, ledger: &Ledger, control: usize) -> 
     requires sound { IsSound store.now.state ledger.now }
     ensures { result ≡ is_area_taken (totals_of store.now.state ledger.now) control }
 {
-    if is_foreign(ledger.area, control) {
+    if is_foreign(control, ledger.area) {
         return true;
     }
     match see_files(store, ledger) {
@@ -184,7 +164,7 @@ fn is_area_taken<D: Disk>(store: &Store<D>, ledger: &Ledger, control: usize) -> 
 fn has_foreign_claim(tags: &[Tag], control: usize) -> bool
     ensures { result ≡ list_any (λ tag. is_foreign control tag.claim) tags.now }
 {
-    tags.iter().any(|tag| is_foreign(tag.claim, control))
+    tags.iter().any(|tag| is_foreign(control, tag.claim))
 }
 
 /// Ends the claim of the area.
@@ -198,7 +178,7 @@ pub fn release_area<D: Disk>(
     ensures releases { ReleasesArea (totals_of store.now.state ledger.old) control result
         (totals_of store.now.state ledger.new) }
 {
-    if !is_own(ledger.area, control) {
+    if !is_own(control, ledger.area) {
         return Err(Code::Illegal);
     }
     ledger.area = None;

@@ -9,12 +9,12 @@ ghost use Rattle.pos_totals.specs.Groups.{file_change, group_of};
 ghost use Rattle.pos_totals.specs.Views.{HasDirectory, IsSound, totals_of, view_of};
 
 use crate::changing::answer_fault;
-use crate::claims::is_foreign;
 use crate::files::{Files, Found, find_handle, find_index, see_files};
 use crate::ledger::Ledger;
 use crate::transactions::Buffered;
 use pos_dir::{Change, Group};
 use pos_disk::Disk;
+use pos_service::claims::is_foreign;
 use pos_service::{Answer, Code, NoMemory, Value};
 use pos_store::Store;
 use pos_store::laws::leaves_its_files;
@@ -71,7 +71,7 @@ fn make_plan<D: Disk>(
     ensures directory { HasDirectory store.now.state }
 {
     let files = see_files(store, ledger);
-    if is_foreign(ledger.area, control) {
+    if is_foreign(control, ledger.area) {
         return Ok(Plan::Refused(Answer::Refused(Code::Claimed, 0)));
     }
     let Some(files) = files else {
@@ -149,7 +149,7 @@ fn is_foreign_change(files: Files<'_>, control: usize, change: &Buffered) -> boo
     ensures { result ≡ is_of_foreign (files_in files.entry) control change.now }
 {
     match find_changed(files, change) {
-        Some(found) => is_foreign(found.claim, control),
+        Some(found) => is_foreign(control, found.claim),
         None => false,
     }
 }

@@ -7,14 +7,14 @@ ghost use Rattle.pos_totals.specs.Views.{HasDirectory, IsSound, mode_of};
 
 use crate::handles::{MOST_FILES, Tag};
 use crate::ledger::Ledger;
-use crate::numbers::to_natural;
-use pos_dir::Directory;
 use pos_dir::laws::is_directory;
+use pos_dir::{Directory, LAYOUT_1};
 use pos_disk::Disk;
+use pos_service::numbers::to_natural;
 use pos_store::Store;
 
 /// TotalsSize: the most bytes of all files in sum.
-pub const TOTALS_SIZE: usize = 8_192;
+pub const TOTALS_SIZE: usize = LAYOUT_1.bytes as usize;
 
 /// The files of the totals: what the directory has of them, and their tags in index order.
 #[derive(Clone, Copy)]
@@ -55,7 +55,7 @@ pub fn get_file<'a>(files: Files<'a>, index: usize) -> Option<Found<'a>>
     requires { AreFiles files }
     ensures file { option_map file_of result ≡ slice_get (files_in files.entry) index }
     ensures index { IfSome result (λ found. found.index ≡ index) }
-    ensures small { IfSome result (λ found. length found.bytes.now ≤ 8192) }
+    ensures small { IfSome result (λ found. length found.bytes.now ≤ layout_1.bytes) }
 {
     if index >= files.tags.len() {
         return None;

@@ -4,10 +4,10 @@ ghost use Rattle.pos_totals.specs.Checks.{file_change_of};
 ghost use Rattle.pos_totals.specs.Tables.{tag_claimed, tag_released};
 ghost use Rattle.pos_totals.specs.Numbering.{tags_from, lacks, given_after, following, value_after, HasPlace, Numbers};
 
-use crate::claims::is_own;
 use crate::request::Checked;
 use arrayvec::ArrayVec;
 use pos_service::Value;
+use pos_service::claims::is_own;
 use std::marker::Model;
 
 /// The most files.
@@ -153,7 +153,7 @@ fn release_tags(tags: &mut [Tag], control: usize)
 fn release_tag(tag: Tag, control: usize) -> Tag
     ensures { result ≡ tag_released control tag }
 {
-    if !is_own(tag.claim, control) {
+    if !is_own(control, tag.claim) {
         return tag;
     }
     Tag {

@@ -1,37 +1,18 @@
 //! The numbers of calls.
 ghost use Rattle.std.specs.Prelude.{◌≡◌, ◌<◌, pos, false, MatchOption};
-ghost use Rattle.pos_service.specs.Claims.{is_timeout};
-ghost use Rattle.pos_service.specs.HardTotals.{is_natural, is_range, is_up_to};
+ghost use Rattle.pos_service.specs.HardTotals.{is_range, is_up_to};
 ghost use Rattle.pos_totals.specs.Checks.{IsRange};
 
-/// A number of a call, where it isn't below 0.
-pub fn to_natural(number: i128) -> Option<u128>
-    ensures { MatchOption result (is_natural number ≡ false) (λ n. number ≡ pos n) }
-{
-    if number < 0 {
-        return None;
-    }
-    Some(number as u128)
-}
+use pos_service::numbers::{to_count, to_natural};
 
 /// A number of a call, where it is the value of a byte.
 pub fn to_byte(number: i128) -> Option<u8>
     ensures { MatchOption result (is_up_to 255 number ≡ false) (λ n. (number ≡ pos n) × (n < 256)) }
 {
-    let Some(number) = to_natural(number) else {
+    let Some(number) = to_count(number, 255) else {
         return None;
     };
-    if number > 255 {
-        return None;
-    }
     Some(number as u8)
-}
-
-/// Whether a number of a call is a timeout: at least -1.
-pub fn is_timeout(number: i128) -> bool
-    ensures { result ≡ is_timeout number }
-{
-    number >= -1
 }
 
 /// A range of so many bytes from an offset on, where it is within a size.

@@ -3,10 +3,10 @@ ghost use Rattle.std.specs.Prelude.{◌≡◌};
 ghost use Rattle.pos_service.specs.HardTotals.{foreign_area, without_control, Arranges, BeginTrans, Rollback};
 ghost use Rattle.pos_totals.specs.Views.{IsSound, totals_of};
 
-use crate::claims::is_own;
 use crate::ledger::Ledger;
 use crate::transactions::Buffer;
 use pos_disk::Disk;
+use pos_service::claims::is_own;
 use pos_service::{Answer, Code, Value};
 use pos_store::{Mode, Store};
 use std::alloc::Global;
@@ -66,7 +66,7 @@ pub fn drop_control<D: Disk>(store: &Store<D>, ledger: &mut Ledger, control: usi
 fn keep_foreign(claim: Option<usize>, control: usize) -> Option<usize>
     ensures { result ≡ foreign_area control claim }
 {
-    if is_own(claim, control) {
+    if is_own(control, claim) {
         return None;
     }
     claim

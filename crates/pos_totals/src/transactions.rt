@@ -2,7 +2,7 @@
 ghost use Rattle.std.specs.Prelude.{◌≡◌, ◌≤◌, ◌+◌, ◌++◌, ◌∷◌, [], Some, None, IfOk, OnOk, OnErr, is_some, slice_get};
 ghost use Rattle.std.specs.Prelude.{slice_set};
 ghost use Rattle.std.specs.Option.{option_copied, option_map};
-ghost use Rattle.pos_service.specs.HardTotals.{cost_of, cost_of_all, may_begin, transaction_at, without_transactions};
+ghost use Rattle.pos_service.specs.HardTotals.{cost_of, cost_of_all, layout_1, may_begin, transaction_at, without_transactions};
 ghost use Rattle.pos_totals.specs.Buffers.{buffered_change, placed_change, with_buffered, HasLeft, IsOf};
 
 use pos_dir::{Bytes, Change as FileChange};
@@ -72,7 +72,7 @@ impl Buffered {
 
     /// What it costs.
     pub fn cost(&self) -> usize
-        requires { cost_of self.now ≤ 8192 }
+        requires { cost_of self.now ≤ layout_1.cost }
         ensures { result ≡ cost_of self.now }
     {
         match &self.action {
@@ -127,7 +127,7 @@ impl Buffer {
 
     /// Adds a change behind the others. Want of memory changes nothing.
     pub fn push(&mut self, change: Buffered) -> Result<(), NoMemory>
-        requires { cost_of_all self.old + cost_of change ≤ 8192 }
+        requires { cost_of_all self.old + cost_of change ≤ layout_1.cost }
         ensures ok { OnOk result (self.new ≡ self.old ++ change ∷ []) }
         ensures err { OnErr result (self.new ≡ self.old) }
     {

@@ -7,8 +7,8 @@ ghost use Rattle.pos_common.specs.Held.{TurnsInto};
 ghost use Rattle.pos_common.specs.Needs.{need_rows};
 
 use super::Control;
-use crate::claims::is_foreign;
 use crate::need::{ClaimNeed, Need};
+use pos_service::claims::{is_foreign, is_own, is_timeout};
 use pos_service::display_text::Cursor;
 use pos_service::{Answer, Code, Finding, Value};
 
@@ -82,7 +82,7 @@ impl Control {
         if self.device.is_none() {
             return Answer::Refused(Code::Closed, 0);
         }
-        if timeout < -1 {
+        if !is_timeout(timeout) {
             return Answer::Refused(Code::Illegal, 0);
         }
         if is_foreign(number, holder) {
@@ -104,7 +104,7 @@ impl Control {
         if self.device.is_none() {
             return Answer::Refused(Code::Closed, 0);
         }
-        if holder != Some(number) {
+        if !is_own(number, holder) {
             return Answer::Refused(Code::Illegal, 0);
         }
         if self.category.is_exclusive() {
@@ -126,7 +126,7 @@ impl Control {
         if need.claim != ClaimNeed::Any && is_foreign(number, holder) {
             return Err(Code::Claimed);
         }
-        if need.claim == ClaimNeed::Held && holder.is_none() {
+        if need.claim == ClaimNeed::Own && holder.is_none() {
             return Err(Code::NotClaimed);
         }
         if need.is_enabled && !self.is_enabled {

@@ -15,7 +15,7 @@ use pos_service::{
 
 /// What setting DeviceEnabled asks of the control of an exclusive-use device.
 const HELD: Need = Need {
-    claim: ClaimNeed::Held,
+    claim: ClaimNeed::Own,
     is_enabled: false,
 };
 
@@ -143,8 +143,8 @@ impl Control {
             return Ok(Answer::Refused(Code::Disabled, 0));
         }
         match property {
-            Property::ScanData => Ok(told(self.reader.copy_of_bytes()?)),
-            Property::ScanDataLabel => Ok(told(self.reader.copy_of_label()?)),
+            Property::ScanData => Ok(done_with(self.reader.copy_of_bytes()?)),
+            Property::ScanDataLabel => Ok(done_with(self.reader.copy_of_label()?)),
             _ => Ok(self.value_of(property, facts)),
         }
     }
@@ -217,7 +217,7 @@ impl Control {
 }
 
 /// The answer that gives these bytes.
-fn told(bytes: Bytes) -> Answer
+fn done_with(bytes: Bytes) -> Answer
     ensures { result ≡ Answer.Done (Value.Bytes bytes) }
 {
     Answer::Done(Value::Bytes(bytes))

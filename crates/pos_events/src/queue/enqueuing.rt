@@ -1,7 +1,7 @@
 ghost use Rattle.std.specs.Prelude.{◌≡◌, ◌≤◌, ◌+◌};
 ghost use Rattle.pos_service.specs.declared.event.Locus.TheVariants as locus;
 ghost use Rattle.pos_service.specs.Events.{Status, Error, Complete, enqueued, scanned, input_failed};
-ghost use Rattle.pos_events.specs.Parts.{told_event};
+ghost use Rattle.pos_events.specs.QueueParts.{told_event};
 
 use super::EventQueue;
 use crate::told::Told;

@@ -1,14 +1,14 @@
 //! Which texts name a device.
 ghost use Rattle.std.specs.Prelude.{◌≡◌};
 ghost use Rattle.std.specs.List.{list_all};
-ghost use Rattle.pos_profile.specs.Names.{is_name, is_name_byte};
+ghost use Rattle.pos_service.specs.Names.{is_device_name, is_device_name_byte};
 
-/// The most bytes of a name.
+/// The most bytes of a device's name.
 const MOST_BYTES: usize = 16;
 
 /// Whether each byte is an ASCII letter, a digit or a hyphen.
 fn are_name_bytes(bytes: &[u8]) -> bool
-    ensures { result ≡ list_all is_name_byte bytes.now }
+    ensures { result ≡ list_all is_device_name_byte bytes.now }
 {
     bytes
         .iter()
@@ -16,8 +16,8 @@ fn are_name_bytes(bytes: &[u8]) -> bool
 }
 
 /// Whether a text names a device: 1 to 16 ASCII letters, digits or hyphens.
-pub(crate) fn is_name(text: &str) -> bool
-    ensures { result ≡ is_name text.now }
+pub fn is_device_name(text: &[u8]) -> bool
+    ensures { result ≡ is_device_name text.now }
 {
-    1 <= text.len() && text.len() <= MOST_BYTES && are_name_bytes(text.as_bytes())
+    1 <= text.len() && text.len() <= MOST_BYTES && are_name_bytes(text)
 }
