@@ -1,5 +1,5 @@
 -- What a script asks of the machine, and what it prints (docs/CONSOLE.md, "Answers").
-use Rattle.std.specs.Prelude.{◌≡◌, ℕ, ◌⊎◌, ◌++◌, ◌∷◌, [], Bool, true, false, List, Option, Some, None, MatchOption, IsTrue, is_some, option_map, codes, if◌then◌else◌}
+use Rattle.std.specs.Prelude.{◌≡◌, ℕ, ◌⊎◌, ◌++◌, ◌∷◌, [], Bool, true, false, List, Option, Some, None, MatchOption, IsTrue, is_some, option_map, if◌then◌else◌}
 use Rattle.std.specs.Bool.{MatchBool}
 use Rattle.pos_profile.specs.declared.registry_fault.AttachFault.{AttachFault}
 use Rattle.pos_profile.specs.declared.registry_fault.AttachFault.TheVariants as attach
@@ -9,12 +9,13 @@ use Rattle.pos_service.specs.Stations.{station_of}
 use Rattle.pos_counter.specs.Steps.{Request, Response, NewControl, CallOf, InputTo, Deliver, Snapshot, WorkOn, Attach, Detach, Made, Full, Answered, TakenIn, NoDevice, WrongInput, Delivered, Shown, Worked, Attached, NotAttached, Detached, NotDetached, OutOfMemory}
 use Rattle.pos_script.specs.declared.reply.Refusal.{Refusal}
 use Rattle.pos_script.specs.declared.reply.Refusal.TheVariants as refusal
+use Rattle.pos_script.specs.declared.reply.Reply.TheVariants as reply
 use Rattle.pos_script.specs.Lines.{is_quiet}
 use Rattle.pos_script.specs.Arguments.{Reading}
 use Rattle.pos_script.specs.Commands.{Asking, NewLine, CallLine, InputLine, DeliverLine, ShowLine, WorkLine, AttachLine, DetachLine, asked_by}
 use Rattle.pos_run.specs.Names.{ControlNames, number_named}
 use Rattle.pos_run.specs.Spares.{SpareStates, spare_at, with_spare}
-use Rattle.pos_script.specs.Text.{answer_text, delivered_text, plant_text, worked_text, refusal_text, printed}
+use Rattle.pos_script.specs.Text.{plant_text, printed, reply_text}
 
 -- why a peripheral was not attached, as it is told
 abbrev pub attach_refusal : AttachFault → Refusal
@@ -30,20 +31,20 @@ detach_refusal detach.InUse = refusal.InUse
 
 -- what a response of the machine prints
 abbrev pub response_text : Response → List ℕ
-response_text (Made number) = codes "ok"
-response_text Full = codes "refused Full"
-response_text (Answered answer) = answer_text answer
-response_text TakenIn = codes "ok"
-response_text NoDevice = codes "bad device"
-response_text WrongInput = codes "bad input"
-response_text (Delivered event) = delivered_text event
+response_text (Made number) = reply_text reply.Ok
+response_text Full = reply_text reply.Full
+response_text (Answered answer) = reply_text (reply.Answered answer)
+response_text TakenIn = reply_text reply.Ok
+response_text NoDevice = reply_text reply.BadDevice
+response_text WrongInput = reply_text reply.BadInput
+response_text (Delivered event) = reply_text (reply.Delivered event)
 response_text (Shown plant) = plant_text plant
-response_text (Worked result) = worked_text result
-response_text Attached = codes "ok"
-response_text (NotAttached fault) = refusal_text (attach_refusal fault)
-response_text (Detached station) = codes "ok"
-response_text (NotDetached fault) = refusal_text (detach_refusal fault)
-response_text OutOfMemory = codes "memory"
+response_text (Worked result) = reply_text (reply.Worked result)
+response_text Attached = reply_text reply.Ok
+response_text (NotAttached fault) = reply_text (reply.Refused (attach_refusal fault))
+response_text (Detached station) = reply_text reply.Ok
+response_text (NotDetached fault) = reply_text (reply.Refused (detach_refusal fault))
+response_text OutOfMemory = reply_text reply.Memory
 
 -- What a script has: the names of its controls, and its spares.
 pub record Session : Type 0 where
@@ -70,8 +71,8 @@ request_of session (DetachLine device) = Some (Detach device)
 
 -- what a line prints that asks nothing of the machine
 abbrev pub rebuke : Asking → List ℕ
-rebuke (AttachLine device number) = codes "bad spare"
-rebuke asking = codes "bad control"
+rebuke (AttachLine device number) = reply_text reply.BadSpare
+rebuke asking = reply_text reply.BadControl
 
 -- a new control has its name from then on, and the place of a spare that was attached is empty
 abbrev pub session_after : Session → Asking → Response → Session
@@ -111,7 +112,7 @@ responded session asking request response = record {
 -- a request has one response; or there was no memory for the name that the line gives
 abbrev pub RequestBecomes : Session → Asking → Request → Outcome → Type 0
 RequestBecomes session asking request outcome =
-    (IsTrue (gives_name asking) × (outcome ≡ turned_down session (codes "memory")))
+    (IsTrue (gives_name asking) × (outcome ≡ turned_down session (reply_text reply.Memory)))
     ⊎ ((response : Response) × (outcome ≡ responded session asking request response))
 
 -- what becomes of a line that asks this
@@ -123,8 +124,8 @@ AskingBecomes session asking outcome =
 -- what becomes of a line as it was read: there may have been no memory for what is kept of it
 abbrev pub ReadingBecomes : Session → Reading Asking → Outcome → Type 0
 ReadingBecomes session reading outcome =
-    MatchOption reading.value (outcome ≡ turned_down session (codes "bad line"))
-    (λ asking. (IsTrue reading.is_kept × (outcome ≡ turned_down session (codes "memory")))
+    MatchOption reading.value (outcome ≡ turned_down session (reply_text reply.BadLine))
+    (λ asking. (IsTrue reading.is_kept × (outcome ≡ turned_down session (reply_text reply.Memory)))
     ⊎ AskingBecomes session asking outcome)
 
 -- what becomes of a line

@@ -12,7 +12,8 @@ use Rattle.pos_script.specs.declared.command.Command.{Command}
 use Rattle.pos_script.specs.declared.command.Command.TheVariants as command
 use Rattle.pos_script.specs.Lines.{words_of, is_well_spelled}
 use Rattle.pos_script.specs.Arguments.{Reading, Reads, misshapen, become, from_none, from_one, from_two, from_three}
-use Rattle.pos_script.specs.Words.{is_name, bytes_shape, category_shape, count_shape, device_shape, number_shape, property_shape, value_shape, error_reply_shape}
+use Rattle.pos_service.specs.Names.{is_device_name}
+use Rattle.pos_script.specs.Words.{bytes_shape, category_shape, count_shape, device_shape, number_shape, property_shape, value_shape, error_reply_shape}
 use Rattle.pos_script.specs.Methods.{call_of}
 
 -- what a line asks of a control or a device, by its name
@@ -161,7 +162,7 @@ verb_line verb name words =
 abbrev pub asking_of : List (List ℕ) → Reading Asking
 asking_of [] = misshapen
 asking_of (verb ∷ []) = misshapen
-asking_of (verb ∷ name ∷ words) = if is_name name then verb_line verb name words else misshapen
+asking_of (verb ∷ name ∷ words) = if is_device_name name then verb_line verb name words else misshapen
 
 -- what a line that isn't quiet asks
 abbrev pub asked_by : List ℕ → Reading Asking

@@ -3,13 +3,13 @@ use Rattle.std.specs.Prelude.{ℕ, ℤ, pos, negsuc, neg_ℤ, min, Bool, true, f
 use Rattle.std.specs.List.{list_all, fold}
 use Rattle.hex.specs.Hex.{decode_of}
 use Rattle.pos_service.specs.declared.category.Category.{Category}
-use Rattle.pos_service.specs.declared.category.Category.TheVariants as category
 use Rattle.pos_service.specs.declared.event.ErrorReply.{ErrorReply}
 use Rattle.pos_service.specs.declared.event.ErrorReply.TheVariants as reply
 use Rattle.pos_service.specs.declared.property.Property.{Property}
 use Rattle.pos_service.specs.declared.property.Property.TheVariants as property
 use Rattle.pos_service.specs.declared.answer.Value.{Value}
 use Rattle.pos_service.specs.declared.answer.Value.TheVariants as value
+use Rattle.pos_service.specs.Names.{category_named, is_device_name}
 use Rattle.pos_script.specs.Lines.{is_nothing}
 use Rattle.pos_script.specs.Arguments.{Shape, value_of}
 use Rattle.pos_script.specs.declared.arguments.DeviceName.{DeviceName}
@@ -17,14 +17,6 @@ use Rattle.pos_script.specs.declared.arguments.DeviceName.{DeviceName}
 -- whether a byte is a decimal digit
 abbrev pub is_digit : ℕ → Bool
 is_digit b = nat_le 48 b && nat_le b 57
-
--- whether a byte may stand in a name: a letter, a digit or a hyphen
-abbrev pub is_name_byte : ℕ → Bool
-is_name_byte b = is_digit b || (nat_le 65 b && nat_le b 90) || (nat_le 97 b && nat_le b 122) || (b == 45)
-
--- whether a word is a name: 1 to 16 letters, digits or hyphens
-abbrev pub is_name : List ℕ → Bool
-is_name word = nat_le (length word) 16 && not (is_nothing word) && list_all is_name_byte word
 
 -- whether a word is of 1 to 18 digits
 abbrev pub is_digits : List ℕ → Bool
@@ -73,15 +65,6 @@ value_named word =
     if bytes_eq word (codes "true") then Some (value.Truth true)
     else (if bytes_eq word (codes "false") then Some (value.Truth false)
     else option_map value.Number (number_named word))
-
--- the category of this name
-abbrev pub category_named : List ℕ → Option Category
-category_named word =
-    if bytes_eq word (codes "CashDrawer") then Some category.CashDrawer
-    else (if bytes_eq word (codes "Scanner") then Some category.Scanner
-    else (if bytes_eq word (codes "LineDisplay") then Some category.LineDisplay
-    else (if bytes_eq word (codes "POSPrinter") then Some category.PosPrinter
-    else (if bytes_eq word (codes "HardTotals") then Some category.HardTotals else None))))
 
 -- the property of Hard Totals of this name
 abbrev pub totals_property_named : List ℕ → Option Property
@@ -147,7 +130,7 @@ error_reply_named word =
 
 -- the name of a device
 abbrev pub device_named : List ℕ → Option DeviceName
-device_named word = if is_name word then Some (record { name = word }) else None
+device_named word = if is_device_name word then Some (record { name = word }) else None
 
 -- a shape whose words are kept in memory
 abbrev pub kept : {A : Type 0} → (List ℕ → Option A) → Shape A

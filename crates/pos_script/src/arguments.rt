@@ -4,10 +4,8 @@ ghost use Rattle.pos_script.specs.Arguments.{Shape, Reads, word_as, none, one, t
 ghost use Rattle.pos_script.specs.Words.{number_shape, count_shape, truth_shape, bytes_shape, device_shape, category_shape, property_shape, value_shape, error_reply_shape};
 
 use crate::lines::next_word;
-use crate::words::{
-    category, count, decode, error_reply, is_hex_word, is_name_word, number, property, truth, value,
-};
-use pos_service::{Bytes, Category, ErrorReply, Property, Value};
+use crate::words::{count, decode, error_reply, is_hex_word, number, property, truth, value};
+use pos_service::{Bytes, Category, ErrorReply, Property, Value, is_device_name};
 use std::alloc::Global;
 use thiserror::Error;
 
@@ -87,11 +85,11 @@ impl Argument for Category {
     ghost shape = { category_shape };
 
     fn has_shape(word: &[u8]) -> bool {
-        category(word).is_some()
+        Category::named(word).is_some()
     }
 
     fn read(_: Global, word: &[u8]) -> Result<Self, LineFault> {
-        category(word).ok_or(LineFault::WrongShape)
+        Category::named(word).ok_or(LineFault::WrongShape)
     }
 }
 
@@ -148,11 +146,11 @@ impl Argument for DeviceName {
     ghost shape = { device_shape };
 
     fn has_shape(word: &[u8]) -> bool {
-        is_name_word(word)
+        is_device_name(word)
     }
 
     fn read(alloc: Global, word: &[u8]) -> Result<Self, LineFault> {
-        if !is_name_word(word) {
+        if !is_device_name(word) {
             return Err(LineFault::WrongShape);
         }
         match Bytes::from_slice(alloc, word) {

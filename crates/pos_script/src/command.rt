@@ -8,8 +8,8 @@ ghost use Rattle.pos_script.specs.Commands.{ReadsLine, asked_by, asking_of, verb
 use crate::arguments::{DeviceName, LineFault, read_none, read_one, read_three, read_two};
 use crate::lines::{is_well_spelled_line, next_word};
 use crate::methods::read_call;
-use crate::words::{is, is_name_word};
-use pos_service::{Call, Category, ErrorReply, Input};
+use crate::words::is;
+use pos_service::{Call, Category, ErrorReply, Input, is_device_name};
 use std::alloc::Global;
 
 /// What a line of a script asks (docs/CONSOLE.md, "Lines"). The first part is the name of the control or of the
@@ -302,7 +302,7 @@ fn read_words(alloc: Global, line: &[u8]) -> Result<Command<'_>, LineFault>
     let Some((name, rest)) = next_word(rest) else {
         return Err(LineFault::WrongShape);
     };
-    if !is_name_word(name) {
+    if !is_device_name(name) {
         return Err(LineFault::WrongShape);
     }
     read_verb_line(alloc, verb, name, rest)

@@ -1,10 +1,10 @@
 ghost use Rattle.std.specs.Prelude.{◌≡◌, ◌<◌, ◌^◌, true, bytes_eq, is_some, Some, IfSome, IfOk};
 ghost use Rattle.std.specs.List.{list_all};
 ghost use Rattle.hex.specs.Hex.{is_hex_digit};
-ghost use Rattle.pos_script.specs.Words.{number_of_digits, is_digit, is_digits, is_name_byte, is_name, digits_named, number_named, count_named, truth_named, bytes_named};
-ghost use Rattle.pos_script.specs.Words.{value_named, category_named, property_named, scanner_property_named, display_property_named, printer_property_named, totals_property_named, error_reply_named};
+ghost use Rattle.pos_script.specs.Words.{number_of_digits, is_digit, is_digits, digits_named, number_named, count_named, truth_named, bytes_named};
+ghost use Rattle.pos_script.specs.Words.{value_named, property_named, scanner_property_named, display_property_named, printer_property_named, totals_property_named, error_reply_named};
 
-use pos_service::{Bytes, Category, ErrorReply, NoMemory, Property, Value};
+use pos_service::{Bytes, ErrorReply, NoMemory, Property, Value};
 use std::alloc::Global;
 
 /// Whether a word is this text.
@@ -18,26 +18,6 @@ fn is_digit_byte(b: u8) -> bool
     ensures { result ≡ is_digit b }
 {
     48 <= b && b <= 57
-}
-
-/// Whether a byte may stand in a name.
-fn is_of_name(b: u8) -> bool
-    ensures { result ≡ is_name_byte b }
-{
-    (48 <= b && b <= 57) || (65 <= b && b <= 90) || (97 <= b && b <= 122) || b == 45
-}
-
-fn all_of_name(word: &[u8]) -> bool
-    ensures { result ≡ list_all is_name_byte word.now }
-{
-    word.iter().all(|b| is_of_name(*b))
-}
-
-/// Whether a word is a name: 1 to 16 letters, digits or hyphens of ASCII.
-pub fn is_name_word(word: &[u8]) -> bool
-    ensures { result ≡ is_name word.now }
-{
-    word.len() <= 16 && !word.is_empty() && all_of_name(word)
 }
 
 fn all_digits(word: &[u8]) -> bool
@@ -138,28 +118,6 @@ pub fn decode(alloc: Global, word: &[u8]) -> Result<Bytes, NoMemory>
         Ok(bytes) => Ok(Bytes::new(bytes)),
         Err(_) => Err(NoMemory),
     }
-}
-
-/// The category of this name.
-pub fn category(word: &[u8]) -> Option<Category>
-    ensures { result ≡ category_named word.now }
-{
-    if is(word, "CashDrawer") {
-        return Some(Category::CashDrawer);
-    }
-    if is(word, "Scanner") {
-        return Some(Category::Scanner);
-    }
-    if is(word, "LineDisplay") {
-        return Some(Category::LineDisplay);
-    }
-    if is(word, "POSPrinter") {
-        return Some(Category::PosPrinter);
-    }
-    if is(word, "HardTotals") {
-        return Some(Category::HardTotals);
-    }
-    None
 }
 
 /// The reply to an ErrorEvent of this name.
