@@ -8,6 +8,7 @@ use crate::request::Checked;
 use arrayvec::ArrayVec;
 use pos_service::claims::is_own;
 use pos_service::Value;
+use pos_service::claims::is_own;
 use std::marker::Model;
 
 /// The most files.

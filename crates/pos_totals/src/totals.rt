@@ -100,8 +100,8 @@ impl<D: Disk> Totals<D> {
     /// `create`: adds a file of zero bytes behind the others, and gives its handle. Error detection changes nothing.
     ///
     /// Refused with E_ILLEGAL in a transaction of the control, for a bad name or a size below 0, E_EXISTS where a file
-    /// has the name, E_EXTENDED 201 where the size is above FreeData or there are 64 files, E_FAILURE where no handle
-    /// or no sequence is left or the disk fails.
+    /// has the name, E_EXTENDED ETOT_NOROOM where the size is above FreeData or there are 64 files, E_FAILURE where no
+    /// handle or no sequence is left or the disk fails.
     pub fn create(
         &mut self,
         control: usize,
@@ -138,9 +138,9 @@ impl<D: Disk> Totals<D> {
     /// `write`: puts bytes in the place of those of a file from an offset on.
     ///
     /// Refused with E_ILLEGAL where no file has the handle, or the bytes don't lie within the file, E_CLAIMED where
-    /// another control has claimed the file; in a transaction of the control E_EXTENDED 201 where it costs more than is
-    /// left (the number of bytes and 16, at most 8,192 in sum); else E_FAILURE where no sequence is left or the disk
-    /// fails.
+    /// another control has claimed the file; in a transaction of the control E_EXTENDED ETOT_NOROOM where it costs more
+    /// than is left (the number of bytes and 16, at most 8,192 in sum); else E_FAILURE where no sequence is left or the
+    /// disk fails.
     pub fn write(
         &mut self,
         control: usize,
@@ -163,8 +163,8 @@ impl<D: Disk> Totals<D> {
     /// `setAll`: makes each byte of a file the same.
     ///
     /// Refused with E_ILLEGAL where no file has the handle, or the value isn't 0 to 255, E_CLAIMED where another
-    /// control has claimed the file; in a transaction of the control E_EXTENDED 201 where less than 16 is left of its
-    /// cost; else E_FAILURE where no sequence is left or the disk fails.
+    /// control has claimed the file; in a transaction of the control E_EXTENDED ETOT_NOROOM where less than 16 is left of
+    /// its cost; else E_FAILURE where no sequence is left or the disk fails.
     pub fn set_all(&mut self, control: usize, handle: i128, value: i128) -> Result<Answer, NoMemory>
         ensures { Changes D.Disk self.old control (SetAll handle value) result self.new }
     {
