@@ -6,8 +6,7 @@ use Rattle.std.proofs.lemmas.List.{get_or_append_left, get_or_default, get_or-re
 use Rattle.pos_disk.specs.State.{InRange, Elapses, HasCause, Writes, Syncs, splice}
 use Rattle.pos_disk.specs.Memory.{Moment, Memory, LeftAt, LeftSince, state_of, written, synced}
 use Rattle.pos_disk.specs.Kept.{from_moment}
-use Rattle.pos_disk.proofs.Bytes.{length-splice, spliced_within, spliced_elsewhere}
-use Rattle.pos_disk.proofs.Written.{in_range}
+use Rattle.pos_disk.proofs.Bytes.{in_range, length-splice, spliced_within, spliced_elsewhere}
 
 -- one moment more has gone by
 module _ (past : List Moment) (present next : Moment) where
