@@ -24,8 +24,8 @@ use std::marker::Model;
 #[derive(Drop)]
 pub struct Images<D: Disk> {
     alloc: Global,
-    disk: D,
-    slot: Slot,
+    pub(crate) disk: D,
+    pub(crate) slot: Slot,
     current: Image,
     prepared: Option<Image>,
 }
