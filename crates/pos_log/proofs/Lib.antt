@@ -1,0 +1,7 @@
+mod Appending
+mod Emptied
+mod Holding
+mod LaidOut
+mod Parsing
+mod Spanning
+pub mod Unique
