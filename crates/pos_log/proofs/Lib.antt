@@ -1,7 +1,7 @@
 mod Appending
-mod Emptied
+pub mod Emptied
 mod Holding
-mod LaidOut
+pub mod LaidOut
 mod Parsing
 mod Spanning
 pub mod Unique

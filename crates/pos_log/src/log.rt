@@ -40,10 +40,11 @@ impl<D: Disk> Model for Log<D> {
 
 impl<D: Disk> Log<D> {
     ghost use Rattle.pos_image.specs.Images.{IsReady, IsPrepareFault};
-    ghost use Rattle.pos_log.specs.Logs.{IsLogReady, Appends, Renews, CountsLogFaults, IsOpenFault, images_after, without_images, room_of};
+    ghost use Rattle.pos_log.specs.Logs.{IsLogReady, Appends, Renews, CountsLogFaults, IsOpenFault};
+    ghost use Rattle.pos_log.specs.Logs.{images_after, without_images, room_of};
 
-    /// Opens the log behind the current image: gives it with the groups of its records, in order. It writes nothing, and
-    /// reads the log in one piece.
+    /// Opens the log behind the current image: gives it with the groups of its records, in order. It writes nothing,
+    /// and reads the log in one piece.
     ///
     /// # Errors
     ///
@@ -113,8 +114,8 @@ impl<D: Disk> Log<D> {
     ///
     /// # Errors
     ///
-    /// `Full` where the record and the gate behind it don't fit: nothing has changed. `Device` where the disk failed: the
-    /// log has to be opened again.
+    /// `Full` where the record and the gate behind it don't fit: nothing has changed. `Device` where the disk failed:
+    /// the log has to be opened again.
     pub fn append(&mut self, group: &[u8]) -> Result<(), LogFault>
         requires { IsLogReady D.Disk self.old }
         ensures appends { Appends D.Disk self.old group.now result self.new }

@@ -1,11 +1,20 @@
 // The records of a log, as the bytes of its span hold them.
 ghost use Rattle.std.specs.Prelude.{◌≡◌, ◌⊎◌, ◌≤◌, ◌<◌, ℕ, length, map, IfOk, IfErr, MatchOption};
+ghost use Rattle.pos_image.specs.Layout.{is_open};
 ghost use Rattle.pos_log.specs.Records.{HoldsRecords, HoldsSome, HasLength, spelling};
 ghost use Rattle.pos_log.specs.declared.fault.LogFault.TheVariants.{Damaged, NoMemory};
 
 use crate::fault::LogFault;
 use crate::layout::{HEAD, OPEN};
 use std::alloc::Global;
+
+// Whether a record stands at this place: its gate is open.
+fn has_record(span: &[u8], at: usize) -> bool
+    requires { at < length span.now }
+    ensures { result ≡ is_open span.now at }
+{
+    span[at] == OPEN
+}
 
 // The length of the group of the record at this place, where it fits with the gate behind it.
 fn group_length(span: &[u8], at: usize) -> Option<usize>
@@ -40,7 +49,7 @@ pub fn read_records(alloc: Global, span: &[u8]) -> Result<(Vec<Vec<u8>>, usize),
 {
     let mut groups = Vec::new(alloc);
     let mut at = 0;
-    while span[at] == OPEN {
+    while has_record(span, at) {
         let Some(length) = group_length(span, at) else {
             return Err(LogFault::Damaged);
         };

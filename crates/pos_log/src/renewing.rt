@@ -24,7 +24,8 @@ pub fn renew_images<D: Disk>(images: &mut Images<D>, body: Vec<u8>) -> Result<()
     ensures unchanged { IsErr result → IsErrOf result Device ⊎ (images.new ≡ images.old) }
     ensures device { D.honest images.old.disk → IsErrOf result Device
         → Rises (D.state images.old.disk).failures (D.state images.new.disk).failures }
-    ensures counts { D.honest images.old.disk → CountsFaults (D.state images.old.disk) (D.state images.new.disk) result }
+    ensures counts { D.honest images.old.disk
+        → CountsFaults (D.state images.old.disk) (D.state images.new.disk) result }
     ensures faults { IfErr result IsPrepareFault }
     ensures keeps { KeepsDisk D.Disk images.old.disk images.new.disk }
 {

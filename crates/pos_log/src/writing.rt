@@ -47,7 +47,8 @@ pub fn write_through<D: Disk>(
         (D.state images.old.disk) (D.state images.new.disk) }
     ensures faults { IsErr result → IsErrOf result Device }
     ensures device { D.honest images.old.disk → IfErr result (FailsFor D.Disk images.old images.new) }
-    ensures counts { D.honest images.old.disk → CountsFaults (D.state images.old.disk) (D.state images.new.disk) result }
+    ensures counts { D.honest images.old.disk
+        → CountsFaults (D.state images.old.disk) (D.state images.new.disk) result }
     ensures keeps { KeepsDisk D.Disk images.old.disk images.new.disk }
 {
     images.log_write(at, bytes)?;
