@@ -1,4 +1,5 @@
 mod Appending
+pub mod Deciding
 pub mod Emptied
 mod Holding
 pub mod LaidOut
