@@ -1,5 +1,5 @@
 -- What the calls of a log leave of the images, and of the log span.
-use Rattle.std.proofs.Common.{◌≡◌, inl, inr, ⊎_elim, ℕ, ◌+◌, ◌-◌, ◌≤◌, ◌<◌, ◌^◌, List, length, get_or, sym, ap, ◌∙◌, arith, Option, Some, None, Result, OnOk}
+use Rattle.std.proofs.Common.{◌≡◌, ◌↔◌, inl, inr, ⊎_elim, ℕ, ◌+◌, ◌-◌, ◌≤◌, ◌<◌, ◌^◌, List, length, get_or, sym, ap, ◌∙◌, arith, Option, Some, None, Result, Ok, Err, OnOk}
 use Rattle.std.specs.Prelude.{⊤, MatchOption}
 use Rattle.std.proofs.lemmas.Bool.{cases_lt, cases_Bool}
 use Rattle.std.proofs.lemmas.List.{ext_get_or, get_or_past}
@@ -8,7 +8,7 @@ use Rattle.pos_disk.specs.Within.{SameBut, IsWithin}
 use Rattle.pos_disk.specs.declared.device.Disk.{Ghosts}
 use Rattle.pos_disk.specs.declared.device.DiskFault.{DiskFault}
 use Rattle.pos_disk.proofs.Bytes.{in_range, length-splice, spliced_within, splice_elsewhere, length-part, get_or-part, part-part}
-use Rattle.pos_disk.proofs.Moments.{started, goes_on, seen_before}
+use Rattle.pos_disk.proofs.Moments.{started, goes_on}
 use Rattle.pos_disk.proofs.Within.{within_here, leaves_within, within_write}
 use Rattle.pos_image.specs.Images.{View, IsSound, IsReady}
 use Rattle.pos_image.specs.Layout.{start, other}
@@ -16,6 +16,7 @@ use Rattle.pos_image.specs.Slots.{IsCurrent, IsPrepared}
 use Rattle.pos_image.specs.Spans.{span_of, KeepsImage, IsHeld, IsWritable, WritesSpan}
 use Rattle.pos_image.specs.Standing.{NoImage, OneImage, ShowsImage, log_of, current_at, is_first}
 use Rattle.pos_image.specs.declared.slot.Slot.{Slot}
+use Rattle.pos_image.proofs.Changes.{ready}
 use Rattle.pos_image.proofs.Current.{start_low, apart, kept_gate, kept_sequence, kept_length, kept_body, kept_away, current_stands}
 use Rattle.pos_image.proofs.Logs.{log_place}
 use Rattle.pos_image.proofs.Refused.{short_stands}
@@ -112,7 +113,7 @@ module _ {D : Type 0} (images : View D) where
   held_at_rest : (state : DiskState) → IsSound state images → IsHeld state images
   held_at_rest state sound = record { loose = λ i loose. absurd (sound.at_rest i loose); current = sound.current; prepared = sound.prepared }
 
-  -- one call of the log
+  -- a write into the log
   module _ {T : Type 0} (old new : DiskState) (result : Result T DiskFault) (held : IsHeld old images) (only : (c : List ℕ) → old.left_since old.moment c → MayLeave old c) where
     module _ (at : ℕ) (bytes : List ℕ) (from : 16384 ≤ at) (to : at + length bytes ≤ 32768) (writes : Writes old new (start images.slot + at) bytes result) where
       within : IsWithin old.reading (start images.slot + 16384) 16384 new
@@ -178,10 +179,9 @@ module _ {D : Type 0} (images : View D) where
           let here = keeps_image new write_held in
           goes_on old old new (KeepsImage images (span_of images new)) (started old (KeepsImage images (span_of images new)) (λ c left. here c (still_may c (only c left)))) writes.time here
 
-    -- a sync leaves them held
-    module _ (syncs : Syncs old new result) where
-      pub sync_held : IsHeld new images
-      sync_held = rw syncs.reading record { loose = λ i loose. held.loose i (syncs.loose i loose); current = held.current; prepared = held.prepared }
+  -- a sync leaves them held
+  sync_held : {T : Type 0} (old new : DiskState) (result : Result T DiskFault) → IsHeld old images → Syncs old new result → IsHeld new images
+  sync_held old new result held syncs = rw syncs.reading record { loose = λ i loose. held.loose i (syncs.loose i loose); current = held.current; prepared = held.prepared }
 
 -- images that a disk holds are writable
 pub writable : {D : Type 0} (bound : Ghosts D) (images : View D) → 327680 ≤ bound.size images.disk → images.sequence < 2 ^ 64 → (bound.honest images.disk → IsHeld (bound.state images.disk) images) → IsWritable bound images
@@ -195,6 +195,16 @@ writable bound images large counted held = record {
 -- as are those that are ready
 pub ready_writable : {D : Type 0} (bound : Ghosts D) (images : View D) → IsReady bound images → IsWritable bound images
 ready_writable bound images is = writable bound images is.large is.counted (λ honest. held_at_rest images (bound.state images.disk) (is.sound honest))
+
+-- writable images are ready after a sync
+pub synced : {D : Type 0} (bound : Ghosts D) (images : View D) (disk : D) (result : Result (Unit {0}) DiskFault) → IsWritable bound images → bound.size disk ≡ bound.size images.disk → (bound.honest images.disk ↔ bound.honest disk)
+    → (bound.honest images.disk → Syncs (bound.state images.disk) (bound.state disk) result) → OnOk result (IsReady bound (record images { disk = disk }))
+synced bound images disk (Err fault) was size honest syncs = tt
+synced bound images disk (Ok done) was size honest syncs =
+    ready bound (record images { disk = disk }) (omega (arith, was.large, size)) was.counted (λ now.
+    let before = honest.1 now in
+    let held = sync_held images (bound.state images.disk) (bound.state disk) (Ok done) (was.held before) (syncs before) in
+    record { at_rest = (syncs before).at_rest; current = held.current; prepared = held.prepared })
 
 -- the current slot is one of the two
 current_low : (bytes : List ℕ) → current_at bytes ≤ 32768

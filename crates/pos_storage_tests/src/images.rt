@@ -3,7 +3,7 @@ ghost use Rattle.std.specs.Prelude.{IfOk};
 ghost use Rattle.pos_image.specs.Images.{IsReady};
 
 use crate::support::{FORMATTED, SECOND, bytes_of, disk_of, has};
-use pos_disk::{Disk, MemDisk};
+use pos_disk::{Disk, Fill, FuseDisk, MemDisk};
 use pos_image::{ImageFault, Images};
 use std::alloc::Global;
 use std::test::Fail;
@@ -52,6 +52,65 @@ fn bytes_of_the_layout(rt: HostRuntime) -> Result<(), Fail> {
     let third = [0xA5, 0, 0, 0, 0, 0, 0, 0, 3, 0, 0, 0x3F, 0xF3, 7];
     assert!(rt; has(&bytes, 0, &third) && has(&bytes, 16_383, &[7, 0, 0x5A]));
     assert!(rt; has(&bytes, SECOND, &OTHER));
+    Ok(())
+}
+
+// Writes four bytes at the start of the current log, and syncs it.
+fn write_log<D: Disk>(images: &mut Images<D>, bytes: [u8; 4]) -> Result<(), ImageFault>
+    requires { IsReady D.Disk images.old }
+{
+    let (from, _) = images.log_span();
+    images.log_write(from, &bytes)?;
+    images.log_sync()
+}
+
+#[test]
+fn bytes_of_a_log(rt: HostRuntime) -> Result<(), Fail> {
+    let alloc = rt.alloc();
+    let mut images = open(alloc, format(disk_of(alloc, 0x5A, &[])?)?)?;
+    write_log(&mut images, [1, 2, 3, 4])?;
+    let mut images = open(alloc, replace_body(alloc, images.into_disk(), &[9])?)?;
+    write_log(&mut images, [5, 6, 7, 8])?;
+    let bytes = bytes_of(alloc, &mut images.into_disk())?;
+    assert!(rt; has(&bytes, 16_383, &[0x5A, 1, 2, 3, 4, 0x5A]));
+    assert!(rt; has(&bytes, SECOND + 16_383, &[0x5A, 5, 6, 7, 8, 0x5A]));
+    Ok(())
+}
+
+// The disk behind a log of four bytes that fails once after `pass` calls, of which opening takes six.
+fn logged(alloc: Global, pass: u64) -> Result<MemDisk, Fail> {
+    let disk = disk_of(alloc, 0x5A, &[(0, FORMATTED.as_slice())])?;
+    let mut images = open(alloc, FuseDisk::new(disk, pass, 1))?;
+    let _ = write_log(&mut images, [1, 2, 3, 4]);
+    Ok(images.into_disk().into_inner())
+}
+
+// The write fails half done, the sync fails, or neither: what a crash fills at the log's first places, and the image
+// that is found there.
+#[test]
+fn a_log_that_is_stopped(rt: HostRuntime) -> Result<(), Fail> {
+    let alloc = rt.alloc();
+    let [old, half, new, nines] = [[0x5A; 4], [1, 2, 0x5A, 0x5A], [1, 2, 3, 4], [9; 4]];
+    for (pass, left) in [
+        (6, [old, half, nines]),
+        (7, [old, new, nines]),
+        (8, [new; 3]),
+    ] {
+        let disk = logged(alloc, pass)?;
+        for (fill, wanted) in [
+            (Fill::Old, left[0]),
+            (Fill::New, left[1]),
+            (Fill::Byte(9), left[2]),
+        ] {
+            let mut crashed = disk.crash(fill)?;
+            let bytes = bytes_of(alloc, &mut crashed)?;
+            assert!(rt;
+                has(&bytes, 16_384, &wanted) && has(&bytes, 0, &FORMATTED),
+                "{pass}"
+            );
+            assert_eq!(rt; open(alloc, crashed)?.sequence(), 1);
+        }
+    }
     Ok(())
 }
 

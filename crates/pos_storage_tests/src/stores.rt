@@ -96,7 +96,7 @@ fn crash_each(alloc: Global, stops: &[(bool, MemDisk)], fill: Fill) -> Result<[u
     Ok(counts)
 }
 
-// A recovery is ten calls, and is tried again; a commit is seven, or nine where a gate is closed first. The last two
+// A recovery is six calls, and is tried again; a commit is seven, or nine where a gate is closed first. The last two
 // open the new gate, so that they alone may leave the files after a commit that wasn't acknowledged.
 #[test]
 fn each_stop_leaves_the_files_before_or_after(rt: HostRuntime) -> Result<(), Fail> {
@@ -106,7 +106,7 @@ fn each_stop_leaves_the_files_before_or_after(rt: HostRuntime) -> Result<(), Fai
         (AGAIN.as_slice(), 9, 3),
     ];
     for (second, calls, fail) in rows {
-        let stops = stop_at_each(rt.alloc(), second, 10 + calls as u64, fail)?;
+        let stops = stop_at_each(rt.alloc(), second, 6 + calls as u64, fail)?;
         for (fill, after) in [
             (Fill::Old, 0),
             (Fill::New, 1),
@@ -114,7 +114,7 @@ fn each_stop_leaves_the_files_before_or_after(rt: HostRuntime) -> Result<(), Fai
             (Fill::Byte(0), 0),
         ] {
             let counts = crash_each(rt.alloc(), &stops, fill)?;
-            assert_eq!(rt; counts, [0, 10, calls - after, after], "{fail}");
+            assert_eq!(rt; counts, [0, 6, calls - after, after], "{fail}");
         }
     }
     Ok(())

@@ -1,7 +1,5 @@
-use Rattle.std.proofs.Common.{◌≡◌, ◌+◌, ℕ, length, sym, ap, subst, ◌∙◌, arith}
+use Rattle.std.proofs.Common.{◌+◌, ℕ, length, sym, ap, subst, ◌∙◌, arith}
 use Rattle.pos_disk.specs.State.{part}
-use Rattle.pos_image.specs.Found.{prepared_body}
-use Rattle.pos_image.specs.Images.{images_of}
 use Rattle.pos_image.specs.Spans.{IsWritable}
 use Rattle.pos_image.proofs.Spanned.{span_part}
 use Rattle.pos_image.proofs.images.Images.log_read.Goals as goal

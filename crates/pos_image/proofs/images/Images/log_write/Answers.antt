@@ -1,4 +1,4 @@
-use Rattle.std.proofs.Common.{◌≡◌, ◌+◌, ◌-◌, ℕ, List, sym, subst, arith, rules}
+use Rattle.std.proofs.Common.{◌≡◌, ◌+◌, ℕ, List, sym, subst, arith, rules}
 use Rattle.pos_disk.specs.State.{DiskState, MayLeave, LeavesOnly, Writes, splice}
 use Rattle.pos_image.specs.Found.{prepared_body}
 use Rattle.pos_image.specs.Images.{View, images_of}
