@@ -50,6 +50,21 @@ pub fn apply_and_encode(
     Ok(body)
 }
 
+/// Applies a group that is applicable, in place: bytes of files that it doesn't change are neither read nor
+/// copied. It is refused for want of memory alone (NoMemory); the directory is unchanged then.
+pub fn apply_applicable(
+    alloc: Global,
+    directory: &mut Directory,
+    group: &Group,
+) -> Result<(), DirectoryFault>
+    requires { IsOk (outcome_of_all LAYOUT_1 directory.old group.now) }
+    ensures outcome { MatchResult result (λ _. outcome_of_all LAYOUT_1 directory.old group.now ≡ Ok directory.new)
+        (λ fault. (fault ≡ DirectoryFault.NoMemory) × (directory.new ≡ directory.old)) }
+{
+    is_directory(directory);
+    apply_checked(alloc, &mut directory.files, group)
+}
+
 /// Applies a group that is applicable, in place. It is refused for want of memory alone, before
 /// anything is changed.
 fn apply_checked(alloc: Global, files: &mut Vec<File>, group: &Group) -> Result<(), DirectoryFault>

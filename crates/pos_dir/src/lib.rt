@@ -21,7 +21,7 @@ mod reading;
 mod steps;
 mod writing;
 
-pub use applying::{apply_and_encode, apply_group};
+pub use applying::{apply_and_encode, apply_applicable, apply_group};
 pub use bytes::{Bytes, Name};
 pub use change::Change;
 pub use directory::Directory;
@@ -32,4 +32,4 @@ pub use limits::{LAYOUT_1, Limits};
 pub use names::is_name;
 pub use outlines::check_group;
 pub use reading::{decode, decode_group};
-pub use writing::{encode, encode_group};
+pub use writing::{encode, encode_group, measure_group};

@@ -85,6 +85,13 @@ pub fn encode_group(alloc: Global, group: &Group) -> Result<Vec<u8>, DirectoryFa
     Ok(out)
 }
 
+/// How many bytes the spelling of a group has. It takes no memory.
+pub fn measure_group(group: &Group) -> usize
+    ensures { result ≡ length (group_spelling group.now) }
+{
+    COUNT_SIZE + measure_changes(group.changes.as_slice())
+}
+
 /// The bytes of the spellings of changes in sum.
 fn measure_changes(changes: &[Change]) -> usize
     requires { IsGroup changes.now }

@@ -1,14 +1,9 @@
--- What a change of the images means for the files.
-use Rattle.std.proofs.Common.{◌≡◌, ◌+◌, inl, inr, ⊎_elim, ℕ, List, Result, Ok, Err, MatchResult, refl, sym, ap, subst, ◌∙◌}
-use Rattle.std.specs.Prelude.{Some}
-use Rattle.std.specs.Result.{result_err}
-use Rattle.pos_dir.proofs.Applied.{never_memory}
-use Rattle.pos_dir.specs.Changes.{outcome_of_all, fault_of}
+-- What an append or a renewal of the log means for the files.
+use Rattle.std.proofs.Common.{◌≡◌, ◌≢◌, true, false, cond, ◌+◌, length, inl, inr, ⊎_elim, ℕ, List, [], ◌∷◌, Result, Ok, Err, refl, sym, ap, subst, ◌∙◌}
+use Rattle.pos_dir.specs.Changes.{outcome_of_all, IsGroup}
 use Rattle.pos_dir.specs.Files.{IsDirectory}
-use Rattle.pos_dir.specs.Spelling.{spelling}
+use Rattle.pos_dir.specs.Spelling.{spelling, group_spelling}
 use Rattle.pos_dir.specs.declared.change.Change.{Change}
-use Rattle.pos_dir.specs.declared.fault.DirectoryFault.{DirectoryFault}
-use Rattle.pos_dir.specs.declared.fault.DirectoryFault.TheVariants as directory
 use Rattle.pos_dir.specs.declared.file.File.{File}
 use Rattle.pos_dir.specs.declared.limits.TheConstants.{LAYOUT_1}
 use Rattle.pos_disk.proofs.Moments.{weaker}
@@ -16,69 +11,135 @@ use Rattle.pos_disk.specs.State.{LeavesOnly, CountsNow, Rises}
 use Rattle.pos_disk.specs.Keeps.{KeepsDisk}
 use Rattle.pos_disk.specs.declared.device.Disk.{Ghosts}
 use Rattle.pos_image.specs.Standing as image
-use Rattle.pos_image.specs.Standing.{HasEither}
-use Rattle.pos_store.specs.Commits.{Commits, IsLast, IsNextBody, before_or_after}
-use Rattle.pos_store.specs.Faults.{refusal}
-use Rattle.pos_store.specs.Modes.{Off, Ready}
-use Rattle.pos_store.specs.Standing.{StandsForOneOf}
-use Rattle.pos_store.specs.declared.fault.StoreFault.{StoreFault}
+use Rattle.pos_log.specs.Logs.{LogView, IsLogReady, KeepsRecords, HasOldOrNew, Appends, Renews}
+use Rattle.pos_store.proofs.Held.{shows_now, still_holds, has_image_holds, holds_more, holds_new, leaves_files}
+use Rattle.pos_store.specs.Commits.{Commits, IsExhausted, IsLast, before_or_after, left_by, fits_behind, sequence_after}
+use Rattle.pos_store.specs.Modes.{StoreView, Off, Ready, view_of}
+use Rattle.pos_store.specs.Standing.{HoldsFiles, IsStep, StandsForOneOf}
 use Rattle.pos_store.specs.declared.fault.StoreFault.TheVariants as fault
+use Rattle.pos_store.specs.declared.medium.Medium.TheVariants as medium
 
--- the bodies of a change spell the files before it and those after it
-pub record Spells (files after : List File) (body next : List ℕ) : Type 0 where
-  pub before : IsDirectory LAYOUT_1 files
-  pub behind : IsDirectory LAYOUT_1 after
-  pub spelled : body ≡ spelling files
-  pub spelled_next : next ≡ spelling after
+-- A group that is applicable, over a log that is ready with the files before it.
+pub record IsGiven {D : Type 0} (bound : Ghosts D) (log : LogView D) (files after : List File) (changes : List Change) : Type 0 where
+  pub ready : IsLogReady bound log
+  pub holds : bound.honest log.images.disk → HoldsFiles files log.images.sequence (bound.state log.images.disk).reading
+  pub group : IsGroup changes
+  pub some : changes ≢ []
+  pub outcome : outcome_of_all LAYOUT_1 files changes ≡ Ok after
 
--- one of the two images stands for one of the two lists of files
-pub either_stands : (files after : List File) (body next log : List ℕ) (sequence : ℕ) (outcome : Result (List File) DirectoryFault) → Spells files after body next
-    → outcome ≡ Ok after → (bytes : List ℕ) → HasEither body next sequence log bytes → StandsForOneOf (before_or_after files sequence outcome) bytes
-either_stands files after body next log sequence outcome spells applicable bytes either =
-    rw applicable (⊎_elim
-    (λ old. inl (spells.before, old.image ∙ ap (λ (b : List ℕ). image.OneImage b sequence) spells.spelled))
-    (λ new. inr (inl (spells.behind, new.image ∙ ap (λ (b : List ℕ). image.OneImage b (sequence + 1)) spells.spelled_next)))
-    either)
+pub fits_not : (tail : ℕ) (changes : List Change) (sequence : ℕ) → fits_behind tail changes ≡ true → IsExhausted tail changes sequence → ⊥
+fits_not tail changes sequence fits exhausted = absurd (let over = exhausted.0 in cc)
 
--- a commit that met a fault of the disk
-pub failed_commits : {D : Type 0} (bound : Ghosts D) (disk failed : D) (files after : List File) (body next log : List ℕ) (sequence : ℕ) (changes : List Change) → Spells files after body next
-    → outcome_of_all LAYOUT_1 files changes ≡ Ok after → (IsLast sequence → ⊥)
-    → (bound.honest disk → LeavesOnly (bound.state disk) (bound.state failed) (HasEither body next sequence log))
-    → (bound.honest disk → (bytes : List ℕ) → CountsNow (bound.state failed) (bound.state disk).moment bytes)
-    → (bound.honest disk → Rises (bound.state disk).failures (bound.state failed).failures)
-    → KeepsDisk bound disk failed
-    → Commits bound (record { disk = disk; state = Ready files sequence }) changes (Err fault.Device) (record { disk = failed; state = Off })
-failed_commits bound disk failed files after body next log sequence changes spells applicable more any_moment counts device keeps =
-    let stands = either_stands files after body next log sequence (outcome_of_all LAYOUT_1 files changes) spells applicable in
-    record {
-      answer = rw applicable (more, refl);
-      unchanged = λ err. inl refl;
-      any_moment = λ h. weaker (bound.state disk) (bound.state failed) (HasEither body next sequence log) (StandsForOneOf (before_or_after files sequence (outcome_of_all LAYOUT_1 files changes))) stands (any_moment h);
-      now = λ h. tt;
-      in_doubt = λ h is bytes may. stands bytes ((any_moment h).each bytes (counts h bytes (any_moment h).later may));
-      device = λ h is. device h;
-      keeps = keeps;
-    }
+module _ {D : Type 0} (bound : Ghosts D) (log : LogView D) (files after : List File) (changes : List Change) (given : IsGiven bound log files after changes) where
+  step : IsStep files (group_spelling changes) after
+  step = record { changes = changes; group = given.group; some = given.some; spelled = refl; outcome = given.outcome }
 
-told_so : (X : Type 0) (P : List File → Type 0) (outcome : Result (List File) DirectoryFault) (cause : DirectoryFault) → refusal cause ≡ fault.Refused cause → Some cause ≡ result_err outcome
-    → MatchResult outcome P (λ refused. ◌≡◌ {A = Result X StoreFault} (Err (refusal cause)) (Err (fault.Refused refused)))
-told_so X P (Ok files) cause told same = absurd cc
-told_so X P (Err other) cause told same = cc
+  shows : bound.honest log.images.disk → image.ShowsImage log.images.body log.images.sequence (bound.state log.images.disk).reading
+  shows honest = shows_now bound log.images given.ready.images honest
 
--- the fault of a group is told as its refusal
-pub fault_told : (X : Type 0) (P : List File → Type 0) (files : List File) (changes : List Change) (cause : DirectoryFault) → Some cause ≡ fault_of LAYOUT_1 files changes
-    → MatchResult (outcome_of_all LAYOUT_1 files changes) P (λ refused. ◌≡◌ {A = Result X StoreFault} (Err (refusal cause)) (Err (fault.Refused refused)))
-fault_told X P files changes directory.NoFile same = told_so X P (outcome_of_all LAYOUT_1 files changes) directory.NoFile refl same
-fault_told X P files changes directory.Exists same = told_so X P (outcome_of_all LAYOUT_1 files changes) directory.Exists refl same
-fault_told X P files changes directory.Range same = told_so X P (outcome_of_all LAYOUT_1 files changes) directory.Range refl same
-fault_told X P files changes directory.NoRoom same = told_so X P (outcome_of_all LAYOUT_1 files changes) directory.NoRoom refl same
-fault_told X P files changes directory.BadName same = told_so X P (outcome_of_all LAYOUT_1 files changes) directory.BadName refl same
-fault_told X P files changes directory.NoMemory same = absurd (never_memory LAYOUT_1 files changes same)
-fault_told X P files changes directory.Malformed same = told_so X P (outcome_of_all LAYOUT_1 files changes) directory.Malformed refl same
+  -- which sequence the files have after the group
+  stays : fits_behind log.tail changes ≡ true → sequence_after log.tail changes log.images.sequence ≡ log.images.sequence
+  stays fits = ap (λ b. cond b log.images.sequence (log.images.sequence + 1)) fits
 
--- what was made is the outcome, and its body the spelling
-pub is_made : {X : Type 0} (made : X) (directory : List File) (body : List ℕ) (sequence : ℕ) (outcome : Result (List File) DirectoryFault)
-    → MatchResult outcome (λ after. (directory ≡ after) × IsNextBody sequence after body) (λ refusal. Ok made ≡ Err (fault.Refused refusal))
-    → (outcome ≡ Ok directory) × IsNextBody sequence directory body
-is_made made directory body sequence (Ok after) h = (ap Ok (sym h.0), subst (λ (files : List File). IsNextBody sequence files body) (sym h.0) h.1)
-is_made made directory body sequence (Err cause) h = absurd (let is_refused = h in cc)
+  rises : fits_behind log.tail changes ≡ false → sequence_after log.tail changes log.images.sequence ≡ log.images.sequence + 1
+  rises over = ap (λ b. cond b log.images.sequence (log.images.sequence + 1)) over
+
+  -- bytes that stand for the files before it or after it
+  among : (then_sequence : ℕ) → sequence_after log.tail changes log.images.sequence ≡ then_sequence → (c : List ℕ)
+      → StandsForOneOf (before_or_after files log.images.sequence then_sequence (Ok after)) c → StandsForOneOf (left_by files log.images.sequence log.tail changes) c
+  among then_sequence is c one = rw (is, given.outcome) one
+
+  -- the old records, with the new one or without
+  pub appending_stands : fits_behind log.tail changes ≡ true → bound.honest log.images.disk → (c : List ℕ)
+      → KeepsRecords log.images.body log.images.sequence (image.log_of (bound.state log.images.disk).reading) (group_spelling changes) c → StandsForOneOf (left_by files log.images.sequence log.tail changes) c
+  appending_stands fits honest c keeps =
+      let holds = given.holds honest in
+      among log.images.sequence (stays fits) c (⊎_elim
+      (λ old. inl (still_holds files log.images.sequence (bound.state log.images.disk).reading log.images.body c holds (shows honest) keeps.image old))
+      (λ more. inr (inl (holds_more files log.images.sequence (bound.state log.images.disk).reading log.images.body c holds (shows honest) after (group_spelling changes) step keeps.image more)))
+      (keeps.log holds.texts holds.log))
+
+  -- the old image with its records, or the new one with none
+  pub renewing_stands : fits_behind log.tail changes ≡ false → (body : List ℕ) → IsDirectory LAYOUT_1 after → body ≡ spelling after → bound.honest log.images.disk → (c : List ℕ)
+      → HasOldOrNew log.images.body body log.images.sequence (image.log_of (bound.state log.images.disk).reading) c → StandsForOneOf (left_by files log.images.sequence log.tail changes) c
+  renewing_stands over body sound spelled honest c either =
+      among (log.images.sequence + 1) (rises over) c (⊎_elim
+      (λ old. inl (has_image_holds files log.images.sequence (bound.state log.images.disk).reading log.images.body c (given.holds honest) (shows honest) old))
+      (λ new. inr (inl (holds_new after (log.images.sequence + 1) body c sound spelled new)))
+      either)
+
+  -- a commit that met a fault of the disk
+  pub failed_commits : (failed : D) → (IsExhausted log.tail changes log.images.sequence → ⊥)
+      → (bound.honest log.images.disk → LeavesOnly (bound.state log.images.disk) (bound.state failed) (StandsForOneOf (left_by files log.images.sequence log.tail changes)))
+      → (bound.honest log.images.disk → (bytes : List ℕ) → CountsNow (bound.state failed) (bound.state log.images.disk).moment bytes)
+      → (bound.honest log.images.disk → Rises (bound.state log.images.disk).failures (bound.state failed).failures)
+      → KeepsDisk bound log.images.disk failed
+      → Commits bound (view_of (medium.Ready log files)) changes (Err fault.Device) (view_of (medium.Off failed))
+  failed_commits failed more any_moment counts device keeps = record {
+    answer = rw given.outcome (more, refl);
+    unchanged = λ err. inl refl;
+    any_moment = any_moment;
+    now = λ h. tt;
+    in_doubt = λ h is bytes may. (any_moment h).each bytes (counts h bytes (any_moment h).later may);
+    device = λ h is. device h;
+    counts = λ h. inl refl;
+    keeps = keeps;
+  }
+
+  module _ (new : LogView D) where
+    -- the disk of the log holds the files after the group
+    abbrev HasAfter : Type 0
+    HasAfter = bound.honest new.images.disk → HoldsFiles after new.images.sequence (bound.state new.images.disk).reading
+
+    module _ (fits : fits_behind log.tail changes ≡ true) (appends : Appends bound log (group_spelling changes) (Ok tt) new) where
+      same_sequence : new.images.sequence ≡ log.images.sequence
+      same_sequence = ap (λ (l : LogView D). l.images.sequence) appends.appended
+
+      -- a group that was appended
+      pub appended_holds : HasAfter
+      appended_holds honest =
+          let was = appends.keeps.honest.1 honest in
+          let holds = given.holds was in
+          let body_is = ap (λ (l : LogView D). l.images.body) appends.appended in
+          subst (λ (n : ℕ). HoldsFiles after n (bound.state new.images.disk).reading) (sym same_sequence)
+          (holds_more files log.images.sequence (bound.state log.images.disk).reading log.images.body (bound.state new.images.disk).reading holds (shows was) after (group_spelling changes) step
+          (shows_now bound new.images appends.ready.images honest ∙ (λ i. image.OneImage (body_is i) (same_sequence i))) (appends.records was holds.texts holds.log))
+
+      pub appended_commits : Commits bound (view_of (medium.Ready log files)) changes (Ok tt) (view_of (medium.Ready new after))
+      appended_commits = record {
+        answer = rw given.outcome (
+          fits_not log.tail changes log.images.sequence fits,
+          ap (λ (n : ℕ). Ready after n) (same_sequence ∙ sym (stays fits)),
+          ap (λ (l : LogView D). l.tail) appends.appended ∙ sym (ap (λ b. cond b (log.tail + 5 + length (group_spelling changes)) 16384) fits),
+        );
+        unchanged = λ err. absurd cc;
+        any_moment = λ h. weaker (bound.state log.images.disk) (bound.state new.images.disk) _ _ (appending_stands fits h) (appends.any_moment h);
+        now = λ h. leaves_files bound new.images after appends.ready.images appended_holds (appends.keeps.honest.0 h);
+        in_doubt = λ h is. absurd cc;
+        device = λ h is. absurd cc;
+        counts = λ h. ⊎_elim (λ is. absurd cc) (λ same. inr same) (appends.counts h);
+        keeps = appends.keeps;
+      }
+
+    module _ (over : fits_behind log.tail changes ≡ false) (body : List ℕ) (sound : IsDirectory LAYOUT_1 after) (spelled : body ≡ spelling after) (renews : Renews bound log body (Ok tt) new) where
+      -- a group for which the image was renewed
+      pub renewed_holds : HasAfter
+      renewed_holds honest =
+          subst (λ (n : ℕ). HoldsFiles after n (bound.state new.images.disk).reading) (sym renews.sequence_is)
+          (holds_new after (log.images.sequence + 1) body (bound.state new.images.disk).reading sound spelled (renews.image (renews.keeps.honest.1 honest)))
+
+      pub renewed_commits : ¬ (IsLast log.images.sequence) → Commits bound (view_of (medium.Ready log files)) changes (Ok tt) (view_of (medium.Ready new after))
+      renewed_commits more = record {
+        answer = rw given.outcome (
+          (λ exhausted. more exhausted.1),
+          ap (λ (n : ℕ). Ready after n) (renews.sequence_is ∙ sym (rises over)),
+          renews.tail_is ∙ sym (ap (λ b. cond b (log.tail + 5 + length (group_spelling changes)) 16384) over),
+        );
+        unchanged = λ err. absurd cc;
+        any_moment = λ h. weaker (bound.state log.images.disk) (bound.state new.images.disk) _ _ (renewing_stands over body sound spelled h) (renews.any_moment h);
+        now = λ h. leaves_files bound new.images after renews.ready.images renewed_holds (renews.keeps.honest.0 h);
+        in_doubt = λ h is. absurd cc;
+        device = λ h is. absurd cc;
+        counts = λ h. ⊎_elim (λ is. absurd cc) (λ same. inr same) (renews.counts h);
+        keeps = renews.keeps;
+      }

@@ -2,26 +2,25 @@
 use Rattle.std.specs.Prelude.{◌≡◌, ℕ, List, [], ◌∷◌, Option, Some, None, ⊤}
 use Rattle.pos_disk.specs.State.{DiskState}
 use Rattle.pos_disk.specs.declared.device.Disk.{Ghosts}
-use Rattle.pos_dir.specs.Files.{IsDirectory}
-use Rattle.pos_dir.specs.Spelling.{spelling}
 use Rattle.pos_dir.specs.declared.file.File.{File}
-use Rattle.pos_dir.specs.declared.limits.TheConstants.{LAYOUT_1}
-use Rattle.pos_image.specs.Images.{IsReady}
-use Rattle.pos_store.specs.Standing.{Stands, LeavesOneOf}
+use Rattle.pos_log.specs.Logs.{IsLogReady}
+use Rattle.pos_store.specs.Standing.{Stands, HoldsFiles, LeavesOneOf}
 use Rattle.pos_store.specs.declared.medium.Medium.{Medium}
 use Rattle.pos_store.specs.declared.medium.Medium.TheVariants as medium
 use Rattle.pos_store.specs.declared.mode.Mode.{Mode}
 use Rattle.pos_store.specs.declared.mode.Mode.TheVariants as mode
 
--- Off, or ready with these files and the sequence of their image
+-- Off, or ready with these files and the sequence of the image that they stand on
 pub data StoreState : Type 0 where
   Off : StoreState
   Ready : (files : List File) (sequence : ℕ) → StoreState
 
--- The disk, and what the store has of it.
+-- The disk, what the store has of it, and, where it is ready, the place in the current slot behind its records, at
+-- which the gate of the next one stands; else 0.
 pub record StoreView (D : Type 0) : Type 0 where
   pub disk : D
   pub state : StoreState
+  pub tail : ℕ
 
 -- the files, where it is ready
 abbrev pub files_of : StoreState → Option (List File)
@@ -50,11 +49,13 @@ LeavesItsFiles (Ready files sequence) disk = LeavesOneOf (Stands files sequence 
 
 -- what the parts of a store mean
 abbrev pub view_of : {D : Type 0} → Medium D → StoreView D
-view_of (medium.Off disk) = record { disk = disk; state = Off }
-view_of (medium.Ready images directory) = record { disk = images.disk; state = Ready directory images.sequence }
+view_of (medium.Off disk) = record { disk = disk; state = Off; tail = 0 }
+view_of (medium.Ready log directory) =
+    record { disk = log.images.disk; state = Ready directory log.images.sequence; tail = log.tail }
 
--- where it is ready, so are its images, and their body is the spelling of the files
-abbrev pub SpellsItsFiles : {D : Type 0} → Ghosts D → Medium D → Type 0
-SpellsItsFiles bound (medium.Off disk) = ⊤
-SpellsItsFiles bound (medium.Ready images directory) =
-    IsReady bound images × IsDirectory LAYOUT_1 directory × (images.body ≡ spelling directory)
+-- where it is ready, so is its log, and the disk holds the files
+abbrev pub HasItsFiles : {D : Type 0} → Ghosts D → Medium D → Type 0
+HasItsFiles bound (medium.Off disk) = ⊤
+HasItsFiles bound (medium.Ready log directory) =
+    IsLogReady bound log
+    × (bound.honest log.images.disk → HoldsFiles directory log.images.sequence (bound.state log.images.disk).reading)

@@ -1,10 +1,12 @@
 -- What the bytes of a totals disk stand for, and what a crash of the disk may leave.
-use Rattle.std.specs.Prelude.{◌≡◌, ◌⊎◌, ℕ, List, [], ◌∷◌, ⊤}
+use Rattle.std.specs.Prelude.{◌≡◌, ◌≢◌, ◌⊎◌, ◌<◌, ℕ, List, [], ◌∷◌, get_or, Ok}
 use Rattle.pos_disk.specs.State.{DiskState, MayLeave}
 use Rattle.pos_image.specs.Standing as image
-use Rattle.pos_dir.specs.Calls.{IsBody}
+use Rattle.pos_log.specs.Records.{HoldsRecords}
+use Rattle.pos_dir.specs.Changes.{outcome_of_all, IsGroup}
 use Rattle.pos_dir.specs.Files.{IsDirectory}
-use Rattle.pos_dir.specs.Spelling.{spelling}
+use Rattle.pos_dir.specs.Spelling.{spelling, group_spelling}
+use Rattle.pos_dir.specs.declared.change.Change.{Change}
 use Rattle.pos_dir.specs.declared.file.File.{File}
 use Rattle.pos_dir.specs.declared.limits.TheConstants.{LAYOUT_1}
 
@@ -14,18 +16,38 @@ pub data Standing : Type 0 where
   Damaged : Standing
   Stands : (files : List File) (sequence : ℕ) → Standing
 
--- the image is damaged, or its body spells no directory
-abbrev pub IsDamaged : image.ImageStanding → Type 0
-IsDamaged image.NoImage = ⊥
-IsDamaged image.DamagedImage = ⊤
-IsDamaged (image.OneImage body sequence) = ¬ (IsBody LAYOUT_1 body)
+-- The text spells a group, which isn't empty, and these are the files after it.
+pub record IsStep (files : List File) (text : List ℕ) (next : List File) : Type 0 where
+  pub changes : List Change
+  pub group : IsGroup changes
+  pub some : changes ≢ []
+  pub spelled : text ≡ group_spelling changes
+  pub outcome : outcome_of_all LAYOUT_1 files changes ≡ Ok next
 
--- the bytes stand for this: their image's body is read as the files that it spells
+-- the files after the groups that the texts spell, in order
+abbrev pub Applies : List File → List (List ℕ) → List File → Type 0
+Applies files [] last = files ≡ last
+Applies files (text ∷ texts) last = (next : List File) × IsStep files text next × Applies next texts last
+
+-- The bytes hold these files: those that the body of the current image spells, after the groups of the records behind it.
+pub record HoldsFiles (files : List File) (sequence : ℕ) (bytes : List ℕ) : Type 0 where
+  pub base : List File
+  pub texts : List (List ℕ)
+  pub directory : IsDirectory LAYOUT_1 base
+  pub shows : image.ShowsImage (spelling base) sequence bytes
+  pub log : HoldsRecords texts (image.log_of bytes)
+  pub applies : Applies base texts files
+
+-- the bytes stand for this; they are damaged where they have a formatted slot and hold no files
 abbrev pub StandsFor : Standing → List ℕ → Type 0
 StandsFor Unformatted bytes = image.image_on bytes ≡ image.NoImage
-StandsFor Damaged bytes = IsDamaged (image.image_on bytes)
-StandsFor (Stands files sequence) bytes =
-    IsDirectory LAYOUT_1 files × (image.image_on bytes ≡ image.OneImage (spelling files) sequence)
+StandsFor Damaged bytes =
+    (image.image_on bytes ≢ image.NoImage) × ((files : List File) (sequence : ℕ) → ¬ (HoldsFiles files sequence bytes))
+StandsFor (Stands files sequence) bytes = HoldsFiles files sequence bytes
+
+-- each is a byte
+abbrev pub IsBytes : List ℕ → Type 0
+IsBytes bytes = (i : ℕ) → get_or bytes i 0 < 256
 
 -- it is one of the candidates
 abbrev pub IsOneOf : List Standing → Standing → Type 0

@@ -1,86 +1,90 @@
 // A change of the files, from one whole store to the next.
-ghost use Rattle.std.specs.Prelude.{◌≡◌, ◌≤◌, ◌+◌, Err, IsErr, OnOk, OnErr, MatchResult, List, ℕ, length};
-ghost use Rattle.pos_disk.specs.State.{LeavesOnly, Rises};
-ghost use Rattle.pos_disk.specs.Keeps.{KeepsDisk};
-ghost use Rattle.pos_image.specs.Standing.{HasEither, log_of};
-ghost use Rattle.pos_image.specs.Images.{IsReady};
+ghost use Rattle.std.specs.Prelude.{◌≡◌, ◌<◌, Err, OnErr, MatchResult, length};
 ghost use Rattle.pos_dir.specs.Changes.{outcome_of_all};
-ghost use Rattle.pos_dir.specs.Spelling.{body_limit};
 ghost use Rattle.pos_dir.specs.declared.limits.TheConstants.{LAYOUT_1};
-ghost use Rattle.pos_store.specs.Commits.{Commits, IsLast, IsNextBody, IsUnmade};
-ghost use Rattle.pos_store.specs.Modes.{SpellsItsFiles, view_of};
+ghost use Rattle.pos_log.specs.Logs.{IsLogReady};
+ghost use Rattle.pos_store.specs.Commits.{Commits, IsDraft, IsUnmade};
+ghost use Rattle.pos_store.specs.Modes.{HasItsFiles, view_of};
 
+use crate::draft::Draft;
 use crate::fault::{StoreFault, tell_directory};
 use crate::medium::Medium;
-use pos_dir::{Directory, Group, apply_and_encode, check_group};
+use pos_dir::laws::is_group;
+use pos_dir::{
+    Directory, Group, apply_and_encode, apply_applicable, check_group, encode_group, measure_group,
+};
 use pos_disk::Disk;
-use pos_image::{ImageFault, Images};
+use pos_log::Log;
 use std::alloc::Global;
 
-// Applies a group to the files, and makes the body that spells them then, for an image behind this sequence. The disk
-// has no part in it.
-fn make_body(
+// Applies a group to the files, and makes what goes to the disk for it: its record where that fits behind the log, else
+// the body of a new image. The disk has no part in it, and all memory that the commit takes is taken here.
+fn make_draft<D: Disk>(
     alloc: Global,
-    sequence: u64,
+    log: &Log<D>,
     directory: &mut Directory,
     group: &Group,
-) -> Result<Vec<u8>, StoreFault>
+) -> Result<Draft, StoreFault>
+    requires { IsLogReady D.Disk log.now }
     ensures made { MatchResult (outcome_of_all LAYOUT_1 directory.old group.now)
         (λ after. MatchResult result
-        (λ body. (directory.new ≡ after) × IsNextBody sequence after body.items)
-        (λ fault. IsUnmade sequence fault))
+        (λ draft. (directory.new ≡ after) × IsDraft log.now.tail group.now log.now.images.sequence after draft)
+        (λ fault. IsUnmade log.now.tail group.now log.now.images.sequence fault))
         (λ refusal. result ≡ Err (StoreFault.Refused refusal)) }
     ensures unchanged { OnErr result (directory.new ≡ directory.old) }
 {
-    if sequence == u64::MAX {
-        return match check_group(directory, group) {
-            Ok(()) => Err(StoreFault::Exhausted),
+    if let Err(fault) = check_group(directory, group) {
+        return Err(tell_directory(fault));
+    }
+    if !log.fits(measure_group(group)) {
+        if log.sequence() == u64::MAX {
+            return Err(StoreFault::Exhausted);
+        }
+        return match apply_and_encode(alloc, directory, group) {
+            Ok(body) => Ok(Draft::Image(body)),
             Err(fault) => Err(tell_directory(fault)),
         };
     }
-    match apply_and_encode(alloc, directory, group) {
-        Ok(body) => Ok(body),
-        Err(fault) => Err(tell_directory(fault)),
+    let Ok(text) = encode_group(alloc, group) else {
+        return Err(StoreFault::NoMemory);
+    };
+    match apply_applicable(alloc, directory, group) {
+        Ok(()) => Ok(Draft::Record(text)),
+        Err(_) => Err(StoreFault::NoMemory),
     }
 }
 
-// Publishes a body in the place of the current one. Only the disk can refuse it.
-fn publish_body<D: Disk>(images: &mut Images<D>, body: Vec<u8>) -> Result<(), ImageFault>
-    requires ready { IsReady D.Disk images.old }
-    requires short { length body.items ≤ body_limit LAYOUT_1 }
-    requires more { ¬ (IsLast images.old.sequence) }
-    ensures ready { OnOk result (IsReady D.Disk images.new) }
-    ensures published { OnOk result ((images.new.body ≡ body.items) × (images.new.sequence ≡ images.old.sequence + 1)) }
-    ensures any_moment { D.honest images.old.disk → LeavesOnly (D.state images.old.disk) (D.state images.new.disk)
-        (HasEither images.old.body body.items images.old.sequence (log_of (D.state images.old.disk).reading)) }
-    ensures device { D.honest images.old.disk → IsErr result
-        → Rises (D.state images.old.disk).failures (D.state images.new.disk).failures }
-    ensures keeps { KeepsDisk D.Disk images.old.disk images.new.disk }
-{
-    images.prepare_owned(body)?;
-    images.publish()
-}
-
-/// Commits a group: the images take a new one whose body spells the files after it.
+/// Commits a group: its record goes behind the current image where it fits, else a new image has the files after it.
 pub fn commit_group<D: Disk>(
     medium: Medium<D>,
     call: (Global, &Group),
 ) -> (Medium<D>, Result<(), StoreFault>)
-    requires sound { SpellsItsFiles D.Disk medium }
-    ensures sound { SpellsItsFiles D.Disk result.0 }
+    requires sound { HasItsFiles D.Disk medium }
+    requires some { 0 < length call.1.now }
+    ensures sound { HasItsFiles D.Disk result.0 }
     ensures commits { Commits D.Disk (view_of medium) call.entry.1.now result.1 (view_of result.0) }
 {
     let (alloc, group) = call;
-    let (mut images, mut directory) = match medium {
+    is_group(group);
+    let (mut log, mut directory) = match medium {
         Medium::Off(disk) => return (Medium::Off(disk), Err(StoreFault::Off)),
-        Medium::Ready(images, directory) => (images, directory),
+        Medium::Ready(log, directory) => (log, directory),
     };
-    let body = match make_body(alloc, images.sequence(), &mut directory, group) {
-        Ok(body) => body,
-        Err(fault) => return (Medium::Ready(images, directory), Err(fault)),
-    };
-    match publish_body(&mut images, body) {
-        Ok(()) => (Medium::Ready(images, directory), Ok(())),
-        Err(_) => (Medium::Off(images.into_disk()), Err(StoreFault::Device)),
+    match make_draft(alloc, &log, &mut directory, group) {
+        Ok(Draft::Record(text)) => match log.append(&text) {
+            Ok(()) => (Medium::Ready(log, directory), Ok(())),
+            Err(_) => (
+                Medium::Off(log.into_images().into_disk()),
+                Err(StoreFault::Device),
+            ),
+        },
+        Ok(Draft::Image(body)) => match log.renew(body) {
+            Ok(()) => (Medium::Ready(log, directory), Ok(())),
+            Err(_) => (
+                Medium::Off(log.into_images().into_disk()),
+                Err(StoreFault::Device),
+            ),
+        },
+        Err(fault) => (Medium::Ready(log, directory), Err(fault)),
     }
 }

@@ -1,8 +1,9 @@
 ghost use Rattle.std.specs.Prelude.{◌≡◌, ◌≢◌};
-ghost use Rattle.pos_store.specs.Faults.{refusal, Tells};
+ghost use Rattle.pos_store.specs.Faults.{refusal, broken, Tells, TellsLog};
 
 use pos_dir::DirectoryFault;
 use pos_image::ImageFault;
+use pos_log::LogFault;
 use thiserror::Error;
 
 /// Why a store refuses a call. Nothing has changed then, but that after `Device` in a commit the
@@ -15,14 +16,14 @@ pub enum StoreFault {
     /// A change of the group isn't applicable.
     #[error("the group is refused: {0}")]
     Refused(DirectoryFault),
-    /// The sequence is 18,446,744,073,709,551,615, the last one.
+    /// The group doesn't fit behind the log, and the sequence is 18,446,744,073,709,551,615, the last one.
     #[error("the sequences have run out")]
     Exhausted,
     /// The disk has no image, or it has fewer than 327,680 bytes.
     #[error("the disk isn't formatted")]
     Unformatted,
-    /// The gates, sequences and lengths on the disk don't fit together, or the current body spells
-    /// no directory.
+    /// The gates, sequences and lengths on the disk don't fit together, the current body spells no
+    /// directory, or a record behind it doesn't fit or spells no group that is applicable and not empty.
     #[error("the disk is damaged")]
     Damaged,
     /// Memory ran out.
@@ -56,5 +57,28 @@ pub fn tell_images(fault: ImageFault) -> StoreFault
         ImageFault::Device => StoreFault::Device,
         ImageFault::NoMemory => StoreFault::NoMemory,
         ImageFault::AlreadyFormatted | ImageFault::TooLarge => unreachable!(),
+    }
+}
+
+/// Why a log can't be opened, in a store's words.
+pub fn tell_log(fault: LogFault) -> StoreFault
+    requires { fault ≢ LogFault.Full }
+    ensures { TellsLog fault result }
+{
+    match fault {
+        LogFault::Damaged => StoreFault::Damaged,
+        LogFault::Device => StoreFault::Device,
+        LogFault::NoMemory => StoreFault::NoMemory,
+        LogFault::Full => unreachable!(),
+    }
+}
+
+/// Why the group of a record isn't applied, in a store's words.
+pub fn tell_broken(fault: DirectoryFault) -> StoreFault
+    ensures { result ≡ broken fault }
+{
+    match fault {
+        DirectoryFault::NoMemory => StoreFault::NoMemory,
+        _ => StoreFault::Damaged,
     }
 }

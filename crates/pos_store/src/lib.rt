@@ -3,6 +3,7 @@
 #![tactic(auto)]
 
 mod committing;
+mod draft;
 mod fault;
 pub mod laws;
 mod medium;

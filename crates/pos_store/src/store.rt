@@ -11,8 +11,8 @@ use pos_disk::Disk;
 use std::alloc::Global;
 use std::marker::Model;
 
-/// The files of a totals disk, changed by whole groups. Contracts see the disk, and the files with
-/// their sequence, or Off.
+/// The files of a totals disk, changed by whole groups. Contracts see the disk, the files with their
+/// sequence, or Off, and the place behind its records. docs/DISK.md, "The log".
 #[derive(Drop)]
 pub struct Store<D: Disk> {
     alloc: Global,
@@ -20,13 +20,13 @@ pub struct Store<D: Disk> {
 }
 
 impl<D: Disk> Model for Store<D> {
-    ghost use Rattle.pos_store.specs.Modes.{StoreView, view_of, SpellsItsFiles};
+    ghost use Rattle.pos_store.specs.Modes.{StoreView, view_of, HasItsFiles};
 
     ghost Value = { StoreView D };
 
     ghost view = { λ s. view_of s.medium };
 
-    ghost invariant = { λ s. SpellsItsFiles D.Disk s.medium };
+    ghost invariant = { λ s. HasItsFiles D.Disk s.medium };
 }
 
 impl<D: Disk> Store<D> {
@@ -38,7 +38,7 @@ impl<D: Disk> Store<D> {
 
     /// A store that is off, over a disk. Nothing is read yet.
     pub fn new(alloc: Global, disk: D) -> Store<D>
-        ensures { result ≡ record { disk = disk; state = Off } }
+        ensures { result ≡ record { disk = disk; state = Off; tail = 0 } }
     {
         Store {
             alloc,
@@ -52,21 +52,24 @@ impl<D: Disk> Store<D> {
     /// # Errors
     ///
     /// `Unformatted` where the disk has no image or is too small, `Damaged` where the image is
-    /// damaged or its body spells no directory, `NoMemory`, and `Device` where the disk failed.
-    /// The store is still off.
+    /// damaged, its body spells no directory, or a record behind it doesn't fit or its group is
+    /// malformed, empty or not applicable; `NoMemory`, and `Device` where the disk failed. The store
+    /// is still off.
     pub fn recover(&mut self) -> Result<(), StoreFault>
         ensures { Recovers D.Disk self.old result self.new }
     {
         replace_with(&mut self.medium, self.alloc, recover_files)
     }
 
-    /// Carries out all changes of a group, or none. At Ok they are on the disk.
+    /// Carries out all changes of a group, or none. At Ok they are on the disk: as a record behind the
+    /// current image where it fits, which leaves the sequence, else in a new image. An append takes no
+    /// time for the bytes of other files.
     ///
     /// # Errors
     ///
     /// `Off` where the store is off, `Refused` with the fault of the first change that isn't
-    /// applicable, `NoMemory`, `Exhausted` where the sequence is the last one: nothing has changed,
-    /// and the disk wasn't written. `Device` where the disk failed: the store is off, and the next
+    /// applicable, `NoMemory`, `Exhausted` where the group doesn't fit and the sequence is the last one:
+    /// nothing has changed, and the disk wasn't written. `Device` where the disk failed: the store is off, and the next
     /// recovery finds the files before the group or those after it.
     pub fn commit(&mut self, group: &Group) -> Result<(), StoreFault>
         requires { 0 < length group.now }
@@ -91,8 +94,8 @@ impl<D: Disk> Store<D> {
     {
         match &self.medium {
             Medium::Off(_) => Mode::Off,
-            Medium::Ready(images, _) => Mode::Ready {
-                sequence: images.sequence(),
+            Medium::Ready(log, _) => Mode::Ready {
+                sequence: log.sequence(),
             },
         }
     }
@@ -104,7 +107,7 @@ impl<D: Disk> Store<D> {
     {
         match self.medium {
             Medium::Off(disk) => disk,
-            Medium::Ready(images, _) => images.into_disk(),
+            Medium::Ready(log, _) => log.into_images().into_disk(),
         }
     }
 }

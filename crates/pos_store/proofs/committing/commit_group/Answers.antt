@@ -1,23 +1,128 @@
-use Rattle.std.proofs.Common.{ℕ, refl, subst}
+use Rattle.std.proofs.Common.{◌≡◌, ◌+◌, true, false, inl, inr, ⊎_elim, ℕ, List, Ok, Err, refl, sym, ap, subst, ◌∙◌, arith, rules}
+use Rattle.pos_disk.proofs.Moments.{weaker}
 use Rattle.pos_dir.specs.Changes.{outcome_of_all}
+use Rattle.pos_dir.specs.Spelling.{group_spelling}
+use Rattle.pos_dir.specs.declared.file.File.{File}
 use Rattle.pos_dir.specs.declared.limits.TheConstants.{LAYOUT_1}
-use Rattle.pos_image.specs.Standing.{log_of}
-use Rattle.pos_store.proofs.Committed.{failed_commits, is_made}
-use Rattle.pos_store.specs.Commits.{IsLast}
-use Rattle.pos_store.specs.Modes.{SpellsItsFiles}
+use Rattle.pos_image.specs.declared.fault.ImageFault.{ImageFault}
+use Rattle.pos_image.specs.declared.fault.ImageFault.TheVariants as image
+use Rattle.pos_log.proofs.LaidOut.{at_most}
+use Rattle.pos_log.specs.Logs.{Appends, IsLogReady}
+use Rattle.pos_log.specs.declared.fault.LogFault.TheVariants as log
+use Rattle.pos_store.specs.Commits.{IsDraft, IsExhausted}
+use Rattle.pos_store.specs.Modes.{HasItsFiles}
+use Rattle.pos_store.specs.Standing.{HoldsFiles}
+use Rattle.pos_store.specs.declared.draft.Draft.{Draft}
+use Rattle.pos_store.specs.declared.draft.Draft.TheVariants as draft
+use Rattle.pos_store.proofs.Committed.{IsGiven, fits_not, appending_stands, renewing_stands, failed_commits, appended_holds, appended_commits, renewed_holds, renewed_commits}
+use Rattle.pos_store.proofs.Drafted.{is_made, unmade_commits}
+use Rattle.pos_store.proofs.committing.commit_group.Given.{Over}
+use Rattle.pos_store.proofs.committing.commit_group.Goals.{After-append, After-renew}
 use Rattle.pos_store.proofs.committing.commit_group.Goals as goal
 
-pub returns-in-Err-publish_body-clause-commits : goal.returns-in-Err-publish_body-clause-commits
-returns-in-Err-publish_body-clause-commits g c =
-    let put = c.publish_body.ensures in
-    let old = c.in-Ready in
-    let sound = subst (SpellsItsFiles g.D.Disk) old.is c.requires.sound in
-    let made = is_made c.in-Ok.body c.make_body.new.directory c.in-Ok.body.items c.sequence.result (outcome_of_all LAYOUT_1 old.directory c.args.call.1.now) c.in-Ok.ensures.made in
-    rw (old.is, c.into_disk.ensures) (failed_commits g.D.Disk old.images.disk c.publish_body.new.images.disk old.directory c.make_body.new.directory
-    old.images.body c.in-Ok.body.items (log_of (g.D.Disk.state old.images.disk).reading) old.images.sequence c.args.call.1.now
-    (record { before = sound.1; behind = made.1.1; spelled = sound.2; spelled_next = made.1.2 })
-    made.0 (subst (λ (n : ℕ). ¬ (IsLast n)) c.sequence.ensures made.1.0)
-    put.any_moment
-    (λ h bytes. g.met.D.Disk.counts_now c.publish_body.new.images.disk (g.D.Disk.state old.images.disk).moment bytes (put.keeps.honest.0 h))
-    (λ h. put.device h (rw c.in-Err-publish_body.is refl))
-    put.keeps)
+-- a record was made
+module _ (g : Over) (c : After-append g) where
+  ready : IsLogReady g.D.Disk c.in-Ready.log
+  ready = (subst (HasItsFiles g.D.Disk) c.in-Ready.is c.requires.sound).0
+
+  holds : g.D.Disk.honest c.in-Ready.log.images.disk → HoldsFiles c.in-Ready.directory c.in-Ready.log.images.sequence (g.D.Disk.state c.in-Ready.log.images.disk).reading
+  holds = (subst (HasItsFiles g.D.Disk) c.in-Ready.is c.requires.sound).1
+
+  made : (outcome_of_all LAYOUT_1 c.in-Ready.directory c.args.call.1.now ≡ Ok c.make_draft.new.directory)
+      × IsDraft c.in-Ready.log.tail c.args.call.1.now c.in-Ready.log.images.sequence c.make_draft.new.directory (draft.Record c.in-Ok-Record.text)
+  made =
+      let is = is_made c.in-Ok-Record.field-0 (outcome_of_all LAYOUT_1 c.in-Ready.directory c.args.call.1.now) c.make_draft.new.directory
+      (λ after. IsDraft c.in-Ready.log.tail c.args.call.1.now c.in-Ready.log.images.sequence after c.in-Ok-Record.field-0) c.in-Ok-Record.ensures.made in
+      (is.0, subst (IsDraft c.in-Ready.log.tail c.args.call.1.now c.in-Ready.log.images.sequence c.make_draft.new.directory) c.in-Ok-Record.field-0-is is.1)
+
+  given : IsGiven g.D.Disk c.in-Ready.log c.in-Ready.directory c.make_draft.new.directory c.args.call.1.now
+  given = record { ready = ready; holds = holds; group = c.is_group.ensures; some = search rules; outcome = made.0 }
+
+  text_is : c.deref.result.now ≡ group_spelling c.args.call.1.now
+  text_is = c.deref.ensures.value ∙ made.1.1
+
+  appends : Appends g.D.Disk c.in-Ready.log (group_spelling c.args.call.1.now) c.append.result c.append.new.self
+  appends = subst (λ (b : List ℕ). Appends g.D.Disk c.in-Ready.log b c.append.result c.append.new.self) text_is c.append.ensures.appends
+
+-- a body was made
+module _ (g : Over) (c : After-renew g) where
+  ready_too : IsLogReady g.D.Disk c.in-Ready.log
+  ready_too = (subst (HasItsFiles g.D.Disk) c.in-Ready.is c.requires.sound).0
+
+  holds_too : g.D.Disk.honest c.in-Ready.log.images.disk → HoldsFiles c.in-Ready.directory c.in-Ready.log.images.sequence (g.D.Disk.state c.in-Ready.log.images.disk).reading
+  holds_too = (subst (HasItsFiles g.D.Disk) c.in-Ready.is c.requires.sound).1
+
+  made_too : (outcome_of_all LAYOUT_1 c.in-Ready.directory c.args.call.1.now ≡ Ok c.make_draft.new.directory)
+      × IsDraft c.in-Ready.log.tail c.args.call.1.now c.in-Ready.log.images.sequence c.make_draft.new.directory (draft.Image c.in-Ok-Image.body)
+  made_too =
+      let is = is_made c.in-Ok-Image.field-0 (outcome_of_all LAYOUT_1 c.in-Ready.directory c.args.call.1.now) c.make_draft.new.directory
+      (λ after. IsDraft c.in-Ready.log.tail c.args.call.1.now c.in-Ready.log.images.sequence after c.in-Ok-Image.field-0) c.in-Ok-Image.ensures.made in
+      (is.0, subst (IsDraft c.in-Ready.log.tail c.args.call.1.now c.in-Ready.log.images.sequence c.make_draft.new.directory) c.in-Ok-Image.field-0-is is.1)
+
+  given_too : IsGiven g.D.Disk c.in-Ready.log c.in-Ready.directory c.make_draft.new.directory c.args.call.1.now
+  given_too = record { ready = ready_too; holds = holds_too; group = c.is_group.ensures; some = search rules; outcome = made_too.0 }
+
+pub returns-in-Ok-clause-commits : goal.returns-in-Ok-clause-commits
+returns-in-Ok-clause-commits g c =
+    let here = (goal.at.returns-in-Ok-clause-commits g c).After-append in
+    rw c.in-Ready.is (appended_commits g.D.Disk c.in-Ready.log c.in-Ready.directory c.make_draft.new.directory c.args.call.1.now (given g here) c.append.new.self (made g here).1.0
+    (subst (λ (b : List ℕ). Appends g.D.Disk c.in-Ready.log b (Ok tt) c.append.new.self) (text_is g here) c.in-Ok.ensures.appends))
+
+pub returns-in-Ok-clause-sound : goal.returns-in-Ok-clause-sound
+returns-in-Ok-clause-sound g c =
+    let here = (goal.at.returns-in-Ok-clause-sound g c).After-append in (
+      c.in-Ok.ensures.appends.ready,
+      appended_holds g.D.Disk c.in-Ready.log c.in-Ready.directory c.make_draft.new.directory c.args.call.1.now (given g here) c.append.new.self (made g here).1.0
+          (subst (λ (b : List ℕ). Appends g.D.Disk c.in-Ready.log b (Ok tt) c.append.new.self) (text_is g here) c.in-Ok.ensures.appends),
+    )
+
+pub returns-in-Err-append-clause-commits : goal.returns-in-Err-append-clause-commits
+returns-in-Err-append-clause-commits g c =
+    let here = (goal.at.returns-in-Err-append-clause-commits g c).After-append in
+    let did = appends g here in
+    let fits = (made g here).1.0 in
+    let inside = at_most _ _ fits in
+    let device : c.in-Err-append.field-0 ≡ log.Device = ⊎_elim (λ full. absurd (omega (arith, inside, did.full.0 (rw (c.in-Err-append.is, full) refl)))) (λ is. is) c.in-Err-append.ensures.faults in
+    rw (c.in-Ready.is, c.into_disk.ensures, c.into_images.ensures) (failed_commits g.D.Disk c.in-Ready.log c.in-Ready.directory c.make_draft.new.directory c.args.call.1.now (given g here) c.append.new.self.images.disk
+    (fits_not c.in-Ready.log.tail c.args.call.1.now c.in-Ready.log.images.sequence fits)
+    (λ h. weaker _ _ _ _ (appending_stands g.D.Disk c.in-Ready.log c.in-Ready.directory c.make_draft.new.directory c.args.call.1.now (given g here) fits h) (did.any_moment h))
+    (λ h bytes. g.met.D.Disk.counts_now c.append.new.self.images.disk (g.D.Disk.state c.in-Ready.log.images.disk).moment bytes (did.keeps.honest.0 h))
+    (λ h. did.device h (rw (c.in-Err-append.is, device) refl))
+    did.keeps)
+
+pub returns-in-Ok-renew-clause-commits : goal.returns-in-Ok-renew-clause-commits
+returns-in-Ok-renew-clause-commits g c =
+    let here = (goal.at.returns-in-Ok-renew-clause-commits g c).After-renew in
+    let next = (made_too g here).1 in
+    rw c.in-Ready.is (renewed_commits g.D.Disk c.in-Ready.log c.in-Ready.directory c.make_draft.new.directory c.args.call.1.now (given_too g here) c.renew.new.self next.0 c.in-Ok-Image.body.items next.2 next.3
+    c.in-Ok-renew.ensures.renews next.1)
+
+pub returns-in-Ok-renew-clause-sound : goal.returns-in-Ok-renew-clause-sound
+returns-in-Ok-renew-clause-sound g c =
+    let here = (goal.at.returns-in-Ok-renew-clause-sound g c).After-renew in
+    let next = (made_too g here).1 in (
+      c.in-Ok-renew.ensures.renews.ready,
+      renewed_holds g.D.Disk c.in-Ready.log c.in-Ready.directory c.make_draft.new.directory c.args.call.1.now (given_too g here) c.renew.new.self next.0 c.in-Ok-Image.body.items next.2 next.3
+          c.in-Ok-renew.ensures.renews,
+    )
+
+pub returns-in-Err-renew-clause-commits : goal.returns-in-Err-renew-clause-commits
+returns-in-Err-renew-clause-commits g c =
+    let here = (goal.at.returns-in-Err-renew-clause-commits g c).After-renew in
+    let next = (made_too g here).1 in
+    let did = c.renew.ensures.renews in
+    let device : c.in-Err-renew.field-0 ≡ image.Device = ⊎_elim
+    (λ large. absurd (omega (arith, next.4, did.too_large.0 (c.in-Err-renew.is ∙ ap (λ (f : ImageFault). Err f) large))))
+    (⊎_elim (λ last. absurd (next.1 (did.exhausted.0 (c.in-Err-renew.is ∙ ap (λ (f : ImageFault). Err f) last)).1)) (λ is. is)) c.in-Err-renew.ensures.faults in
+    rw (c.in-Ready.is, c.into_disk-in-Err-renew.ensures, c.into_images-in-Err-renew.ensures) (failed_commits g.D.Disk c.in-Ready.log c.in-Ready.directory c.make_draft.new.directory c.args.call.1.now (given_too g here) c.renew.new.self.images.disk
+    (λ exhausted. next.1 exhausted.1)
+    (λ h. weaker _ _ _ _ (renewing_stands g.D.Disk c.in-Ready.log c.in-Ready.directory c.make_draft.new.directory c.args.call.1.now (given_too g here) next.0 c.in-Ok-Image.body.items next.2 next.3 h) (did.any_moment h))
+    (λ h bytes. g.met.D.Disk.counts_now c.renew.new.self.images.disk (g.D.Disk.state c.in-Ready.log.images.disk).moment bytes (did.keeps.honest.0 h))
+    (λ h. did.device h (c.in-Err-renew.is ∙ ap (λ (f : ImageFault). Err f) device))
+    did.keeps)
+
+pub returns-in-Err-clause-commits : goal.returns-in-Err-clause-commits
+returns-in-Err-clause-commits g c =
+    let sound = subst (HasItsFiles g.D.Disk) c.in-Ready.is c.requires.sound in
+    rw (c.in-Ready.is, c.in-Err.ensures.unchanged) (unmade_commits g.D.Disk c.in-Ready.log c.in-Ready.directory c.args.call.1.now c.in-Err.fault sound.0 sound.1
+    (λ h f left. g.met.D.Disk.only_now c.in-Ready.log.images.disk f h left) Draft c.in-Err.ensures.made)

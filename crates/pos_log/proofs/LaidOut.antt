@@ -1,0 +1,32 @@
+-- What stands behind the gate of a record, as it is laid out.
+use Rattle.std.proofs.Common.{◌≡◌, ℕ, ◌+◌, ◌<◌, ◌≤◌, List, [], ◌∷◌, ◌++◌, length, take, drop, true, false, sym, ap, ◌∙◌, arith, append_assoc, length-append}
+use Rattle.std.specs.Prelude.{slice_set, nat_le}
+use Rattle.std.proofs.lemmas.Bool.Decides.{nat_tests}
+use Rattle.std.specs.Int.{w32, to_be_bytes}
+use Rattle.std.proofs.lemmas.List.{take_at}
+use Rattle.pos_log.specs.Records.{text_behind_gate}
+
+-- the text is so long
+pub text_length : (group : List ℕ) → length (text_behind_gate group) ≡ 5 + length group
+text_length group = let two = length-append group (0 ∷ []) in omega (arith, two)
+
+-- length, group and a closed gate, piece by piece, in front of what was there
+pub laid_out : (head body behind group : List ℕ) → head ≡ to_be_bytes w32 (length group) → body ≡ group → 0 < length behind
+    → take (5 + length group) (head ++ (body ++ slice_set behind 0 0)) ≡ text_behind_gate group
+laid_out head body [] group head_is body_is some = absurd (omega (arith, some))
+laid_out head body (first ∷ behind) group head_is body_is some =
+    ap (λ (l : List ℕ). take (5 + length group) (l ++ (body ++ 0 ∷ behind))) head_is
+    ∙ ap (λ (l : List ℕ). take (5 + length group) (to_be_bytes w32 (length group) ++ (l ++ 0 ∷ behind))) body_is
+    ∙ ap (λ (l : List ℕ). take (5 + length group) (to_be_bytes w32 (length group) ++ l)) (sym (append_assoc group (0 ∷ []) behind))
+    ∙ take_at (text_behind_gate group) behind (5 + length group) (text_length group)
+
+-- a slice that is put back whole
+pub put_back : (len : ℕ) (new items : List ℕ) → len ≡ length items → length new ≡ length items → take len (new ++ drop (length new) items) ≡ new
+put_back len new items len_is same = let long : length new ≡ len = omega (arith, len_is, same) in take_at new (drop (length new) items) len long
+
+-- what a test of numbers says
+pub at_most : (a b : ℕ) → nat_le a b ≡ true → a ≤ b
+at_most a b is = grind (arith, nat_tests)
+
+pub more_than : (a b : ℕ) → nat_le a b ≡ false → b < a
+more_than a b is = grind (arith, nat_tests)

@@ -1,0 +1,75 @@
+-- The records that a span begins with, as they are read.
+use Rattle.std.proofs.Common.{◌≡◌, ℕ, ◌+◌, ◌<◌, List, [], ◌∷◌, ◌++◌, length, get_or, take, drop, refl, sym, ap, ◌∙◌, arith, false, nat_eq, length-append, length-drop}
+use Rattle.std.specs.Int.{w32, to_be_bytes}
+use Rattle.std.specs.List.{AllByRecursion}
+use Rattle.std.proofs.Math.Seq.{take-add}
+use Rattle.std.proofs.lemmas.List.{take-append-drop, get_or-drop, drop-drop, take_at, append-nil}
+use Rattle.pos_disk.specs.State.{part}
+use Rattle.pos_disk.proofs.Bytes.{length-part}
+use Rattle.pos_log.specs.Records.{record_spelling, spelling, IsShort, HasLength, BeginsWith, HoldsRecords, HoldsSome}
+use Rattle.pos_log.proofs.Holding.{record_here, spelling_more, spelling_length, all_more}
+use Rattle.pos_log.proofs.Unique.{shut_differs, others_follow, span_split}
+
+-- nothing has been read yet
+pub begins : (span : List ℕ) → 0 < length span → BeginsWith [] 0 span
+begins span some = record { short = tt; end_is = refl; front = refl; inside = some }
+
+-- one record more
+pub begins_more : (groups : List (List ℕ)) (at n : ℕ) (span group : List ℕ) → BeginsWith groups at span → get_or span at 0 ≡ 165 → HasLength span at n → group ≡ part (at + 5) n span → BeginsWith (groups ++ group ∷ []) (at + (5 + n)) span
+begins_more groups at n span group begins gate has is =
+    let fits = has.fits in
+    let few = has.few in
+    let long : length group ≡ n = ap length is ∙ length-part (at + 5) n span (omega arith) in
+    let size = spelling_length groups group in
+    let end_is = begins.end_is in
+    let here = record_here at span group gate (has.length_is ∙ ap (to_be_bytes w32) (sym long)) (ap (λ (k : ℕ). part (at + 5) k span) long ∙ sym is) (omega (arith, long)) in
+    let total : at + (5 + n) ≡ at + (1 + (4 + length group)) = omega (arith, long) in
+    record {
+      short = all_more groups group begins.short (omega (arith, long));
+      end_is = omega (arith, size, end_is, long);
+      front = ap (λ (k : ℕ). take k span) total ∙ take-add at (1 + (4 + length group)) span
+          ∙ ap (λ (l : List ℕ). l ++ part at (1 + (4 + length group)) span) begins.front
+          ∙ ap (λ (l : List ℕ). spelling groups ++ l) here ∙ sym (spelling_more groups group);
+      inside = omega arith;
+    }
+
+-- what is read up to a closed gate is all that is there
+pub all_read : (groups : List (List ℕ)) (at : ℕ) (span : List ℕ) → BeginsWith groups at span → nat_eq (get_or span at 0) 165 ≡ false → HoldsRecords groups span
+all_read groups at span begins shut = record {
+  short = begins.short;
+  front = ap (λ (k : ℕ). take k span) (sym begins.end_is) ∙ begins.front;
+  inside = let inside = begins.inside in let end_is = begins.end_is in omega arith;
+  behind = ap (λ (k : ℕ). nat_eq (get_or span k 0) 165) (sym begins.end_is) ∙ shut;
+}
+
+refused : (others : List (List ℕ)) (at : ℕ) (span : List ℕ) (gate : ℕ) (behind : List ℕ) → at < length span → AllByRecursion IsShort others → drop at span ≡ spelling others ++ gate ∷ behind → nat_eq gate 165 ≡ false → get_or span at 0 ≡ 165
+    → ((n : ℕ) → HasLength span at n → ⊥) → ⊥
+refused [] at span gate behind inside short is shut byte none =
+    let here : at + 0 ≡ at = omega arith in
+    shut_differs gate (sym byte ∙ ap (λ (k : ℕ). get_or span k 0) (sym here) ∙ sym (get_or-drop at span 0 0) ∙ ap (λ (l : List ℕ). get_or l 0 0) is) shut
+refused (group ∷ others) at span gate behind inside short is shut byte none =
+    let whole = ap length is in
+    let left = length-drop at span in
+    let two = length-append (record_spelling group ++ spelling others) (gate ∷ behind) in
+    let one = length-append (record_spelling group) (spelling others) in
+    none (length group) record {
+      few = short.0;
+      length_is = ap (take 4) (sym (drop-drop 1 at span)) ∙ ap (λ (l : List ℕ). take 4 (drop 1 l)) is;
+      fits = omega (arith, whole, left, two, one);
+    }
+
+-- where no record fits behind an open gate, the span holds no records
+pub none_held : (groups : List (List ℕ)) (at : ℕ) (span : List ℕ) → BeginsWith groups at span → get_or span at 0 ≡ 165 → ((n : ℕ) → HasLength span at n → ⊥) → HoldsSome span → ⊥
+none_held groups at span begins byte none (all, holds) =
+    let gate = get_or span (length (spelling all)) 0 in
+    let front : span ≡ spelling groups ++ drop at span = sym (take-append-drop at span) ∙ ap (λ (l : List ℕ). l ++ drop at span) begins.front in
+    let follow = others_follow groups all (drop at span) gate _ begins.short holds.short (sym front ∙ span_split all span holds) holds.behind in
+    refused follow.0 at span gate _ begins.inside follow.3 follow.2 holds.behind byte none
+
+-- a span that was read whole
+pub whole_read : (read out items span : List ℕ) (n : ℕ) → n ≡ 16384 → length out ≡ 16384 → length span ≡ 16384 → read ≡ take n (out ++ drop (length out) items) → out ≡ part 0 (length out) span → read ≡ span
+whole_read read out items span n n_is out_long span_long read_is out_is =
+    let one : n ≡ length out = omega arith in
+    let two : length out ≡ length span = omega arith in
+    read_is ∙ ap (λ (k : ℕ). take k (out ++ drop (length out) items)) one ∙ take_at out (drop (length out) items) (length out) refl
+    ∙ out_is ∙ ap (λ (k : ℕ). take k span) two ∙ ap (take (length span)) (sym (append-nil span)) ∙ take_at span [] (length span) refl

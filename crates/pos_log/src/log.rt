@@ -1,0 +1,174 @@
+// A log of records behind the current image of a disk.
+ghost use Rattle.std.specs.Prelude.{◌≢◌, map, ◌≡◌, ◌⊎◌, length, nat_le, IfErr, IfOk};
+ghost use Rattle.pos_disk.specs.State.{Rises, Watches};
+ghost use Rattle.pos_disk.specs.Keeps.{KeepsDisk};
+ghost use Rattle.pos_image.specs.Layout.{slot_size};
+ghost use Rattle.pos_image.specs.Standing.{log_of};
+ghost use Rattle.pos_log.specs.Records.{HoldsRecords, HoldsSome, end_of};
+
+use crate::fault::LogFault;
+use crate::layout::{END, FIRST, HEAD, OPEN, REST, SPAN};
+use crate::reading::read_records;
+use crate::renewing::renew_images;
+use crate::writing::{lay_out_record, write_through};
+use pos_disk::Disk;
+use pos_image::{ImageFault, Images};
+use std::alloc::Global;
+use std::marker::Model;
+
+/// The records behind the current image of a disk: groups of bytes, which are appended one by one. After a fault of the
+/// disk every call but `into_images` has the condition that the disk was opened again. docs/DISK.md, "The log".
+#[derive(Drop)]
+pub struct Log<D: Disk> {
+    images: Images<D>,
+    // As long as the log: what was read at first, then the record that was appended last.
+    buffer: Vec<u8>,
+    tail: u64,
+}
+
+impl<D: Disk> Model for Log<D> {
+    ghost use Rattle.std.specs.Prelude.{◌≡◌, ◌≤◌, ◌<◌, length};
+    ghost use Rattle.pos_image.specs.Layout.{log_place, log_size, slot_size};
+    ghost use Rattle.pos_log.specs.Logs.{LogView, log_over};
+
+    ghost Value = { LogView D };
+
+    ghost view = { λ l. log_over l.images l.tail };
+
+    ghost invariant = { λ l. (log_place ≤ l.tail) × (l.tail < slot_size) × (length l.buffer.items ≡ log_size) };
+}
+
+impl<D: Disk> Log<D> {
+    ghost use Rattle.pos_image.specs.Images.{IsReady, IsPrepareFault};
+    ghost use Rattle.pos_log.specs.Logs.{IsLogReady, Appends, Renews, CountsLogFaults, IsOpenFault};
+    ghost use Rattle.pos_log.specs.Logs.{images_after, without_images, room_of};
+
+    /// Opens the log behind the current image: gives it with the groups of its records, in order. It writes nothing,
+    /// and reads the log in one piece.
+    ///
+    /// # Errors
+    ///
+    /// `Damaged` where a record that is open doesn't fit, `Device` where the disk failed, `NoMemory`. A refusal hands
+    /// the images back; after `Device` they have to be opened again.
+    pub fn open(
+        alloc: Global,
+        mut images: Images<D>,
+    ) -> Result<(Log<D>, Vec<Vec<u8>>), (LogFault, Images<D>)>
+        requires { IsReady D.Disk images }
+        ensures ready { IfOk result (λ r. IsLogReady D.Disk r.0) }
+        ensures records { D.honest images.disk → IfOk result
+            (λ r. HoldsRecords (map (λ g. g.items) r.1.items) (log_of (D.state images.disk).reading)) }
+        ensures damaged { D.honest images.disk → IfErr result
+            (λ e. e.0 ≡ LogFault.Damaged → ¬ (HoldsSome (log_of (D.state images.disk).reading))) }
+        ensures same { images_after result ≡ record images { disk = (images_after result).disk } }
+        ensures any_moment { D.honest images.disk → Watches (D.state images.disk) (D.state (images_after result).disk) }
+        ensures device { D.honest images.disk → IfErr result (λ e. e.0 ≡ LogFault.Device
+            → Rises (D.state images.disk).failures (D.state e.1.disk).failures) }
+        ensures counts { D.honest images.disk
+            → CountsLogFaults (D.state images.disk) (D.state (images_after result).disk) (without_images result) }
+        ensures faults { IfErr result (λ e. IsOpenFault e.0) }
+        ensures handed { IfErr result (λ e. e.0 ≢ LogFault.Device → IsReady D.Disk e.1) }
+        ensures keeps { KeepsDisk D.Disk images.disk (images_after result).disk }
+    {
+        let Ok(mut buffer) = vec![in alloc; 0; SPAN] else {
+            return Err((LogFault::NoMemory, images));
+        };
+        let Ok(()) = images.log_read(FIRST, buffer.as_mut_slice()) else {
+            return Err((LogFault::Device, images));
+        };
+        match read_records(alloc, &buffer) {
+            Ok((groups, end)) => Ok((
+                Log {
+                    images,
+                    buffer,
+                    tail: FIRST + end as u64,
+                },
+                groups,
+            )),
+            Err(fault) => Err((fault, images)),
+        }
+    }
+
+    /// How many bytes the longest group has that fits, or None where not even an empty one fits.
+    pub fn room(&self) -> Option<u64>
+        ensures { result ≡ room_of self.now.tail }
+    {
+        if self.tail > END - HEAD as u64 - 1 {
+            return None;
+        }
+        Some(END - HEAD as u64 - 1 - self.tail)
+    }
+
+    /// Whether a record with a group of so many bytes fits, with the gate behind it.
+    pub fn fits(&self, length: usize) -> bool
+        ensures { result ≡ nat_le (end_of self.now.tail length) slot_size }
+    {
+        let left = (END - self.tail) as usize;
+        if length >= left {
+            return false;
+        }
+        HEAD + length < left
+    }
+
+    /// Appends a record with this group: two writes, each with its sync. It takes no memory.
+    ///
+    /// # Errors
+    ///
+    /// `Full` where the record and the gate behind it don't fit: nothing has changed. `Device` where the disk failed:
+    /// the log has to be opened again.
+    pub fn append(&mut self, group: &[u8]) -> Result<(), LogFault>
+        requires { IsLogReady D.Disk self.old }
+        ensures appends { Appends D.Disk self.old group.now result self.new }
+        ensures faults { IfErr result (λ e. (e ≡ LogFault.Full) ⊎ (e ≡ LogFault.Device)) }
+    {
+        if !self.fits(group.len()) {
+            return Err(LogFault::Full);
+        }
+        lay_out_record(&mut self.buffer, group);
+        let behind = &self.buffer[..REST + group.len()];
+        let Ok(()) = write_through(&mut self.images, self.tail + 1, behind) else {
+            return Err(LogFault::Device);
+        };
+        let Ok(()) = write_through(&mut self.images, self.tail, &[OPEN]) else {
+            return Err(LogFault::Device);
+        };
+        self.tail += (HEAD + group.len()) as u64;
+        Ok(())
+    }
+
+    /// Makes an image with this body the current one, with the next sequence and no records behind it. It takes no
+    /// memory.
+    ///
+    /// # Errors
+    ///
+    /// `TooLarge` where the body has more than 16,371 bytes, else `Exhausted` where the current sequence is the last
+    /// one: nothing has changed. `Device` where the disk failed: the log has to be opened again.
+    pub fn renew(&mut self, body: Vec<u8>) -> Result<(), ImageFault>
+        requires { IsLogReady D.Disk self.old }
+        ensures renews { Renews D.Disk self.old body.items result self.new }
+        ensures faults { IfErr result IsPrepareFault }
+    {
+        match renew_images(&mut self.images, body) {
+            Ok(()) => {
+                self.tail = FIRST;
+                Ok(())
+            }
+            Err(fault) => Err(fault),
+        }
+    }
+
+    /// The number of the current image.
+    pub fn sequence(&self) -> u64
+        requires { IsLogReady D.Disk self.now }
+        ensures { result ≡ self.now.images.sequence }
+    {
+        self.images.sequence()
+    }
+
+    /// Gives the images as they are. It takes no memory.
+    pub fn into_images(self) -> Images<D>
+        ensures { result ≡ self.images }
+    {
+        self.images
+    }
+}

@@ -1,5 +1,0 @@
-use Rattle.pos_store.proofs.Committed.{fault_told}
-use Rattle.pos_store.proofs.committing.make_body.Goals as goal
-
-pub returns-in-Err-clause-made : goal.returns-in-Err-clause-made
-returns-in-Err-clause-made c = rw c.tell_directory.ensures (fault_told _ _ c.args.directory.now c.args.group.now c.in-Err.fault c.in-Err.ensures)
