@@ -6,7 +6,6 @@ ghost use Rattle.pos_totals.specs.Numbering.{tags_from, lacks, given_after, foll
 
 use crate::request::Checked;
 use arrayvec::ArrayVec;
-use pos_service::claims::is_own;
 use pos_service::Value;
 use pos_service::claims::is_own;
 use std::marker::Model;
