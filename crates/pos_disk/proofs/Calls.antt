@@ -47,7 +47,7 @@ elapsed disk next settled =
     }
 
 no_failure : {T : Type 0} (old new : Memory) (x : T) → HasCause (state_of old) (state_of new) (Ok x)
-no_failure old new x = record { later = omega arith; last = omega arith; rises = tt }
+no_failure old new x = record { later = omega arith; last = omega arith; rises = tt; same = refl }
 
 -- its write does what a write of an honest disk does
 pub writes : (disk : Memory) (at : ℕ) (bytes : List ℕ) → length disk.present.loose ≡ length disk.present.reading → at + length bytes ≤ length disk.present.reading
