@@ -2,7 +2,7 @@
 ghost use Rattle.std.specs.Prelude.{◌≡◌, ◌≤◌, ◌+◌, ◌⊎◌, length, IfOk, IfErr};
 ghost use Rattle.pos_disk.specs.State.{HasCause, Watches, part};
 ghost use Rattle.pos_disk.specs.Keeps.{KeepsDisk};
-ghost use Rattle.pos_image.specs.Images.{FailsWithCause};
+ghost use Rattle.pos_image.specs.Images.{FailsWithCause, CountsFaults};
 ghost use Rattle.pos_image.specs.Layout.{disk_size, slot_size, longest, is_open, sequence_at, length_at};
 ghost use Rattle.pos_image.specs.Slots.{HasHead, HeadsAre, body_in};
 ghost use Rattle.pos_image.specs.declared.fault.ImageFault.TheVariants.{Device, NoMemory};
@@ -105,6 +105,7 @@ pub fn read_body<D: Disk>(
     ensures body { D.honest disk.old → IfOk result (λ it. it.items ≡ body_in slot length (D.state disk.old)) }
     ensures watches { D.honest disk.old → Watches (D.state disk.old) (D.state disk.new) }
     ensures device { D.honest disk.old → IfErr result (FailsWithCause (D.state disk.old) (D.state disk.new)) }
+    ensures counts { D.honest disk.old → CountsFaults (D.state disk.old) (D.state disk.new) result }
     ensures faults { IfErr result (λ e. (e ≡ Device) ⊎ (e ≡ NoMemory)) }
 {
     let mut body = vec![in alloc; 0; length as usize]?;
