@@ -1,7 +1,7 @@
 -- What a change of the totals answers, and what a crash during it may leave.
 use Rattle.std.specs.Prelude.{◌≡◌, ◌⊎◌, ℕ, List, [], ◌∷◌, map, Result, Ok, Err, ⊤}
 use Rattle.pos_disk.specs.Keeps.{KeepsDisk}
-use Rattle.pos_disk.specs.State.{DiskState, LeavesOnly, MayLeave, Rises}
+use Rattle.pos_disk.specs.State.{DiskState, HasNotFailed, LeavesOnly, MayLeave, Rises}
 use Rattle.pos_disk.specs.declared.device.Disk.{Ghosts}
 use Rattle.pos_dir.specs.Changes.{outcome_of_all}
 use Rattle.pos_dir.specs.declared.limits.TheConstants.{LAYOUT_1}
@@ -62,6 +62,9 @@ pub record PutsGroup {D : Type 0} (bound : Ghosts D) (old : TotalsView D) (chang
   -- after a fault of the disk the group is in doubt: a crash now leaves the files before it or those after it
   pub in_doubt : bound.honest old.disk → TurnsOff old.totals.mode new.totals.mode
       → LeavesOneOf (before_or_after old.totals.next old.totals.mode changes) (bound.state new.disk)
+  -- the disk fails only where that turns the totals off
+  pub counts : bound.honest old.disk
+      → TurnsOff old.totals.mode new.totals.mode ⊎ HasNotFailed (bound.state old.disk) (bound.state new.disk)
   pub kept : KeepsDisk bound old.disk new.disk
 
 -- What a change does: it is answered by its table, and its group is put on the disk.
