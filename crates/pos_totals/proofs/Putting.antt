@@ -9,7 +9,7 @@ use Rattle.pos_dir.specs.declared.fault.DirectoryFault.{DirectoryFault}
 use Rattle.pos_dir.specs.declared.file.File.{File as PlainFile}
 use Rattle.pos_dir.specs.declared.limits.TheConstants.{LAYOUT_1}
 use Rattle.pos_disk.proofs.Moments.{started, weaker}
-use Rattle.pos_disk.specs.State.{DiskState, HasNotFailed, MayLeave}
+use Rattle.pos_disk.specs.State.{DiskState, HasNotFailed, LeavesOnly, MayLeave}
 use Rattle.pos_disk.specs.Keeps.{KeepsDisk}
 use Rattle.pos_disk.specs.declared.device.Disk.{Ghosts}
 use Rattle.pos_service.specs.declared.answer.Answer.{Answer}
@@ -61,10 +61,9 @@ never_turns (Ready files sequence) turns = turns
 pub keeps : {D : Type 0} (bound : Ghosts D) (disk : D) → KeepsDisk bound disk disk
 keeps bound disk = record { size = refl; honest = (λ h. h, λ h. h); later = λ h. omega arith }
 
-left_here : (disk : DiskState) (mode : Mode) (next : ℕ) (changes : List Change) → LeavesTheirFiles mode disk → (bytes : List ℕ) → MayLeave disk bytes → IsBeforeOrAfter disk next mode changes bytes
-left_here disk Off next changes leaves bytes may = may
-left_here disk (Ready files sequence) next [] leaves bytes may = ⊎_elim (λ this. inl this) (λ none. absurd none) (leaves bytes may)
-left_here disk (Ready files sequence) next (change ∷ changes) leaves bytes may = ⊎_elim (λ this. inl this) (λ none. absurd none) (leaves bytes may)
+left_here : (disk : DiskState) (mode now : Mode) (next : ℕ) (changes : List Change) → LeavesTheirFiles mode disk → (bytes : List ℕ) → MayLeave disk bytes → IsBeforeOrAfter disk next mode changes now bytes
+left_here disk Off now next changes leaves bytes may = may
+left_here disk (Ready files sequence) now next changes leaves bytes may = ⊎_elim (λ this. inl this) (λ none. absurd none) (leaves bytes may)
 
 -- the files that a store has, with their tags, are sound
 pub sound_files : (tags : List Tag) (files : List PlainFile) (next : ℕ) → IsDirectory LAYOUT_1 files → AreHandles tags files next
@@ -82,8 +81,8 @@ module _ {D : Type 0} (bound : Ghosts D) (disk : D) (only : bound.honest disk �
     group = group;
     untouched = λ none. refl;
     unchanged = λ refused. inr (ap (λ (t : Totals). record { disk = disk; totals = t }) (same refused));
-    any_moment = λ h. started (bound.state disk) (IsBeforeOrAfter (bound.state disk) old.next old.mode changes)
-        (λ c left. left_here (bound.state disk) old.mode old.next changes (now h) c (only h c left));
+    any_moment = λ h. started (bound.state disk) (IsBeforeOrAfter (bound.state disk) old.next old.mode changes new.mode)
+        (λ c left. left_here (bound.state disk) old.mode new.mode old.next changes (now h) c (only h c left));
     now = λ h. subst (λ (m : Mode). LeavesTheirFiles m (bound.state disk)) (sym mode) (now h);
     in_doubt = λ h turns. absurd (never_turns old.mode (subst (λ (m : Mode). TurnsOff old.mode m) mode turns));
     counts = λ h. inr refl;
@@ -144,13 +143,21 @@ module _ {D : Type 0} (bound : Ghosts D) (disk : D) (files : List PlainFile) (se
   abbrev then_sequence : ℕ
   then_sequence = sequence_after tail all sequence
 
-  -- what the store's commit may leave is among the candidates of the call
+  -- what the store's commit may leave, in the words of the totals
+  either : (bytes : List ℕ) → StandsForOneOf (store.left_by files sequence tail all) bytes → StandsForOneOf (Stands (plain xs) sequence ∷ Stands (plain after) then_sequence ∷ []) bytes
+  either bytes stands =
+      ⊎_elim
+      (λ before. inl (subst (λ (fs : List PlainFile). StandsFor (Stands fs sequence) bytes) (sym (plain_of ledger.handles.given files sound.count)) before))
+      (λ behind. inr behind)
+      (subst (λ (o : Result (List PlainFile) DirectoryFault). StandsForOneOf (store.before_or_after files sequence then_sequence o) bytes) made stands)
+
+  -- it is among the candidates of the call
   among : ¬ (IsExhausted tail all sequence) → (bytes : List ℕ) → StandsForOneOf (store.left_by files sequence tail all) bytes → StandsForOneOf (before_or_after ledger.handles.next (Ready xs sequence) (change ∷ changes)) bytes
   among left bytes stands =
       ⊎_elim
-      (λ before. inl (subst (λ (fs : List PlainFile). StandsFor (Stands fs sequence) bytes) (sym (plain_of ledger.handles.given files sound.count)) before))
+      (λ before. inl before)
       (λ rest. ⊎_elim (λ behind. inr (stands_among (plain after) then_sequence (next_sequences sequence) (follows tail all sequence left) bytes behind)) (λ none. absurd none) rest)
-      (subst (λ (o : Result (List PlainFile) DirectoryFault). StandsForOneOf (store.before_or_after files sequence then_sequence o) bytes) made stands)
+      (either bytes stands)
 
   -- what the store's commit answered
   pub put_down : (result : Result (Unit {0}) StoreFault) (new : StoreView D) → store.Answers (StoreReady files sequence) old_store all result new → PutsDown sequence (plain after) old_store all result new
@@ -167,7 +174,8 @@ module _ {D : Type 0} (bound : Ghosts D) (disk : D) (files : List PlainFile) (se
         group = group;
         untouched = λ none. absurd cc;
         unchanged = λ refused. absurd (refused tt);
-        any_moment = λ h. weaker (bound.state disk) (bound.state new.disk) _ _ (among down.0) (commits.any_moment h);
+        any_moment = λ h. subst (λ (m : Mode). LeavesOnly (bound.state disk) (bound.state new.disk) (IsBeforeOrAfter (bound.state disk) ledger.handles.next (Ready xs sequence) (change ∷ changes) m)) (sym mode)
+            (weaker (bound.state disk) (bound.state new.disk) _ _ either (commits.any_moment h));
         now = λ h. subst (λ (m : Mode). LeavesTheirFiles m (bound.state new.disk)) (sym mode) (subst (λ (s : State). LeavesItsFiles s (bound.state new.disk)) down.1 (commits.now h));
         in_doubt = λ h turns. absurd (subst (λ (m : Mode). TurnsOff (Ready xs sequence) m) mode turns);
         counts = λ h. inr (never_failed (bound.state disk) (bound.state new.disk) (commits.counts h));
@@ -184,7 +192,8 @@ module _ {D : Type 0} (bound : Ghosts D) (disk : D) (files : List PlainFile) (se
         group = group;
         untouched = λ none. absurd cc;
         unchanged = λ refused. inl turns;
-        any_moment = λ h. weaker (bound.state disk) (bound.state new.disk) _ _ (among down.0) (commits.any_moment h);
+        any_moment = λ h. subst (λ (m : Mode). LeavesOnly (bound.state disk) (bound.state new.disk) (IsBeforeOrAfter (bound.state disk) ledger.handles.next (Ready xs sequence) (change ∷ changes) m)) (sym mode)
+            (weaker (bound.state disk) (bound.state new.disk) _ _ (λ c stands. inr (among down.0 c stands)) (commits.any_moment h));
         now = λ h. subst (λ (m : Mode). LeavesTheirFiles m (bound.state new.disk)) (sym mode) tt;
         in_doubt = λ h off bytes may. among down.0 bytes (commits.in_doubt h refl bytes may);
         counts = λ h. inl turns;
