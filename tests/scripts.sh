@@ -4,7 +4,7 @@
 #   NAME.stdout   what it has to print;
 #   NAME.profile  the profile that it runs over, with a disk in a file. Without it the program is given no words;
 #   NAME.disk     the disks that it runs over in place of a formatted one, each a paragraph: places and the bytes that stand
-#                 from there on, in hex, among zero bytes. It has to print the same over each;
+#                 from there on, in hex, among zero bytes. It has to print the same over each. HEX*N stands for HEX N times;
 #   NAME.left     places and the bytes that have to stand there in the end, written likewise.
 # Usage: tests/scripts.sh [PROGRAM]. Without a word it takes the program that was built in crates/pos_console/out. Its
 # last line is 'N passed, M failed'; it ends with 0 where none failed.
@@ -18,6 +18,17 @@ cd "$work" || exit 1
 passed=0
 failed=0
 
+# expand HEX ..: the bytes in hex, without blanks, with what stands N times written out
+expand() {
+  local word
+  for word in $1; do
+    case $word in
+      *\**) printf "${word%\**}%.0s" $(seq "${word#*\*}") ;;
+      *) printf '%s' "$word" ;;
+    esac
+  done
+}
+
 # lay_disk FILE: makes the file `disk` by places and bytes
 lay_disk() {
   local place hex
@@ -25,7 +36,7 @@ lay_disk() {
   truncate -s 327680 disk
   while read -r place hex; do
     [ "$place" = '#' ] && continue
-    printf "$(sed 's/ //g; s/../\\x&/g' <<< "$hex")" | dd of=disk bs=1 seek="$place" conv=notrunc status=none
+    printf "$(sed 's/../\\x&/g' <<< "$(expand "$hex")")" | dd of=disk bs=1 seek="$place" conv=notrunc status=none
   done < "$1"
 }
 
@@ -34,7 +45,7 @@ tell_left() {
   local place hex found
   while read -r place hex; do
     [ "$place" = '#' ] && continue
-    hex=${hex// /}
+    hex=$(expand "$hex")
     found=$(tail -c +$((place + 1)) disk | head -c $((${#hex} / 2)) | od -An -v -tx1 | tr -d ' \n')
     [ "$hex" = "$found" ] || printf 'place %s of the disk\n< %s\n> %s\n' "$place" "$hex" "$found"
   done < "$1"
