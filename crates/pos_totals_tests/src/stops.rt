@@ -20,10 +20,10 @@ fn stop(alloc: Global, change: Change, pass: u64) -> Result<(bool, Stopped), Fai
     Ok((is_done, totals))
 }
 
-// The stops at the last two calls of a recovery, which has ten, and at each of the seven of a change.
+// The stops at the last two calls of a recovery, which has seven, and at each of the four of a change.
 fn stop_at_each(alloc: Global, change: Change) -> Result<Vec<(bool, MemDisk)>, Fail> {
     let mut stops = Vec::new(alloc);
-    for pass in 8..17 {
+    for pass in 5..11 {
         let (is_done, totals) = stop(alloc, change, pass)?;
         stops.push((is_done, totals.into_disk().into_inner()))?;
     }
@@ -60,7 +60,7 @@ fn each_stop_leaves_the_files_before_or_after(rt: HostRuntime) -> Result<(), Fai
         let stops = stop_at_each(rt.alloc(), change)?;
         for (fill, after) in [(Fill::New, 1), (Fill::Byte(0xA5), 2)] {
             let counts = crash_each(rt.alloc(), &stops, change, fill)?;
-            assert_eq!(rt; counts, [0, 2, 7 - after, after]);
+            assert_eq!(rt; counts, [0, 2, 4 - after, after]);
         }
     }
     Ok(())
@@ -76,9 +76,9 @@ fn decide(alloc: Global, change: Change, pass: u64) -> Result<(bool, MemDisk), F
 
 #[test]
 fn a_change_in_doubt_is_decided_once(rt: HostRuntime) -> Result<(), Fail> {
-    for pass in 10..17 {
+    for pass in 7..11 {
         let (decided, disk) = decide(rt.alloc(), Change::Commit, pass)?;
-        assert_eq!(rt; decided, pass == 16, "{pass}");
+        assert_eq!(rt; decided, pass == 10, "{pass}");
         for fill in [Fill::Old, Fill::New, Fill::Byte(0xA5), Fill::Byte(0)] {
             let left = leaves_after(rt.alloc(), &disk, Change::Commit, fill)?;
             assert_eq!(rt; left, decided, "{pass}");
