@@ -8,6 +8,7 @@ use Rattle.pos_disk.specs.Memory.{Memory, state_of}
 use Rattle.pos_profile.specs.Built.{built}
 use Rattle.pos_profile.specs.Entries.{Contents}
 use Rattle.pos_store.specs.Standing.{LeavesOneOf, Stands, StandsForOneOf}
+use Rattle.pos_store.proofs.Held.{new_standing}
 use Rattle.pos_counter.specs.Machine.{Machine}
 use Rattle.pos_counter.specs.Steps.{Run}
 use Rattle.pos_counter.specs.Totals.{TotalsPart}
@@ -26,7 +27,7 @@ use Rattle.pos_console.specs.Serving.{IsNewDisk, ProfileServes, ReachesFront, Se
 pub new_disk_leaves : (disk : Memory) → IsNewDisk disk → LeavesOneOf (Stands [] 1 ∷ []) (state_of disk)
 new_disk_leaves disk new bytes may =
     subst (StandsForOneOf (Stands [] 1 ∷ [])) (sym (rest_leaves (state_of disk) bytes new.at_rest may))
-    (inl (record { count = omega arith; size = omega arith; named = refl; distinct = refl }, new.image.image))
+    (inl (new_standing (state_of disk).reading new.image))
 
 -- a run over all lines has found memory
 not_refused : (before after : Option (List ℕ)) → FindsNoMemory before after (Ok tt) → ⊥
