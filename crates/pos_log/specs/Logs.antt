@@ -51,7 +51,8 @@ pub record Appends {D : Type 0} (bound : Ghosts D) (old : LogView D) (group : Li
   -- at Ok nothing is loose: a crash now leaves the current image and these records
   pub ready : OnOk result (IsLogReady bound new)
   -- the images are the same but for the disk, and the tail lies behind the record
-  pub appended : OnOk result (new ≡ log_over (record old.images { disk = new.images.disk }) (old.tail + 5 + length group))
+  pub appended : OnOk result
+      (new ≡ log_over (record old.images { disk = new.images.disk }) (old.tail + 5 + length group))
   -- the records are the old ones and the appended one
   pub records : bound.honest old.images.disk → OnOk result
       (HoldsMore (log_of (bound.state old.images.disk).reading) group (log_of (bound.state new.images.disk).reading))

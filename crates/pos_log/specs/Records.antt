@@ -39,7 +39,8 @@ HoldsMore old group new = (groups : List (List ℕ)) → HoldsRecords groups old
 -- new has the records of old, with one with this group behind them or without
 abbrev pub HoldsOldOrMore : List ℕ → List ℕ → List ℕ → Type 0
 HoldsOldOrMore old group new =
-    (groups : List (List ℕ)) → HoldsRecords groups old → HoldsRecords groups new ⊎ HoldsRecords (groups ++ group ∷ []) new
+    (groups : List (List ℕ)) → HoldsRecords groups old
+    → HoldsRecords groups new ⊎ HoldsRecords (groups ++ group ∷ []) new
 
 -- where the gate behind these records stands in its slot
 abbrev pub tail_of : List (List ℕ) → ℕ

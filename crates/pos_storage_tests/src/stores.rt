@@ -7,12 +7,35 @@ use pos_store::{Mode, Store, StoreFault};
 use std::alloc::{AllocError, Global};
 use std::test::Fail;
 
+// The log of a formatted disk.
+const LOG: usize = 16_384;
+
+// A change that makes a file of four bytes, and one that deletes it.
+const MADE_AND_DELETED: [u8; 10] = [1, 1, 0x41, 0, 0, 0, 4, 2, 0, 0];
+
 // How a body of no files stands on a disk with sequence 2, behind a formatted slot.
 const AGAIN: [u8; 15] = [0xA5, 0, 0, 0, 0, 0, 0, 0, 2, 0, 0, 0, 2, 0, 0];
 
-// A formatted disk with these bytes in its other slot: where they are an image, its gate is to be closed.
-fn fresh(alloc: Global, second: &[u8]) -> Result<MemDisk, AllocError> {
-    let runs = [(0, FORMATTED.as_slice()), (SECOND, second)];
+// A log with one record, of 3,272 changes that leave no files, behind which none of two changes fits.
+fn full_log(alloc: Global) -> Result<Vec<u8>, Fail> {
+    let mut log = Vec::from_slice(alloc, &[0xA5, 0, 0, 0x3F, 0xEA, 0x0C, 0xC8])?;
+    for _ in 0..1_636 {
+        for byte in MADE_AND_DELETED {
+            log.push(byte)?;
+        }
+    }
+    Ok(log)
+}
+
+// A formatted disk with these bytes in its other slot, and these in the log at a place. Where the other slot has an
+// image, the gate of the first is to be closed before a new one.
+fn fresh(
+    alloc: Global,
+    second: &[u8],
+    at: usize,
+    log: &[u8],
+) -> Result<MemDisk, AllocError> {
+    let runs = [(0, FORMATTED.as_slice()), (SECOND, second), (at, log)];
     disk_of(alloc, 0, &runs)
 }
 
@@ -48,12 +71,56 @@ fn commit<D: Disk>(store: &mut Store<D>, group: &Group) -> Result<(), StoreFault
 #[test]
 fn a_group_on_the_disk(rt: HostRuntime) -> Result<(), Fail> {
     let alloc = rt.alloc();
-    let mut store = Store::new(alloc, fresh(alloc, &[])?);
+    let mut store = Store::new(alloc, fresh(alloc, &[], LOG, &[])?);
+    carry_out(&mut store, &decode_group(alloc, &GROUP)?)?;
+    assert!(rt; is_after(&store) == Ok(true));
+    let bytes = bytes_of(alloc, &mut store.into_disk())?;
+    assert!(rt; has(&bytes, LOG, &[0xA5, 0, 0, 0, 24]) && has(&bytes, LOG + 5, &GROUP));
+    assert!(rt; has(&bytes, LOG + 29, &[0]) && has(&bytes, 0, &FORMATTED) && has(&bytes, SECOND, &[0]));
+    Ok(())
+}
+
+#[test]
+fn a_group_that_does_not_fit(rt: HostRuntime) -> Result<(), Fail> {
+    let alloc = rt.alloc();
+    let full = full_log(alloc)?;
+    let mut store = Store::new(alloc, fresh(alloc, &[], LOG, &full)?);
     carry_out(&mut store, &decode_group(alloc, &GROUP)?)?;
     assert!(rt; is_after(&store) == Ok(true));
     let head = [0xA5, 0, 0, 0, 0, 0, 0, 0, 2, 0, 0, 0, 12];
     let bytes = bytes_of(alloc, &mut store.into_disk())?;
     assert!(rt; has(&bytes, SECOND, &head) && has(&bytes, SECOND + 13, &BODY));
+    assert!(rt; has(&bytes, SECOND + LOG, &[0]) && has(&bytes, LOG, &full));
+    Ok(())
+}
+
+// Whether a formatted disk with this log has the file of the two changes, or why it isn't recovered.
+fn recovered(alloc: Global, log: &[u8]) -> Result<bool, StoreFault> {
+    let Ok(disk) = fresh(alloc, &[], LOG, log) else {
+        return Err(StoreFault::NoMemory);
+    };
+    let mut store = Store::new(alloc, disk);
+    store.recover()?;
+    is_after(&store)
+}
+
+// No record; one that was torn; a full log; a record one byte too long; an empty group; bytes that are no group; a
+// group that isn't applicable.
+#[test]
+fn disks_with_a_log(rt: HostRuntime) -> Result<(), Fail> {
+    let damaged = Err(StoreFault::Damaged);
+    let full = full_log(rt.alloc())?;
+    for (log, wanted) in [
+        ([].as_slice(), Ok(false)),
+        ([0, 0, 0, 0, 2, 0, 0].as_slice(), Ok(false)),
+        (full.as_slice(), Ok(false)),
+        ([0xA5, 0, 0, 0x3F, 0xFB].as_slice(), damaged),
+        ([0xA5, 0, 0, 0, 2, 0, 0].as_slice(), damaged),
+        ([0xA5, 0, 0, 0, 1, 0].as_slice(), damaged),
+        ([0xA5, 0, 0, 0, 5, 0, 1, 2, 0, 0].as_slice(), damaged),
+    ] {
+        assert_eq!(rt; recovered(rt.alloc(), log), wanted);
+    }
     Ok(())
 }
 
@@ -72,13 +139,13 @@ fn stop(alloc: Global, disk: MemDisk, pass: u64, fail: u64) -> Result<(bool, Mem
 // The stops at each of so many calls.
 fn stop_at_each(
     alloc: Global,
-    second: &[u8],
+    disk: &MemDisk,
     calls: u64,
     fail: u64,
 ) -> Result<Vec<(bool, MemDisk)>, Fail> {
     let mut stops = Vec::new(alloc);
     for pass in 0..calls {
-        stops.push(stop(alloc, fresh(alloc, second)?, pass, fail)?)?;
+        stops.push(stop(alloc, disk.crash(Fill::New)?, pass, fail)?)?;
     }
     Ok(stops)
 }
@@ -96,25 +163,29 @@ fn crash_each(alloc: Global, stops: &[(bool, MemDisk)], fill: Fill) -> Result<[u
     Ok(counts)
 }
 
-// A recovery is six calls, and is tried again; a commit is seven, or nine where a gate is closed first. The last two
-// open the new gate, so that they alone may leave the files after a commit that wasn't acknowledged.
+// A recovery is seven calls, and is tried again. A commit is four, two of them for the gate of its record; where it makes
+// an image it is seven, or nine where a gate is closed first, and the last two open the new gate. These two alone may
+// leave the files after a commit that wasn't acknowledged.
 #[test]
 fn each_stop_leaves_the_files_before_or_after(rt: HostRuntime) -> Result<(), Fail> {
+    let alloc = rt.alloc();
+    let full = full_log(alloc)?;
     let rows = [
-        ([].as_slice(), 7, 1),
-        (AGAIN.as_slice(), 9, 1),
-        (AGAIN.as_slice(), 9, 3),
+        (fresh(alloc, &[], LOG, &[])?, 4, 1),
+        (fresh(alloc, &[], LOG, &full)?, 7, 1),
+        (fresh(alloc, &AGAIN, SECOND + LOG, &full)?, 9, 1),
+        (fresh(alloc, &AGAIN, SECOND + LOG, &full)?, 9, 3),
     ];
-    for (second, calls, fail) in rows {
-        let stops = stop_at_each(rt.alloc(), second, 6 + calls as u64, fail)?;
+    for (disk, calls, fail) in rows {
+        let stops = stop_at_each(alloc, &disk, 7 + calls as u64, fail)?;
         for (fill, after) in [
             (Fill::Old, 0),
             (Fill::New, 1),
             (Fill::Byte(0xA5), 2),
             (Fill::Byte(0), 0),
         ] {
-            let counts = crash_each(rt.alloc(), &stops, fill)?;
-            assert_eq!(rt; counts, [0, 6, calls - after, after], "{fail}");
+            let counts = crash_each(alloc, &stops, fill)?;
+            assert_eq!(rt; counts, [0, 7, calls - after, after], "{fail}");
         }
     }
     Ok(())

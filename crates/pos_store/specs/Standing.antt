@@ -29,7 +29,8 @@ abbrev pub Applies : List File → List (List ℕ) → List File → Type 0
 Applies files [] last = files ≡ last
 Applies files (text ∷ texts) last = (next : List File) × IsStep files text next × Applies next texts last
 
--- The bytes hold these files: those that the body of the current image spells, after the groups of the records behind it.
+-- The bytes hold these files: those that the body of the current image spells, after the groups of the records behind
+-- it.
 pub record HoldsFiles (files : List File) (sequence : ℕ) (bytes : List ℕ) : Type 0 where
   pub base : List File
   pub texts : List (List ℕ)

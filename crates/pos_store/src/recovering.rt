@@ -16,7 +16,8 @@ use std::alloc::Global;
 // Applies the group that a text spells.
 fn apply_text(alloc: Global, directory: &mut Directory, text: &[u8]) -> Result<(), StoreFault>
     ensures ok { OnOk result (IsStep directory.old text.now directory.new) }
-    ensures damaged { IfErr result (λ e. e ≡ StoreFault.Damaged → (next : List File) → ¬ (IsStep directory.old text.now next)) }
+    ensures damaged { IfErr result (λ e. e ≡ StoreFault.Damaged
+        → (next : List File) → ¬ (IsStep directory.old text.now next)) }
     ensures faults { IfErr result (λ e. (e ≡ StoreFault.Damaged) ⊎ (e ≡ StoreFault.NoMemory)) }
 {
     let group = match decode_group(alloc, text) {
