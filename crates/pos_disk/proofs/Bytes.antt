@@ -1,8 +1,18 @@
 -- Bytes written over others, and parts of bytes.
-use Rattle.std.proofs.Common.{◌≡◌, inl, inr, ℕ, ◌+◌, ◌-◌, ◌≤◌, ◌<◌, List, ◌++◌, length, take, drop, get_or, refl, sym, ◌∙◌, ap, arith, length-append, length-drop, append_assoc}
+use Rattle.std.proofs.Common.{◌≡◌, ◌⊎◌, inl, inr, ℕ, ◌+◌, ◌-◌, ◌≤◌, ◌<◌, List, ◌++◌, length, take, drop, get_or, refl, sym, ◌∙◌, ap, arith, length-append, length-drop, append_assoc}
 use Rattle.std.proofs.lemmas.Bool.{cases_lt}
 use Rattle.std.proofs.lemmas.List.{length-take-le, take_at, drop_at, get_or-take, get_or-drop, get_or-append_right, get_or_append_left, ext_get_or}
 use Rattle.pos_disk.specs.State.{InRange, splice, part}
+
+-- place i is in the range or not
+pub in_range : (at n i : ℕ) → InRange at n i ⊎ (¬ (InRange at n i))
+in_range at n i = elim (cases_lt i at) [
+  | inl before ↦ inr (λ inside. absurd (omega (arith, before, inside.0)))
+  | inr from ↦ elim (cases_lt i (at + n)) [
+    | inl below ↦ inl (from, below)
+    | inr behind ↦ inr (λ inside. absurd (omega (arith, behind, inside.1)))
+  ]
+]
 
 -- bytes put over others leave the length
 pub length-splice : {A : Type 0} (old new : List A) (at : ℕ) → at + length new ≤ length old → length (splice old at new) ≡ length old

@@ -6,8 +6,7 @@ use Rattle.std.proofs.lemmas.List.{get_or_append_left, get_or_default, get_or-re
 use Rattle.pos_disk.specs.State.{InRange, Elapses, HasCause, Writes, Syncs, splice}
 use Rattle.pos_disk.specs.Memory.{Moment, Memory, LeftAt, LeftSince, state_of, written, synced}
 use Rattle.pos_disk.specs.Kept.{from_moment}
-use Rattle.pos_disk.proofs.Bytes.{length-splice, spliced_within, spliced_elsewhere}
-use Rattle.pos_disk.proofs.Written.{in_range}
+use Rattle.pos_disk.proofs.Bytes.{in_range, length-splice, spliced_within, spliced_elsewhere}
 
 -- one moment more has gone by
 module _ (past : List Moment) (present next : Moment) where
@@ -47,7 +46,7 @@ elapsed disk next settled =
     }
 
 no_failure : {T : Type 0} (old new : Memory) (x : T) → HasCause (state_of old) (state_of new) (Ok x)
-no_failure old new x = record { later = omega arith; last = omega arith; rises = tt }
+no_failure old new x = record { later = omega arith; last = omega arith; rises = tt; same = refl }
 
 -- its write does what a write of an honest disk does
 pub writes : (disk : Memory) (at : ℕ) (bytes : List ℕ) → length disk.present.loose ≡ length disk.present.reading → at + length bytes ≤ length disk.present.reading

@@ -88,8 +88,8 @@ module _ (disk : DiskState) (f g : ℕ) where
 
 -- what the fuse counted is the cause of its faults
 caused : (old new : DiskState) (f : ℕ) (answer : Answer) → f < 2 ^ 64 → HasCause (with_failures old f) (with_failures new (failures_after f answer)) answer
-caused old new f (Ok x) fits = record { later = omega arith; last = fits; rises = tt }
-caused old new f (Err e) fits = let now = counts f fits in record { later = now.0; last = now.1.0; rises = now.1.1 }
+caused old new f (Ok x) fits = record { later = omega arith; last = fits; rises = tt; same = refl }
+caused old new f (Err e) fits = let now = counts f fits in record { later = now.0; last = now.1.0; rises = now.1.1; same = tt }
 
 -- a call of a fuse over an honest disk is a call of an honest disk
 module _ {D : Type 0} (bound : Ghosts D) (old new : Fuse D) (answer : Answer) (fits : old.failures < 2 ^ 64) (honest : bound.honest old.inner) where

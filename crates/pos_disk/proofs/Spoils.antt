@@ -5,8 +5,7 @@ use Rattle.std.proofs.lemmas.List.{length-take-le, ext_get_or}
 use Rattle.pos_disk.specs.State.{DiskState, InRange, MayLeave, Rises, HasCause, Reads, Writes, splice, part}
 use Rattle.pos_disk.specs.Fuse.{Spoils, Loosens, PutsHalf}
 use Rattle.pos_disk.specs.declared.device.DiskFault.{DiskFault}
-use Rattle.pos_disk.proofs.Bytes.{length-splice, spliced_within, splice_elsewhere, length-part, get_or-part}
-use Rattle.pos_disk.proofs.Written.{in_range}
+use Rattle.pos_disk.proofs.Bytes.{in_range, length-splice, spliced_within, splice_elsewhere, length-part, get_or-part}
 
 -- a read spoils nothing
 pub spoils_read : {T : Type 0} (old new : DiskState) (place : ℕ) (out : List ℕ) (result : Result T DiskFault) (at : ℕ) → Reads old new place out result → Spoils old new at 0

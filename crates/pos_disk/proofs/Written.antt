@@ -1,7 +1,7 @@
 -- What a write does to a disk in memory.
 use Rattle.std.proofs.lemmas.Bool.Decides.{nat_tests}
-use Rattle.std.proofs.Common.{◌≡◌, ◌⊎◌, inl, inr, ⊎_elim, ℕ, zero, suc, ◌+◌, ◌-◌, ◌≤◌, ◌<◌, List, [], ◌∷◌, ◌++◌, Bool, true, false, ◌==◌, length, take, drop, map, replicate, get_or, refl, sym, ◌∙◌, ap, arith}
-use Rattle.std.proofs.lemmas.Bool.{cases_lt, false≢true}
+use Rattle.std.proofs.Common.{◌≡◌, inl, inr, ⊎_elim, ℕ, zero, suc, ◌+◌, ◌-◌, ◌≤◌, ◌<◌, List, [], ◌∷◌, ◌++◌, Bool, true, false, ◌==◌, length, take, drop, map, replicate, get_or, refl, sym, ◌∙◌, ap, arith}
+use Rattle.std.proofs.lemmas.Bool.{false≢true}
 use Rattle.std.proofs.lemmas.List.{length-map, length-replicate, map-append, get_or-replicate, ext_get_or, drop-map}
 use Rattle.std.specs.List.{take-map}
 use Rattle.std.specs.List.{list_any}
@@ -9,18 +9,8 @@ use Rattle.std.proofs.lemmas.List.Folds.{list_any_at}
 use Rattle.pos_disk.specs.State.{InRange, splice, part}
 use Rattle.pos_disk.specs.Memory.{Moment, choose, written}
 use Rattle.pos_disk.specs.Stamps.{loose_by, moment_of, memory_of, IsKept, IsSaved}
-use Rattle.pos_disk.proofs.Bytes.{length-splice, spliced_within, spliced_elsewhere, splice_elsewhere, length-part, get_or-part}
+use Rattle.pos_disk.proofs.Bytes.{in_range, length-splice, spliced_within, spliced_elsewhere, splice_elsewhere, length-part, get_or-part}
 use Rattle.pos_disk.proofs.Stamps.{loose_at, stamp_at, is_loose, length-choose, choose_loose, choose_settled}
-
--- place i is in the range or not
-pub in_range : (at n i : ℕ) → InRange at n i ⊎ (¬ (InRange at n i))
-in_range at n i = elim (cases_lt i at) [
-  | inl before ↦ inr (λ inside. absurd (omega (arith, before, inside.0)))
-  | inr from ↦ elim (cases_lt i (at + n)) [
-    | inl below ↦ inl (from, below)
-    | inr behind ↦ inr (λ inside. absurd (omega (arith, behind, inside.1)))
-  ]
-]
 
 all_bear : (stamp n : ℕ) → loose_by stamp (replicate n stamp) ≡ replicate n true
 all_bear stamp zero = refl

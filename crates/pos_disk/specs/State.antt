@@ -16,7 +16,7 @@ pub record DiskState : Type 1 where
   pub moment : ℕ
   -- what a crash at some moment from that one on might have left
   pub left_since : ℕ → List ℕ → Type 0
-  -- how often the disk has failed; at its last value it stays
+  -- how many calls it has answered with a fault; at its last value it stays
   pub failures : ℕ
 
 -- no place is loose
@@ -51,11 +51,17 @@ pub record Elapses (old new : DiskState) : Type 0 where
   pub nothing_else : (t : ℕ) (bytes : List ℕ) → t ≤ old.moment → new.left_since t bytes
       → old.left_since t bytes ⊎ MayLeave new bytes
 
--- A fault is answered only where the disk has failed. The count never falls, and its last value is 2 ^ 64 - 1.
+-- the disk has failed as often as before
+abbrev pub HasNotFailed : DiskState → DiskState → Type 0
+HasNotFailed old new = new.failures ≡ old.failures
+
+-- A fault is answered only where the disk has failed, and the disk fails only where its fault is answered. The count
+-- never falls, and its last value is 2 ^ 64 - 1.
 pub record HasCause {T : Type 0} (old new : DiskState) (result : Result T DiskFault) : Type 0 where
   pub later : old.failures ≤ new.failures
   pub last : new.failures < 2 ^ 64
   pub rises : OnErr result (Rises old.failures new.failures)
+  pub same : OnOk result (HasNotFailed old new)
 
 -- A read gave these bytes from a place on, where it succeeded. It writes and settles nothing.
 pub record Reads {T : Type 0} (old new : DiskState) (at : ℕ) (out : List ℕ) (result : Result T DiskFault) : Type 0 where

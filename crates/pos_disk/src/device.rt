@@ -10,7 +10,9 @@ use thiserror::Error;
 pub struct DiskFault;
 
 /// Bytes under places numbered from 0. What is said of reads, writes, syncs and crashes is said of an honest disk
-/// alone; its size any disk keeps. The caller keeps each range within the size. docs/DISK.md, "The model of a disk".
+/// alone; its size any disk keeps. An honest disk counts its failures: the count rises, up to its last value, where a
+/// call answers a fault, and only there. The caller keeps each range within the size. docs/DISK.md, "The model of a
+/// disk".
 pub trait Disk {
     /// How many bytes it has, whether it is honest or not.
     ghost size: { Self → ℕ };

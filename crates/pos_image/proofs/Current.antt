@@ -58,14 +58,11 @@ module _ (old new : List ℕ) (at n : ℕ) (same : SameBut at n old new) where
       ap (λ (m : ℕ). part (place + 13) m new) long
       ∙ kept_part (place + 13) (length_at old place) (omega arith) (λ i inside. outside i (omega (arith, inside.0), omega (arith, inside.1)))
 
--- what stays within the other slot leaves the current image, where the other slot isn't the newer one then
-pub kept_current : (slot : Slot) (old new body : List ℕ) (sequence at n : ℕ) → start (other slot) ≤ at → at + n ≤ start (other slot) + 32768 → IsCurrent old slot body sequence → SameBut at n old new
-    → (is_open new (start (other slot)) ≡ true → sequence_at new (start (other slot)) < sequence) → IsCurrent new slot body sequence
-kept_current slot old new body sequence at n low high current same greater =
+-- what stays away from its slot up to the log, and from the gates of the later layout, leaves the current image, where the other slot isn't the newer one then
+pub kept_away : (slot : Slot) (old new body : List ℕ) (sequence at n : ℕ) → ((i : ℕ) → InRange (start slot) 16384 i → ¬ (InRange at n i)) → ((i : ℕ) → 65536 ≤ i → ¬ (InRange at n i)) → IsCurrent old slot body sequence
+    → SameBut at n old new → (is_open new (start (other slot)) ≡ true → sequence_at new (start (other slot)) < sequence) → IsCurrent new slot body sequence
+kept_away slot old new body sequence at n out far current same greater =
     let here = start_low slot in
-    let there = start_low (other slot) in
-    let out : (i : ℕ) → InRange (start slot) 32768 i → ¬ (InRange at n i) = λ i inside hit. ⊎_elim (λ before. absurd (omega (arith, before, inside.1, hit.0))) (λ behind. absurd (omega (arith, behind, inside.0, hit.1))) (apart slot) in
-    let far : (i : ℕ) → 65536 ≤ i → ¬ (InRange at n i) = λ i above hit. absurd (omega (arith, hit.1)) in
     let whole = current.whole in
     record {
       whole = omega (arith, same.same_length);
@@ -79,6 +76,15 @@ kept_current slot old new body sequence at n low high current same greater =
       body_is = kept_body old new at n same (start slot) (omega arith) current.fits (λ i inside. out i (omega (arith, inside.0), omega (arith, inside.1))) ∙ current.body_is;
       greater = greater;
     }
+
+-- so does what stays within the other slot
+pub kept_current : (slot : Slot) (old new body : List ℕ) (sequence at n : ℕ) → start (other slot) ≤ at → at + n ≤ start (other slot) + 32768 → IsCurrent old slot body sequence → SameBut at n old new
+    → (is_open new (start (other slot)) ≡ true → sequence_at new (start (other slot)) < sequence) → IsCurrent new slot body sequence
+kept_current slot old new body sequence at n low high =
+    let there = start_low (other slot) in
+    kept_away slot old new body sequence at n
+    (λ i inside hit. ⊎_elim (λ before. absurd (omega (arith, before, inside.1, hit.0))) (λ behind. absurd (omega (arith, behind, inside.0, hit.1))) (apart slot))
+    (λ i above hit. absurd (omega (arith, hit.1)))
 
 -- while an image is put into the other slot
 pub stage_current : (slot : Slot) (old new body : List ℕ) (sequence : ℕ) → IsCurrent old slot body sequence → Stages (start (other slot)) old new → IsCurrent new slot body sequence

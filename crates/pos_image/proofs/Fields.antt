@@ -1,12 +1,13 @@
 -- The fields of an image in a slot.
-use Rattle.std.proofs.Common.{◌≡◌, ℕ, ◌+◌, ◌≤◌, ◌<◌, ◌^◌, List, ◌++◌, length, sym, ap, ◌∙◌, arith}
+use Rattle.std.proofs.Common.{◌≡◌, ℕ, ◌+◌, ◌≤◌, ◌<◌, ◌^◌, List, ◌++◌, length, get_or, nat_eq, sym, ap, ◌∙◌, arith}
 use Rattle.std.specs.Int.{w32, w64, from_be_bytes}
 use Rattle.std.proofs.lemmas.Nat.{from_be_bytes-to_be_bytes_4, from_be_bytes-to_be_bytes_8}
 use Rattle.byteorder.specs.Endian.{big_bytes}
 use Rattle.pos_disk.specs.State.{part}
-use Rattle.pos_disk.proofs.Bytes.{part-part}
+use Rattle.pos_disk.proofs.Bytes.{get_or-part, part-part}
 use Rattle.pos_image.specs.Layout.{sequence_at, length_at, body_at}
-use Rattle.pos_image.specs.Slots.{HasFields}
+use Rattle.pos_image.specs.Slots.{HasFields, HasHead}
+use Rattle.pos_image.specs.declared.reading.Head.{Head}
 
 -- a head and a body behind the gate of a slot
 module _ (bytes body : List ℕ) (at sequence : ℕ) (fits : at + 13 ≤ length bytes) (short : length body ≤ 16371) (small : sequence < 2 ^ 64)
@@ -32,3 +33,14 @@ module _ (bytes body : List ℕ) (at sequence : ℕ) (fits : at + 13 ≤ length 
   -- the slot has these fields
   pub fields : HasFields bytes at sequence body
   fields = record { sequence_is = sequence_is; length_is = length_is; body_is = body_is }
+
+-- a head in the first bytes of a slot is the slot's
+pub head_here : (bytes : List ℕ) (at : ℕ) (head : Head) → at + 13 ≤ length bytes → HasHead (part at 13 bytes) 0 head → HasHead bytes at head
+unfolding sequence_at length_at
+head_here bytes at head fits is =
+    let here : at + 0 ≡ at = omega arith in
+    record {
+      gate = ap (λ (b : ℕ). nat_eq b 165) (ap (λ (k : ℕ). get_or bytes k 0) (sym here) ∙ sym (get_or-part at 13 bytes 0 (omega arith))) ∙ is.gate;
+      sequence = ap (from_be_bytes w64) (sym (part-part at 13 1 8 bytes (omega arith) fits)) ∙ is.sequence;
+      length = ap (from_be_bytes w32) (sym (part-part at 13 9 4 bytes (omega arith) fits)) ∙ is.length;
+    }

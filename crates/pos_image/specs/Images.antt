@@ -1,7 +1,7 @@
 -- What contracts see of images on a disk.
 use Rattle.std.specs.Prelude.{◌≡◌, ◌↔◌, ◌⊎◌, ◌≤◌, ◌<◌, ◌+◌, ◌^◌, ℕ, List, [], length, Option, Some, None, true}
 use Rattle.std.specs.Prelude.{Result, Ok, Err, OnOk, IsErr, IsErrOf, ⊤, MatchOption}
-use Rattle.pos_disk.specs.State.{DiskState, IsAtRest, MayLeave, LeavesOnly, Rises, Watches}
+use Rattle.pos_disk.specs.State.{DiskState, IsAtRest, MayLeave, LeavesOnly, Rises, HasNotFailed, Watches}
 use Rattle.pos_disk.specs.Keeps.{KeepsDisk}
 use Rattle.pos_disk.specs.declared.device.Disk.{Ghosts}
 use Rattle.pos_image.specs.Layout.{disk_size, longest, start, other}
@@ -49,6 +49,10 @@ pub record IsReady {D : Type 0} (bound : Ghosts D) (images : View D) : Type 0 wh
 abbrev pub HasFailed : DiskState → DiskState → Type 0
 HasFailed old new = Rises old.failures new.failures
 
+-- the disk fails only where a disk fault is answered
+abbrev pub CountsFaults : {T : Type 0} → DiskState → DiskState → Result T ImageFault → Type 0
+CountsFaults old new result = IsErrOf result fault.Device ⊎ HasNotFailed old new
+
 -- What preparing an image with this body does, whether it copies the body or takes it over. Of the disk itself, and of
 -- what a crash may leave, it speaks where the disk is honest.
 pub record Prepares {D : Type 0} (bound : Ghosts D) (old : View D) (body : List ℕ)
@@ -71,6 +75,7 @@ pub record Prepares {D : Type 0} (bound : Ghosts D) (old : View D) (body : List 
   pub failed : IsErrOf result fault.Device → new ≡ record old { disk = new.disk }
   pub device : bound.honest old.disk → IsErrOf result fault.Device
       → Rises (bound.state old.disk).failures (bound.state new.disk).failures
+  pub counts : bound.honest old.disk → CountsFaults (bound.state old.disk) (bound.state new.disk) result
   pub keeps : KeepsDisk bound old.disk new.disk
 
 -- the body of the image that is prepared
@@ -98,6 +103,11 @@ disk_after (Err refusal) = refusal.1
 abbrev pub handed_back : {D : Type 0} → Result D (ImageFault × D) → D
 handed_back (Ok disk) = disk
 handed_back (Err refusal) = refusal.1
+
+-- the answer of either without the disk that a refusal hands back
+abbrev pub without_disk : {T D : Type 0} → Result T (ImageFault × D) → Result T ImageFault
+without_disk (Ok made) = Ok made
+without_disk (Err refusal) = Err refusal.0
 
 -- why no image is found
 abbrev pub IsFindFault : ImageFault → Type 0

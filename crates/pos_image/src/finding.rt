@@ -2,7 +2,7 @@
 ghost use Rattle.std.specs.Prelude.{◌≡◌, ◌≤◌, ◌⊎◌, ℕ, List, IfOk, IfErr, OnOk};
 ghost use Rattle.pos_disk.specs.State.{IsAtRest, Watches};
 ghost use Rattle.pos_disk.specs.Keeps.{KeepsDisk};
-ghost use Rattle.pos_image.specs.Images.{FailsWithCause, FindsNone, FindsDamage, IsFindFault};
+ghost use Rattle.pos_image.specs.Images.{FailsWithCause, CountsFaults, FindsNone, FindsDamage, IsFindFault};
 ghost use Rattle.pos_image.specs.Layout.{disk_size, longest};
 ghost use Rattle.pos_image.specs.Slots.{HasHeads, FindsSlot};
 ghost use Rattle.pos_image.specs.Found.{FindsCurrent};
@@ -54,6 +54,7 @@ pub fn find<D: Disk>(alloc: Global, disk: &mut D) -> Result<Found, ImageFault>
     ensures unformatted { D.honest disk.old → IfErr result (FindsNone (D.state disk.old).reading) }
     ensures damaged { D.honest disk.old → IfErr result (FindsDamage (D.state disk.old).reading) }
     ensures device { D.honest disk.old → IfErr result (FailsWithCause (D.state disk.old) (D.state disk.new)) }
+    ensures counts { D.honest disk.old → CountsFaults (D.state disk.old) (D.state disk.new) result }
     ensures faults { IfErr result IsFindFault }
 {
     disk.sync()?;

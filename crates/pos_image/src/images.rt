@@ -24,8 +24,8 @@ use std::marker::Model;
 #[derive(Drop)]
 pub struct Images<D: Disk> {
     alloc: Global,
-    disk: D,
-    slot: Slot,
+    pub(crate) disk: D,
+    pub(crate) slot: Slot,
     current: Image,
     prepared: Option<Image>,
 }
@@ -44,8 +44,8 @@ impl<D: Disk> Model for Images<D> {
 
 impl<D: Disk> Images<D> {
     ghost use Rattle.pos_image.specs.Images.{IsReady, Prepares, IsPrepareFault, IsFormatFault, IsOpenFault, FindsNone, FindsDamage};
-    ghost use Rattle.pos_image.specs.Images.{RefusesMarked, FailsWithCause, FailsFor, KeepsButGate};
-    ghost use Rattle.pos_image.specs.Images.{disk_after, handed_back, next_of, published};
+    ghost use Rattle.pos_image.specs.Images.{RefusesMarked, FailsWithCause, FailsFor, CountsFaults, KeepsButGate};
+    ghost use Rattle.pos_image.specs.Images.{disk_after, handed_back, without_disk, next_of, published};
 
     /// Makes the current image of the disk that of no files, body `0000` and sequence 1, and gives it back at rest. It
     /// takes no memory. Nothing is promised of a disk whose formatting was interrupted. docs/DISK.md, "Formatting".
@@ -64,6 +64,7 @@ impl<D: Disk> Images<D> {
         ensures unmarked { D.honest disk → IfOk result (λ formatted. is_marked (D.state disk).reading ≡ false) }
         ensures marked { D.honest disk → IfErr result (λ e. RefusesMarked (D.state disk) (D.state e.1) e.0) }
         ensures device { D.honest disk → IfErr result (λ e. FailsWithCause (D.state disk) (D.state e.1) e.0) }
+        ensures counts { D.honest disk → CountsFaults (D.state disk) (D.state (handed_back result)) (without_disk result) }
         ensures faults { IfErr result (λ e. IsFormatFault e.0) }
         ensures untouched { IfErr result (λ e. e.0 ≡ TooSmall → e.1 ≡ disk) }
 
@@ -101,6 +102,7 @@ impl<D: Disk> Images<D> {
         ensures unformatted { D.honest disk → IfErr result (λ e. FindsNone (D.state disk).reading e.0) }
         ensures damaged { D.honest disk → IfErr result (λ e. FindsDamage (D.state disk).reading e.0) }
         ensures device { D.honest disk → IfErr result (λ e. FailsWithCause (D.state disk) (D.state e.1) e.0) }
+        ensures counts { D.honest disk → CountsFaults (D.state disk) (D.state (disk_after result)) (without_disk result) }
         ensures faults { IfErr result (λ e. IsOpenFault e.0) }
         ensures untouched { IfErr result (λ e. e.0 ≡ TooSmall → e.1 ≡ disk) }
 
@@ -202,6 +204,7 @@ impl<D: Disk> Images<D> {
         ensures faults { IsErr result → IsErrOf result Device }
         ensures failed { IsErr result → self.new ≡ record self.old { disk = self.new.disk; prepared = None } }
         ensures device { D.honest self.old.disk → IfErr result (FailsFor D.Disk self.old self.new) }
+        ensures counts { D.honest self.old.disk → CountsFaults (D.state self.old.disk) (D.state self.new.disk) result }
         ensures keeps { KeepsDisk D.Disk self.old.disk self.new.disk }
     {
         let Some(next) = self.prepared.take() else {

@@ -9,6 +9,7 @@ mod images;
 mod layout;
 mod reading;
 mod slot;
+mod spans;
 mod steps;
 
 pub use fault::ImageFault;

@@ -2,8 +2,8 @@
 ghost use Rattle.std.specs.Prelude.{◌≡◌, ◌≤◌, ◌+◌, ◌⊎◌, length, IfOk, IfErr};
 ghost use Rattle.pos_disk.specs.State.{HasCause, Watches, part};
 ghost use Rattle.pos_disk.specs.Keeps.{KeepsDisk};
-ghost use Rattle.pos_image.specs.Images.{FailsWithCause};
-ghost use Rattle.pos_image.specs.Layout.{disk_size, slot_size, longest, is_open, sequence_at, length_at};
+ghost use Rattle.pos_image.specs.Images.{FailsWithCause, CountsFaults};
+ghost use Rattle.pos_image.specs.Layout.{disk_size, longest, is_open, sequence_at, length_at};
 ghost use Rattle.pos_image.specs.Slots.{HasHead, HeadsAre, body_in};
 ghost use Rattle.pos_image.specs.declared.fault.ImageFault.TheVariants.{Device, NoMemory};
 
@@ -54,23 +54,39 @@ pub fn read_gate<D: Disk>(disk: &mut D, at: u64) -> Result<bool, DiskFault>
     Ok(gate[0] == OPEN)
 }
 
+// Bytes of others, as many as the array has.
+fn cut<const N: usize>(bytes: &[u8], at: usize) -> [u8; N]
+    requires { at + N ≤ length bytes.now }
+    ensures { result ≡ part at N bytes.now }
+{
+    let mut piece = [0; N];
+    piece.copy_from_slice(&bytes[at..at + N]);
+    piece
+}
+
+// The head in the first bytes of a slot.
 #[tactic(auto, unfolding(crate::specs::Layout::sequence_at, crate::specs::Layout::length_at))]
+fn head_in(bytes: &[u8]) -> Head
+    requires { 13 ≤ length bytes.now }
+    ensures { HasHead bytes.now 0 result }
+{
+    Head {
+        gate: bytes[0] == OPEN,
+        sequence: u64::from_be_bytes(cut(bytes, SEQUENCE as usize)),
+        length: u32::from_be_bytes(cut(bytes, LENGTH as usize)),
+    }
+}
+
+// Reads the head of a slot.
 fn read_head<D: Disk>(disk: &mut D, at: u64) -> Result<Head, DiskFault>
-    requires low { at ≤ slot_size }
-    requires fits { at + 13 ≤ D.size disk.old }
+    requires { at + 13 ≤ D.size disk.old }
     ensures keeps { KeepsDisk D.Disk disk.old disk.new }
     ensures head { D.honest disk.old → IfOk result (λ head. HasHead (D.state disk.old).reading at head) }
     ensures watches { D.honest disk.old → Watches (D.state disk.old) (D.state disk.new) }
     ensures cause { D.honest disk.old → HasCause (D.state disk.old) (D.state disk.new) result }
 {
-    let gate = read_gate(disk, at)?;
-    let sequence = read_bytes(disk, at + SEQUENCE)?;
-    let length = read_bytes(disk, at + LENGTH)?;
-    Ok(Head {
-        gate,
-        sequence: u64::from_be_bytes(sequence),
-        length: u32::from_be_bytes(length),
-    })
+    let bytes: [u8; 13] = read_bytes(disk, at)?;
+    Ok(head_in(&bytes))
 }
 
 /// Reads what tells the current slot.
@@ -105,6 +121,7 @@ pub fn read_body<D: Disk>(
     ensures body { D.honest disk.old → IfOk result (λ it. it.items ≡ body_in slot length (D.state disk.old)) }
     ensures watches { D.honest disk.old → Watches (D.state disk.old) (D.state disk.new) }
     ensures device { D.honest disk.old → IfErr result (FailsWithCause (D.state disk.old) (D.state disk.new)) }
+    ensures counts { D.honest disk.old → CountsFaults (D.state disk.old) (D.state disk.new) result }
     ensures faults { IfErr result (λ e. (e ≡ Device) ⊎ (e ≡ NoMemory)) }
 {
     let mut body = vec![in alloc; 0; length as usize]?;

@@ -33,7 +33,7 @@ loop-at-preserved g c = record {
             subst (λ (j : ℕ). get_or s2.reading (get_or GATES j 0) 0 ≡ 0) (sym here) shut
       ];
   rest = search rules;
-  later = search rules;
+  counts = search rules;
 }
 
 pub returns-clause-closed : goal.returns-clause-closed

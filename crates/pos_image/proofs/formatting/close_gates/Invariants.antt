@@ -1,4 +1,4 @@
-use Rattle.std.proofs.Common.{◌↔◌, ◌≡◌, ◌≤◌, ◌<◌, ℕ, get_or}
+use Rattle.std.proofs.Common.{◌↔◌, ◌≡◌, ◌<◌, ℕ, get_or}
 use Rattle.pos_image.specs.NewDisk.{KeepsRest}
 use Rattle.pos_image.proofs.formatting.close_gates.Given as goal
 
@@ -8,5 +8,5 @@ invariant-loop-at g l = record {
   honest : g.D.Disk.honest l.fn.disk ↔ g.D.Disk.honest l.disk;
   closed : g.D.Disk.honest l.fn.disk → (k : ℕ) → k < l.at-index → get_or (g.D.Disk.state l.disk).reading (get_or l.at-items k 0) 0 ≡ 0;
   rest : g.D.Disk.honest l.fn.disk → KeepsRest (g.D.Disk.state l.fn.disk).reading (g.D.Disk.state l.disk).reading;
-  later : g.D.Disk.honest l.fn.disk → (g.D.Disk.state l.fn.disk).failures ≤ (g.D.Disk.state l.disk).failures;
+  counts : g.D.Disk.honest l.fn.disk → (g.D.Disk.state l.disk).failures ≡ (g.D.Disk.state l.fn.disk).failures;
 }

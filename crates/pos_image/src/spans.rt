@@ -1,0 +1,102 @@
+// The calls of a log on the span behind the current image.
+ghost use Rattle.std.specs.Prelude.{◌≡◌, ◌-◌, length, IfErr, OnOk, IsErr, IsErrOf};
+ghost use Rattle.pos_disk.specs.State.{Watches, part};
+ghost use Rattle.pos_disk.specs.Keeps.{KeepsDisk};
+ghost use Rattle.pos_image.specs.Layout.{log_place, slot_size};
+ghost use Rattle.pos_image.specs.Spans.{IsInSpan};
+ghost use Rattle.pos_image.specs.Standing.{log_of};
+ghost use Rattle.pos_image.specs.declared.fault.ImageFault.TheVariants.{Device};
+
+use crate::fault::ImageFault;
+use crate::images::Images;
+use crate::layout::{LOG, SECOND};
+use pos_disk::Disk;
+
+/// The log of the current slot. Places are counted from the gate of the slot, each range lies within `log_span`, and
+/// what a call doesn't write of the slot's log it leaves as it is, with all else of the disk. docs/DISK.md, "The log
+/// span".
+impl<D: Disk> Images<D> {
+    ghost use Rattle.pos_image.specs.Images.{IsReady, FailsFor, CountsFaults};
+    ghost use Rattle.pos_image.specs.Spans.{IsWritable, WritesSpan, CrashKeepsImage, span_of};
+
+    /// Where the log lies in a slot: its first place, 16,384, and the one behind its last, 32,768.
+    pub fn log_span(&self) -> (u64, u64)
+        ensures { result ≡ (log_place, slot_size) }
+    {
+        (LOG, SECOND)
+    }
+
+    /// Reads bytes of the log, as many as `out` holds. It takes no memory.
+    ///
+    /// # Errors
+    ///
+    /// `Device` where the disk failed: the images have to be opened again.
+    pub fn log_read(&mut self, at: u64, out: &mut [u8]) -> Result<(), ImageFault>
+        requires writable { IsWritable D.Disk self.old }
+        requires inside { IsInSpan at (length out.old) }
+        ensures writable { OnOk result (IsWritable D.Disk self.new) }
+        ensures ready { IsReady D.Disk self.old → OnOk result (IsReady D.Disk self.new) }
+        ensures same { self.new ≡ record self.old { disk = self.new.disk } }
+        ensures bytes { D.honest self.old.disk → OnOk result
+            (out.new ≡ part (at - log_place) (length out.new) (log_of (D.state self.old.disk).reading)) }
+        ensures any_moment { D.honest self.old.disk → Watches (D.state self.old.disk) (D.state self.new.disk) }
+        ensures faults { IsErr result → IsErrOf result Device }
+        ensures device { D.honest self.old.disk → IfErr result (FailsFor D.Disk self.old self.new) }
+        ensures counts { D.honest self.old.disk → CountsFaults (D.state self.old.disk) (D.state self.new.disk) result }
+        ensures keeps { KeepsDisk D.Disk self.old.disk self.new.disk }
+    {
+        self.disk.read(self.slot.start() + at, out)?;
+        Ok(())
+    }
+
+    /// Writes bytes into the log. They stay from the next `log_sync` on; until then a crash may leave any bytes in
+    /// their places. It takes no memory.
+    ///
+    /// # Errors
+    ///
+    /// `Device` where the disk failed: the images have to be opened again.
+    pub fn log_write(&mut self, at: u64, bytes: &[u8]) -> Result<(), ImageFault>
+        requires writable { IsWritable D.Disk self.old }
+        requires inside { IsInSpan at (length bytes.now) }
+        ensures writable { OnOk result (IsWritable D.Disk self.new) }
+        ensures same { self.new ≡ record self.old { disk = self.new.disk } }
+        ensures span { D.honest self.old.disk → WritesSpan (span_of self.old (D.state self.old.disk))
+            (span_of self.old (D.state self.new.disk)) (at - log_place) bytes.now result }
+
+        // A crash at any moment of the call leaves the current image, and of its log what a crash after it may leave.
+        ensures any_moment { D.honest self.old.disk → CrashKeepsImage self.old (span_of self.old (D.state self.new.disk))
+            (D.state self.old.disk) (D.state self.new.disk) }
+
+        ensures faults { IsErr result → IsErrOf result Device }
+        ensures device { D.honest self.old.disk → IfErr result (FailsFor D.Disk self.old self.new) }
+        ensures counts { D.honest self.old.disk → CountsFaults (D.state self.old.disk) (D.state self.new.disk) result }
+        ensures keeps { KeepsDisk D.Disk self.old.disk self.new.disk }
+    {
+        self.disk.write(self.slot.start() + at, bytes)?;
+        Ok(())
+    }
+
+    /// Makes what was written into the log stay. It takes no memory.
+    ///
+    /// # Errors
+    ///
+    /// `Device` where the disk failed: the images have to be opened again.
+    pub fn log_sync(&mut self) -> Result<(), ImageFault>
+        requires { IsWritable D.Disk self.old }
+        ensures ready { OnOk result (IsReady D.Disk self.new) }
+        ensures same { self.new ≡ record self.old { disk = self.new.disk } }
+        ensures reading { D.honest self.old.disk → (D.state self.new.disk).reading ≡ (D.state self.old.disk).reading }
+
+        // A crash at any moment of the call leaves the current image, and of its log what a crash before it may leave.
+        ensures any_moment { D.honest self.old.disk → CrashKeepsImage self.old (span_of self.old (D.state self.old.disk))
+            (D.state self.old.disk) (D.state self.new.disk) }
+
+        ensures faults { IsErr result → IsErrOf result Device }
+        ensures device { D.honest self.old.disk → IfErr result (FailsFor D.Disk self.old self.new) }
+        ensures counts { D.honest self.old.disk → CountsFaults (D.state self.old.disk) (D.state self.new.disk) result }
+        ensures keeps { KeepsDisk D.Disk self.old.disk self.new.disk }
+    {
+        self.disk.sync()?;
+        Ok(())
+    }
+}
