@@ -33,9 +33,11 @@ layout_1 = record { bytes = totals_size; files = 64; cost = totals_size }
 abbrev pub last_number : ℕ
 last_number = 18446744073709551615
 
--- the sequences to which a group of changes may lead from one: each group makes a new image
+-- the sequences to which a group of changes may lead from one: it stays where the group goes behind the image that is
+-- there, and a new image has the next one; the last sequence has none
 abbrev pub next_sequences : ℕ → List ℕ
-next_sequences sequence = (sequence + 1) ∷ []
+next_sequences sequence =
+    if nat_eq sequence last_number then sequence ∷ [] else sequence ∷ (sequence + 1) ∷ []
 
 -- a number is one of these
 abbrev pub IsAmong : ℕ → List ℕ → Type 0
@@ -49,7 +51,7 @@ pub record File : Type 0 where
   pub bytes : List ℕ
   pub claim : Option ℕ
 
--- off, or ready with the files in the order of their creation and the sequence of their image
+-- off, or ready with the files in the order of their creation and the sequence of the image that they stand on
 pub data Mode : Type 0 where
   Off : Mode
   Ready : (files : List File) (sequence : ℕ) → Mode
@@ -365,10 +367,14 @@ abbrev pub is_last : Mode → Bool
 is_last Off = false
 is_last (Ready files sequence) = nat_eq sequence last_number
 
--- E_FAILURE where a number has run out: the sequence, or the handle that a new file needs
+-- E_FAILURE where the handle that a new file needs has run out
 abbrev pub number_rows : Totals → Change → List Row
-number_rows totals change =
-    when (is_last totals.mode || (is_create change && nat_eq totals.next last_number)) code.Failure ∷ []
+number_rows totals change = when (is_create change && nat_eq totals.next last_number) code.Failure ∷ []
+
+-- A group of changes finds no sequence for a new image. That may come only at the last sequence, and needn't come
+-- there: a group that goes behind the image is done.
+abbrev pub RunsOut : Totals → Answer → Totals → Type 0
+RunsOut old result new = (is_last old.mode ≡ true) × (result ≡ answer.Refused code.Failure 0) × (new ≡ old)
 
 -- A group of changes is done whole, or the disk fails in it, which comes only where DiskFailed holds: the disk's
 -- count of failures rose in the call.
@@ -378,11 +384,11 @@ Done DiskFailed old changes given result new =
     ⊎ ((result ≡ answer.Refused code.Failure 0) × DiskFailed × (new ≡ after_disk_fault old))
 
 -- A change that its table lets through is buffered in the transaction of the control that asks for it, behind what that
--- has buffered, and else it is answered by the numbers that it needs, and then done.
+-- has buffered, and else it is answered by the handle that it needs, and then done, where the sequences don't run out.
 abbrev pub DoesChange : Type 0 → Totals → ℕ → Change → Answer → Totals → Type 0
 DoesChange DiskFailed old control change result new = MatchOption (transaction_of old control)
     (Decided (number_rows old change) result (new ≡ old)
-    (Done DiskFailed old (change ∷ []) (given_by old.next change) result new))
+    (RunsOut old result new ⊎ Done DiskFailed old (change ∷ []) (given_by old.next change) result new))
     (λ buffer. (result ≡ answer.Done value.Empty) × (new ≡ with_transaction old control (Some (buffer ++ change ∷ []))))
 
 -- A change is answered by its table, and then does what it does. Want of memory comes only behind the table, and
@@ -427,13 +433,12 @@ abbrev pub changes_in : Option (List Change) → List Change
 changes_in None = []
 changes_in (Some buffer) = buffer
 
--- A commit that its table lets through ends the transaction. Without changes it does no more; else it is answered by
--- the sequence that it needs, and then all changes are done together, in their order.
+-- A commit that its table lets through ends the transaction. Without changes it does no more; else all changes are done
+-- together, in their order, where the sequences don't run out.
 abbrev pub DoesCommit : Type 0 → Totals → Totals → List Change → Answer → Totals → Type 0
 DoesCommit DiskFailed old ended [] result new = (result ≡ answer.Done value.Empty) × (new ≡ ended)
 DoesCommit DiskFailed old ended (change ∷ changes) result new =
-    Decided (when (is_last old.mode) code.Failure ∷ []) result (new ≡ old)
-    (Done DiskFailed ended (change ∷ changes) value.Empty result new)
+    RunsOut old result new ⊎ Done DiskFailed ended (change ∷ changes) value.Empty result new
 
 -- A commit is answered by its table, and then does what it does. Want of memory comes only behind the table, and
 -- changes nothing.

@@ -1,25 +1,28 @@
 -- What a change of the images means for the files.
-use Rattle.std.proofs.Common.{◌≡◌, ◌+◌, inl, inr, ⊎_elim, ℕ, List, Result, Ok, Err, MatchResult, refl, sym, ap, subst, ◌∙◌}
+use Rattle.std.proofs.Common.{◌≡◌, ◌+◌, inl, inr, ⊎_elim, ℕ, false, cond, List, length, Result, Ok, Err, MatchResult, refl, sym, ap, subst, ◌∙◌, arith}
 use Rattle.std.specs.Prelude.{Some}
+use Rattle.std.proofs.lemmas.Bool.{lt-leb}
 use Rattle.std.specs.Result.{result_err}
 use Rattle.pos_dir.proofs.Applied.{never_memory}
 use Rattle.pos_dir.specs.Changes.{outcome_of_all, fault_of}
 use Rattle.pos_dir.specs.Files.{IsDirectory}
-use Rattle.pos_dir.specs.Spelling.{spelling}
+use Rattle.pos_dir.specs.Spelling.{spelling, group_spelling}
 use Rattle.pos_dir.specs.declared.change.Change.{Change}
 use Rattle.pos_dir.specs.declared.fault.DirectoryFault.{DirectoryFault}
 use Rattle.pos_dir.specs.declared.fault.DirectoryFault.TheVariants as directory
 use Rattle.pos_dir.specs.declared.file.File.{File}
 use Rattle.pos_dir.specs.declared.limits.TheConstants.{LAYOUT_1}
 use Rattle.pos_disk.proofs.Moments.{weaker}
-use Rattle.pos_disk.specs.State.{LeavesOnly, CountsNow, Rises}
+use Rattle.pos_disk.specs.State.{LeavesOnly, MayLeave, CountsNow, Rises}
 use Rattle.pos_disk.specs.Keeps.{KeepsDisk}
 use Rattle.pos_disk.specs.declared.device.Disk.{Ghosts}
+use Rattle.pos_image.specs.Images.{CountsFaults}
+use Rattle.pos_image.specs.Layout.{slot_size}
 use Rattle.pos_image.specs.Standing as image
 use Rattle.pos_image.specs.Standing.{HasEither}
-use Rattle.pos_store.specs.Commits.{Commits, IsLast, IsNextBody, before_or_after}
+use Rattle.pos_store.specs.Commits.{Commits, PutsDown, IsLast, IsNextBody, IsUnmade, before_or_after, left_by, end_of, fits_behind, sequence_after, tail_after}
 use Rattle.pos_store.specs.Faults.{refusal}
-use Rattle.pos_store.specs.Modes.{Off, Ready}
+use Rattle.pos_store.specs.Modes.{StoreView, Off, Ready, new_tail}
 use Rattle.pos_store.specs.Standing.{StandsForOneOf}
 use Rattle.pos_store.specs.declared.fault.StoreFault.{StoreFault}
 use Rattle.pos_store.specs.declared.fault.StoreFault.TheVariants as fault
@@ -33,12 +36,31 @@ pub record Spells (files after : List File) (body next : List ℕ) : Type 0 wher
 
 -- one of the two images stands for one of the two lists of files
 pub either_stands : (files after : List File) (body next log : List ℕ) (sequence : ℕ) (outcome : Result (List File) DirectoryFault) → Spells files after body next
-    → outcome ≡ Ok after → (bytes : List ℕ) → HasEither body next sequence log bytes → StandsForOneOf (before_or_after files sequence outcome) bytes
+    → outcome ≡ Ok after → (bytes : List ℕ) → HasEither body next sequence log bytes → StandsForOneOf (before_or_after files sequence (sequence + 1) outcome) bytes
 either_stands files after body next log sequence outcome spells applicable bytes either =
     rw applicable (⊎_elim
     (λ old. inl (spells.before, old.image ∙ ap (λ (b : List ℕ). image.OneImage b sequence) spells.spelled))
     (λ new. inr (inl (spells.behind, new.image ∙ ap (λ (b : List ℕ). image.OneImage b (sequence + 1)) spells.spelled_next)))
     either)
+
+-- behind the records of a new image nothing fits
+nothing_fits : (changes : List Change) → fits_behind new_tail changes ≡ false
+nothing_fits changes = lt-leb (end_of new_tail (length (group_spelling changes))) slot_size (omega arith)
+
+-- so each group takes a new image, with the next sequence
+next_sequence : (changes : List Change) (sequence : ℕ) → sequence_after new_tail changes sequence ≡ sequence + 1
+next_sequence changes sequence = ap (λ b. cond b sequence (sequence + 1)) (nothing_fits changes)
+
+-- a store that is ready over a disk
+abbrev pub ready_view : {D : Type 0} → D → List File → ℕ → StoreView D
+ready_view disk files sequence = record { disk = disk; state = Ready files sequence; tail = new_tail }
+
+-- what a crash during the commit may leave
+among : (files after : List File) (body next log : List ℕ) (sequence : ℕ) (changes : List Change) → Spells files after body next → outcome_of_all LAYOUT_1 files changes ≡ Ok after
+    → (bytes : List ℕ) → HasEither body next sequence log bytes → StandsForOneOf (left_by files sequence new_tail changes) bytes
+among files after body next log sequence changes spells applicable bytes either =
+    subst (λ (n : ℕ). StandsForOneOf (before_or_after files sequence n (outcome_of_all LAYOUT_1 files changes)) bytes) (sym (next_sequence changes sequence))
+    (either_stands files after body next log sequence (outcome_of_all LAYOUT_1 files changes) spells applicable bytes either)
 
 -- a commit that met a fault of the disk
 pub failed_commits : {D : Type 0} (bound : Ghosts D) (disk failed : D) (files after : List File) (body next log : List ℕ) (sequence : ℕ) (changes : List Change) → Spells files after body next
@@ -47,16 +69,17 @@ pub failed_commits : {D : Type 0} (bound : Ghosts D) (disk failed : D) (files af
     → (bound.honest disk → (bytes : List ℕ) → CountsNow (bound.state failed) (bound.state disk).moment bytes)
     → (bound.honest disk → Rises (bound.state disk).failures (bound.state failed).failures)
     → KeepsDisk bound disk failed
-    → Commits bound (record { disk = disk; state = Ready files sequence }) changes (Err fault.Device) (record { disk = failed; state = Off })
+    → Commits bound (ready_view disk files sequence) changes (Err fault.Device) (record { disk = failed; state = Off; tail = 0 })
 failed_commits bound disk failed files after body next log sequence changes spells applicable more any_moment counts device keeps =
-    let stands = either_stands files after body next log sequence (outcome_of_all LAYOUT_1 files changes) spells applicable in
+    let stands = among files after body next log sequence changes spells applicable in
     record {
-      answer = rw applicable (more, refl);
+      answer = rw applicable ((λ none. more none.1), refl);
       unchanged = λ err. inl refl;
-      any_moment = λ h. weaker (bound.state disk) (bound.state failed) (HasEither body next sequence log) (StandsForOneOf (before_or_after files sequence (outcome_of_all LAYOUT_1 files changes))) stands (any_moment h);
+      any_moment = λ h. weaker (bound.state disk) (bound.state failed) (HasEither body next sequence log) (StandsForOneOf (left_by files sequence new_tail changes)) stands (any_moment h);
       now = λ h. tt;
       in_doubt = λ h is bytes may. stands bytes ((any_moment h).each bytes (counts h bytes (any_moment h).later may));
       device = λ h is. device h;
+      counts = λ h. inl refl;
       keeps = keeps;
     }
 

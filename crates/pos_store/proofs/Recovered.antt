@@ -1,10 +1,10 @@
 -- What a recovery of a store that is off did, by what it found and that it only looked at the disk.
-use Rattle.std.proofs.Common.{◌≡◌, ◌⊎◌, inl, inr, ⊎_elim, ℕ, List, Result, Err, IsErrOf, refl, subst}
+use Rattle.std.proofs.Common.{◌≡◌, ◌⊎◌, inl, inr, ⊎_elim, ℕ, List, Result, Err, IsErrOf, refl, ap, subst}
 use Rattle.pos_dir.specs.Calls.{IsBody, Decodes}
 use Rattle.pos_dir.specs.declared.fault.DirectoryFault.{DirectoryFault}
 use Rattle.pos_dir.specs.declared.fault.DirectoryFault.TheVariants as directory
 use Rattle.pos_dir.specs.declared.limits.TheConstants.{LAYOUT_1}
-use Rattle.pos_disk.specs.State.{Watches, Rises}
+use Rattle.pos_disk.specs.State.{DiskState, Watches, Rises, HasNotFailed}
 use Rattle.pos_disk.specs.Keeps.{KeepsDisk}
 use Rattle.pos_disk.specs.declared.device.Disk.{Ghosts}
 use Rattle.pos_image.specs.Standing as image
@@ -25,9 +25,10 @@ pub off_recovers : {D : Type 0} (bound : Ghosts D) (disk : D) (result : Result (
     → (bound.honest disk → Watches (bound.state disk) (bound.state new.disk))
     → (bound.honest disk → LeavesItsFiles new.state (bound.state new.disk))
     → (bound.honest disk → IsErrOf result fault.Device → Rises (bound.state disk).failures (bound.state new.disk).failures)
+    → (bound.honest disk → IsErrOf result fault.Device ⊎ HasNotFailed (bound.state disk) (bound.state new.disk))
     → KeepsDisk bound disk new.disk
-    → Recovers bound (record { disk = disk; state = Off }) result new
-off_recovers bound disk result new finds watches now device keeps = record {
+    → Recovers bound (record { disk = disk; state = Off; tail = 0 }) result new
+off_recovers bound disk result new finds watches now device counts keeps = record {
   ready = tt;
   answer = finds;
   one_of = λ h candidates leaves. recovers_one candidates (bound.state disk) (bound.state new.disk) result new.state
@@ -36,6 +37,7 @@ off_recovers bound disk result new finds watches now device keeps = record {
   reading = λ h. (watches h).reading;
   now = now;
   device = device;
+  counts = counts;
   keeps = keeps;
 }
 
@@ -68,6 +70,13 @@ told_device images.Exhausted told tells is = cc
 told_device images.Device told tells is = refl
 told_device images.NoMemory told tells is = cc
 told_device images.TooSmall told tells is = cc
+
+-- and it is told wherever it is answered
+pub counts_told : {T : Type 0} (old new : DiskState) (cause : ImageFault) (told : StoreFault) → Tells cause told → IsErrOf {T = T} (Err cause) images.Device ⊎ HasNotFailed old new → IsErrOf {T = Unit {0}} (Err told) fault.Device ⊎ HasNotFailed old new
+counts_told old new cause told tells counts =
+    ⊎_elim
+    (λ is. inl (let told_so = subst (λ (f : ImageFault). Tells f told) (let e : cause ≡ images.Device = cc in e) tells in ap (λ (f : StoreFault). Err f) told_so))
+    (λ same. inr same) counts
 
 -- a damaged image is damage
 pub damaged_stands : (bytes : List ℕ) → image_on bytes ≡ image.DamagedImage → StandsFor Damaged bytes

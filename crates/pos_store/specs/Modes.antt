@@ -7,21 +7,28 @@ use Rattle.pos_dir.specs.Spelling.{spelling}
 use Rattle.pos_dir.specs.declared.file.File.{File}
 use Rattle.pos_dir.specs.declared.limits.TheConstants.{LAYOUT_1}
 use Rattle.pos_image.specs.Images.{IsReady}
+use Rattle.pos_image.specs.Layout.{slot_size}
 use Rattle.pos_store.specs.Standing.{Stands, LeavesOneOf}
 use Rattle.pos_store.specs.declared.medium.Medium.{Medium}
 use Rattle.pos_store.specs.declared.medium.Medium.TheVariants as medium
 use Rattle.pos_store.specs.declared.mode.Mode.{Mode}
 use Rattle.pos_store.specs.declared.mode.Mode.TheVariants as mode
 
--- Off, or ready with these files and the sequence of their image
+-- Off, or ready with these files and the sequence of the image that they stand on
 pub data StoreState : Type 0 where
   Off : StoreState
   Ready : (files : List File) (sequence : ℕ) → StoreState
 
--- The disk, and what the store has of it.
+-- The disk, what the store has of it, and, where it is ready, the place in the current slot behind its records, at
+-- which the gate of the next one stands; else 0.
 pub record StoreView (D : Type 0) : Type 0 where
   pub disk : D
   pub state : StoreState
+  pub tail : ℕ
+
+-- that place in a new image: nothing fits behind it
+abbrev pub new_tail : ℕ
+new_tail = slot_size
 
 -- the files, where it is ready
 abbrev pub files_of : StoreState → Option (List File)
@@ -50,8 +57,9 @@ LeavesItsFiles (Ready files sequence) disk = LeavesOneOf (Stands files sequence 
 
 -- what the parts of a store mean
 abbrev pub view_of : {D : Type 0} → Medium D → StoreView D
-view_of (medium.Off disk) = record { disk = disk; state = Off }
-view_of (medium.Ready images directory) = record { disk = images.disk; state = Ready directory images.sequence }
+view_of (medium.Off disk) = record { disk = disk; state = Off; tail = 0 }
+view_of (medium.Ready images directory) =
+    record { disk = images.disk; state = Ready directory images.sequence; tail = new_tail }
 
 -- where it is ready, so are its images, and their body is the spelling of the files
 abbrev pub SpellsItsFiles : {D : Type 0} → Ghosts D → Medium D → Type 0

@@ -3,7 +3,7 @@ ghost use Rattle.std.specs.Prelude.{◌≡◌, ◌≤◌, ◌+◌, Err, IsErr, O
 ghost use Rattle.pos_disk.specs.State.{LeavesOnly, Rises};
 ghost use Rattle.pos_disk.specs.Keeps.{KeepsDisk};
 ghost use Rattle.pos_image.specs.Standing.{HasEither, log_of};
-ghost use Rattle.pos_image.specs.Images.{IsReady};
+ghost use Rattle.pos_image.specs.Images.{CountsFaults, IsReady};
 ghost use Rattle.pos_dir.specs.Changes.{outcome_of_all};
 ghost use Rattle.pos_dir.specs.Spelling.{body_limit};
 ghost use Rattle.pos_dir.specs.declared.limits.TheConstants.{LAYOUT_1};
@@ -55,6 +55,8 @@ fn publish_body<D: Disk>(images: &mut Images<D>, body: Vec<u8>) -> Result<(), Im
         (HasEither images.old.body body.items images.old.sequence (log_of (D.state images.old.disk).reading)) }
     ensures device { D.honest images.old.disk → IsErr result
         → Rises (D.state images.old.disk).failures (D.state images.new.disk).failures }
+    ensures counts { D.honest images.old.disk
+        → CountsFaults (D.state images.old.disk) (D.state images.new.disk) result }
     ensures keeps { KeepsDisk D.Disk images.old.disk images.new.disk }
 {
     images.prepare_owned(body)?;

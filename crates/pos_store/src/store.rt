@@ -38,7 +38,7 @@ impl<D: Disk> Store<D> {
 
     /// A store that is off, over a disk. Nothing is read yet.
     pub fn new(alloc: Global, disk: D) -> Store<D>
-        ensures { result ≡ record { disk = disk; state = Off } }
+        ensures { result ≡ record { disk = disk; state = Off; tail = 0 } }
     {
         Store {
             alloc,

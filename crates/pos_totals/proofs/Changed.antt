@@ -1,5 +1,5 @@
 -- What a change of the totals did, by what its table says and by what the store did.
-use Rattle.std.proofs.Common.{◌≡◌, ◌∙◌, inl, inr, ⊎_elim, ℕ, ◌+◌, ℤ, pos, negsuc, ◌^◌, ◌<◌, ◌≤◌, Bool, true, false, not, ◌&&◌, ◌||◌, cond, List, [], ◌∷◌, ◌++◌, length, Option, Some, None, Result, Ok, Err, MatchOption, IfSome, refl, sym, ap, subst, arith}
+use Rattle.std.proofs.Common.{◌≡◌, ◌∙◌, inl, inr, ⊎_elim, ◌⊎◌, ℕ, ◌+◌, ℤ, pos, negsuc, ◌^◌, ◌<◌, ◌≤◌, Bool, true, false, not, ◌&&◌, ◌||◌, cond, List, [], ◌∷◌, ◌++◌, length, Option, Some, None, Result, Ok, Err, MatchOption, IfSome, refl, sym, ap, subst, arith}
 use Rattle.std.specs.Prelude.{slice_set, nat_eq, nat_lt, nat_le, is_none, is_some}
 use Rattle.std.specs.List.{find, AllByRecursion}
 use Rattle.std.specs.Option.{option_map}
@@ -17,9 +17,9 @@ use Rattle.pos_service.specs.declared.answer.Value.TheVariants as value
 use Rattle.pos_service.specs.declared.code.Code.TheVariants as code
 use Rattle.pos_service.specs.declared.memory.NoMemory.{NoMemory}
 use Rattle.pos_service.specs.Claims.{is_foreign}
-use Rattle.pos_service.specs.HardTotals.{File, Off, Ready, Totals, Change, Create, Delete, Rename, Write, SetAll, is_name, is_natural, is_named, is_called, is_up_to, has_file, has_room, free_data, is_create, is_foreign_file, is_foreign_claim, is_range_of, last_number, layout_1, change_rows, refusals_of_change, group_by_change, number_rows, files_after, next_after, after_changes, after_disk_fault, given_by, spent_by, transaction_at, with_transaction, cost_of, cost_of_all, is_over, Changed, DoesChange, Done}
+use Rattle.pos_service.specs.HardTotals.{File, Off, Ready, Totals, Change, Create, Delete, Rename, Write, SetAll, is_name, is_natural, is_named, is_called, is_up_to, has_file, has_room, free_data, is_create, is_foreign_file, is_foreign_claim, is_range_of, last_number, layout_1, change_rows, refusals_of_change, group_by_change, number_rows, files_after, next_after, after_changes, after_disk_fault, given_by, spent_by, transaction_at, with_transaction, cost_of, cost_of_all, is_over, Changed, DoesChange, Done, RunsOut}
 use Rattle.pos_service.specs.Refusals.{first_refusal, Decided}
-use Rattle.pos_store.specs.Commits.{Commits, IsLast}
+use Rattle.pos_store.specs.Commits.{Commits, sequence_after}
 use Rattle.pos_store.specs.Modes.{StoreState as State, LeavesItsFiles}
 use Rattle.pos_store.specs.Modes.{Off as StoreOff, Ready as StoreReady, StoreView}
 use Rattle.pos_store.specs.declared.fault.StoreFault.{StoreFault}
@@ -31,7 +31,7 @@ use Rattle.pos_totals.proofs.Handled.{all_with, given_is, next_is, value_is, are
 use Rattle.pos_totals.proofs.Pairs.{plain_of, tags_in, numbers_in, called_again}
 use Rattle.pos_totals.proofs.Outlined.{found_has}
 use Rattle.pos_totals.proofs.Places.{found_inside}
-use Rattle.pos_totals.proofs.Putting.{open_table, closed_table, their_files, sound_files, idles, rests, put_down, put_group, doubt_group}
+use Rattle.pos_totals.proofs.Putting.{open_table, closed_table, follows, their_files, view_at, sound_files, idles, rests, put_down, put_group, doubt_group}
 use Rattle.pos_totals.specs.Buffers.{IsGiven, IsBuffered, IsAsked, is_bufferable, cost_of_checked, HasLeft, MayBuffer, Buffers, HaveBuffers, transactions_after, with_buffered}
 use Rattle.pos_totals.specs.Changes.{Changes, HasFailed, IsOneGroup}
 use Rattle.pos_totals.specs.Checks.{ChecksAt, Passes, file_change_of, answer_of}
@@ -68,9 +68,9 @@ no_group totals control change refusal refused = ap (λ (o : Option Answer). con
 
 -- what a change does outside a transaction
 pub does_outside : (DiskFailed : Type 0) (old : Totals) (control : ℕ) (change : Change) (result : Answer) (new : Totals) → transaction_at old.transactions control ≡ None
-    → Decided (number_rows old change) result (new ≡ old) (Done DiskFailed old (change ∷ []) (given_by old.next change) result new) → DoesChange DiskFailed old control change result new
+    → Decided (number_rows old change) result (new ≡ old) (RunsOut old result new ⊎ Done DiskFailed old (change ∷ []) (given_by old.next change) result new) → DoesChange DiskFailed old control change result new
 does_outside DiskFailed old control change result new none does =
-    subst (λ (t : Option (List Change)). MatchOption t (Decided (number_rows old change) result (new ≡ old) (Done DiskFailed old (change ∷ []) (given_by old.next change) result new))
+    subst (λ (t : Option (List Change)). MatchOption t (Decided (number_rows old change) result (new ≡ old) (RunsOut old result new ⊎ Done DiskFailed old (change ∷ []) (given_by old.next change) result new))
     (λ buffer. (result ≡ answer.Done value.Empty) × (new ≡ with_transaction old control (Some (buffer ++ change ∷ []))))) (sym none) does
 
 -- and what it does inside one
@@ -79,7 +79,7 @@ does_inside : (DiskFailed : Type 0) (old : Totals) (control : ℕ) (change : Cha
 does_inside DiskFailed old control change buffer some =
     let result : Answer = answer.Done value.Empty in
     let new = with_transaction old control (Some (buffer ++ change ∷ [])) in
-    subst (λ (t : Option (List Change)). MatchOption t (Decided (number_rows old change) result (new ≡ old) (Done DiskFailed old (change ∷ []) (given_by old.next change) result new))
+    subst (λ (t : Option (List Change)). MatchOption t (Decided (number_rows old change) result (new ≡ old) (RunsOut old result new ⊎ Done DiskFailed old (change ∷ []) (given_by old.next change) result new))
     (λ buffer. (result ≡ answer.Done value.Empty) × (new ≡ with_transaction old control (Some (buffer ++ change ∷ []))))) (sym some) (refl, refl)
 
 -- ---- where nothing changes
@@ -110,7 +110,7 @@ module _ {D : Type 0} (bound : Ghosts D) (disk : D) (only : bound.honest disk �
   -- a change that changes nothing
   pub stays : (state : State) (ledger : Ledger) (control : ℕ) (change : Change) (outcome : Result Answer NoMemory) → HasDirectory state → IsSound state ledger → (bound.honest disk → LeavesItsFiles state (bound.state disk))
       → ((DiskFailed : Type 0) → Changed layout_1 DiskFailed (totals_of state ledger) control change outcome (totals_of state ledger))
-      → Changes bound (view_of (record { disk = disk; state = state }) ledger) control change outcome (view_of (record { disk = disk; state = state }) ledger)
+      → Changes bound (view_at disk state ledger) control change outcome (view_at disk state ledger)
   stays state ledger control change outcome directory sound leaves changed = record {
     answer = changed (HasFailed bound disk disk);
     disk = rests bound disk only (totals_of state ledger) (group_by_change layout_1 (totals_of state ledger) control change) outcome
@@ -221,14 +221,14 @@ module _ {D : Type 0} (bound : Ghosts D) (disk : D) (only : bound.honest disk �
   before = totals_of (StoreReady files sequence) ledger
 
   abbrev old_view : TotalsView D
-  old_view = view_of (record { disk = disk; state = StoreReady files sequence }) ledger
+  old_view = view_at disk (StoreReady files sequence) ledger
 
   abbrev with_change : List Change → Ledger
   with_change buffer = record ledger { transactions = slice_set ledger.transactions control (Some (buffer ++ change ∷ [])) }
 
   -- the change is buffered
   pub is_added : (buffer : List Change) → transaction_at ledger.transactions control ≡ Some buffer
-      → Changes bound old_view control change (Ok (answer.Done value.Empty)) (view_of (record { disk = disk; state = StoreReady files sequence }) (with_change buffer))
+      → Changes bound old_view control change (Ok (answer.Done value.Empty)) (view_at disk (StoreReady files sequence) (with_change buffer))
       × IsSound (StoreReady files sequence) (with_change buffer)
   is_added buffer some =
       let xs = with_tags ledger.handles.given files in
@@ -251,7 +251,7 @@ module _ {D : Type 0} (bound : Ghosts D) (disk : D) (only : bound.honest disk �
       )
 
   pub buffers : (outcome : Result Answer NoMemory) (new : List (Option (List Change))) → is_some (transaction_at ledger.transactions control) ≡ true → Buffers ledger.transactions control made outcome new
-      → Changes bound old_view control change outcome (view_of (record { disk = disk; state = StoreReady files sequence }) (record ledger { transactions = new })) × IsSound (StoreReady files sequence) (record ledger { transactions = new })
+      → Changes bound old_view control change outcome (view_at disk (StoreReady files sequence) (record ledger { transactions = new })) × IsSound (StoreReady files sequence) (record ledger { transactions = new })
   buffers (Err want) new inside same = rw same (
     stays bound disk only (StoreReady files sequence) ledger control change (Err want) directory sound leaves (wants (StoreReady files sequence) ledger control change made checks want),
     sound,
@@ -276,32 +276,17 @@ lacks_is files (SetAll handle n) next = refl
 lacks_so : (files : List File) (change : Change) (next : ℕ) (made : Checked) (b : Bool) → file_change files change ≡ file_change_of made → lacks next (file_change_of made) ≡ b → (is_create change && nat_eq next last_number) ≡ b
 lacks_so files change next made b same lacking = sym (lacks_is files change next) ∙ ap (lacks next) same ∙ lacking
 
-or_right : (x y : Bool) → y ≡ true → (x || y) ≡ true
-or_right true y e = refl
-or_right false y e = e
-
--- no number has run out
-numbers_left : (sequence next : ℕ) (change : Change) → ¬ (IsLast sequence) → (is_create change && nat_eq next last_number) ≡ false → (nat_eq sequence last_number || (is_create change && nat_eq next last_number)) ≡ false
-numbers_left sequence next change more left = or_from _ _ (ne_eqb sequence last_number (λ same. more (omega (arith, same)))) left
-
--- the answer of a change for which a number has run out
-run_out : (files : List PlainFile) (sequence : ℕ) (ledger : Ledger) (control : ℕ) (change : Change) → first_refusal (refusals_of_change layout_1 (totals_of (StoreReady files sequence) ledger) control change) ≡ None → transaction_at ledger.transactions control ≡ None
-    → (nat_eq sequence last_number || (is_create change && nat_eq ledger.handles.next last_number)) ≡ true
-    → (DiskFailed : Type 0) → Changed layout_1 DiskFailed (totals_of (StoreReady files sequence) ledger) control change (Ok (answer.Refused code.Failure 0)) (totals_of (StoreReady files sequence) ledger)
-run_out files sequence ledger control change unrefused none out DiskFailed =
-    let before = totals_of (StoreReady files sequence) ledger in
-    open_table (refusals_of_change layout_1 before control change) _ _ _ unrefused
-    (does_outside DiskFailed before control change _ before none
-    (closed_table (number_rows before change) _ (answer.Refused code.Failure 0) _ _ (ap (λ b. cond b (Some (answer.Refused code.Failure 0)) None) out) refl refl))
-
 -- the answer of a change that has no handle
 pub lacking : (state : State) (ledger : Ledger) (control : ℕ) (change : Change) (made : Checked) → ChecksAt (totals_of state ledger) control change (Ok made) → is_some (transaction_at ledger.transactions control) ≡ false
     → lacks ledger.handles.next (file_change_of made) ≡ true
     → (DiskFailed : Type 0) → Changed layout_1 DiskFailed (totals_of state ledger) control change (Ok (answer.Refused code.Failure 0)) (totals_of state ledger)
 lacking StoreOff ledger control change made checks free out DiskFailed = absurd checks.1
 lacking (StoreReady files sequence) ledger control change made checks free out DiskFailed =
-    run_out files sequence ledger control change (passed (StoreReady files sequence) ledger control change made checks) (outside (transaction_at ledger.transactions control) free)
-    (or_right (nat_eq sequence last_number) _ (lacks_so (with_tags ledger.handles.given files) change ledger.handles.next made true checks.1.made out)) DiskFailed
+    let before = totals_of (StoreReady files sequence) ledger in
+    let lacking = lacks_so (with_tags ledger.handles.given files) change ledger.handles.next made true checks.1.made out in
+    open_table (refusals_of_change layout_1 before control change) _ _ _ (passed (StoreReady files sequence) ledger control change made checks)
+    (does_outside DiskFailed before control change _ before (outside (transaction_at ledger.transactions control) free)
+    (closed_table (number_rows before change) _ (answer.Refused code.Failure 0) _ _ (ap (λ b. cond b (Some (answer.Refused code.Failure 0)) None) lacking) refl refl))
 
 -- the tags have a place for what the change does to them
 has_place : (files : List File) (control : ℕ) (spent : Option ℕ) (change : Change) (next : ℕ) → first_refusal (change_rows layout_1 files control spent change) ≡ None → (is_create change && nat_eq next last_number) ≡ false → next < 2 ^ 64
@@ -339,14 +324,14 @@ abbrev pub refused_ledger : Ledger → StoreFault → Ledger
 refused_ledger ledger cause = record ledger { transactions = transactions_after cause ledger.transactions }
 
 module _ {D : Type 0} (bound : Ghosts D) (disk : D) (only : bound.honest disk → (bytes : List ℕ) → (bound.state disk).left_since (bound.state disk).moment bytes → MayLeave (bound.state disk) bytes)
-    (files : List PlainFile) (sequence : ℕ) (ledger : Ledger) (control : ℕ) (change : Change) (made : Checked)
+    (files : List PlainFile) (sequence tail : ℕ) (ledger : Ledger) (control : ℕ) (change : Change) (made : Checked)
     (checks : ChecksAt (totals_of (StoreReady files sequence) ledger) control change (Ok made)) (free : is_some (transaction_at ledger.transactions control) ≡ false)
     (directory : IsDirectory LAYOUT_1 files) (sound : IsSound (StoreReady files sequence) ledger) (leaves : bound.honest disk → LeavesItsFiles (StoreReady files sequence) (bound.state disk)) where
   abbrev ready : Totals
   ready = totals_of (StoreReady files sequence) ledger
 
   abbrev ready_store : StoreView D
-  ready_store = record { disk = disk; state = StoreReady files sequence }
+  ready_store = record { disk = disk; state = StoreReady files sequence; tail = tail }
 
   abbrev there : List File
   there = with_tags ledger.handles.given files
@@ -369,22 +354,26 @@ module _ {D : Type 0} (bound : Ghosts D) (disk : D) (only : bound.honest disk �
   is_ungrouped : group_by_change layout_1 ready control change ≡ change ∷ []
   is_ungrouped = grouped ready control change false let_through free
 
-  -- what the change is answered, the number being there
-  answered : (DiskFailed : Type 0) (result : Answer) (new : Totals) → (nat_eq sequence last_number || (is_create change && nat_eq next last_number)) ≡ false
-      → Done DiskFailed ready (change ∷ []) (given_by next change) result new → Changed layout_1 DiskFailed ready control change (Ok result) new
-  answered DiskFailed result new numbers done =
+  -- the sequence after it
+  abbrev then_sequence : ℕ
+  then_sequence = sequence_after tail group sequence
+
+  -- what the change is answered, the handle being there
+  answered : (DiskFailed : Type 0) (result : Answer) (new : Totals) → (is_create change && nat_eq next last_number) ≡ false
+      → RunsOut ready result new ⊎ Done DiskFailed ready (change ∷ []) (given_by next change) result new → Changed layout_1 DiskFailed ready control change (Ok result) new
+  answered DiskFailed result new left does =
       open_table (refusals_of_change layout_1 ready control change) _ _ _ let_through
       (does_outside DiskFailed ready control change result new (outside (transaction_at ledger.transactions control) free)
-      (open_table (number_rows ready change) _ _ _ (ap (λ b. cond b (Some (answer.Refused code.Failure 0)) None) numbers) done))
+      (open_table (number_rows ready change) _ _ _ (ap (λ b. cond b (Some (answer.Refused code.Failure 0)) None) left) does))
 
   -- a change that the store has put down
   done : (new : StoreView D) → Commits bound ready_store group (Ok tt) new → (is_create change && nat_eq next last_number) ≡ false
-      → Changes bound (view_of ready_store ledger) control change (Ok (answer.Done (given_by next change))) (record { disk = new.disk; totals = after_changes ready (change ∷ []) (sequence + 1) })
+      → Changes bound (view_of ready_store ledger) control change (Ok (answer.Done (given_by next change))) (record { disk = new.disk; totals = after_changes ready (change ∷ []) then_sequence })
   done new commits left =
-      let down = put_down bound disk files sequence ledger change [] sound.handles one (Ok tt) new.state commits.answer in
+      let down = put_down bound disk files sequence tail ledger change [] sound.handles one (Ok tt) new commits.answer in
       record {
-        answer = answered (HasFailed bound disk new.disk) _ _ (numbers_left sequence next change down.0 left) (inl (refl, record { sequence = sequence + 1; follows = inl refl; totals = refl }));
-        disk = rw is_ungrouped (put_group bound disk files sequence ledger change [] sound.handles one new (after_changes ready (change ∷ []) (sequence + 1)) (given_by next change) commits refl);
+        answer = answered (HasFailed bound disk new.disk) _ _ left (inr (inl (refl, record { sequence = then_sequence; follows = follows tail group sequence down.0; totals = refl })));
+        disk = rw is_ungrouped (put_group bound disk files sequence tail ledger change [] sound.handles one new (after_changes ready (change ∷ []) then_sequence) (given_by next change) commits refl);
       }
 
   abbrev as_made : FileChange
@@ -394,21 +383,21 @@ module _ {D : Type 0} (bound : Ghosts D) (disk : D) (only : bound.honest disk �
   after_done : (new : StoreView D) → Commits bound ready_store group (Ok tt) new → (is_create change && nat_eq next last_number) ≡ false
       → Changes bound (view_of ready_store ledger) control change (Ok (answer.Done (value_after next as_made))) (view_of new (kept_ledger ledger as_made))
   after_done new commits left =
-      let down = put_down bound disk files sequence ledger change [] sound.handles one (Ok tt) new.state commits.answer in
+      let down = put_down bound disk files sequence tail ledger change [] sound.handles one (Ok tt) new commits.answer in
       let given : given_after ledger.handles.given next as_made ≡ tags_of (files_after next there change) =
       ap (λ (tags : List Tag). given_after tags next as_made) (sym (tags_in ledger.handles.given files sound.handles.count)) ∙ given_is there control (spent_by ready control) change next both.0.distinct checks.1.unrefused in
       rw (down.1, given, value_is there change next, next_is there change next, called_again (files_after next there change)) (done new commits left)
 
   sound_after : (new : StoreView D) → Commits bound ready_store group (Ok tt) new → IsSound new.state (kept_ledger ledger as_made)
   sound_after new commits =
-      let down = put_down bound disk files sequence ledger change [] sound.handles one (Ok tt) new.state commits.answer in
+      let down = put_down bound disk files sequence tail ledger change [] sound.handles one (Ok tt) new commits.answer in
       let spent = spent_by ready control in
       let after = files_after next there change in
       let old : AreHandles (tags_of there) (plain there) next = rw (tags_in ledger.handles.given files sound.handles.count, plain_of ledger.handles.given files sound.handles.count) sound.handles in
       let given : given_after ledger.handles.given next as_made ≡ tags_of after =
       ap (λ (tags : List Tag). given_after tags next as_made) (sym (tags_in ledger.handles.given files sound.handles.count)) ∙ given_is there control spent change next both.0.distinct checks.1.unrefused in
-      let buffers : HaveBuffers (Ready after (sequence + 1)) (next_after next change) ledger.transactions =
-      holds_so there after sequence (sequence + 1) next (next_after next change) ledger.transactions (λ other is. buffered_after there control spent change next other both.1 checks.1.unrefused is) sound.buffers in
+      let buffers : HaveBuffers (Ready after then_sequence) (next_after next change) ledger.transactions =
+      holds_so there after sequence then_sequence next (next_after next change) ledger.transactions (λ other is. buffered_after there control spent change next other both.1 checks.1.unrefused is) sound.buffers in
       rw down.1 (record {
         handles = subst (λ (tags : List Tag). AreHandles (given_after tags next as_made) (plain after) (following next as_made)) (tags_in ledger.handles.given files sound.handles.count)
             (are_after there control spent change next both.0.distinct old checks.1.unrefused);
@@ -419,28 +408,26 @@ module _ {D : Type 0} (bound : Ghosts D) (disk : D) (only : bound.honest disk �
   -- a change in which the store met a fault
   failed : (new : StoreView D) (cause : StoreFault) → (is_create change && nat_eq next last_number) ≡ false → Commits bound ready_store group (Err cause) new
       → Changes bound (view_of ready_store ledger) control change (answer_of cause) (view_of new (refused_ledger ledger cause)) × IsSound new.state (refused_ledger ledger cause)
-  failed new fault.Off left commits = absurd (put_down bound disk files sequence ledger change [] sound.handles one (Err fault.Off) new.state commits.answer)
-  failed new (fault.Refused refusal) left commits = absurd (put_down bound disk files sequence ledger change [] sound.handles one (Err (fault.Refused refusal)) new.state commits.answer)
-  failed new fault.Unformatted left commits = absurd (put_down bound disk files sequence ledger change [] sound.handles one (Err fault.Unformatted) new.state commits.answer)
-  failed new fault.Damaged left commits = absurd (put_down bound disk files sequence ledger change [] sound.handles one (Err fault.Damaged) new.state commits.answer)
+  failed new fault.Off left commits = absurd (put_down bound disk files sequence tail ledger change [] sound.handles one (Err fault.Off) new commits.answer)
+  failed new (fault.Refused refusal) left commits = absurd (put_down bound disk files sequence tail ledger change [] sound.handles one (Err (fault.Refused refusal)) new commits.answer)
+  failed new fault.Unformatted left commits = absurd (put_down bound disk files sequence tail ledger change [] sound.handles one (Err fault.Unformatted) new commits.answer)
+  failed new fault.Damaged left commits = absurd (put_down bound disk files sequence tail ledger change [] sound.handles one (Err fault.Damaged) new commits.answer)
   failed new fault.NoMemory left commits =
       let same : new ≡ ready_store = ⊎_elim (λ is. absurd cc) (λ e. e) (commits.unchanged refl) in
       rw same (stays bound disk only (StoreReady files sequence) ledger control change _ directory sound leaves (wants (StoreReady files sequence) ledger control change made checks (record {})), sound)
   failed new fault.Exhausted left commits =
-      let down = put_down bound disk files sequence ledger change [] sound.handles one (Err fault.Exhausted) new.state commits.answer in
-      let same : new ≡ ready_store = ⊎_elim (λ is. absurd cc) (λ e. e) (commits.unchanged refl) in
-      let last : nat_eq sequence last_number ≡ true = eq-eqb sequence last_number (let l = down.0 in omega (arith, l)) in
-      rw same (
-        stays bound disk only (StoreReady files sequence) ledger control change _ directory sound leaves
-            (run_out files sequence ledger control change let_through (outside (transaction_at ledger.transactions control) free) (ap (λ b. b || (is_create change && nat_eq next last_number)) last)),
+      let down = put_down bound disk files sequence tail ledger change [] sound.handles one (Err fault.Exhausted) new commits.answer in
+      let last : nat_eq sequence last_number ≡ true = eq-eqb sequence last_number (let l = down.0.1 in omega (arith, l)) in
+      rw down.1 (
+        stays bound disk only (StoreReady files sequence) ledger control change _ directory sound leaves (λ DiskFailed. answered DiskFailed _ _ left (inl (last, refl, refl))),
         sound,
       )
   failed new fault.Device left commits =
-      let down = put_down bound disk files sequence ledger change [] sound.handles one (Err fault.Device) new.state commits.answer in
+      let down = put_down bound disk files sequence tail ledger change [] sound.handles one (Err fault.Device) new commits.answer in
       rw down.1 (
         record {
-          answer = answered (HasFailed bound disk new.disk) _ _ (numbers_left sequence next change down.0 left) (inr (refl, λ h. commits.device h refl, refl));
-          disk = rw is_ungrouped (doubt_group bound disk files sequence ledger change [] sound.handles one new (after_disk_fault ready) _ commits refl);
+          answer = answered (HasFailed bound disk new.disk) _ _ left (inr (inr (refl, λ h. commits.device h refl, refl)));
+          disk = rw is_ungrouped (doubt_group bound disk files sequence tail ledger change [] sound.handles one new (after_disk_fault ready) _ commits refl);
         },
         record { handles = tt; buffers = none_hold Off next ledger.transactions; apart = tt },
       )
@@ -451,34 +438,34 @@ module _ {D : Type 0} (bound : Ghosts D) (disk : D) (only : bound.honest disk �
     (ledger : Ledger) (control : ℕ) (change : Change) (made : Checked) where
   pub store_buffers : (state : State) → HasDirectory state → IsSound state ledger → (bound.honest disk → LeavesItsFiles state (bound.state disk)) → ChecksAt (totals_of state ledger) control change (Ok made)
       → is_some (transaction_at ledger.transactions control) ≡ true → (outcome : Result Answer NoMemory) (new : List (Option (List Change))) → Buffers ledger.transactions control made outcome new
-      → Changes bound (view_of (record { disk = disk; state = state }) ledger) control change outcome (view_of (record { disk = disk; state = state }) (record ledger { transactions = new })) × IsSound state (record ledger { transactions = new })
+      → Changes bound (view_at disk state ledger) control change outcome (view_at disk state (record ledger { transactions = new })) × IsSound state (record ledger { transactions = new })
   store_buffers StoreOff directory sound leaves checks inside outcome new did = absurd checks.1
   store_buffers (StoreReady files sequence) directory sound leaves checks inside outcome new did =
       buffers bound disk only files sequence ledger control change made checks directory sound leaves outcome new inside did
 
-  pub store_done : (state : State) (new : StoreView D) → HasDirectory state → IsSound state ledger → (bound.honest disk → LeavesItsFiles state (bound.state disk)) → ChecksAt (totals_of state ledger) control change (Ok made)
-      → is_some (transaction_at ledger.transactions control) ≡ false → lacks ledger.handles.next (file_change_of made) ≡ false → Commits bound (record { disk = disk; state = state }) (file_change_of made ∷ []) (Ok tt) new
-      → Changes bound (view_of (record { disk = disk; state = state }) ledger) control change (Ok (answer.Done (value_after ledger.handles.next (file_change_of made)))) (view_of new (kept_ledger ledger (file_change_of made)))
+  pub store_done : (state : State) (tail : ℕ) (new : StoreView D) → HasDirectory state → IsSound state ledger → (bound.honest disk → LeavesItsFiles state (bound.state disk)) → ChecksAt (totals_of state ledger) control change (Ok made)
+      → is_some (transaction_at ledger.transactions control) ≡ false → lacks ledger.handles.next (file_change_of made) ≡ false → Commits bound (record { disk = disk; state = state; tail = tail }) (file_change_of made ∷ []) (Ok tt) new
+      → Changes bound (view_at disk state ledger) control change (Ok (answer.Done (value_after ledger.handles.next (file_change_of made)))) (view_of new (kept_ledger ledger (file_change_of made)))
       × IsSound new.state (kept_ledger ledger (file_change_of made))
-  store_done StoreOff new directory sound leaves checks free left commits = absurd checks.1
-  store_done (StoreReady files sequence) new directory sound leaves checks free left commits =
+  store_done StoreOff tail new directory sound leaves checks free left commits = absurd checks.1
+  store_done (StoreReady files sequence) tail new directory sound leaves checks free left commits =
       let xs = with_tags ledger.handles.given files in
-      let before = subst (λ (file : FileChange). Commits bound (record { disk = disk; state = StoreReady files sequence }) (file ∷ []) (Ok tt) new) (sym checks.1.made) commits in
+      let before = subst (λ (file : FileChange). Commits bound (record { disk = disk; state = StoreReady files sequence; tail = tail }) (file ∷ []) (Ok tt) new) (sym checks.1.made) commits in
       let numbers = lacks_so xs change ledger.handles.next made false checks.1.made left in
-      subst (λ (file : FileChange). Changes bound (view_of (record { disk = disk; state = StoreReady files sequence }) ledger) control change (Ok (answer.Done (value_after ledger.handles.next file))) (view_of new (kept_ledger ledger file))
+      subst (λ (file : FileChange). Changes bound (view_at disk (StoreReady files sequence) ledger) control change (Ok (answer.Done (value_after ledger.handles.next file))) (view_of new (kept_ledger ledger file))
       × IsSound new.state (kept_ledger ledger file)) checks.1.made (
-        after_done bound disk only files sequence ledger control change made checks free directory sound leaves new before numbers,
-        sound_after bound disk only files sequence ledger control change made checks free directory sound leaves new before,
+        after_done bound disk only files sequence tail ledger control change made checks free directory sound leaves new before numbers,
+        sound_after bound disk only files sequence tail ledger control change made checks free directory sound leaves new before,
       )
 
   -- whatever fault the store has
-  pub store_refused : (state : State) (new : StoreView D) (cause : StoreFault) → HasDirectory state → IsSound state ledger → (bound.honest disk → LeavesItsFiles state (bound.state disk)) → ChecksAt (totals_of state ledger) control change (Ok made)
-      → is_some (transaction_at ledger.transactions control) ≡ false → lacks ledger.handles.next (file_change_of made) ≡ false → Commits bound (record { disk = disk; state = state }) (file_change_of made ∷ []) (Err cause) new
-      → Changes bound (view_of (record { disk = disk; state = state }) ledger) control change (answer_of cause) (view_of new (refused_ledger ledger cause)) × IsSound new.state (refused_ledger ledger cause)
-  store_refused StoreOff new cause directory sound leaves checks free left commits = absurd checks.1
-  store_refused (StoreReady files sequence) new cause directory sound leaves checks free left commits =
-      failed bound disk only files sequence ledger control change made checks free directory sound leaves new cause (lacks_so (with_tags ledger.handles.given files) change ledger.handles.next made false checks.1.made left)
-      (subst (λ (file : FileChange). Commits bound (record { disk = disk; state = StoreReady files sequence }) (file ∷ []) (Err cause) new) (sym checks.1.made) commits)
+  pub store_refused : (state : State) (tail : ℕ) (new : StoreView D) (cause : StoreFault) → HasDirectory state → IsSound state ledger → (bound.honest disk → LeavesItsFiles state (bound.state disk)) → ChecksAt (totals_of state ledger) control change (Ok made)
+      → is_some (transaction_at ledger.transactions control) ≡ false → lacks ledger.handles.next (file_change_of made) ≡ false → Commits bound (record { disk = disk; state = state; tail = tail }) (file_change_of made ∷ []) (Err cause) new
+      → Changes bound (view_at disk state ledger) control change (answer_of cause) (view_of new (refused_ledger ledger cause)) × IsSound new.state (refused_ledger ledger cause)
+  store_refused StoreOff tail new cause directory sound leaves checks free left commits = absurd checks.1
+  store_refused (StoreReady files sequence) tail new cause directory sound leaves checks free left commits =
+      failed bound disk only files sequence tail ledger control change made checks free directory sound leaves new cause (lacks_so (with_tags ledger.handles.given files) change ledger.handles.next made false checks.1.made left)
+      (subst (λ (file : FileChange). Commits bound (record { disk = disk; state = StoreReady files sequence; tail = tail }) (file ∷ []) (Err cause) new) (sym checks.1.made) commits)
 
 -- the files of a store that is ready have handles of their own, what is buffered fits them, and claims are apart
 pub theirs : (state : State) (ledger : Ledger) → HasDirectory state → IsSound state ledger → HasItsFiles (totals_of state ledger)

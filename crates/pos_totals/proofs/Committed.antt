@@ -1,5 +1,5 @@
 -- What a commit did, by what its table says and by what the store did.
-use Rattle.std.proofs.Common.{◌≡◌, ◌∙◌, inl, inr, ⊎_elim, ℕ, zero, suc, ◌+◌, true, false, cond, List, [], ◌∷◌, length, Option, Some, None, Ok, Err, refl, sym, ap, subst, arith}
+use Rattle.std.proofs.Common.{◌≡◌, ◌∙◌, inl, inr, ⊎_elim, ◌⊎◌, ℕ, zero, suc, ◌+◌, true, false, cond, List, [], ◌∷◌, length, Option, Some, None, Ok, Err, refl, sym, ap, subst, arith}
 use Rattle.std.specs.Prelude.{nat_eq, is_none, slice_set}
 use Rattle.std.specs.List.{list_any, AllByRecursion}
 use Rattle.std.proofs.lemmas.Bool.{eq-eqb, ne_eqb}
@@ -16,9 +16,9 @@ use Rattle.pos_service.specs.declared.answer.Value.TheVariants as value
 use Rattle.pos_service.specs.declared.code.Code.TheVariants as code
 use Rattle.pos_service.specs.declared.memory.NoMemory.{NoMemory}
 use Rattle.pos_service.specs.Claims.{is_foreign}
-use Rattle.pos_service.specs.HardTotals.{while_ready, files_of, File, Mode, Off, Ready, Totals, Change, is_of_none, is_of_foreign, last_number, commit_rows, refusals_of_commit, group_by_commit, changes_in, transaction_at, transaction_of, with_transaction, without_transactions, after_changes, after_disk_fault, files_after_all, DoesCommit, Committed, Done}
+use Rattle.pos_service.specs.HardTotals.{while_ready, files_of, File, Mode, Off, Ready, Totals, Change, is_of_none, is_of_foreign, last_number, commit_rows, refusals_of_commit, group_by_commit, changes_in, transaction_at, transaction_of, with_transaction, without_transactions, after_changes, after_disk_fault, files_after_all, DoesCommit, Committed, Done, RunsOut}
 use Rattle.pos_service.specs.Refusals.{first_refusal, when}
-use Rattle.pos_store.specs.Commits.{Commits}
+use Rattle.pos_store.specs.Commits.{Commits, sequence_after}
 use Rattle.pos_store.specs.Modes.{StoreState as State, LeavesItsFiles}
 use Rattle.pos_store.specs.Modes.{Off as StoreOff, Ready as StoreReady, StoreView}
 use Rattle.pos_store.specs.declared.fault.StoreFault.{StoreFault}
@@ -28,7 +28,7 @@ use Rattle.pos_totals.proofs.Changed.{refused_ledger}
 use Rattle.pos_totals.proofs.Grouped.{not_refused}
 use Rattle.pos_totals.proofs.Outlined.{same_buffered}
 use Rattle.pos_totals.proofs.Pairs.{tags_in, called_again}
-use Rattle.pos_totals.proofs.Putting.{open_table, closed_table, their_files, sound_files, idles, rests, put_down, put_group, doubt_group}
+use Rattle.pos_totals.proofs.Putting.{open_table, closed_table, follows, their_files, view_at, sound_files, idles, rests, put_down, put_group, doubt_group}
 use Rattle.pos_totals.specs.Buffers.{IsBuffered}
 use Rattle.pos_totals.specs.Changes.{CommitsBuffer, HasFailed, IsOneGroup}
 use Rattle.pos_totals.specs.Checks.{answer_of, Gathers}
@@ -99,7 +99,7 @@ module _ {D : Type 0} (bound : Ghosts D) (disk : D) (only : bound.honest disk �
   totals = totals_of state ledger
 
   abbrev view : TotalsView D
-  view = view_of (record { disk = disk; state = state }) ledger
+  view = view_at disk state ledger
 
   their : bound.honest disk → LeavesTheirFiles totals.mode (bound.state disk)
   their h = their_files ledger.handles.given state ledger.handles.next (bound.state disk) sound.handles (leaves h)
@@ -113,7 +113,7 @@ module _ {D : Type 0} (bound : Ghosts D) (disk : D) (only : bound.honest disk �
 
   -- a commit of nothing
   pub ends : first_refusal (refusals_of_commit totals control) ≡ None → transaction_at ledger.transactions control ≡ Some [] → (new : List (Option (List Change))) → new ≡ slice_set ledger.transactions control None
-      → CommitsBuffer bound view control (Ok (answer.Done value.Empty)) (view_of (record { disk = disk; state = state }) (record ledger { transactions = new }))
+      → CommitsBuffer bound view control (Ok (answer.Done value.Empty)) (view_at disk state (record ledger { transactions = new }))
       × IsSound state (record ledger { transactions = new })
   ends passes none new is = rw is (
     record {
@@ -135,7 +135,7 @@ let_through (StoreReady files sequence) ledger control directory sound passes =
 -- a commit that finds no memory
 pub finds_none : {D : Type 0} (bound : Ghosts D) (disk : D) (only : bound.honest disk → (bytes : List ℕ) → (bound.state disk).left_since (bound.state disk).moment bytes → MayLeave (bound.state disk) bytes)
     (state : State) (ledger : Ledger) (control : ℕ) → HasDirectory state → IsSound state ledger → (bound.honest disk → LeavesItsFiles state (bound.state disk)) → first_refusal (refusals_of_commit (totals_of state ledger) control) ≡ None → (want : NoMemory)
-    → CommitsBuffer bound (view_of (record { disk = disk; state = state }) ledger) control (Err want) (view_of (record { disk = disk; state = state }) ledger)
+    → CommitsBuffer bound (view_at disk state ledger) control (Err want) (view_at disk state ledger)
 finds_none bound disk only state ledger control directory sound leaves passes want = record {
   answer = (passes, refl);
   disk = rests bound disk only (totals_of state ledger) (group_by_commit (totals_of state ledger) control) (Err want) (let_through state ledger control directory sound passes)
@@ -151,7 +151,7 @@ none_left (first ∷ others) zero = refl
 none_left (first ∷ others) (suc control) = ap (λ ts. None ∷ ts) (none_left others control)
 
 module _ {D : Type 0} (bound : Ghosts D) (disk : D) (only : bound.honest disk → (bytes : List ℕ) → (bound.state disk).left_since (bound.state disk).moment bytes → MayLeave (bound.state disk) bytes)
-    (files : List PlainFile) (sequence : ℕ) (ledger : Ledger) (control : ℕ) (first : Change) (others : List Change)
+    (files : List PlainFile) (sequence tail : ℕ) (ledger : Ledger) (control : ℕ) (first : Change) (others : List Change)
     (passes : first_refusal (refusals_of_commit (totals_of (StoreReady files sequence) ledger) control) ≡ None) (some : transaction_at ledger.transactions control ≡ Some (first ∷ others))
     (directory : IsDirectory LAYOUT_1 files) (sound : IsSound (StoreReady files sequence) ledger) (leaves : bound.honest disk → LeavesItsFiles (StoreReady files sequence) (bound.state disk)) where
   abbrev ready : Totals
@@ -161,7 +161,7 @@ module _ {D : Type 0} (bound : Ghosts D) (disk : D) (only : bound.honest disk �
   ended = with_transaction ready control None
 
   abbrev ready_store : StoreView D
-  ready_store = record { disk = disk; state = StoreReady files sequence }
+  ready_store = record { disk = disk; state = StoreReady files sequence; tail = tail }
 
   abbrev there : List File
   there = with_tags ledger.handles.given files
@@ -181,12 +181,15 @@ module _ {D : Type 0} (bound : Ghosts D) (disk : D) (only : bound.honest disk �
   buffered : AllByRecursion (IsBuffered there next) (first ∷ others)
   buffered = held_at (Ready there sequence) next ledger.transactions control (first ∷ others) sound.buffers some
 
-  -- what the commit is answered, the sequence being there
-  answered : (DiskFailed : Type 0) (result : Answer) (new : Totals) → nat_eq sequence last_number ≡ false → Done DiskFailed ended (first ∷ others) value.Empty result new → Committed DiskFailed ready control (Ok result) new
-  answered DiskFailed result new number done =
+  -- what the commit is answered
+  answered : (DiskFailed : Type 0) (result : Answer) (new : Totals) → RunsOut ready result new ⊎ Done DiskFailed ended (first ∷ others) value.Empty result new → Committed DiskFailed ready control (Ok result) new
+  answered DiskFailed result new does =
       open_table (refusals_of_commit ready control) _ _ _ passes
-      (subst (λ (t : Option (List Change)). DoesCommit DiskFailed ready ended (changes_in t) result new) (sym some)
-      (open_table (when (nat_eq sequence last_number) code.Failure ∷ []) _ _ _ (ap (λ b. cond b (Some (answer.Refused code.Failure 0)) None) number) done))
+      (subst (λ (t : Option (List Change)). DoesCommit DiskFailed ready ended (changes_in t) result new) (sym some) does)
+
+  -- the sequence after it
+  abbrev then_sequence : ℕ
+  then_sequence = sequence_after tail (group_of there (first ∷ others)) sequence
 
   -- the tags are those of the files after it
   given : ledger.handles.given ≡ tags_of after
@@ -196,17 +199,16 @@ module _ {D : Type 0} (bound : Ghosts D) (disk : D) (only : bound.honest disk �
   pub done : (new : StoreView D) → Commits bound ready_store (group_of there (first ∷ others)) (Ok tt) new
       → CommitsBuffer bound (view_of ready_store ledger) control (Ok (answer.Done value.Empty)) (view_of new ended_ledger) × IsSound new.state ended_ledger
   done new commits =
-      let down = put_down bound disk files sequence ledger first others sound.handles one (Ok tt) new.state commits.answer in
-      let number = ne_eqb sequence last_number (λ same. down.0 (omega (arith, same))) in
+      let down = put_down bound disk files sequence tail ledger first others sound.handles one (Ok tt) new commits.answer in
       let mode : with_tags ledger.handles.given (plain after) ≡ after = ap (λ (tags : List Tag). with_tags tags (plain after)) given ∙ called_again after in
-      let totals : totals_of (StoreReady (plain after) (sequence + 1)) ended_ledger ≡ after_changes ended (first ∷ others) (sequence + 1) =
-      ap (λ (fs : List File). record ended { mode = Ready fs (sequence + 1) }) mode ∙ ap (λ n. record ended { mode = Ready after (sequence + 1); next = n }) (sym (next_stays there next (first ∷ others) buffered)) in
+      let totals : totals_of (StoreReady (plain after) then_sequence) ended_ledger ≡ after_changes ended (first ∷ others) then_sequence =
+      ap (λ (fs : List File). record ended { mode = Ready fs then_sequence }) mode ∙ ap (λ n. record ended { mode = Ready after then_sequence; next = n }) (sym (next_stays there next (first ∷ others) buffered)) in
       let same = outlines_after there next (first ∷ others) buffered in
       rw down.1 (
         record {
-          answer = answered (HasFailed bound disk new.disk) _ _ number (inl (refl, record { sequence = sequence + 1; follows = inl refl; totals = totals }));
+          answer = answered (HasFailed bound disk new.disk) _ _ (inr (inl (refl, record { sequence = then_sequence; follows = follows tail (group_of there (first ∷ others)) sequence down.0; totals = totals })));
           disk = rw (whole_group ready control (first ∷ others) passes some)
-              (put_group bound disk files sequence ledger first others sound.handles one new (totals_of (StoreReady (plain after) (sequence + 1)) ended_ledger) value.Empty commits (ap (λ (fs : List File). Ready fs (sequence + 1)) mode));
+              (put_group bound disk files sequence tail ledger first others sound.handles one new (totals_of (StoreReady (plain after) then_sequence) ended_ledger) value.Empty commits (ap (λ (fs : List File). Ready fs then_sequence) mode));
         },
         record {
           handles = record {
@@ -216,43 +218,39 @@ module _ {D : Type 0} (bound : Ghosts D) (disk : D) (only : bound.honest disk �
           };
           apart = sound.apart;
           buffers = rw mode (
-              held_with (Ready after (sequence + 1)) next ledger.transactions control None
-              (holds_so there after sequence (sequence + 1) next next ledger.transactions (λ change is. same_buffered there after next change (sym same) is) sound.buffers)
-              (none_held (Ready after (sequence + 1)) next));
+              held_with (Ready after then_sequence) next ledger.transactions control None
+              (holds_so there after sequence then_sequence next next ledger.transactions (λ change is. same_buffered there after next change (sym same) is) sound.buffers)
+              (none_held (Ready after then_sequence) next));
         },
       )
 
   -- a group in which the store met a fault
   pub failed : (new : StoreView D) (cause : StoreFault) → Commits bound ready_store (group_of there (first ∷ others)) (Err cause) new
       → CommitsBuffer bound (view_of ready_store ledger) control (answer_of cause) (view_of new (refused_ledger ledger cause)) × IsSound new.state (refused_ledger ledger cause)
-  failed new fault.Off commits = absurd (put_down bound disk files sequence ledger first others sound.handles one (Err fault.Off) new.state commits.answer)
-  failed new (fault.Refused refusal) commits = absurd (put_down bound disk files sequence ledger first others sound.handles one (Err (fault.Refused refusal)) new.state commits.answer)
-  failed new fault.Unformatted commits = absurd (put_down bound disk files sequence ledger first others sound.handles one (Err fault.Unformatted) new.state commits.answer)
-  failed new fault.Damaged commits = absurd (put_down bound disk files sequence ledger first others sound.handles one (Err fault.Damaged) new.state commits.answer)
+  failed new fault.Off commits = absurd (put_down bound disk files sequence tail ledger first others sound.handles one (Err fault.Off) new commits.answer)
+  failed new (fault.Refused refusal) commits = absurd (put_down bound disk files sequence tail ledger first others sound.handles one (Err (fault.Refused refusal)) new commits.answer)
+  failed new fault.Unformatted commits = absurd (put_down bound disk files sequence tail ledger first others sound.handles one (Err fault.Unformatted) new commits.answer)
+  failed new fault.Damaged commits = absurd (put_down bound disk files sequence tail ledger first others sound.handles one (Err fault.Damaged) new commits.answer)
   failed new fault.NoMemory commits =
       let same : new ≡ ready_store = ⊎_elim (λ is. absurd cc) (λ e. e) (commits.unchanged refl) in
       rw same (finds_none bound disk only (StoreReady files sequence) ledger control directory sound leaves passes (record {}), sound)
   failed new fault.Exhausted commits =
-      let down = put_down bound disk files sequence ledger first others sound.handles one (Err fault.Exhausted) new.state commits.answer in
-      let same : new ≡ ready_store = ⊎_elim (λ is. absurd cc) (λ e. e) (commits.unchanged refl) in
-      let last : nat_eq sequence last_number ≡ true = eq-eqb sequence last_number (let l = down.0 in omega (arith, l)) in
-      rw same (
+      let down = put_down bound disk files sequence tail ledger first others sound.handles one (Err fault.Exhausted) new commits.answer in
+      let last : nat_eq sequence last_number ≡ true = eq-eqb sequence last_number (let l = down.0.1 in omega (arith, l)) in
+      rw down.1 (
         record {
-          answer = open_table (refusals_of_commit ready control) _ _ _ passes
-              (subst (λ (t : Option (List Change)). DoesCommit (HasFailed bound disk disk) ready ended (changes_in t) (answer.Refused code.Failure 0) ready) (sym some)
-              (closed_table (when (nat_eq sequence last_number) code.Failure ∷ []) _ (answer.Refused code.Failure 0) _ _ (ap (λ b. cond b (Some (answer.Refused code.Failure 0)) None) last) refl refl));
+          answer = answered (HasFailed bound disk disk) _ _ (inl (last, refl, refl));
           disk = rw (whole_group ready control (first ∷ others) passes some) (rests bound disk only ready (first ∷ others) _ one (λ h. their_files ledger.handles.given (StoreReady files sequence) next (bound.state disk) sound.handles (leaves h)));
         },
         sound,
       )
   failed new fault.Device commits =
-      let down = put_down bound disk files sequence ledger first others sound.handles one (Err fault.Device) new.state commits.answer in
-      let number = ne_eqb sequence last_number (λ same. down.0 (omega (arith, same))) in
+      let down = put_down bound disk files sequence tail ledger first others sound.handles one (Err fault.Device) new commits.answer in
       let totals : after_disk_fault ready ≡ after_disk_fault ended = ap (λ ts. record ready { mode = Off; transactions = ts }) (sym (none_left ledger.transactions control)) in
       rw down.1 (
         record {
-          answer = answered (HasFailed bound disk new.disk) _ _ number (inr (refl, λ h. commits.device h refl, totals));
-          disk = rw (whole_group ready control (first ∷ others) passes some) (doubt_group bound disk files sequence ledger first others sound.handles one new (after_disk_fault ready) _ commits refl);
+          answer = answered (HasFailed bound disk new.disk) _ _ (inr (inr (refl, λ h. commits.device h refl, totals)));
+          disk = rw (whole_group ready control (first ∷ others) passes some) (doubt_group bound disk files sequence tail ledger first others sound.handles one new (after_disk_fault ready) _ commits refl);
         },
         record { handles = tt; buffers = none_hold Off next ledger.transactions; apart = tt },
       )
@@ -261,19 +259,19 @@ module _ {D : Type 0} (bound : Ghosts D) (disk : D) (only : bound.honest disk �
 
 module _ {D : Type 0} (bound : Ghosts D) (disk : D) (only : bound.honest disk → (bytes : List ℕ) → (bound.state disk).left_since (bound.state disk).moment bytes → MayLeave (bound.state disk) bytes)
     (ledger : Ledger) (control : ℕ) (group : List FileChange) where
-  pub store_committed : (state : State) (new : StoreView D) → HasDirectory state → IsSound state ledger → (bound.honest disk → LeavesItsFiles state (bound.state disk)) → first_refusal (refusals_of_commit (totals_of state ledger) control) ≡ None
-      → Gathers (files_of (totals_of state ledger).mode) (transaction_at ledger.transactions control) group → Commits bound (record { disk = disk; state = state }) group (Ok tt) new
+  pub store_committed : (state : State) (tail : ℕ) (new : StoreView D) → HasDirectory state → IsSound state ledger → (bound.honest disk → LeavesItsFiles state (bound.state disk)) → first_refusal (refusals_of_commit (totals_of state ledger) control) ≡ None
+      → Gathers (files_of (totals_of state ledger).mode) (transaction_at ledger.transactions control) group → Commits bound (record { disk = disk; state = state; tail = tail }) group (Ok tt) new
       → (transactions : List (Option (List Change))) → transactions ≡ slice_set ledger.transactions control None
-      → CommitsBuffer bound (view_of (record { disk = disk; state = state }) ledger) control (Ok (answer.Done value.Empty)) (view_of new (record ledger { transactions = transactions })) × IsSound new.state (record ledger { transactions = transactions })
-  store_committed StoreOff new directory sound leaves passes gathered commits transactions is = absurd (off_refused ledger control passes)
-  store_committed (StoreReady files sequence) new directory sound leaves passes gathered commits transactions is =
-      rw is (done bound disk only files sequence ledger control gathered.first gathered.others passes gathered.buffered directory sound leaves new
-      (subst (λ (g : List FileChange). Commits bound (record { disk = disk; state = StoreReady files sequence }) g (Ok tt) new) gathered.made commits))
+      → CommitsBuffer bound (view_at disk state ledger) control (Ok (answer.Done value.Empty)) (view_of new (record ledger { transactions = transactions })) × IsSound new.state (record ledger { transactions = transactions })
+  store_committed StoreOff tail new directory sound leaves passes gathered commits transactions is = absurd (off_refused ledger control passes)
+  store_committed (StoreReady files sequence) tail new directory sound leaves passes gathered commits transactions is =
+      rw is (done bound disk only files sequence tail ledger control gathered.first gathered.others passes gathered.buffered directory sound leaves new
+      (subst (λ (g : List FileChange). Commits bound (record { disk = disk; state = StoreReady files sequence; tail = tail }) g (Ok tt) new) gathered.made commits))
 
-  pub store_failed : (state : State) (new : StoreView D) (cause : StoreFault) → HasDirectory state → IsSound state ledger → (bound.honest disk → LeavesItsFiles state (bound.state disk)) → first_refusal (refusals_of_commit (totals_of state ledger) control) ≡ None
-      → Gathers (files_of (totals_of state ledger).mode) (transaction_at ledger.transactions control) group → Commits bound (record { disk = disk; state = state }) group (Err cause) new
-      → CommitsBuffer bound (view_of (record { disk = disk; state = state }) ledger) control (answer_of cause) (view_of new (refused_ledger ledger cause)) × IsSound new.state (refused_ledger ledger cause)
-  store_failed StoreOff new cause directory sound leaves passes gathered commits = absurd (off_refused ledger control passes)
-  store_failed (StoreReady files sequence) new cause directory sound leaves passes gathered commits =
-      failed bound disk only files sequence ledger control gathered.first gathered.others passes gathered.buffered directory sound leaves new cause
-      (subst (λ (g : List FileChange). Commits bound (record { disk = disk; state = StoreReady files sequence }) g (Err cause) new) gathered.made commits)
+  pub store_failed : (state : State) (tail : ℕ) (new : StoreView D) (cause : StoreFault) → HasDirectory state → IsSound state ledger → (bound.honest disk → LeavesItsFiles state (bound.state disk)) → first_refusal (refusals_of_commit (totals_of state ledger) control) ≡ None
+      → Gathers (files_of (totals_of state ledger).mode) (transaction_at ledger.transactions control) group → Commits bound (record { disk = disk; state = state; tail = tail }) group (Err cause) new
+      → CommitsBuffer bound (view_at disk state ledger) control (answer_of cause) (view_of new (refused_ledger ledger cause)) × IsSound new.state (refused_ledger ledger cause)
+  store_failed StoreOff tail new cause directory sound leaves passes gathered commits = absurd (off_refused ledger control passes)
+  store_failed (StoreReady files sequence) tail new cause directory sound leaves passes gathered commits =
+      failed bound disk only files sequence tail ledger control gathered.first gathered.others passes gathered.buffered directory sound leaves new cause
+      (subst (λ (g : List FileChange). Commits bound (record { disk = disk; state = StoreReady files sequence; tail = tail }) g (Err cause) new) gathered.made commits)

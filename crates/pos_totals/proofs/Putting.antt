@@ -1,5 +1,7 @@
 -- A group that is put on the disk: what the store did, and what it says of the totals.
-use Rattle.std.proofs.Common.{◌≡◌, ◌∙◌, inl, inr, ⊎_elim, ℕ, ◌+◌, List, [], ◌∷◌, Option, Some, None, Result, Ok, Err, MatchOption, MatchResult, refl, sym, ap, subst, arith}
+use Rattle.std.proofs.Common.{◌≡◌, ◌∙◌, ◌⊎◌, inl, inr, ⊎_elim, ℕ, ◌+◌, Bool, true, false, cond, List, [], ◌∷◌, map, Option, Some, None, Result, Ok, Err, IsErrOf, MatchOption, MatchResult, refl, sym, ap, subst, arith}
+use Rattle.std.specs.Prelude.{nat_eq}
+use Rattle.std.proofs.lemmas.Bool.{eqb-true}
 use Rattle.pos_dir.specs.Changes.{outcome_of_all}
 use Rattle.pos_dir.specs.Files.{IsDirectory}
 use Rattle.pos_dir.specs.declared.change.Change.{Change as FileChange}
@@ -7,26 +9,26 @@ use Rattle.pos_dir.specs.declared.fault.DirectoryFault.{DirectoryFault}
 use Rattle.pos_dir.specs.declared.file.File.{File as PlainFile}
 use Rattle.pos_dir.specs.declared.limits.TheConstants.{LAYOUT_1}
 use Rattle.pos_disk.proofs.Moments.{started, weaker}
-use Rattle.pos_disk.specs.State.{DiskState, MayLeave}
+use Rattle.pos_disk.specs.State.{DiskState, HasNotFailed, LeavesOnly, MayLeave}
 use Rattle.pos_disk.specs.Keeps.{KeepsDisk}
 use Rattle.pos_disk.specs.declared.device.Disk.{Ghosts}
 use Rattle.pos_service.specs.declared.answer.Answer.{Answer}
 use Rattle.pos_service.specs.declared.answer.Answer.TheVariants as answer
 use Rattle.pos_service.specs.declared.answer.Value.{Value}
 use Rattle.pos_service.specs.declared.memory.NoMemory.{NoMemory}
-use Rattle.pos_service.specs.HardTotals.{File, Mode, Off, Ready, Totals, Change, files_after_all}
+use Rattle.pos_service.specs.HardTotals.{File, Mode, Off, Ready, Totals, Change, IsAmong, files_after_all, last_number, next_sequences}
 use Rattle.pos_service.specs.Refusals.{Row, first_refusal, Decided}
-use Rattle.pos_store.specs.Commits.{Commits, PutsDown}
+use Rattle.pos_store.specs.Commits.{Commits, PutsDown, IsExhausted, fits_behind, sequence_after}
 use Rattle.pos_store.specs.Commits as store
 use Rattle.pos_store.specs.Modes.{StoreState as State, LeavesItsFiles}
 use Rattle.pos_store.specs.Modes.{Off as StoreOff, Ready as StoreReady, StoreView}
-use Rattle.pos_store.specs.Standing.{Standing, Stands, StandsForOneOf}
+use Rattle.pos_store.specs.Standing.{Stands, StandsFor, StandsForOneOf}
 use Rattle.pos_store.specs.declared.fault.StoreFault.{StoreFault}
 use Rattle.pos_store.specs.declared.fault.StoreFault.TheVariants as fault
 use Rattle.pos_totals.proofs.Pairs.{plain_of, numbers_in}
 use Rattle.pos_totals.specs.Changes.{PutsGroup, IsBeforeOrAfter, IsOneGroup, IsDone, before_or_after}
 use Rattle.pos_totals.specs.Groups.{group_of}
-use Rattle.pos_totals.specs.Views.{plain, stored, handles_of, mode_of, totals_of, view_of, with_tags, AreDistinct, AreHandles, HasHandles, TurnsOff, LeavesTheirFiles}
+use Rattle.pos_totals.specs.Views.{TotalsView, plain, stored, handles_of, mode_of, totals_of, view_of, with_tags, AreDistinct, AreHandles, HasHandles, TurnsOff, LeavesTheirFiles}
 use Rattle.pos_totals.specs.declared.handles.Tag.{Tag}
 use Rattle.pos_totals.specs.declared.ledger.Ledger.{Ledger}
 
@@ -39,6 +41,10 @@ pub closed_table : (rows : List Row) (result refusal : Answer) (Same Done : Type
 closed_table rows result refusal Same Done some is same = record { outcome = subst (λ (o : Option Answer). MatchOption o Done (λ r. (result ≡ r) × Same)) (sym some) (is, same) }
 
 -- ---- the view
+
+-- what a disk, a store's state and a ledger mean
+abbrev pub view_at : {D : Type 0} → D → State → Ledger → TotalsView D
+view_at disk state ledger = record { disk = disk; totals = totals_of state ledger }
 
 pub same_state : (tags : List Tag) (state : State) (next : ℕ) → HasHandles state tags next → stored (mode_of tags state) ≡ state
 same_state tags StoreOff next sound = refl
@@ -55,10 +61,9 @@ never_turns (Ready files sequence) turns = turns
 pub keeps : {D : Type 0} (bound : Ghosts D) (disk : D) → KeepsDisk bound disk disk
 keeps bound disk = record { size = refl; honest = (λ h. h, λ h. h); later = λ h. omega arith }
 
-left_here : (disk : DiskState) (mode : Mode) (next : ℕ) (changes : List Change) → LeavesTheirFiles mode disk → (bytes : List ℕ) → MayLeave disk bytes → IsBeforeOrAfter disk next mode changes bytes
-left_here disk Off next changes leaves bytes may = may
-left_here disk (Ready files sequence) next [] leaves bytes may = ⊎_elim (λ this. inl this) (λ none. absurd none) (leaves bytes may)
-left_here disk (Ready files sequence) next (change ∷ changes) leaves bytes may = ⊎_elim (λ this. inl this) (λ none. absurd none) (leaves bytes may)
+left_here : (disk : DiskState) (mode now : Mode) (next : ℕ) (changes : List Change) → LeavesTheirFiles mode disk → (bytes : List ℕ) → MayLeave disk bytes → IsBeforeOrAfter disk next mode changes now bytes
+left_here disk Off now next changes leaves bytes may = may
+left_here disk (Ready files sequence) now next changes leaves bytes may = ⊎_elim (λ this. inl this) (λ none. absurd none) (leaves bytes may)
 
 -- the files that a store has, with their tags, are sound
 pub sound_files : (tags : List Tag) (files : List PlainFile) (next : ℕ) → IsDirectory LAYOUT_1 files → AreHandles tags files next
@@ -76,10 +81,11 @@ module _ {D : Type 0} (bound : Ghosts D) (disk : D) (only : bound.honest disk �
     group = group;
     untouched = λ none. refl;
     unchanged = λ refused. inr (ap (λ (t : Totals). record { disk = disk; totals = t }) (same refused));
-    any_moment = λ h. started (bound.state disk) (IsBeforeOrAfter (bound.state disk) old.next old.mode changes)
-        (λ c left. left_here (bound.state disk) old.mode old.next changes (now h) c (only h c left));
+    any_moment = λ h. started (bound.state disk) (IsBeforeOrAfter (bound.state disk) old.next old.mode changes new.mode)
+        (λ c left. left_here (bound.state disk) old.mode new.mode old.next changes (now h) c (only h c left));
     now = λ h. subst (λ (m : Mode). LeavesTheirFiles m (bound.state disk)) (sym mode) (now h);
     in_doubt = λ h turns. absurd (never_turns old.mode (subst (λ (m : Mode). TurnsOff old.mode m) mode turns));
+    counts = λ h. inr refl;
     kept = keeps bound disk;
   }
 
@@ -88,9 +94,34 @@ module _ {D : Type 0} (bound : Ghosts D) (disk : D) (only : bound.honest disk �
       → PutsGroup bound (record { disk = disk; totals = totals }) changes outcome (record { disk = disk; totals = totals })
   rests totals changes outcome group now = idles totals totals changes outcome refl group (λ refused. refl) now
 
+-- ---- the sequences after a group
+
+-- a group that fits keeps the sequence, and one that doesn't has the next one, which the last one hasn't
+one_follows : (sequence : ℕ) (fits last : Bool) → ¬ ((fits ≡ false) × (last ≡ true)) → IsAmong (cond fits sequence (sequence + 1)) (cond last (sequence ∷ []) (sequence ∷ (sequence + 1) ∷ []))
+one_follows sequence true true left = inl refl
+one_follows sequence true false left = inl refl
+one_follows sequence false true left = absurd (left (refl, refl))
+one_follows sequence false false left = inr (inl refl)
+
+-- the sequence after a group that a store takes is one of the next ones
+pub follows : (tail : ℕ) (changes : List FileChange) (sequence : ℕ) → ¬ (IsExhausted tail changes sequence) → IsAmong (sequence_after tail changes sequence) (next_sequences sequence)
+follows tail changes sequence left =
+    one_follows sequence (fits_behind tail changes) (nat_eq sequence last_number)
+    (λ both. left (both.0, let last = eqb-true sequence last_number both.1 in omega (arith, last)))
+
+-- files with one of these sequences
+stands_among : (files : List PlainFile) (sequence : ℕ) (sequences : List ℕ) → IsAmong sequence sequences → (bytes : List ℕ) → StandsFor (Stands files sequence) bytes → StandsForOneOf (map (λ n. Stands files n) sequences) bytes
+stands_among files sequence [] among bytes stands = absurd among
+stands_among files sequence (first ∷ others) among bytes stands =
+    ⊎_elim (λ same. inl (subst (λ (n : ℕ). StandsFor (Stands files n) bytes) same stands)) (λ rest. inr (stands_among files sequence others rest bytes stands)) among
+
+-- without the disk's fault the disk hasn't failed
+pub never_failed : (old new : DiskState) → IsErrOf {T = Unit {0}} (Ok tt) fault.Device ⊎ HasNotFailed old new → HasNotFailed old new
+never_failed old new counts = ⊎_elim (λ is. absurd cc) (λ same. same) counts
+
 -- ---- a group that the store takes
 
-module _ {D : Type 0} (bound : Ghosts D) (disk : D) (files : List PlainFile) (sequence : ℕ) (ledger : Ledger) (change : Change) (changes : List Change)
+module _ {D : Type 0} (bound : Ghosts D) (disk : D) (files : List PlainFile) (sequence tail : ℕ) (ledger : Ledger) (change : Change) (changes : List Change)
     (sound : AreHandles ledger.handles.given files ledger.handles.next)
     (group : IsOneGroup (totals_of (StoreReady files sequence) ledger) (change ∷ changes)) where
   abbrev xs : List File
@@ -103,47 +134,68 @@ module _ {D : Type 0} (bound : Ghosts D) (disk : D) (files : List PlainFile) (se
   after = files_after_all ledger.handles.next xs (change ∷ changes)
 
   abbrev old_store : StoreView D
-  old_store = record { disk = disk; state = StoreReady files sequence }
+  old_store = record { disk = disk; state = StoreReady files sequence; tail = tail }
 
   -- what the group makes of the store's files
   made : outcome_of_all LAYOUT_1 files all ≡ Ok (plain after)
   made = subst (λ (fs : List PlainFile). outcome_of_all LAYOUT_1 fs all ≡ Ok (plain after)) (plain_of ledger.handles.given files sound.count) group
 
-  -- the candidates of the call are those of the store's commit
-  same_candidates : store.before_or_after files sequence (outcome_of_all LAYOUT_1 files all) ≡ before_or_after ledger.handles.next (Ready xs sequence) (change ∷ changes)
-  same_candidates = ap (store.before_or_after files sequence) made
-      ∙ ap (λ (fs : List PlainFile). Stands fs sequence ∷ Stands (plain after) (sequence + 1) ∷ []) (sym (plain_of ledger.handles.given files sound.count))
+  abbrev then_sequence : ℕ
+  then_sequence = sequence_after tail all sequence
+
+  -- what the store's commit may leave, in the words of the totals
+  either : (bytes : List ℕ) → StandsForOneOf (store.left_by files sequence tail all) bytes → StandsForOneOf (Stands (plain xs) sequence ∷ Stands (plain after) then_sequence ∷ []) bytes
+  either bytes stands =
+      ⊎_elim
+      (λ before. inl (subst (λ (fs : List PlainFile). StandsFor (Stands fs sequence) bytes) (sym (plain_of ledger.handles.given files sound.count)) before))
+      (λ behind. inr behind)
+      (subst (λ (o : Result (List PlainFile) DirectoryFault). StandsForOneOf (store.before_or_after files sequence then_sequence o) bytes) made stands)
+
+  -- it is among the candidates of the call
+  among : ¬ (IsExhausted tail all sequence) → (bytes : List ℕ) → StandsForOneOf (store.left_by files sequence tail all) bytes → StandsForOneOf (before_or_after ledger.handles.next (Ready xs sequence) (change ∷ changes)) bytes
+  among left bytes stands =
+      ⊎_elim
+      (λ before. inl before)
+      (λ rest. ⊎_elim (λ behind. inr (stands_among (plain after) then_sequence (next_sequences sequence) (follows tail all sequence left) bytes behind)) (λ none. absurd none) rest)
+      (either bytes stands)
 
   -- what the store's commit answered
-  pub put_down : (result : Result (Unit {0}) StoreFault) (new : State) → store.Answers (StoreReady files sequence) all result new → PutsDown sequence (plain after) (StoreReady files sequence) result new
+  pub put_down : (result : Result (Unit {0}) StoreFault) (new : StoreView D) → store.Answers (StoreReady files sequence) old_store all result new → PutsDown sequence (plain after) old_store all result new
   put_down result new answers =
-      subst (λ (o : Result (List PlainFile) DirectoryFault). MatchResult o (λ next. PutsDown sequence next (StoreReady files sequence) result new) (λ refusal. (result ≡ Err (fault.Refused refusal)) × (new ≡ StoreReady files sequence)))
+      subst (λ (o : Result (List PlainFile) DirectoryFault). MatchResult o (λ next. PutsDown sequence next old_store all result new) (λ refusal. (result ≡ Err (fault.Refused refusal)) × (new ≡ old_store)))
       made answers
 
   -- the group was put down
-  pub put_group : (new : StoreView D) (totals : Totals) (given : Value) → Commits bound old_store all (Ok tt) new → totals.mode ≡ Ready after (sequence + 1)
+  pub put_group : (new : StoreView D) (totals : Totals) (given : Value) → Commits bound old_store all (Ok tt) new → totals.mode ≡ Ready after then_sequence
       → PutsGroup bound (view_of old_store ledger) (change ∷ changes) (Ok (answer.Done given)) (record { disk = new.disk; totals = totals })
   put_group new totals given commits mode =
-      let down = put_down (Ok tt) new.state commits.answer in
+      let down = put_down (Ok tt) new commits.answer in
       record {
         group = group;
         untouched = λ none. absurd cc;
         unchanged = λ refused. absurd (refused tt);
-        any_moment = λ h. weaker (bound.state disk) (bound.state new.disk) _ _ (λ c among. subst (λ (cs : List Standing). StandsForOneOf cs c) same_candidates among) (commits.any_moment h);
+        any_moment = λ h. subst (λ (m : Mode). LeavesOnly (bound.state disk) (bound.state new.disk) (IsBeforeOrAfter (bound.state disk) ledger.handles.next (Ready xs sequence) (change ∷ changes) m)) (sym mode)
+            (weaker (bound.state disk) (bound.state new.disk) _ _ either (commits.any_moment h));
         now = λ h. subst (λ (m : Mode). LeavesTheirFiles m (bound.state new.disk)) (sym mode) (subst (λ (s : State). LeavesItsFiles s (bound.state new.disk)) down.1 (commits.now h));
         in_doubt = λ h turns. absurd (subst (λ (m : Mode). TurnsOff (Ready xs sequence) m) mode turns);
+        counts = λ h. inr (never_failed (bound.state disk) (bound.state new.disk) (commits.counts h));
         kept = commits.keeps;
       }
 
   -- the disk failed in it
   pub doubt_group : (new : StoreView D) (totals : Totals) (outcome : Result Answer NoMemory) → Commits bound old_store all (Err fault.Device) new → totals.mode ≡ Off
       → PutsGroup bound (view_of old_store ledger) (change ∷ changes) outcome (record { disk = new.disk; totals = totals })
-  doubt_group new totals outcome commits mode = record {
-    group = group;
-    untouched = λ none. absurd cc;
-    unchanged = λ refused. inl (subst (λ (m : Mode). TurnsOff (Ready xs sequence) m) (sym mode) tt);
-    any_moment = λ h. weaker (bound.state disk) (bound.state new.disk) _ _ (λ c among. subst (λ (cs : List Standing). StandsForOneOf cs c) same_candidates among) (commits.any_moment h);
-    now = λ h. subst (λ (m : Mode). LeavesTheirFiles m (bound.state new.disk)) (sym mode) tt;
-    in_doubt = λ h turns bytes may. subst (λ (cs : List Standing). StandsForOneOf cs bytes) same_candidates (commits.in_doubt h refl bytes may);
-    kept = commits.keeps;
-  }
+  doubt_group new totals outcome commits mode =
+      let down = put_down (Err fault.Device) new commits.answer in
+      let turns : TurnsOff (Ready xs sequence) totals.mode = subst (λ (m : Mode). TurnsOff (Ready xs sequence) m) (sym mode) tt in
+      record {
+        group = group;
+        untouched = λ none. absurd cc;
+        unchanged = λ refused. inl turns;
+        any_moment = λ h. subst (λ (m : Mode). LeavesOnly (bound.state disk) (bound.state new.disk) (IsBeforeOrAfter (bound.state disk) ledger.handles.next (Ready xs sequence) (change ∷ changes) m)) (sym mode)
+            (weaker (bound.state disk) (bound.state new.disk) _ _ (λ c stands. inr (among down.0 c stands)) (commits.any_moment h));
+        now = λ h. subst (λ (m : Mode). LeavesTheirFiles m (bound.state new.disk)) (sym mode) tt;
+        in_doubt = λ h off bytes may. among down.0 bytes (commits.in_doubt h refl bytes may);
+        counts = λ h. inl turns;
+        kept = commits.keeps;
+      }

@@ -1,5 +1,5 @@
 -- What a recovery of the totals did, by what the store found and the handles that were left.
-use Rattle.std.proofs.Common.{◌≡◌, ◌∙◌, ◌≤◌, ◌<◌, ◌+◌, ℕ, List, true, false, length, Some, Result, Ok, Err, IsErrOf, refl, sym, ap, subst, arith}
+use Rattle.std.proofs.Common.{◌≡◌, ◌∙◌, ◌↔◌, inl, inr, ⊎_elim, ◌≤◌, ◌<◌, ◌+◌, ℕ, List, true, false, length, Some, Result, Ok, Err, IsErrOf, refl, sym, ap, subst, arith}
 use Rattle.std.specs.Prelude.{is_some}
 use Rattle.std.proofs.lemmas.Option.{same_Some}
 use Rattle.pos_dir.specs.declared.file.File.{File as PlainFile}
@@ -15,7 +15,7 @@ use Rattle.pos_store.specs.declared.fault.StoreFault.TheVariants as cause
 use Rattle.pos_totals.proofs.Apart.{apart_new}
 use Rattle.pos_totals.proofs.Buffered.{off_holds}
 use Rattle.pos_totals.proofs.Numbered.{with_numbers, are_numbers}
-use Rattle.pos_totals.proofs.Putting.{their_files, keeps}
+use Rattle.pos_totals.proofs.Putting.{their_files, view_at, keeps}
 use Rattle.pos_totals.specs.Numbering.{tags_from, Numbers}
 use Rattle.pos_totals.specs.Recoveries.{FindsFiles, Recovers, told_as}
 use Rattle.pos_totals.specs.Tables.{HandleTable}
@@ -27,7 +27,7 @@ use Rattle.pos_totals.specs.declared.fault.RecoveryFault.TheVariants as fault
 -- ---- a recovery of totals that are ready
 
 pub ready_recovers : {D : Type 0} (bound : Ghosts D) (disk : D) (state : State) (ledger : Ledger) → IsSound state ledger → (sequence : ℕ) → mode.Ready sequence ≡ store_mode_of state → (bound.honest disk → LeavesItsFiles state (bound.state disk))
-    → Recovers bound (view_of (record { disk = disk; state = state }) ledger) (Ok tt) (view_of (record { disk = disk; state = state }) ledger)
+    → Recovers bound (view_at disk state ledger) (Ok tt) (view_at disk state ledger)
 ready_recovers bound disk StoreOff ledger sound sequence ready leaves = absurd cc
 ready_recovers bound disk (StoreReady files sequence) ledger sound other ready leaves = record {
   ready = (refl, refl);
@@ -36,6 +36,7 @@ ready_recovers bound disk (StoreReady files sequence) ledger sound other ready l
   reading = λ h. refl;
   now = λ h. their_files ledger.handles.given (StoreReady files sequence) ledger.handles.next (bound.state disk) sound.handles (leaves h);
   device = λ is. absurd cc;
+  counts = λ h. inr refl;
   kept = keeps bound disk;
 }
 
@@ -81,20 +82,21 @@ numbered_finds P ledger files sequence found left = record {
 
 -- ---- a recovery of totals that are off, by what is made of a finding whatever P tells
 
-pub off_recovers : {D : Type 0} (bound : Ghosts D) (disk : D) (ledger : Ledger) (result : Result (Unit {0}) StoreFault) (mid : StoreView D) (told : Result (Unit {0}) RecoveryFault) (new : TotalsView D)
-    → store.Recovers bound (record { disk = disk; state = StoreOff }) result mid
+pub off_recovers : {D : Type 0} (bound : Ghosts D) (disk : D) (tail : ℕ) (ledger : Ledger) (result : Result (Unit {0}) StoreFault) (mid : StoreView D) (told : Result (Unit {0}) RecoveryFault) (new : TotalsView D)
+    → store.Recovers bound (record { disk = disk; state = StoreOff; tail = tail }) result mid
     → new.disk ≡ mid.disk
     → ((P : Standing → Type 0) → store.FindsStanding P result mid.state → FindsFiles P (totals_of StoreOff ledger) told new.totals)
-    → (bound.honest disk → IsErrOf told fault.Device → IsErrOf result cause.Device)
+    → (IsErrOf told fault.Device ↔ IsErrOf result cause.Device)
     → (bound.honest disk → LeavesTheirFiles new.totals.mode (bound.state mid.disk))
-    → Recovers bound (view_of (record { disk = disk; state = StoreOff }) ledger) told new
-off_recovers bound disk ledger result mid told new recovers same finds device now = rw same (record {
+    → Recovers bound (view_at disk StoreOff ledger) told new
+off_recovers bound disk tail ledger result mid told new recovers same finds device now = rw same (record {
   ready = tt;
   answer = finds _ recovers.answer;
   one_of = λ h candidates leaves. let one = recovers.one_of h candidates leaves in record { found = finds _ one.found; any_moment = one.any_moment; still = one.still };
   reading = recovers.reading;
   now = now;
-  device = λ is h. recovers.device h (device h is);
+  device = λ is h. recovers.device h (device.0 is);
+  counts = λ h. ⊎_elim (λ is. inl (device.1 is)) (λ same. inr same) (recovers.counts h);
   kept = recovers.keeps;
 })
 
@@ -118,78 +120,85 @@ told_device cause.Damaged tells = absurd cc
 told_device cause.NoMemory tells = absurd cc
 told_device cause.Device tells = refl
 
+-- the disk's fault is told as that of the disk, and no other fault is
+same_device : (why : StoreFault) (result : RecoveryFault) → told_as why ≡ Some result → IsErrOf {T = Unit {0}} (Err result) fault.Device ↔ IsErrOf {T = Unit {0}} (Err why) cause.Device
+same_device why result tells = (
+  (λ is. ap (λ (f : StoreFault). Err f) (told_device why (tells ∙ ap (λ (f : RecoveryFault). Some f) (let e : result ≡ fault.Device = cc in e)))),
+  (λ is. let told : told_as cause.Device ≡ Some result = subst (λ (f : StoreFault). told_as f ≡ Some result) (let e : why ≡ cause.Device = cc in e) tells in ap (λ (f : RecoveryFault). Err f) (let e : result ≡ fault.Device = cc in e)),
+)
+
 -- a fault of a recovery is one that is told
-pub is_told : {D : Type 0} (bound : Ghosts D) (disk : D) (state : State) (why : StoreFault) (mid : StoreView D) → store_mode_of state ≡ mode.Off → store.Recovers bound (record { disk = disk; state = state }) (Err why) mid → is_some (told_as why) ≡ true
-is_told bound disk (StoreReady files sequence) why mid off recovers = absurd cc
-is_told bound disk StoreOff cause.Off mid off recovers = absurd recovers.answer
-is_told bound disk StoreOff (cause.Refused refusal) mid off recovers = absurd recovers.answer
-is_told bound disk StoreOff cause.Exhausted mid off recovers = absurd recovers.answer
-is_told bound disk StoreOff cause.Unformatted mid off recovers = refl
-is_told bound disk StoreOff cause.Damaged mid off recovers = refl
-is_told bound disk StoreOff cause.NoMemory mid off recovers = refl
-is_told bound disk StoreOff cause.Device mid off recovers = refl
+pub is_told : {D : Type 0} (bound : Ghosts D) (disk : D) (state : State) (tail : ℕ) (why : StoreFault) (mid : StoreView D) → store_mode_of state ≡ mode.Off → store.Recovers bound (record { disk = disk; state = state; tail = tail }) (Err why) mid → is_some (told_as why) ≡ true
+is_told bound disk (StoreReady files sequence) tail why mid off recovers = absurd cc
+is_told bound disk StoreOff tail cause.Off mid off recovers = absurd recovers.answer
+is_told bound disk StoreOff tail (cause.Refused refusal) mid off recovers = absurd recovers.answer
+is_told bound disk StoreOff tail cause.Exhausted mid off recovers = absurd recovers.answer
+is_told bound disk StoreOff tail cause.Unformatted mid off recovers = refl
+is_told bound disk StoreOff tail cause.Damaged mid off recovers = refl
+is_told bound disk StoreOff tail cause.NoMemory mid off recovers = refl
+is_told bound disk StoreOff tail cause.Device mid off recovers = refl
 
 -- the store met a fault
-pub store_failed : {D : Type 0} (bound : Ghosts D) (disk : D) (state : State) (ledger : Ledger) (why : StoreFault) (result : RecoveryFault) (mid : StoreView D) → store_mode_of state ≡ mode.Off → IsSound state ledger
-    → store.Recovers bound (record { disk = disk; state = state }) (Err why) mid → told_as why ≡ Some result
-    → Recovers bound (view_of (record { disk = disk; state = state }) ledger) (Err result) (view_of mid ledger) × IsSound mid.state ledger
-store_failed bound disk (StoreReady files sequence) ledger why result mid off sound recovers tells = absurd cc
-store_failed bound disk StoreOff ledger why result mid off sound recovers tells =
+pub store_failed : {D : Type 0} (bound : Ghosts D) (disk : D) (state : State) (tail : ℕ) (ledger : Ledger) (why : StoreFault) (result : RecoveryFault) (mid : StoreView D) → store_mode_of state ≡ mode.Off → IsSound state ledger
+    → store.Recovers bound (record { disk = disk; state = state; tail = tail }) (Err why) mid → told_as why ≡ Some result
+    → Recovers bound (view_at disk state ledger) (Err result) (view_of mid ledger) × IsSound mid.state ledger
+store_failed bound disk (StoreReady files sequence) tail ledger why result mid off sound recovers tells = absurd cc
+store_failed bound disk StoreOff tail ledger why result mid off sound recovers tells =
     let none = no_files (λ standing. bound.honest disk → StandsFor standing (bound.state disk).reading) why mid.state recovers.answer in
     let still : IsSound mid.state ledger = subst (λ (s : State). IsSound s ledger) (sym none) sound in (
-      off_recovers bound disk ledger (Err why) mid (Err result) (view_of mid ledger) recovers refl
+      off_recovers bound disk tail ledger (Err why) mid (Err result) (view_of mid ledger) recovers refl
           (λ P finds. told_finds P ledger why result mid.state finds tells)
-          (λ h is. ap (λ (f : StoreFault). Err f) (told_device why (tells ∙ ap (λ (f : RecoveryFault). Some f) (let e : result ≡ fault.Device = cc in e))))
+          (same_device why result tells)
           (λ h. their_files ledger.handles.given mid.state ledger.handles.next (bound.state mid.disk) still.handles (recovers.now h)),
       still,
     )
 
 -- the files that the store found got handles
-files_numbered : {D : Type 0} (bound : Ghosts D) (disk after : D) (found : State) (ledger : Ledger) (count : ℕ) (table : HandleTable) → IsSound StoreOff ledger
-    → store.Recovers bound (record { disk = disk; state = StoreOff }) (Ok tt) (record { disk = after; state = found }) → (files : List PlainFile) → store_files_of found ≡ Some files → count ≡ length files
+files_numbered : {D : Type 0} (bound : Ghosts D) (disk after : D) (tail then_tail : ℕ) (found : State) (ledger : Ledger) (count : ℕ) (table : HandleTable) → IsSound StoreOff ledger
+    → store.Recovers bound (record { disk = disk; state = StoreOff; tail = tail }) (Ok tt) (record { disk = after; state = found; tail = then_tail }) → (files : List PlainFile) → store_files_of found ≡ Some files → count ≡ length files
     → Numbers ledger.handles.given ledger.handles.next count true table.given table.next
-    → Recovers bound (view_of (record { disk = disk; state = StoreOff }) ledger) (Ok tt) (view_of (record { disk = after; state = found }) (with_table ledger table)) × IsSound found (with_table ledger table)
-files_numbered bound disk after StoreOff ledger count table sound recovers files is counted numbers = absurd recovers.answer
-files_numbered bound disk after (StoreReady found sequence) ledger count table sound recovers files is counted numbers =
+    → Recovers bound (view_at disk StoreOff ledger) (Ok tt) (view_at after found (with_table ledger table)) × IsSound found (with_table ledger table)
+files_numbered bound disk after tail then_tail StoreOff ledger count table sound recovers files is counted numbers = absurd recovers.answer
+files_numbered bound disk after tail then_tail (StoreReady found sequence) ledger count table sound recovers files is counted numbers =
     let next = ledger.handles.next in
     let same : count ≡ length found = counted ∙ ap (λ (fs : List PlainFile). length fs) (sym (same_Some found files is)) in
     let tags_are : table.given ≡ tags_from next (length found) = numbers.1 ∙ ap (tags_from next) same in
     let next_is : table.next ≡ next + length found = numbers.2 ∙ ap (λ n. next + n) same in
     let handles : AreHandles (tags_from next (length found)) found (next + length found) = are_numbers found next in
     rw (tags_are, next_is) (
-      off_recovers bound disk ledger (Ok tt) (record { disk = after; state = StoreReady found sequence }) (Ok tt)
-          (view_of (record { disk = after; state = StoreReady found sequence }) (with_table ledger (found_table next (length found)))) recovers refl
+      off_recovers bound disk tail ledger (Ok tt) (record { disk = after; state = StoreReady found sequence; tail = then_tail }) (Ok tt)
+          (view_at after (StoreReady found sequence) (with_table ledger (found_table next (length found)))) recovers refl
           (λ P finds. numbered_finds P ledger found sequence finds (let left = numbers.0 in omega (arith, left, same)))
-          (λ h is. absurd cc)
+          ((λ is. absurd cc), (λ is. absurd cc))
           (λ h. their_files (tags_from next (length found)) (StoreReady found sequence) (next + length found) (bound.state after) handles (recovers.now h)),
       record { handles = handles; buffers = off_holds (with_tags (tags_from next (length found)) found) sequence next (next + length found) ledger.transactions sound.buffers; apart = apart_new ledger.area next (length found) },
     )
 
-pub store_found : {D : Type 0} (bound : Ghosts D) (disk : D) (state : State) (ledger : Ledger) (count : ℕ) (mid : StoreView D) (table : HandleTable) → store_mode_of state ≡ mode.Off → IsSound state ledger
-    → store.Recovers bound (record { disk = disk; state = state }) (Ok tt) mid → (files : List PlainFile) → store_files_of mid.state ≡ Some files → count ≡ length files
+pub store_found : {D : Type 0} (bound : Ghosts D) (disk : D) (state : State) (tail : ℕ) (ledger : Ledger) (count : ℕ) (mid : StoreView D) (table : HandleTable) → store_mode_of state ≡ mode.Off → IsSound state ledger
+    → store.Recovers bound (record { disk = disk; state = state; tail = tail }) (Ok tt) mid → (files : List PlainFile) → store_files_of mid.state ≡ Some files → count ≡ length files
     → Numbers ledger.handles.given ledger.handles.next count true table.given table.next
-    → Recovers bound (view_of (record { disk = disk; state = state }) ledger) (Ok tt) (view_of mid (with_table ledger table)) × IsSound mid.state (with_table ledger table)
-store_found bound disk (StoreReady others sequence) ledger count mid table off sound recovers files is counted numbers = absurd cc
-store_found bound disk StoreOff ledger count mid table off sound recovers files is counted numbers =
-    files_numbered bound disk mid.disk mid.state ledger count table sound recovers files is counted numbers
+    → Recovers bound (view_at disk state ledger) (Ok tt) (view_of mid (with_table ledger table)) × IsSound mid.state (with_table ledger table)
+store_found bound disk (StoreReady others sequence) tail ledger count mid table off sound recovers files is counted numbers = absurd cc
+store_found bound disk StoreOff tail ledger count mid table off sound recovers files is counted numbers =
+    files_numbered bound disk mid.disk tail mid.tail mid.state ledger count table sound recovers files is counted numbers
 
 -- the files that the store found are too many
-files_left : {D : Type 0} (bound : Ghosts D) (disk after : D) (found : State) (ledger : Ledger) (count : ℕ)
-    → store.Recovers bound (record { disk = disk; state = StoreOff }) (Ok tt) (record { disk = after; state = found }) → (files : List PlainFile) → store_files_of found ≡ Some files → count ≡ length files → last_number < ledger.handles.next + count
-    → Recovers bound (view_of (record { disk = disk; state = StoreOff }) ledger) (Err fault.Handles) (view_of (record { disk = after; state = StoreOff }) ledger)
-files_left bound disk after StoreOff ledger count recovers files is counted many = absurd recovers.answer
-files_left bound disk after (StoreReady found sequence) ledger count recovers files is counted many =
+files_left : {D : Type 0} (bound : Ghosts D) (disk after : D) (tail then_tail : ℕ) (found : State) (ledger : Ledger) (count : ℕ)
+    → store.Recovers bound (record { disk = disk; state = StoreOff; tail = tail }) (Ok tt) (record { disk = after; state = found; tail = then_tail }) → (files : List PlainFile) → store_files_of found ≡ Some files → count ≡ length files → last_number < ledger.handles.next + count
+    → Recovers bound (view_at disk StoreOff ledger) (Err fault.Handles) (view_at after StoreOff ledger)
+files_left bound disk after tail then_tail StoreOff ledger count recovers files is counted many = absurd recovers.answer
+files_left bound disk after tail then_tail (StoreReady found sequence) ledger count recovers files is counted many =
     let same : count ≡ length found = counted ∙ ap (λ (fs : List PlainFile). length fs) (sym (same_Some found files is)) in
-    off_recovers bound disk ledger (Ok tt) (record { disk = after; state = StoreReady found sequence }) (Err fault.Handles) (view_of (record { disk = after; state = StoreOff }) ledger) recovers refl
+    off_recovers bound disk tail ledger (Ok tt) (record { disk = after; state = StoreReady found sequence; tail = then_tail }) (Err fault.Handles) (view_at after StoreOff ledger) recovers refl
     (λ P finds. (record { files = found; sequence = sequence; found = finds; handles = λ few. omega (arith, few, many, same) }, refl))
-    (λ h is. absurd cc)
+    ((λ is. absurd cc), (λ is. absurd cc))
     (λ h. tt)
 
-pub store_found_more : {D : Type 0} (bound : Ghosts D) (disk : D) (state : State) (ledger : Ledger) (count : ℕ) (mid new : StoreView D) (table : HandleTable) → store_mode_of state ≡ mode.Off → IsSound state ledger
-    → store.Recovers bound (record { disk = disk; state = state }) (Ok tt) mid → (files : List PlainFile) → store_files_of mid.state ≡ Some files → count ≡ length files
-    → Numbers ledger.handles.given ledger.handles.next count false table.given table.next → new ≡ record { disk = mid.disk; state = StoreOff }
-    → Recovers bound (view_of (record { disk = disk; state = state }) ledger) (Err fault.Handles) (view_of new (with_table ledger table)) × IsSound new.state (with_table ledger table)
-store_found_more {D = D} bound disk (StoreReady others sequence) ledger count mid new table off sound recovers files is counted numbers turned = absurd cc
-store_found_more {D = D} bound disk StoreOff ledger count mid new table off sound recovers files is counted numbers turned =
-    subst (λ (n : StoreView D). Recovers bound (view_of (record { disk = disk; state = StoreOff }) ledger) (Err fault.Handles) (view_of n (with_table ledger table)) × IsSound n.state (with_table ledger table)) (sym turned)
-    (rw numbers.2 (files_left bound disk mid.disk mid.state ledger count recovers files is counted numbers.0, record { handles = tt; buffers = sound.buffers; apart = tt }))
+pub store_found_more : {D : Type 0} (bound : Ghosts D) (disk : D) (state : State) (tail : ℕ) (ledger : Ledger) (count : ℕ) (mid new : StoreView D) (table : HandleTable) → store_mode_of state ≡ mode.Off → IsSound state ledger
+    → store.Recovers bound (record { disk = disk; state = state; tail = tail }) (Ok tt) mid → (files : List PlainFile) → store_files_of mid.state ≡ Some files → count ≡ length files
+    → Numbers ledger.handles.given ledger.handles.next count false table.given table.next → new ≡ record { disk = mid.disk; state = StoreOff; tail = 0 }
+    → Recovers bound (view_at disk state ledger) (Err fault.Handles) (view_of new (with_table ledger table)) × IsSound new.state (with_table ledger table)
+store_found_more {D = D} bound disk (StoreReady others sequence) tail ledger count mid new table off sound recovers files is counted numbers turned = absurd cc
+store_found_more {D = D} bound disk StoreOff tail ledger count mid new table off sound recovers files is counted numbers turned =
+    subst (λ (n : StoreView D). Recovers bound (view_at disk StoreOff ledger) (Err fault.Handles) (view_of n (with_table ledger table)) × IsSound n.state (with_table ledger table)) (sym turned)
+    (rw numbers.2 (files_left bound disk mid.disk tail mid.tail mid.state ledger count recovers files is counted numbers.0, record { handles = tt; buffers = sound.buffers; apart = tt }))

@@ -1,7 +1,7 @@
 -- What a change of the totals answers, and what a crash during it may leave.
 use Rattle.std.specs.Prelude.{◌≡◌, ◌⊎◌, ℕ, List, [], ◌∷◌, map, Result, Ok, Err, ⊤}
 use Rattle.pos_disk.specs.Keeps.{KeepsDisk}
-use Rattle.pos_disk.specs.State.{DiskState, LeavesOnly, MayLeave, Rises}
+use Rattle.pos_disk.specs.State.{DiskState, HasNotFailed, LeavesOnly, MayLeave, Rises}
 use Rattle.pos_disk.specs.declared.device.Disk.{Ghosts}
 use Rattle.pos_dir.specs.Changes.{outcome_of_all}
 use Rattle.pos_dir.specs.declared.limits.TheConstants.{LAYOUT_1}
@@ -21,12 +21,18 @@ before_or_after next (Ready files sequence) (change ∷ changes) =
     Stands (plain files) sequence
     ∷ map (λ follows. Stands (plain (files_after_all next files (change ∷ changes))) follows) (next_sequences sequence)
 
--- what a crash during a group may leave: while the totals are off, what a crash might have left before the call;
--- while they are ready, bytes that stand for the files before it or for those after the whole of it
-abbrev pub IsBeforeOrAfter : DiskState → ℕ → Mode → List Change → List ℕ → Type 0
-IsBeforeOrAfter disk next Off changes bytes = MayLeave disk bytes
-IsBeforeOrAfter disk next (Ready files sequence) changes bytes =
-    StandsForOneOf (before_or_after next (Ready files sequence) changes) bytes
+-- what a crash leaves while totals have this mode: their files alone, and something else while they are off
+abbrev pub settled : Mode → List Standing → List Standing
+settled Off otherwise = otherwise
+settled (Ready files sequence) otherwise = Stands (plain files) sequence ∷ []
+
+-- what a crash during a group may leave, by the modes before and after it: while the totals are off, what a crash might
+-- have left before the call; while they are ready, bytes that stand for the files before it or for those after it, which
+-- are those that the totals have then, or where the disk failed in it, those after the whole of it
+abbrev pub IsBeforeOrAfter : DiskState → ℕ → Mode → List Change → Mode → List ℕ → Type 0
+IsBeforeOrAfter disk next Off changes now bytes = MayLeave disk bytes
+IsBeforeOrAfter disk next (Ready files sequence) changes now bytes = StandsForOneOf
+    (Stands (plain files) sequence ∷ settled now (before_or_after next (Ready files sequence) changes)) bytes
 
 -- without their handles, the files after changes are those after the whole of their group
 abbrev pub IsOneGroup : Totals → List Change → Type 0
@@ -56,12 +62,15 @@ pub record PutsGroup {D : Type 0} (bound : Ghosts D) (old : TotalsView D) (chang
   -- a crash at any moment of the call leaves the files before it or those after the whole of it
   pub any_moment : bound.honest old.disk
       → LeavesOnly (bound.state old.disk) (bound.state new.disk)
-      (IsBeforeOrAfter (bound.state old.disk) old.totals.next old.totals.mode changes)
+      (IsBeforeOrAfter (bound.state old.disk) old.totals.next old.totals.mode changes new.totals.mode)
   -- a crash now leaves the files that the totals have alone
   pub now : bound.honest old.disk → LeavesTheirFiles new.totals.mode (bound.state new.disk)
   -- after a fault of the disk the group is in doubt: a crash now leaves the files before it or those after it
   pub in_doubt : bound.honest old.disk → TurnsOff old.totals.mode new.totals.mode
       → LeavesOneOf (before_or_after old.totals.next old.totals.mode changes) (bound.state new.disk)
+  -- the disk fails only where that turns the totals off
+  pub counts : bound.honest old.disk
+      → TurnsOff old.totals.mode new.totals.mode ⊎ HasNotFailed (bound.state old.disk) (bound.state new.disk)
   pub kept : KeepsDisk bound old.disk new.disk
 
 -- What a change does: it is answered by its table, and its group is put on the disk.

@@ -1,7 +1,7 @@
 -- What a recovery of the totals answers, and what a crash during it may leave.
-use Rattle.std.specs.Prelude.{◌≡◌, ◌≤◌, ◌+◌, ℕ, List, [], ◌∷◌, length, Option, Some, None, Result, Ok, Err, IsErrOf}
+use Rattle.std.specs.Prelude.{◌≡◌, ◌⊎◌, ◌≤◌, ◌+◌, ℕ, List, [], ◌∷◌, length, Option, Some, None, Result, Ok, Err, IsErrOf}
 use Rattle.pos_disk.specs.Keeps.{KeepsDisk}
-use Rattle.pos_disk.specs.State.{DiskState, LeavesOnly}
+use Rattle.pos_disk.specs.State.{DiskState, HasNotFailed, LeavesOnly}
 use Rattle.pos_disk.specs.declared.device.Disk.{Ghosts}
 use Rattle.pos_dir.specs.declared.file.File.{File as PlainFile}
 use Rattle.pos_service.specs.declared.code.Code.{Code}
@@ -80,6 +80,9 @@ pub record Recovers {D : Type 0} (bound : Ghosts D) (old : TotalsView D) (result
   -- a crash now leaves the files that were found alone
   pub now : bound.honest old.disk → LeavesTheirFiles new.totals.mode (bound.state new.disk)
   pub device : IsErrOf result fault.Device → HasFailed bound old.disk new.disk
+  -- and it fails only where its fault is answered
+  pub counts : bound.honest old.disk
+      → IsErrOf result fault.Device ⊎ HasNotFailed (bound.state old.disk) (bound.state new.disk)
   pub kept : KeepsDisk bound old.disk new.disk
 
 -- the result code of the call that asked for a recovery; want of memory has none

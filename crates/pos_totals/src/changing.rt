@@ -1,6 +1,7 @@
 //! A change of the files, from its table to the disk.
-ghost use Rattle.std.specs.Prelude.{◌≡◌, IfOk, None, true, ◌∷◌, []};
+ghost use Rattle.std.specs.Prelude.{◌≡◌, ◌<◌, length, IfOk, MatchResult, None, true, ◌∷◌, []};
 ghost use Rattle.pos_dir.specs.Changes.{flaw_of};
+ghost use Rattle.pos_store.specs.Commits.{Commits};
 ghost use Rattle.pos_totals.specs.Changes.{Changes};
 ghost use Rattle.pos_totals.specs.Buffers.{is_bufferable, transactions_after, Buffers, IsAsked, MayBuffer};
 ghost use Rattle.pos_totals.specs.Checks.{change_of, file_change_of, answer_of, ChecksAt};
@@ -19,7 +20,7 @@ use pos_store::laws::leaves_its_files;
 use pos_store::{Store, StoreFault};
 use std::alloc::Global;
 
-/// Carries out a change: by its table, then want of memory, then the numbers, then the disk.
+/// Carries out a change: by its table, then want of memory, then the handle, then the disk.
 pub fn change<D: Disk>(
     alloc: Global,
     store: &mut Store<D>,
@@ -47,23 +48,48 @@ pub fn change<D: Disk>(
     if ledger.handles.lack(&checked) {
         return Ok(Answer::Refused(Code::Failure, 0));
     }
-    match store.commit(&group) {
+    match put_group(store, &mut ledger.transactions, &group) {
         Ok(()) => Ok(Answer::Done(ledger.handles.keep(&checked))),
-        Err(fault) => answer_fault(fault, &mut ledger.transactions),
+        Err(fault) => answer_fault(fault),
     }
 }
 
-/// What a call is answered whose group the store refuses. A fault of the disk ends all transactions.
-pub fn answer_fault(fault: StoreFault, transactions: &mut Transactions) -> Result<Answer, NoMemory>
-    ensures answer { result ≡ answer_of fault }
-    ensures transactions { transactions.new ≡ transactions_after fault transactions.old }
+/// Puts a group on the disk. A fault of the disk ends all transactions.
+pub fn put_group<D: Disk>(
+    store: &mut Store<D>,
+    transactions: &mut Transactions,
+    group: &Group,
+) -> Result<(), StoreFault>
+    requires { 0 < length group.now }
+    ensures commits { Commits D.Disk store.old group.now result store.new }
+    ensures transactions { MatchResult result (λ done. transactions.new ≡ transactions.old)
+        (λ fault. transactions.new ≡ transactions_after fault transactions.old) }
+{
+    match store.commit(group) {
+        Ok(()) => Ok(()),
+        Err(fault) => {
+            end_at(fault, transactions);
+            Err(fault)
+        }
+    }
+}
+
+/// Ends all transactions at a fault of the disk.
+fn end_at(fault: StoreFault, transactions: &mut Transactions)
+    ensures { transactions.new ≡ transactions_after fault transactions.old }
+{
+    match fault {
+        StoreFault::Device => transactions.end_all(),
+        _ => {}
+    }
+}
+
+/// What a call is answered whose group the store refuses.
+pub fn answer_fault(fault: StoreFault) -> Result<Answer, NoMemory>
+    ensures { result ≡ answer_of fault }
 {
     match fault {
         StoreFault::NoMemory => Err(NoMemory),
-        StoreFault::Device => {
-            transactions.end_all();
-            Ok(Answer::Refused(Code::Failure, 0))
-        }
         _ => Ok(Answer::Refused(Code::Failure, 0)),
     }
 }

@@ -8,7 +8,7 @@ ghost use Rattle.pos_totals.specs.Checks.{file_of, files_in, AreFiles, Plans, Pl
 ghost use Rattle.pos_totals.specs.Groups.{file_change, group_of};
 ghost use Rattle.pos_totals.specs.Views.{HasDirectory, IsSound, totals_of, view_of};
 
-use crate::changing::answer_fault;
+use crate::changing::{answer_fault, put_group};
 use crate::files::{Files, Found, find_handle, find_index, see_files};
 use crate::ledger::Ledger;
 use crate::transactions::Buffered;
@@ -28,7 +28,7 @@ pub enum Plan {
     Group(Group),
 }
 
-/// Commits what a control has buffered: by its table, then want of memory, then the sequence, then the disk.
+/// Commits what a control has buffered: by its table, then want of memory, then the disk.
 pub fn commit_trans<D: Disk>(
     alloc: Global,
     store: &mut Store<D>,
@@ -50,12 +50,12 @@ pub fn commit_trans<D: Disk>(
         Ok(Plan::Group(group)) => group,
         Err(NoMemory) => return Err(NoMemory),
     };
-    match store.commit(&group) {
+    match put_group(store, &mut ledger.transactions, &group) {
         Ok(()) => {
             ledger.transactions.set(control, None);
             Ok(Answer::Done(Value::Empty))
         }
-        Err(fault) => answer_fault(fault, &mut ledger.transactions),
+        Err(fault) => answer_fault(fault),
     }
 }
 

@@ -77,7 +77,7 @@ fn tell_fault(fault: StoreFault) -> RecoveryFault
 
 /// The same disk under a store that is off.
 fn turn_off<D: Disk>(store: Store<D>, alloc: Global) -> (Store<D>, ())
-    ensures { result.0 ≡ record { disk = store.disk; state = Off } }
+    ensures { result.0 ≡ record { disk = store.disk; state = Off; tail = 0 } }
 {
     (Store::new(alloc, store.into_disk()), ())
 }

@@ -27,7 +27,8 @@ use std::marker::Model;
 /// of files, `begin_trans` and `rollback` then answer E_FAILURE while the totals are off, then by their tables of
 /// refusals, and want of memory behind those. A refused call changes nothing and doesn't touch the disk. Where the disk
 /// fails in a change, the answer is E_FAILURE, the totals are off, and the next recovery finds the files before the
-/// change or those after the whole of it; all transactions end, and no file is claimed any more.
+/// change or those after the whole of it; all transactions end, and no file is claimed any more. No sequence is left
+/// where a change needs a new image and the sequence is the last one, 18,446,744,073,709,551,615.
 ///
 /// Between `begin_trans` and `commit_trans` a control's `write` and `set_all` are buffered: the disk and the files stay
 /// as they are, for `read` too.

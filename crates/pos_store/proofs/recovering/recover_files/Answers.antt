@@ -1,8 +1,8 @@
-use Rattle.std.proofs.Common.{ℕ, List, inl, refl, sym, ap, subst, ◌∙◌}
+use Rattle.std.proofs.Common.{ℕ, List, inl, inr, ⊎_elim, refl, sym, ap, subst, ◌∙◌}
 use Rattle.pos_dir.specs.Calls.{IsBody}
 use Rattle.pos_dir.specs.declared.limits.TheConstants.{LAYOUT_1}
 use Rattle.pos_image.specs.Standing as image
-use Rattle.pos_store.proofs.Recovered.{off_recovers, told_finds, told_device, damaged_stands, no_body_stands, malformed_none}
+use Rattle.pos_store.proofs.Recovered.{off_recovers, told_finds, told_device, counts_told, damaged_stands, no_body_stands, malformed_none}
 use Rattle.pos_store.specs.Recoveries.{DiskStandsFor}
 use Rattle.pos_store.proofs.recovering.recover_files.Goals as goal
 
@@ -15,6 +15,7 @@ returns-in-Err-clause-recovers g c =
     opened.any_moment
     (λ h. tt)
     (λ h is. opened.device h (told_device c.in-Err.fault c.tell_images.result c.tell_images.ensures is))
+    (λ h. counts_told (g.D.Disk.state c.in-Off.disk) (g.D.Disk.state c.in-Err.disk) c.in-Err.fault c.tell_images.result c.tell_images.ensures (opened.counts h))
     opened.keeps)
 
 pub returns-in-Ok-decode-clause-recovers : goal.returns-in-Ok-decode-clause-recovers
@@ -27,6 +28,7 @@ returns-in-Ok-decode-clause-recovers g c =
     opened.any_moment
     (λ h bytes may. inl (decoded.0, (opened.ready.0.leaves (opened.keeps.honest.0 h) bytes may).image ∙ spelled))
     (λ h is. absurd cc)
+    (λ h. ⊎_elim (λ is. absurd cc) (λ same. inr same) (opened.counts h))
     opened.keeps)
 
 pub returns-in-Err-Malformed-clause-recovers : goal.returns-in-Err-Malformed-clause-recovers
@@ -37,6 +39,7 @@ returns-in-Err-Malformed-clause-recovers g c =
     opened.any_moment
     (λ h. tt)
     (λ h is. absurd cc)
+    (λ h. ⊎_elim (λ is. absurd cc) (λ same. inr same) (opened.counts h))
     opened.keeps)
 
 pub returns-in-Err-decode-clause-recovers : goal.returns-in-Err-decode-clause-recovers
@@ -47,4 +50,5 @@ returns-in-Err-decode-clause-recovers g c =
     opened.any_moment
     (λ h. tt)
     (λ h is. absurd cc)
+    (λ h. ⊎_elim (λ is. absurd cc) (λ same. inr same) (opened.counts h))
     opened.keeps)

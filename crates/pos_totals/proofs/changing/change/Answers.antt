@@ -47,30 +47,30 @@ keep-requires g c =
     let store = c.args.store.now in
     place store.state c.args.ledger.now c.args.control (change_of c.args.request) c.in-Ok.checked c.requires.sound c.in-Ok.ensures.checks (sym c.lack.ensures.lacks ∙ c.if-lack.false) (let bound = c.lack.ensures.bound in omega (arith, bound))
 
-pub returns-in-Ok-commit-clause-sound : goal.returns-in-Ok-commit-clause-sound
-returns-in-Ok-commit-clause-sound g c =
+pub returns-in-Ok-put_group-clause-sound : goal.returns-in-Ok-put_group-clause-sound
+returns-in-Ok-put_group-clause-sound g c =
     let store = c.args.store.now in
-    let commits = subst (λ (changes : List Change). Commits g.D.Disk store changes (Ok tt) c.commit.new.self) c.in-Ok-make_group.ensures c.in-Ok-commit.ensures in
-    rw (c.keep.ensures.given, c.keep.ensures.next) (store_done g.D.Disk store.disk (λ h bytes left. g.met.D.Disk.only_now store.disk bytes h left) c.args.ledger.now c.args.control (change_of c.args.request) c.in-Ok.checked
-    store.state c.commit.new.self c.in-Ok.ensures.directory c.requires.sound c.leaves_its_files.ensures c.in-Ok.ensures.checks (sym c.is_open.ensures ∙ c.if-is_open.false) (sym c.lack.ensures.lacks ∙ c.if-lack.false) commits).1
+    let commits = subst (λ (changes : List Change). Commits g.D.Disk store changes (Ok tt) c.put_group.new.store) c.in-Ok-make_group.ensures c.in-Ok-put_group.ensures.commits in
+    rw (c.keep.ensures.given, c.keep.ensures.next, c.in-Ok-put_group.ensures.transactions) (store_done g.D.Disk store.disk (λ h bytes left. g.met.D.Disk.only_now store.disk bytes h left) c.args.ledger.now c.args.control (change_of c.args.request) c.in-Ok.checked
+    store.state store.tail c.put_group.new.store c.in-Ok.ensures.directory c.requires.sound c.leaves_its_files.ensures c.in-Ok.ensures.checks (sym c.is_open.ensures ∙ c.if-is_open.false) (sym c.lack.ensures.lacks ∙ c.if-lack.false) commits).1
 
-pub returns-in-Ok-commit-clause-changes : goal.returns-in-Ok-commit-clause-changes
-returns-in-Ok-commit-clause-changes g c =
+pub returns-in-Ok-put_group-clause-changes : goal.returns-in-Ok-put_group-clause-changes
+returns-in-Ok-put_group-clause-changes g c =
     let store = c.args.store.now in
-    let commits = subst (λ (changes : List Change). Commits g.D.Disk store changes (Ok tt) c.commit.new.self) c.in-Ok-make_group.ensures c.in-Ok-commit.ensures in
-    rw (c.keep.ensures.given, c.keep.ensures.next, c.keep.ensures.value) (store_done g.D.Disk store.disk (λ h bytes left. g.met.D.Disk.only_now store.disk bytes h left) c.args.ledger.now c.args.control (change_of c.args.request) c.in-Ok.checked
-    store.state c.commit.new.self c.in-Ok.ensures.directory c.requires.sound c.leaves_its_files.ensures c.in-Ok.ensures.checks (sym c.is_open.ensures ∙ c.if-is_open.false) (sym c.lack.ensures.lacks ∙ c.if-lack.false) commits).0
+    let commits = subst (λ (changes : List Change). Commits g.D.Disk store changes (Ok tt) c.put_group.new.store) c.in-Ok-make_group.ensures c.in-Ok-put_group.ensures.commits in
+    rw (c.keep.ensures.given, c.keep.ensures.next, c.keep.ensures.value, c.in-Ok-put_group.ensures.transactions) (store_done g.D.Disk store.disk (λ h bytes left. g.met.D.Disk.only_now store.disk bytes h left) c.args.ledger.now c.args.control (change_of c.args.request) c.in-Ok.checked
+    store.state store.tail c.put_group.new.store c.in-Ok.ensures.directory c.requires.sound c.leaves_its_files.ensures c.in-Ok.ensures.checks (sym c.is_open.ensures ∙ c.if-is_open.false) (sym c.lack.ensures.lacks ∙ c.if-lack.false) commits).0
 
 pub returns-clause-sound : goal.returns-clause-sound
 returns-clause-sound g c =
     let store = c.args.store.now in
-    let commits = subst (λ (changes : List Change). Commits g.D.Disk store changes (Err c.in-Err-commit.fault) c.commit.new.self) c.in-Ok-make_group.ensures c.in-Err-commit.ensures in
-    rw c.answer_fault.ensures.transactions (store_refused g.D.Disk store.disk (λ h bytes left. g.met.D.Disk.only_now store.disk bytes h left) c.args.ledger.now c.args.control (change_of c.args.request) c.in-Ok.checked
-    store.state c.commit.new.self c.in-Err-commit.fault c.in-Ok.ensures.directory c.requires.sound c.leaves_its_files.ensures c.in-Ok.ensures.checks (sym c.is_open.ensures ∙ c.if-is_open.false) (sym c.lack.ensures.lacks ∙ c.if-lack.false) commits).1
+    let commits = subst (λ (changes : List Change). Commits g.D.Disk store changes (Err c.in-Err-put_group.fault) c.put_group.new.store) c.in-Ok-make_group.ensures c.in-Err-put_group.ensures.commits in
+    rw c.in-Err-put_group.ensures.transactions (store_refused g.D.Disk store.disk (λ h bytes left. g.met.D.Disk.only_now store.disk bytes h left) c.args.ledger.now c.args.control (change_of c.args.request) c.in-Ok.checked
+    store.state store.tail c.put_group.new.store c.in-Err-put_group.fault c.in-Ok.ensures.directory c.requires.sound c.leaves_its_files.ensures c.in-Ok.ensures.checks (sym c.is_open.ensures ∙ c.if-is_open.false) (sym c.lack.ensures.lacks ∙ c.if-lack.false) commits).1
 
 pub returns-clause-changes : goal.returns-clause-changes
 returns-clause-changes g c =
     let store = c.args.store.now in
-    let commits = subst (λ (changes : List Change). Commits g.D.Disk store changes (Err c.in-Err-commit.fault) c.commit.new.self) c.in-Ok-make_group.ensures c.in-Err-commit.ensures in
-    rw (c.answer_fault.ensures.answer, c.answer_fault.ensures.transactions) (store_refused g.D.Disk store.disk (λ h bytes left. g.met.D.Disk.only_now store.disk bytes h left) c.args.ledger.now c.args.control (change_of c.args.request) c.in-Ok.checked
-    store.state c.commit.new.self c.in-Err-commit.fault c.in-Ok.ensures.directory c.requires.sound c.leaves_its_files.ensures c.in-Ok.ensures.checks (sym c.is_open.ensures ∙ c.if-is_open.false) (sym c.lack.ensures.lacks ∙ c.if-lack.false) commits).0
+    let commits = subst (λ (changes : List Change). Commits g.D.Disk store changes (Err c.in-Err-put_group.fault) c.put_group.new.store) c.in-Ok-make_group.ensures c.in-Err-put_group.ensures.commits in
+    rw (c.answer_fault.ensures, c.in-Err-put_group.ensures.transactions) (store_refused g.D.Disk store.disk (λ h bytes left. g.met.D.Disk.only_now store.disk bytes h left) c.args.ledger.now c.args.control (change_of c.args.request) c.in-Ok.checked
+    store.state store.tail c.put_group.new.store c.in-Err-put_group.fault c.in-Ok.ensures.directory c.requires.sound c.leaves_its_files.ensures c.in-Ok.ensures.checks (sym c.is_open.ensures ∙ c.if-is_open.false) (sym c.lack.ensures.lacks ∙ c.if-lack.false) commits).0
