@@ -1,6 +1,6 @@
 -- What the totals do with a call, for all that their disk may leave before it.
 use Rattle.std.proofs.Common.{◌≡◌, ◌≤◌, ◌⊎◌, inl, inr, ℕ, ◌+◌, List, [], ◌∷◌, ◌++◌, Option, Some, None, Result, Ok, Err, Bool, true, false, cond, not, ◌&&◌, refl, sym, ap, ◌∙◌, subst, arith}
-use Rattle.std.specs.Prelude.{MatchOption, IsTrue, is_none, is_some}
+use Rattle.std.specs.Prelude.{MatchOption, IsSome, IsTrue, is_none, is_some}
 use Rattle.pos_disk.specs.Keeps.{KeepsDisk}
 use Rattle.pos_disk.specs.State.{LeavesOnly, Rises}
 use Rattle.pos_disk.specs.declared.device.Disk.{Ghosts}
@@ -23,8 +23,9 @@ use Rattle.pos_service.specs.TotalsCalls.{FileCall, Arranges as ArrangesCall, As
 use Rattle.pos_store.specs.Standing.{Standing, Stands, LeavesOneOf, StandsForOneOf}
 use Rattle.pos_totals.specs.Changes.{Arranged, Changes, CommitsBuffer, PutsGroup, HasFailed, IsDone, IsOneGroup, IsBeforeOrAfter, before_or_after}
 use Rattle.pos_totals.specs.Views.{TotalsView, TurnsOff, LeavesTheirFiles, plain, plain_file}
+use Rattle.pos_counter.specs.DiskUse.{SparesFiles}
 use Rattle.pos_counter.specs.Parts.{CallsFiles, FilesStepped, IsLeft, Leaves, part_of}
-use Rattle.pos_counter.specs.Totals.{TotalsPart, TotalsDo, FilesCalled, put_at_once, settled, left_after, in_doubt, is_change}
+use Rattle.pos_counter.specs.Totals.{TotalsPart, TotalsDo, FilesCalled, put_at_once, settled, left_after, in_doubt}
 use Rattle.pos_counter.proofs.Lifts.{match_cases, match_weaker, match_at_none, match_at_some}
 use Rattle.pos_counter.proofs.Serving.{OnlyNow, kept_disk, same_view}
 
@@ -298,18 +299,30 @@ module _ {D : Type 0} (bound : Ghosts D) (old new : TotalsView D) (only : OnlyNo
   pub change_steps : (outcome : Result Answer NoMemory) → Changes bound old n change outcome new → FilesStepped bound left old n asked outcome new
   change_steps outcome changes = by_table outcome changes (first_refusal rows) refl
 
--- a call that uses the disk isn't one that spares it
-uses_files : (asked : Call) (fc : FileCall) → file_call asked ≡ fc → is_change fc ≡ true → is_change (file_call asked) ≡ false → ⊥
-uses_files asked fc is uses spares =
-    let changing : is_change (file_call asked) ≡ true = ap is_change is ∙ uses in
-    let none : ⊥ = cc in
-    none
+-- a call that spares the disk has no group of changes: it is refused, or there is nothing to put there
+no_group : (o : Option Answer) (changes : List Change) → IsSome o ⊎ (changes ≡ []) → cond (is_none o) changes [] ≡ []
+no_group (Some refusal) changes spares = refl
+no_group None changes (inl refused) = absurd cc
+no_group None changes (inr none) = none
+
+-- of a change: it is refused, or buffered
+no_change : (o : Option Answer) (transacting : Bool) (change : Change) → IsSome o ⊎ (put_at_once transacting change ≡ []) → cond (is_none o && not transacting) (change ∷ []) [] ≡ []
+no_change (Some refusal) transacting change spares = refl
+no_change None true change spares = refl
+no_change None false change (inl refused) = absurd cc
+no_change None false change (inr none) = none
+
+-- where the totals are as they were, their disk is
+same_disk : {D : Type 0} (old new : TotalsView D) → TurnsOff old.totals.mode new.totals.mode ⊎ (new ≡ old) → TurnsOff old.totals.mode new.totals.mode ⊎ (new.disk ≡ old.disk)
+same_disk old new (inl turns) = inl turns
+same_disk {D = D} old new (inr same) = inr (ap (λ (v : TotalsView D). v.disk) same)
 
 -- a call that asks for a change
 pub change_calls : {D : Type 0} (bound : Ghosts D) (view new : TotalsView D) (n : ℕ) (change : Change) (asked : Call) (outcome : Result Answer NoMemory) → OnlyNow bound view.disk → file_call asked ≡ Makes change → has_call category.HardTotals asked ≡ true → takes_memory asked ≡ true → Changes bound view n change outcome new → CallsFiles bound view n asked outcome new
 change_calls bound view new n change asked outcome only is has takes changes = record {
   steps = λ left leaves. change_steps bound view new only n change asked is has takes left leaves outcome changes;
-  alone = λ spares. absurd (uses_files asked (Makes change) is refl spares);
+  untouched = λ spares. changes.disk.untouched (no_change (first_refusal (refusals_of_change layout_1 view.totals n change)) (in_transaction view.totals n) change (subst (λ fc. SparesFiles view.totals n fc) is spares));
+  unchanged = λ undone. same_disk view new (changes.disk.unchanged undone);
   kept = changes.disk.kept;
 }
 
@@ -415,7 +428,8 @@ module _ {D : Type 0} (bound : Ghosts D) (old new : TotalsView D) (only : OnlyNo
 pub commit_calls : {D : Type 0} (bound : Ghosts D) (view new : TotalsView D) (n : ℕ) (asked : Call) (outcome : Result Answer NoMemory) → OnlyNow bound view.disk → file_call asked ≡ Commits → has_call category.HardTotals asked ≡ true → takes_memory asked ≡ true → CommitsBuffer bound view n outcome new → CallsFiles bound view n asked outcome new
 commit_calls bound view new n asked outcome only is has takes commits = record {
   steps = λ left leaves. commit_steps bound view new only n asked is has takes left leaves outcome commits;
-  alone = λ spares. absurd (uses_files asked Commits is refl spares);
+  untouched = λ spares. commits.disk.untouched (no_group (first_refusal (refusals_of_commit view.totals n)) (changes_in (transaction_of view.totals n)) (subst (λ fc. SparesFiles view.totals n fc) is spares));
+  unchanged = λ undone. same_disk view new (commits.disk.unchanged undone);
   kept = commits.disk.kept;
 }
 
@@ -432,7 +446,8 @@ arranged_settled old n Rollback left = refl
 pub arrangement_calls : {D : Type 0} (bound : Ghosts D) (view new : TotalsView D) (n : ℕ) (arrangement : Arrangement) (asked : Call) (result : Answer) → OnlyNow bound view.disk → file_call asked ≡ ArrangesCall arrangement → has_call category.HardTotals asked ≡ true → Arranged view n arrangement result new → CallsFiles bound view n asked (Ok result) new
 arrangement_calls {D = D} bound view new n arrangement asked result only is has arranged = record {
   steps = λ left leaves. by_table left leaves (first_refusal rows) refl;
-  alone = λ spares. arranged.disk;
+  untouched = λ spares. arranged.disk;
+  unchanged = λ undone. inr arranged.disk;
   kept = subst (λ d. KeepsDisk bound view.disk d) (sym arranged.disk) (kept_disk bound view.disk);
 }
   where
@@ -460,7 +475,8 @@ arrangement_calls {D = D} bound view new n arrangement asked result only is has 
 pub question_calls : {D : Type 0} (bound : Ghosts D) (view : TotalsView D) (n : ℕ) (question : Question) (asked : Call) (outcome : Result Answer NoMemory) → OnlyNow bound view.disk → file_call asked ≡ Asks question → has_call category.HardTotals asked ≡ true → (takes_memory asked ≡ true) ⊎ ((a : Answer) × (outcome ≡ Ok a)) → MayTell view.totals n question outcome → CallsFiles bound view n asked outcome view
 question_calls bound view n question asked outcome only is has takes tells = record {
   steps = λ left leaves. rests bound view left n asked outcome only leaves (told left outcome takes tells);
-  alone = λ spares. refl;
+  untouched = λ spares. refl;
+  unchanged = λ undone. inr refl;
   kept = kept_disk bound view.disk;
 }
   where

@@ -31,6 +31,7 @@ use Rattle.pos_totals.specs.Changes.{IsOneGroup}
 use Rattle.pos_totals.specs.Groups.{group_of}
 use Rattle.pos_totals.specs.Recoveries.{numbered}
 use Rattle.pos_totals.specs.Views.{plain, stored}
+use Rattle.pos_counter.specs.DiskUse.{IsUndone}
 use Rattle.pos_counter.specs.History.{NothingDone, changes_asked, event_between, event_of}
 use Rattle.pos_counter.specs.Machine.{Machine, with_control}
 use Rattle.pos_counter.specs.Steps.{Request, NewControl, CallOf, InputTo, WorkOn, Deliver, Snapshot, Attach, Detach, Response, Made, Full, Answered, TakenIn, NoDevice, WrongInput, Worked, Delivered, Shown, Attached, NotAttached, Detached, NotDetached, OutOfMemory, OnStation, Step, Called, Does, CategoryDoes, Stays, Sets, SetsByRecovery, refusals, claimed, dropped, released}
@@ -50,11 +51,6 @@ told_at changes old new early late response same o n r h =
     (subst (λ m. Happens old (event_between changes early response m) new) (sym n) (subst (λ a. Happens old (event_between changes early a late) new) (sym r) h))
 
 -- ---- where nothing is done
-
--- the response acknowledges no change
-abbrev IsUndone : Response → Type 0
-IsUndone (Answered (answer.Done given)) = ⊥
-IsUndone other = ⊤
 
 unasked : (early late : Mode) (response : Response) → stored late ≡ stored early → event_between [] early response late ≡ NothingDone
 unasked (Ready files sequence) (Ready others next) response same = refl

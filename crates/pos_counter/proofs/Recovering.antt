@@ -1,7 +1,7 @@
 -- Setting a property as a step of the machine, where it recovers the totals and where it doesn't.
-use Rattle.std.proofs.Common.{◌≡◌, inl, inr, ℕ, List, [], ◌∷◌, Option, Some, None, Result, Ok, Err, Bool, true, false, not, ◌&&◌, set, get_or, length, ◌<◌, refl, sym, ap, ◌∙◌, subst}
+use Rattle.std.proofs.Common.{◌≡◌, ◌⊎◌, inl, inr, ℕ, List, [], ◌∷◌, Option, Some, None, Result, Ok, Err, Bool, true, false, not, ◌&&◌, set, get_or, length, ◌<◌, refl, sym, ap, ◌∙◌, subst}
 use Rattle.std.specs.Bool.{MatchBool}
-use Rattle.std.specs.Prelude.{MatchOption, is_some, is_none, slice_get, ⊤}
+use Rattle.std.specs.Prelude.{MatchOption, IsSome, is_some, is_none, slice_get, ⊤}
 use Rattle.std.proofs.lemmas.List.{map-set}
 use Rattle.pos_disk.specs.State.{LeavesOnly}
 use Rattle.pos_disk.specs.declared.device.Disk.{Ghosts}
@@ -28,9 +28,10 @@ use Rattle.pos_store.specs.Standing.{Standing, LeavesOneOf, StandsForOneOf}
 use Rattle.pos_totals.specs.declared.fault.RecoveryFault.{RecoveryFault}
 use Rattle.pos_totals.specs.declared.fault.RecoveryFault.TheVariants as fault
 use Rattle.pos_totals.specs.Recoveries.{Recovers as DiskRecovers, RecoversOneOf, FindsFiles, ReadsAs, code_of}
-use Rattle.pos_totals.specs.Views.{TotalsView, WhenOff, LeavesTheirFiles}
+use Rattle.pos_totals.specs.Views.{TotalsView, IsReady, WhenOff, LeavesTheirFiles}
 use Rattle.pos_counter.specs.Machine.{Device, Machine, device_at, holder_in, holder_of, kind_in, kind_of, with_control}
-use Rattle.pos_counter.specs.Parts.{over, machine_with, part_of, ArePartsSound, IsRecovering, IsLeft, Leaves, Serves, SparesDisk}
+use Rattle.pos_counter.specs.DiskUse.{SparesDisk}
+use Rattle.pos_counter.specs.Parts.{over, machine_with, part_of, ArePartsSound, IsRecovering, IsLeft, Leaves, Serves}
 use Rattle.pos_counter.specs.Steps.{CallOf, Answered, IsSound, Step, Sets, SetsByRecovery}
 use Rattle.pos_counter.specs.Totals.{TotalsPart, Recovers, asks_recovery, recovers, is_enabling, is_totals, settled}
 use Rattle.pos_counter.proofs.Lifts.{control_at, decided_at, match_at_none, match_at_some, match_cases, match_weaker}
@@ -151,12 +152,23 @@ module _ {D : Type 0} (bound : Ghosts D) (old new : TotalsView D) (off : old.tot
     abbrev holder : List Standing → Option ℕ
     holder left = holder_of (before left) c
 
-    -- the call may use the disk
-    uses : SparesDisk hs (CallOf n (call.Set p v)) → ⊥
-    uses spares =
-        let rests : asks_recovery c p v ≡ false = subst (λ (o : Option Control). MatchOption o ⊤ (λ control. asks_recovery control p v ≡ false)) at spares in
-        let none : ⊥ = cc in
-        none
+    -- the call recovers totals that are off, and nothing refuses it
+    uses : (left : List Standing) → SparesDisk (before left) (CallOf n (call.Set p v)) → ⊥
+    uses left spares = by_row (subst (λ (o : Option Control). MatchOption o ⊤ Spares) at spares)
+      where
+        Spares : Control → Type 0
+        Spares k = IsSome (first_refusal (set_rows n (holder_of (before left) k) (kind_of (before left) k) k p v)) ⊎ ((asks_recovery k p v && not (is_ready old.totals.mode)) ≡ false)
+
+        by_row : Spares c → ⊥
+        by_row (inl refused) =
+            let none = enabling_unrefused n (holder left) (kind_of (before left) c) c p v asks in
+            let bad : false ≡ true = subst IsSome none refused in
+            cc
+        by_row (inr rests) = cc
+
+    -- the totals are off before
+    was_off : IsReady old.totals.mode → ⊥
+    was_off ready = subst IsReady off ready
 
     -- the totals are recovered, and the control is enabled
     pub recovered_serves : (g : Held) (r : Answer) → DiskRecovers bound old (Ok tt) new → r ≡ answer.Done value.Empty → g.control ≡ after_set c p v → Serves bound hs cl ds old (CallOf n (call.Set p v)) (Answered r) (set hs n g) cl ds new
@@ -181,7 +193,8 @@ module _ {D : Type 0} (bound : Ghosts D) (old new : TotalsView D) (off : old.tot
       sound = set_sound hs ds n g c p v at asks is sound;
       covers = refl;
       places = refl;
-      alone = λ spares. absurd (uses spares);
+      untouched = λ left spares. absurd (uses left spares);
+      unchanged = λ undone was now. absurd (was_off was);
       kept = recovers.kept;
     }
 
@@ -230,7 +243,8 @@ module _ {D : Type 0} (bound : Ghosts D) (old new : TotalsView D) (off : old.tot
       sound = sound;
       covers = refl;
       places = refl;
-      alone = λ spares. absurd (uses spares);
+      untouched = λ left spares. absurd (uses left spares);
+      unchanged = λ undone was now. absurd (was_off was);
       kept = recovers.kept;
     }
 

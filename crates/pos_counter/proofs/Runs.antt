@@ -57,7 +57,8 @@ module _ {D X : Type 0} {O : X → Type 0} (bound : DiskGhosts D) (boxes : Ghost
   beside_is_step old new q r only beside = record {
     steps = λ left leaves. subst (λ (v : TotalsView D). Stepped bound left (machine_of_counter boxes old) old.totals q r (machine_of_counter boxes new) v) (sym beside.totals)
         (rests_stepped bound old.totals (machine_of_counter boxes old) (machine_of_counter boxes new) q r left only leaves (beside.step (part_of bound old.totals left)));
-    alone = λ spares. ap (λ (v : TotalsView D). v.disk) beside.totals;
+    untouched = λ left spares. ap (λ (v : TotalsView D). v.disk) beside.totals;
+    unchanged = λ undone was is. ap (λ (v : TotalsView D). v.disk) beside.totals;
     kept = subst (λ (v : TotalsView D). KeepsDisk bound old.totals.disk v.disk) (sym beside.totals) (kept_disk bound old.totals.disk);
   }
 
@@ -74,7 +75,8 @@ module _ {D X : Type 0} {O : X → Type 0} (bound : DiskGhosts D) (boxes : Ghost
         (arranges_stepped bound old.totals new.totals.totals (machine_of_counter boxes old) (machine_of_counter boxes new) (machine.NewControl k) (made outcome) left only (ap (λ mode. settled mode left) makes.mode) leaves
         (subst (λ m. Step (machine_of_counter boxes old (part_of bound old.totals left)) (machine.NewControl k) (made outcome) m) (sym (same (now left)))
         (makes.step (devices_in boxes old.devices) old.claims left (bound.state old.totals.disk).failures)));
-    alone = λ spares. makes.disk;
+    untouched = λ left spares. makes.disk;
+    unchanged = λ undone was is. makes.disk;
     kept = subst (λ (d : D). KeepsDisk bound old.totals.disk d) (sym makes.disk) (kept_disk bound old.totals.disk);
   }
     where

@@ -88,7 +88,8 @@ arranges_serve {D = D} bound view new totals hs gs cl dl ds q r only disk is sam
       sound = stepped_sound hs gs ds (record { claims = cl; totals = part_of bound view [] }) (record { claims = dl; totals = part_of bound after [] }) q r sound (step []);
       covers = covers;
       places = refl;
-      alone = λ spares. refl;
+      untouched = λ left spares. refl;
+      unchanged = λ undone was is. refl;
       kept = kept_disk bound view.disk;
     })
 
@@ -100,7 +101,8 @@ under_serves bound view hs gs cl ds es q r only serves = record {
   sound = serves.sound;
   covers = refl;
   places = serves.places;
-  alone = λ spares. refl;
+  untouched = λ left spares. refl;
+  unchanged = λ undone was is. refl;
   kept = kept_disk bound view.disk;
 }
 
@@ -118,6 +120,7 @@ looks_serve bound view hs cl ds q r only sound step = record {
   sound = sound;
   covers = refl;
   places = refl;
-  alone = λ spares. refl;
+  untouched = λ left spares. refl;
+  unchanged = λ undone was is. refl;
   kept = kept_disk bound view.disk;
 }

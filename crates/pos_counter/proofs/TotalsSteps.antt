@@ -1,6 +1,6 @@
 -- A call of the totals' own as a step of the machine.
-use Rattle.std.proofs.Common.{◌≡◌, ◌<◌, inl, inr, ℕ, List, [], ◌∷◌, length, get_or, arith, Option, Some, None, Result, Ok, Err, Bool, true, false, not, ◌&&◌, refl, sym, ap, ◌∙◌, subst}
-use Rattle.std.specs.Prelude.{MatchOption, IsTrue, is_some, slice_get, ⊤}
+use Rattle.std.proofs.Common.{◌≡◌, ◌<◌, ◌⊎◌, inl, inr, ℕ, List, [], ◌∷◌, length, get_or, arith, Option, Some, None, Result, Ok, Err, Bool, true, false, not, ◌&&◌, refl, sym, ap, ◌∙◌, subst}
+use Rattle.std.specs.Prelude.{MatchOption, IsSome, IsTrue, is_some, slice_get, ⊤}
 use Rattle.std.proofs.lemmas.List.{length-map}
 use Rattle.std.proofs.lemmas.Option.{slice_get_within}
 use Rattle.pos_disk.specs.declared.device.Disk.{Ghosts}
@@ -14,17 +14,21 @@ use Rattle.pos_service.specs.declared.code.Code.TheVariants as code
 use Rattle.pos_service.specs.declared.memory.NoMemory.{NoMemory}
 use Rattle.pos_service.specs.Calls.{is_common, has_call}
 use Rattle.pos_service.specs.Controls.{Control}
+use Rattle.pos_service.specs.HardTotals.{Mode, Off, Ready}
 use Rattle.pos_service.specs.Refusals.{Row, first_refusal, when}
 use Rattle.pos_service.specs.Stations.{IsOpen}
 use Rattle.pos_service.specs.Claims.{is_foreign}
 use Rattle.pos_service.specs.TotalsCalls.{asks_area, file_call, file_rows}
 use Rattle.pos_common.specs.Held.{Held, controls_of}
-use Rattle.pos_totals.specs.Views.{TotalsView}
+use Rattle.pos_totals.specs.Changes.{IsDone}
+use Rattle.pos_totals.specs.Views.{IsReady, TotalsView, TurnsOff}
 use Rattle.pos_counter.specs.Machine.{Device, Machine}
 use Rattle.pos_counter.specs.Parts.{machine_with, part_of, ArePartsSound, CallsFiles, Serves}
 use Rattle.pos_counter.specs.Responses.{answered}
 use Rattle.pos_counter.specs.Steps.{CallOf, Answered, Step, CategoryDoes, refusals}
-use Rattle.pos_counter.specs.Totals.{TotalsPart, FilesCalled, is_change, uses_disk}
+use Rattle.pos_counter.specs.DiskUse.{AsksNothing, IsUndone, SparesDisk, SparesFiles}
+use Rattle.pos_counter.specs.History.{changes_asked}
+use Rattle.pos_counter.specs.Totals.{TotalsPart, FilesCalled}
 use Rattle.pos_counter.proofs.Lifts.{control_at, match_at_some, match_by, match_cases, match_weaker}
 use Rattle.pos_counter.proofs.Stations.{own_does, own_takes, own_stays, open_refusals}
 
@@ -72,19 +76,40 @@ called_step m part n c asked (Err want) own at is device area able h =
       own_stays m (record m { totals = part }) c asked own (ap (λ (p : TotalsPart). let o : Machine = record m { totals = p } in o) h.2),
     )
 
--- a call of the totals' own that doesn't use the disk asks for no change
-spares_own : (c : Control) (asked : Call) → is_common asked ≡ false → c.category ≡ category.HardTotals → uses_disk c asked ≡ false → is_change (file_call asked) ≡ false
-spares_own c asked own is spares = by_call asked own (subst (λ k. uses_disk (record c { category = k }) asked ≡ false) is spares)
+-- a call of the totals' own that asks nothing of the disk has no changes
+asks_no_change : (part : TotalsPart) (n : ℕ) (c : Control) (asked : Call) → is_common asked ≡ false → AsksNothing part n c asked → changes_asked part.totals n (file_call asked) ≡ []
+asks_no_change part n c (call.Set p v) own asks = cc
+asks_no_change part n c asked own asks = asks
+
+-- on an enabled control, where the area is free, it leaves the disk alone exactly where the totals do
+spares_own : (m : Machine) (n : ℕ) (c : Control) (asked : Call) → is_common asked ≡ false → slice_get m.controls n ≡ Some c → c.category ≡ category.HardTotals → IsTrue (is_some c.device) → has_call category.HardTotals asked ≡ true → (asks_area (file_call asked) && is_foreign n m.totals.totals.area) ≡ false → c.enabled ≡ true
+    → SparesDisk m (CallOf n asked) → SparesFiles m.totals.totals n (file_call asked)
+spares_own m n c asked own at is device theirs area able spares =
+    by_row (subst (λ (o : Option Control). MatchOption o ⊤ Spares) at spares)
   where
-    by_call : (asked : Call) → is_common asked ≡ false → uses_disk (record c { category = category.HardTotals }) asked ≡ false → is_change (file_call asked) ≡ false
-    by_call (call.Set p v) own spares = cc
-    by_call asked own spares = spares
+    Spares : Control → Type 0
+    Spares k = IsSome (first_refusal (refusals m n k asked)) ⊎ AsksNothing m.totals n k asked
+
+    by_row : Spares c → SparesFiles m.totals.totals n (file_call asked)
+    by_row (inl refused) = inl (subst IsSome (totals_refusals m n c asked true false true own is device theirs area able) refused)
+    by_row (inr asks) = inr (asks_no_change m.totals n c asked own asks)
+
+-- what isn't answered to be done wasn't done
+not_done : (outcome : Result Answer NoMemory) → IsUndone (answered outcome) → IsDone outcome → ⊥
+not_done (Ok (answer.Done given)) undone done = undone
+not_done (Ok (answer.Refused k x)) undone done = done
+not_done (Err want) undone done = done
+
+-- a disk that a call has touched in which the totals stay ready
+still_ready : (old new : Mode) → TurnsOff old new → IsReady new → ⊥
+still_ready old Off turns ready = ready
+still_ready old (Ready files sequence) turns ready = turns
 
 -- a call of the totals' own on an enabled control
 pub files_serve : {D : Type 0} (bound : Ghosts D) (view new : TotalsView D) (hs : List Held) (cl : List (Option ℕ)) (ds : List Device) (n : ℕ) (c : Control) (asked : Call) (outcome : Result Answer NoMemory)
-    → is_common asked ≡ false → slice_get (controls_of hs) n ≡ Some c → c.category ≡ category.HardTotals → IsTrue (is_some c.device) → (asks_area (file_call asked) && is_foreign n view.totals.area) ≡ false → c.enabled ≡ true
+    → is_common asked ≡ false → slice_get (controls_of hs) n ≡ Some c → c.category ≡ category.HardTotals → IsTrue (is_some c.device) → has_call category.HardTotals asked ≡ true → (asks_area (file_call asked) && is_foreign n view.totals.area) ≡ false → c.enabled ≡ true
     → CallsFiles bound view n asked outcome new → ArePartsSound hs ds → Serves bound hs cl ds view (CallOf n asked) (answered outcome) hs cl ds new
-files_serve {D = D} bound view new hs cl ds n c asked outcome own at is device area able calls sound = record {
+files_serve bound view new hs cl ds n c asked outcome own at is device theirs area able calls sound = record {
   steps = λ left leaves.
       let f = calls.steps left leaves in
       record {
@@ -96,7 +121,11 @@ files_serve {D = D} bound view new hs cl ds n c asked outcome own at is device a
   sound = sound;
   covers = refl;
   places = refl;
-  alone = λ spares. calls.alone (spares_own c asked own is (subst (λ (o : Option Control). MatchOption o ⊤ (λ control. uses_disk control asked ≡ false)) at spares));
+  untouched = λ left spares. calls.untouched (spares_own (machine_with hs cl ds (part_of bound view left)) n c asked own at is device theirs area able spares);
+  unchanged = λ undone was now. elim (calls.unchanged (not_done outcome undone)) [
+    | inl turns ↦ absurd (still_ready view.totals.mode new.totals.mode turns now)
+    | inr same ↦ same
+  ];
   kept = calls.kept;
 }
 

@@ -6,10 +6,12 @@ use Rattle.pos_service.specs.declared.peripheral_box.PeripheralBox.{PeripheralBo
 use Rattle.pos_service.specs.declared.peripheral_box.HasState.{Ghosts}
 use Rattle.pos_service.specs.HardTotals.{Off}
 use Rattle.pos_store.specs.Standing.{Standing, StandsForOneOf}
+use Rattle.pos_totals.specs.Views.{IsReady}
 use Rattle.pos_disk.specs.Keeps.{KeepsDisk}
 use Rattle.pos_counter.specs.declared.counter.Counter.{Counter}
 use Rattle.pos_counter.specs.Machine.{Machine}
-use Rattle.pos_counter.specs.Parts.{devices_in, machine_with, part_of, profile_devices, AreDevicesSound, ArePartsSound, Leaves, SparesDisk, Stepped}
+use Rattle.pos_counter.specs.Parts.{devices_in, machine_with, part_of, profile_devices, AreDevicesSound, ArePartsSound, Leaves, Stepped}
+use Rattle.pos_counter.specs.DiskUse.{IsUndone, SparesDisk}
 use Rattle.pos_profile.specs.declared.entry.Entry.{Entry}
 use Rattle.pos_counter.specs.Steps.{Request, Response, Step, Run}
 use Rattle.pos_counter.specs.Totals.{TotalsPart}
@@ -39,8 +41,13 @@ pub record IsStep {D X : Type 0} {O : X → Type 0} (bound : DiskGhosts D) (boxe
     (old : Counter D X O) (request : Request) (response : Response) (new : Counter D X O) : Type 0 where
   pub steps : (left : List Standing) → Leaves bound old.totals left
       → Stepped bound left (machine boxes old) old.totals request response (machine boxes new) new.totals
-  -- a request that doesn't use the disk leaves it alone
-  pub alone : SparesDisk old.desk request → new.totals.disk ≡ old.totals.disk
+  -- a request that spares the disk doesn't touch it
+  pub untouched : (left : List Standing) → SparesDisk (machine boxes old (part_of bound old.totals left)) request
+      → new.totals.disk ≡ old.totals.disk
+  -- nor does a call that isn't done, but after a fault of the disk, which turns the totals off, and but a recovery,
+  -- which finds them off
+  pub unchanged : IsUndone response → IsReady old.totals.totals.mode → IsReady new.totals.totals.mode
+      → new.totals.disk ≡ old.totals.disk
   pub kept : KeepsDisk bound old.totals.disk new.totals.disk
 
 -- the bytes stand for what a crash leaves before a run, between two of its steps, or after it

@@ -5,6 +5,7 @@ pub mod Parts
 pub mod Responses
 pub mod Counters
 pub mod History
+pub mod DiskUse
 pub mod Prefixes
 pub mod Crashes
 pub mod Examples

@@ -17,7 +17,8 @@ use Rattle.pos_disk.specs.State.{LeavesOnly}
 use Rattle.pos_disk.specs.declared.device.Disk.{Ghosts}
 use Rattle.pos_store.specs.Standing.{Standing, LeavesOneOf, StandsForOneOf}
 use Rattle.pos_disk.specs.Keeps.{KeepsDisk}
-use Rattle.pos_totals.specs.Views.{TotalsView}
+use Rattle.pos_totals.specs.Changes.{IsDone}
+use Rattle.pos_totals.specs.Views.{IsReady, TotalsView, TurnsOff}
 use Rattle.pos_service.specs.declared.category.Category.{Category}
 use Rattle.pos_counter.specs.Machine.{Device, Machine, Shared, device_at, kind_in, station_in}
 use Rattle.pos_counter.specs.Responses.{made}
@@ -25,7 +26,8 @@ use Rattle.pos_counter.specs.declared.faults.ControlFault.{ControlFault}
 use Rattle.pos_counter.specs.Steps.{Request, NewControl, CallOf, Response, Step, DeviceDoes, FindsFit, IsSound, device_rows}
 use Rattle.pos_service.specs.declared.answer.Value.{Value}
 use Rattle.pos_service.specs.declared.property.Property.{Property}
-use Rattle.pos_counter.specs.Totals.{TotalsPart, settled, FilesCalled, asks_recovery, is_change, uses_disk}
+use Rattle.pos_counter.specs.DiskUse.{IsUndone, SparesDisk, SparesFiles}
+use Rattle.pos_counter.specs.Totals.{TotalsPart, settled, FilesCalled, asks_recovery}
 use Rattle.pos_counter.specs.declared.devices.Devices.{Devices}
 use Rattle.pos_profile.specs.declared.entry.Entry.{Entry}
 use Rattle.pos_profile.specs.Categories.{is_totals}
@@ -188,14 +190,7 @@ pub record Stepped {D : Type 0} (bound : Ghosts D) (left : List Standing) (old :
   pub step : Step (old (part_of bound before left)) request response (new (part_of bound now after))
   pub any_moment : LeavesOnly (bound.state before.disk) (bound.state now.disk) (IsLeft left after)
 
--- a request that doesn't use the disk: it isn't the call of a control that may
-abbrev pub SparesDisk : List Held → Request → Type 0
-SparesDisk helds (CallOf number asked) =
-    MatchOption (slice_get (controls_of helds) number) ⊤ (λ control. uses_disk control asked ≡ false)
-SparesDisk helds other = ⊤
-
--- From some parts of a counter to others, the request gets this response, for all that the disk may leave. A request
--- that doesn't use the disk leaves it alone.
+-- From some parts of a counter to others, the request gets this response, for all that the disk may leave.
 pub record Serves {D : Type 0} (bound : Ghosts D) (helds : List Held) (claims : List (Option ℕ))
     (devices : List Device) (before : TotalsView D) (request : Request) (response : Response)
     (new_helds : List Held) (new_claims : List (Option ℕ)) (new_devices : List Device) (now : TotalsView D)
@@ -206,7 +201,12 @@ pub record Serves {D : Type 0} (bound : Ghosts D) (helds : List Held) (claims : 
   pub sound : ArePartsSound new_helds new_devices
   pub covers : length new_claims ≡ length claims
   pub places : length new_devices ≡ length devices
-  pub alone : SparesDisk helds request → now.disk ≡ before.disk
+  -- a request that spares the disk doesn't touch it
+  pub untouched : (left : List Standing) → SparesDisk (machine_with helds claims devices (part_of bound before left))
+      request → now.disk ≡ before.disk
+  -- nor does a call that isn't done, but after a fault of the disk, which turns the totals off, and but a recovery,
+  -- which finds them off
+  pub unchanged : IsUndone response → IsReady before.totals.mode → IsReady now.totals.mode → now.disk ≡ before.disk
   pub kept : KeepsDisk bound before.disk now.disk
 
 -- A new control is made, which gets a place for its transaction, whatever the devices, the claims and what the disk may
@@ -234,7 +234,10 @@ pub record CallsFiles {D : Type 0} (bound : Ghosts D) (before : TotalsView D) (n
     (outcome : Result Answer NoMemory) (now : TotalsView D) : Type 0 where
   pub steps : (left : List Standing) → Leaves bound before left
       → FilesStepped bound left before number asked outcome now
-  pub alone : is_change (file_call asked) ≡ false → now.disk ≡ before.disk
+  -- a call that spares the disk doesn't touch it
+  pub untouched : SparesFiles before.totals number (file_call asked) → now.disk ≡ before.disk
+  -- nor does one that isn't done, but after a fault of the disk
+  pub unchanged : ¬ (IsDone outcome) → TurnsOff before.totals.mode now.totals.mode ⊎ (now.disk ≡ before.disk)
   pub kept : KeepsDisk bound before.disk now.disk
 
 -- setting the property of the control that a number has recovers totals of this mode

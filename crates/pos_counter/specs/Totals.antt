@@ -141,16 +141,3 @@ asks_recovery control p v =
 -- setting the property starts a recovery: it enables a control of totals that are off
 abbrev pub recovers : TotalsPart → Control → Property → Value → Bool
 recovers part control p v = asks_recovery control p v && not (is_ready part.totals.mode)
-
--- the call asks for a change of the files
-abbrev pub is_change : FileCall → Bool
-is_change (Asks question) = false
-is_change (Makes change) = true
-is_change (Arranges arrangement) = false
-is_change Commits = true
-is_change Nothing = false
-
--- the call of a control may use the disk: a change of the files, or the recovery of totals that are to be enabled
-abbrev pub uses_disk : Control → Call → Bool
-uses_disk control (call.Set p v) = asks_recovery control p v
-uses_disk control asked = is_totals control.category && is_change (file_call asked)

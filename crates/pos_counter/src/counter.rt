@@ -133,7 +133,8 @@ impl<D: Disk> Counter<D> {
     ///
     /// The answer is E_ILLEGAL where there is no control of this number, else the first refusal of the call's table
     /// that applies, else what the call gives. Want of memory changes nothing. A crash at any moment of the call leaves
-    /// what may be left before it or after it.
+    /// what may be left before it or after it. The disk is touched only by a change and a commit that nothing refuses,
+    /// where the change isn't buffered and the commit has changes, and by an enabling of Hard Totals that are off.
     pub fn call(&mut self, number: usize, call: &Call) -> Result<Answer, NoMemory>
         requires sound { IsCounterSound ⟦<PeripheralBox as HasState>⟧ self.old }
         ensures step { IsStep D.Disk ⟦<PeripheralBox as HasState>⟧ self.old

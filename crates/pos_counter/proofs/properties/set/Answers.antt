@@ -41,6 +41,7 @@ returns g c = λ sound.
       sound = stepped_sound hs (set hs n c.set.new.self) ds shared shared q (Answered c.set.result) sound (step []);
       covers = refl;
       places = refl;
-      alone = λ h. refl;
+      untouched = λ left spares. refl;
+      unchanged = λ undone was now. refl;
       kept = kept_disk g.D.Disk view.disk;
     }

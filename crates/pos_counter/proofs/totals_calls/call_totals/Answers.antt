@@ -32,7 +32,7 @@ returns-in-Ok g c = λ devices sound.
     ∙ ap (λ b. first_refusal (when (needs_no_other c.need_of.result && is_foreign n c.area.result) code.Claimed ∷ when (b && is_none c.area.result) code.NotClaimed ∷ when (not held.control.enabled) code.Disabled ∷ [])) (sym c.need_of.ensures.anyone)
     ∙ c.in-Ok.ensures in
     let free = was_let (asks_area (file_call c.args.call.now) && is_foreign n c.area.result) held.control.enabled rows in
-    files_serve g.D.Disk view c.call_files.new.totals hs c.args.claims.now devices n held.control c.args.call.now c.call_files.result c.requires.own there.0 there.1 there.2
+    files_serve g.D.Disk view c.call_files.new.totals hs c.args.claims.now devices n held.control c.args.call.now c.call_files.result c.requires.own there.0 there.1 there.2 (sym c.has_call.ensures ∙ c.if-not-has_call.false)
     (ap (λ o. asks_area (file_call c.args.call.now) && is_foreign n o) (sym c.area.ensures) ∙ free.0) free.1 c.call_files.ensures sound
 
 pub returns-in-Err : goal.returns-in-Err
