@@ -1,6 +1,7 @@
 -- What the totals do with a call, for all that their disk may leave before it.
-use Rattle.std.proofs.Common.{◌≡◌, ◌≤◌, ◌⊎◌, inl, inr, ℕ, ◌+◌, List, [], ◌∷◌, ◌++◌, Option, Some, None, Result, Ok, Err, Bool, true, false, cond, not, ◌&&◌, refl, sym, ap, ◌∙◌, subst, arith}
-use Rattle.std.specs.Prelude.{MatchOption, IsSome, IsTrue, is_none, is_some}
+use Rattle.std.proofs.Common.{◌≡◌, ◌≤◌, ◌⊎◌, inl, inr, ℕ, List, [], ◌∷◌, ◌++◌, Option, Some, None, Result, Ok, Err, Bool, true, false, cond, not, ◌&&◌, refl, sym, ap, ◌∙◌, subst, arith}
+use Rattle.std.specs.Prelude.{MatchOption, IsSome, IsTrue, is_none, is_some, ⊤}
+use Rattle.std.proofs.lemmas.Option.{same_Some}
 use Rattle.pos_disk.specs.Keeps.{KeepsDisk}
 use Rattle.pos_disk.specs.State.{LeavesOnly, Rises}
 use Rattle.pos_disk.specs.declared.device.Disk.{Ghosts}
@@ -14,10 +15,10 @@ use Rattle.pos_service.specs.declared.category.Category.TheVariants as category
 use Rattle.pos_service.specs.declared.code.Code.TheVariants as code
 use Rattle.pos_service.specs.declared.memory.NoMemory.{NoMemory}
 use Rattle.pos_service.specs.Calls.{has_call, takes_memory}
-use Rattle.pos_service.specs.HardTotals.{File, Mode, Off, Ready, Totals, Change, Question, layout_1, files_after_all, refusals_of_change, refusals_of_question, number_rows, given_by, Done, DoesChange, MayTell}
-use Rattle.pos_service.specs.HardTotals.{Arrangement, ClaimFile, ReleaseFile, BeginTrans, Rollback, DoesCommit, after_arrangement, changes_in, claimed, in_transaction, is_last, refusals_of_arrangement, refusals_of_commit, transaction_of, with_each, with_files, with_transaction, is_called}
+use Rattle.pos_service.specs.HardTotals.{File, Mode, Off, Ready, Totals, Change, Question, layout_1, refusals_of_change, refusals_of_question, number_rows, given_by, Done, DoesChange, MayTell, RunsOut}
+use Rattle.pos_service.specs.HardTotals.{Arrangement, ClaimFile, ReleaseFile, BeginTrans, Rollback, DoesCommit, after_arrangement, changes_in, claimed, in_transaction, refusals_of_arrangement, refusals_of_commit, transaction_of, with_each, with_files, with_transaction, is_called}
 use Rattle.pos_service.specs.Claims.{is_foreign}
-use Rattle.pos_service.specs.HardTotals.{mode_after, IsAmong, sequences_after, when_foreign_area, while_ready, change_rows, spent_by, commit_rows}
+use Rattle.pos_service.specs.HardTotals.{when_foreign_area, while_ready, change_rows, spent_by, commit_rows}
 use Rattle.pos_service.specs.Refusals.{Row, Decided, first_refusal, when}
 use Rattle.pos_service.specs.TotalsCalls.{FileCall, Arranges as ArrangesCall, Asks, Commits, Makes, file_call, file_rows}
 use Rattle.pos_store.specs.Standing.{Standing, Stands, LeavesOneOf, StandsForOneOf}
@@ -25,7 +26,7 @@ use Rattle.pos_totals.specs.Changes.{Arranged, Changes, CommitsBuffer, PutsGroup
 use Rattle.pos_totals.specs.Views.{TotalsView, TurnsOff, LeavesTheirFiles, plain, plain_file}
 use Rattle.pos_counter.specs.DiskUse.{SparesFiles}
 use Rattle.pos_counter.specs.Parts.{CallsFiles, FilesStepped, IsLeft, Leaves, part_of}
-use Rattle.pos_counter.specs.Totals.{TotalsPart, TotalsDo, FilesCalled, put_at_once, settled, left_after, in_doubt}
+use Rattle.pos_counter.specs.Totals.{TotalsPart, TotalsDo, FailsTurningOff, FilesCalled, put_at_once, settled, left_after, in_doubt}
 use Rattle.pos_counter.proofs.Lifts.{match_cases, match_weaker, match_at_none, match_at_some}
 use Rattle.pos_counter.proofs.Serving.{OnlyNow, kept_disk, same_view}
 
@@ -88,22 +89,19 @@ never_turns : (mode : Mode) → TurnsOff mode mode → ⊥
 never_turns Off turns = turns
 never_turns (Ready files sequence) turns = turns
 
-not_done : (o : Result Answer NoMemory) (c : Answer) → ((c' : Value) → c ≡ answer.Done c' → ⊥) → o ≡ Ok c → IsDone o → ⊥
-not_done (Ok (answer.Done v)) c never e h =
-    let same : c ≡ answer.Done v = cc in
-    never v same
-not_done (Ok (answer.Refused k x)) c never e h = h
-not_done (Err want) c never e h = h
+-- an answer that is no success
+abbrev IsRefused : Answer → Type 0
+IsRefused (answer.Done given) = ⊥
+IsRefused (answer.Refused code extended) = ⊤
+
+not_done : (result refusal : Answer) → IsRefused refusal → result ≡ refusal → IsDone (Ok result) → ⊥
+not_done (answer.Done given) refusal refused same done = subst IsRefused (sym same) refused
+not_done (answer.Refused code extended) refusal refused same done = done
 
 -- what refuses by a number is no success
-number_refusal : (b : Bool) (refusal : Answer) → first_refusal (when b code.Failure ∷ []) ≡ Some refusal → (v : Value) → refusal ≡ answer.Done v → ⊥
-number_refusal true refusal e v d = let bad = sym e in cc
-number_refusal false refusal e v d = cc
-
--- the sequences that are next are one
-only_next : (q s : ℕ) → (s ≡ q + 1) ⊎ ⊥ → s ≡ q + 1
-only_next q s (inl e) = e
-only_next q s (inr h) = absurd h
+number_refusal : (b : Bool) (refusal : Answer) → first_refusal (when b code.Failure ∷ []) ≡ Some refusal → IsRefused refusal
+number_refusal true refusal e = subst IsRefused (same_Some (answer.Refused code.Failure 0) refusal e) tt
+number_refusal false refusal e = absurd cc
 
 -- ---- a group
 
@@ -119,82 +117,52 @@ module _ {D : Type 0} (bound : Ghosts D) (old new : TotalsView D) (only : OnlyNo
   caused ended changes result given (inr failed) = inr (failed.0, failed.1 leaves.honest, failed.2)
 
   module _ (files : List File) (q : ℕ) (ready : old.totals.mode ≡ Ready files q) (change : Change) (changes : List Change) (outcome : Result Answer NoMemory) (puts : PutsGroup bound old (change ∷ changes) outcome new) where
-    -- the files and the sequence after a group that was done
-    led_to : (ended : Totals) (result : Answer) (given : Value) → ended.mode ≡ Ready files q → ended.next ≡ old.totals.next → Done (HasFailed bound old.disk new.disk) ended (change ∷ changes) given result new.totals
-        → (f : List File) (s : ℕ) → new.totals.mode ≡ Ready f s → (f ≡ files_after_all old.totals.next files (change ∷ changes)) × (s ≡ q + 1)
-    led_to ended result given at same (inl done) f s now =
-        let next = ap (λ (x : Totals). x.mode) done.1.totals
-        ∙ ap (λ m. mode_after ended.next m (change ∷ changes) done.1.sequence) at
-        ∙ ap (λ k. Ready (files_after_all k files (change ∷ changes)) done.1.sequence) same in
-        let is : Ready f s ≡ Ready (files_after_all old.totals.next files (change ∷ changes)) done.1.sequence = sym now ∙ next in
-        let follows = subst (λ m. IsAmong done.1.sequence (sequences_after m)) at done.1.follows in
-        (cc, (let equal : s ≡ done.1.sequence = cc in equal) ∙ only_next q done.1.sequence follows)
-    led_to ended result given at same (inr failed) f s now =
-        let bad : Ready f s ≡ Off = sym now ∙ ap (λ (x : Totals). x.mode) failed.2 in
-        cc
-
     abbrev list_after : Mode → List Standing
     list_after mode = left_after (part_of bound old left) (change ∷ changes) mode
 
+    -- the files before the group, alone
+    is_left : left ≡ Stands (plain files) q ∷ []
+    is_left = leaves.is_settled ∙ ap (λ m. settled m left) ready
+
+    -- what a crash leaves inside a group is left before it or after it
+    inside_group : (mode : Mode) → new.totals.mode ≡ mode → (c : List ℕ) → IsBeforeOrAfter (bound.state old.disk) old.totals.next old.totals.mode (change ∷ changes) new.totals.mode c → IsLeft left (list_after mode) c
+    inside_group mode now c p = by mode (subst (λ m. IsBeforeOrAfter (bound.state old.disk) old.totals.next (Ready files q) (change ∷ changes) m c) now (subst (λ m. IsBeforeOrAfter (bound.state old.disk) old.totals.next m (change ∷ changes) new.totals.mode c) ready p))
+      where
+        was : StandsForOneOf (Stands (plain files) q ∷ []) c → StandsForOneOf left c
+        was p = subst (λ l. StandsForOneOf l c) (sym is_left) p
+
+        by : (mode : Mode) → IsBeforeOrAfter (bound.state old.disk) old.totals.next (Ready files q) (change ∷ changes) mode c → IsLeft left (list_after mode) c
+        by mode (inl p) = inl (was (inl p))
+        by Off (inr p) = inr (subst (λ m. StandsForOneOf (in_doubt (part_of bound old left) (change ∷ changes) m) c) (sym ready) p)
+        by (Ready f s) (inr p) = inr p
+
     -- what a crash may have left since it began, and what it leaves now
-    group_moves : ((f : List File) (s : ℕ) → new.totals.mode ≡ Ready f s → (f ≡ files_after_all old.totals.next files (change ∷ changes)) × (s ≡ q + 1))
-        → (mode : Mode) → new.totals.mode ≡ mode
-        → Leaves bound new (list_after mode) × LeavesOnly (bound.state old.disk) (bound.state new.disk) (IsLeft left (list_after mode))
-    group_moves found Off off = (
-      record {
-        honest = puts.kept.honest.0 leaves.honest;
-        leaves = subst (λ l. LeavesOneOf l (bound.state new.disk)) (sym doubted) (puts.in_doubt leaves.honest (subst (λ m. TurnsOff old.totals.mode m) (sym off) (subst (λ m. TurnsOff m Off) (sym ready) tt)));
-        is_settled = subst (λ m. list_after Off ≡ settled m (list_after Off)) (sym off) refl;
-      },
-      weaker (bound.state old.disk) (bound.state new.disk) (IsBeforeOrAfter (bound.state old.disk) old.totals.next old.totals.mode (change ∷ changes)) (IsLeft left (list_after Off)) (λ c p. inr (subst (λ l. StandsForOneOf l c) (sym listed) (at_ready c p))) (puts.any_moment leaves.honest),
-    )
+    leaves_after : (mode : Mode) → new.totals.mode ≡ mode → Leaves bound new (list_after mode)
+    leaves_after Off off = record {
+      honest = puts.kept.honest.0 leaves.honest;
+      leaves = subst (λ l. LeavesOneOf l (bound.state new.disk)) (sym doubted) (puts.in_doubt leaves.honest (subst (λ m. TurnsOff old.totals.mode m) (sym off) (subst (λ m. TurnsOff m Off) (sym ready) tt)));
+      is_settled = subst (λ m. list_after Off ≡ settled m (list_after Off)) (sym off) refl;
+    }
       where
-        listed : list_after Off ≡ before_or_after old.totals.next (Ready files q) (change ∷ changes)
-        listed = ap (in_doubt (part_of bound old left) (change ∷ changes)) ready
-
         doubted : list_after Off ≡ before_or_after old.totals.next old.totals.mode (change ∷ changes)
-        doubted = listed ∙ ap (λ m. before_or_after old.totals.next m (change ∷ changes)) (sym ready)
-
-        at_ready : (c : List ℕ) → IsBeforeOrAfter (bound.state old.disk) old.totals.next old.totals.mode (change ∷ changes) c → StandsForOneOf (before_or_after old.totals.next (Ready files q) (change ∷ changes)) c
-        at_ready c p = subst (λ m. IsBeforeOrAfter (bound.state old.disk) old.totals.next m (change ∷ changes) c) ready p
-    group_moves found (Ready f s) now = (
-      record {
-        honest = puts.kept.honest.0 leaves.honest;
-        leaves = subst (λ m. LeavesTheirFiles m (bound.state new.disk)) now (puts.now leaves.honest);
-        is_settled = subst (λ m. now_list ≡ settled m now_list) (sym now) refl;
-      },
-      weaker (bound.state old.disk) (bound.state new.disk) (IsBeforeOrAfter (bound.state old.disk) old.totals.next old.totals.mode (change ∷ changes)) (IsLeft left now_list) (λ c p. moves c (subst (λ m. IsBeforeOrAfter (bound.state old.disk) old.totals.next m (change ∷ changes) c) ready p)) (puts.any_moment leaves.honest),
-    )
-      where
-        now_list : List Standing
-        now_list = Stands (plain f) s ∷ []
-
-        after_list : List Standing
-        after_list = Stands (plain (files_after_all old.totals.next files (change ∷ changes))) (q + 1) ∷ []
-
-        same : now_list ≡ after_list
-        same = ap (λ g. Stands (plain g) s ∷ []) (found f s now).0 ∙ ap (λ k. Stands (plain (files_after_all old.totals.next files (change ∷ changes))) k ∷ []) (found f s now).1
-
-        is_left : left ≡ Stands (plain files) q ∷ []
-        is_left = leaves.is_settled ∙ ap (λ m. settled m left) ready
-
-        moves : (c : List ℕ) → StandsForOneOf (before_or_after old.totals.next (Ready files q) (change ∷ changes)) c → IsLeft left now_list c
-        moves c (inl p) = inl (subst (λ l. StandsForOneOf l c) (sym is_left) (inl p))
-        moves c (inr p) = inr (subst (λ l. StandsForOneOf l c) (sym same) p)
+        doubted = ap (in_doubt (part_of bound old left) (change ∷ changes)) ready ∙ ap (λ m. before_or_after old.totals.next m (change ∷ changes)) (sym ready)
+    leaves_after (Ready f s) now = record {
+      honest = puts.kept.honest.0 leaves.honest;
+      leaves = subst (λ m. LeavesTheirFiles m (bound.state new.disk)) now (puts.now leaves.honest);
+      is_settled = subst (λ m. Stands (plain f) s ∷ [] ≡ settled m (Stands (plain f) s ∷ [])) (sym now) refl;
+    }
 
     -- a group that was done, or in which the disk failed, is a step
-    pub moved : (n : ℕ) (fc : FileCall) (asked : Call) (result : Answer) (ended : Totals) (given : Value) → outcome ≡ Ok result → ended.mode ≡ Ready files q → ended.next ≡ old.totals.next
-        → Done (HasFailed bound old.disk new.disk) ended (change ∷ changes) given result new.totals
+    pub moved : (n : ℕ) (asked : Call)
         → ((after : List Standing) → after ≡ list_after new.totals.mode → FilesCalled n asked (part_of bound old left) outcome (part_of bound new after))
         → FilesStepped bound left old n asked outcome new
-    moved n fc asked result ended given is at same done called =
-        let moves = group_moves (led_to ended result given at same done) new.totals.mode refl in
-        record {
-          after = list_after new.totals.mode;
-          leaves = moves.0;
-          answer = called (list_after new.totals.mode) refl;
-          any_moment = moves.1;
-        }
+    moved n asked called = record {
+      after = list_after new.totals.mode;
+      leaves = leaves_after new.totals.mode refl;
+      answer = called (list_after new.totals.mode) refl;
+      any_moment = weaker (bound.state old.disk) (bound.state new.disk) (IsBeforeOrAfter (bound.state old.disk) old.totals.next old.totals.mode (change ∷ changes) new.totals.mode) (IsLeft left (list_after new.totals.mode))
+          (inside_group new.totals.mode refl) (puts.any_moment leaves.honest);
+    }
 
 -- ---- a change
 
@@ -228,21 +196,25 @@ module _ {D : Type 0} (bound : Ghosts D) (old new : TotalsView D) (only : OnlyNo
           does = match_at_some (transaction_of old.totals n) buffer _ _ transacting (done.0, refl);
           group = subst (λ b. IsOneGroup old.totals (put_at_once b change)) (sym (ap is_some transacting)) puts.group;
           left = sym (subst (λ b. left_after part (put_at_once b change) old.totals.mode ≡ left) (sym (ap is_some transacting)) (kept_left [] part leaves.is_settled));
+          counts = inr refl;
           later = omega arith;
         });
       })))
 
-  -- a change that a number refuses
-  number_refused : (result refusal : Answer) → first_refusal rows ≡ None → transaction_of old.totals n ≡ None → PutsGroup bound old (change ∷ []) (Ok result) new
-      → first_refusal (number_rows old.totals change) ≡ Some refusal → result ≡ refusal → new.totals ≡ old.totals → FilesStepped bound left old n asked (Ok result) new
-  number_refused result refusal none free puts e s same =
-      let undone = puts.unchanged (λ d. not_done (Ok result) refusal (number_refusal _ refusal e) (ap (λ (a : Answer). let r : Result Answer NoMemory = Ok a in r) s) d) in
+  -- a change that is refused behind its table
+  answered_refused : (result refusal : Answer) → first_refusal rows ≡ None → (free : transaction_of old.totals n ≡ None) → PutsGroup bound old (change ∷ []) (Ok result) new
+      → IsRefused refusal → result ≡ refusal → new.totals ≡ old.totals
+      → Decided (number_rows old.totals change) result (old.totals ≡ old.totals) (RunsOut old.totals result old.totals ⊎ Done (Rises part.failures part.failures) old.totals (change ∷ []) (given_by old.totals.next change) result old.totals)
+      → FilesStepped bound left old n asked (Ok result) new
+  answered_refused result refusal none free puts refused s same does =
+      let undone = puts.unchanged (not_done result refusal refused s) in
       change_rests (Ok result) (rested bound old new only left leaves undone same)
       (called_ok n (Makes change) asked part part result is has (record {
         outcome = match_at_none (first_refusal rows) _ _ none (record {
-          does = match_at_none (transaction_of old.totals n) _ _ free (record { outcome = match_at_some (first_refusal (number_rows old.totals change)) refusal _ _ e (s, refl) });
+          does = match_at_none (transaction_of old.totals n) _ _ free does;
           group = subst (λ b. IsOneGroup old.totals (put_at_once b change)) (sym (ap is_some free)) puts.group;
           left = sym (kept_left (put_at_once (in_transaction old.totals n) change) part leaves.is_settled);
+          counts = inr refl;
           later = omega arith;
         });
       }))
@@ -259,27 +231,39 @@ module _ {D : Type 0} (bound : Ghosts D) (old new : TotalsView D) (only : OnlyNo
       off_refuses true e = cc
       off_refuses false e = cc
   change_moves result none free puts numbers done (Ready files q) ready =
-      moved bound old new only left leaves files q ready change [] (Ok result) puts n (Makes change) asked result old.totals (given_by old.totals.next change) refl ready refl done
+      moved bound old new only left leaves files q ready change [] (Ok result) puts n asked
       (λ after at. called_ok n (Makes change) asked part (part_of bound new after) result is has (record {
         outcome = match_at_none (first_refusal rows) _ _ none (record {
-          does = match_at_none (transaction_of old.totals n) _ _ free (record { outcome = match_at_none (first_refusal (number_rows old.totals change)) _ _ numbers (caused bound old new only left leaves old.totals (change ∷ []) result (given_by old.totals.next change) done) });
+          does = match_at_none (transaction_of old.totals n) _ _ free (record { outcome = match_at_none (first_refusal (number_rows old.totals change)) _ _ numbers (inr (caused bound old new only left leaves old.totals (change ∷ []) result (given_by old.totals.next change) done)) });
           group = subst (λ b. IsOneGroup old.totals (put_at_once b change)) (sym (ap is_some free)) puts.group;
           left = subst (λ b. after ≡ left_after part (put_at_once b change) new.totals.mode) (sym (ap is_some free)) at;
+          counts = puts.counts leaves.honest;
           later = puts.kept.later leaves.honest;
         });
       }))
 
+  -- a change that isn't buffered, by the number that it needs
+  by_number : (result : Answer) → first_refusal rows ≡ None → transaction_of old.totals n ≡ None → PutsGroup bound old (change ∷ []) (Ok result) new
+      → Decided (number_rows old.totals change) result (new.totals ≡ old.totals) (RunsOut old.totals result new.totals ⊎ Done (HasFailed bound old.disk new.disk) old.totals (change ∷ []) (given_by old.totals.next change) result new.totals)
+      → FilesStepped bound left old n asked (Ok result) new
+  by_number result none free puts does =
+      elim (match_cases (first_refusal (number_rows old.totals change)) _ _ does.outcome) [
+        | inl x ↦ elim x.1 [
+          | inl out ↦ answered_refused result (answer.Refused code.Failure 0) none free puts tt out.1 out.2
+              (record { outcome = match_at_none (first_refusal (number_rows old.totals change)) _ _ x.0 (inl (out.0, out.1, refl)) })
+          | inr done ↦ change_moves result none free puts x.0 done old.totals.mode refl
+        ]
+        | inr x ↦ answered_refused result x.0 none free puts (number_refusal _ x.0 x.1) x.2.0 x.2.1
+            (record { outcome = match_at_some (first_refusal (number_rows old.totals change)) x.0 _ _ x.1 (x.2.0, refl) })
+      ]
+
   by_transaction : (result : Answer) → first_refusal rows ≡ None → (o : Option (List Change)) → transaction_of old.totals n ≡ o
       → PutsGroup bound old (group_of_change (is_some o)) (Ok result) new
-      → MatchOption o (Decided (number_rows old.totals change) result (new.totals ≡ old.totals) (Done (HasFailed bound old.disk new.disk) old.totals (change ∷ []) (given_by old.totals.next change) result new.totals))
+      → MatchOption o (Decided (number_rows old.totals change) result (new.totals ≡ old.totals) (RunsOut old.totals result new.totals ⊎ Done (HasFailed bound old.disk new.disk) old.totals (change ∷ []) (given_by old.totals.next change) result new.totals))
       (λ buffer. (result ≡ answer.Done value.Empty) × (new.totals ≡ with_transaction old.totals n (Some (buffer ++ change ∷ []))))
       → FilesStepped bound left old n asked (Ok result) new
   by_transaction result none (Some buffer) transacting puts does = buffered result buffer none transacting puts does
-  by_transaction result none None free puts does =
-      elim (match_cases (first_refusal (number_rows old.totals change)) _ _ does.outcome) [
-        | inl x ↦ change_moves result none free puts x.0 x.1 old.totals.mode refl
-        | inr x ↦ number_refused result x.0 none free puts x.1 x.2.0 x.2.1
-      ]
+  by_transaction result none None free puts does = by_number result none free puts does
 
   by_table : (outcome : Result Answer NoMemory) → Changes bound old n change outcome new → (o : Option Answer) → first_refusal rows ≡ o → FilesStepped bound left old n asked outcome new
   by_table (Ok result) changes (Some refusal) e =
@@ -348,14 +332,15 @@ module _ {D : Type 0} (bound : Ghosts D) (old new : TotalsView D) (only : OnlyNo
   -- what a commit that its table lets through is, by the changes that were buffered
   answers_commit : (result : Answer) (changes : List Change) (after : List Standing) → first_refusal commit_table ≡ None → buffered_changes ≡ changes → IsOneGroup old.totals changes
       → DoesCommit (Rises (bound.state old.disk).failures (bound.state new.disk).failures) old.totals ended changes result new.totals
-      → after ≡ left_after commit_part changes new.totals.mode → (bound.state old.disk).failures ≤ (bound.state new.disk).failures
+      → after ≡ left_after commit_part changes new.totals.mode → FailsTurningOff commit_part (part_of bound new after) → (bound.state old.disk).failures ≤ (bound.state new.disk).failures
       → FilesCalled n asked commit_part (Ok result) (part_of bound new after)
-  answers_commit result changes after none same group does at later =
+  answers_commit result changes after none same group does at counts later =
       called_ok n Commits asked commit_part (part_of bound new after) result is has (record {
         outcome = match_at_none (first_refusal commit_table) _ _ none (record {
           does = subst (λ cs. DoesCommit (Rises (bound.state old.disk).failures (bound.state new.disk).failures) old.totals ended cs result new.totals) (sym same) does;
           group = subst (λ cs. IsOneGroup old.totals cs) (sym same) group;
           left = subst (λ cs. after ≡ left_after commit_part cs new.totals.mode) (sym same) at;
+          counts = counts;
           later = later;
         });
       })
@@ -382,29 +367,25 @@ module _ {D : Type 0} (bound : Ghosts D) (old new : TotalsView D) (only : OnlyNo
           does = subst (λ cs. DoesCommit (Rises (bound.state old.disk).failures (bound.state old.disk).failures) old.totals ended cs result ended) (sym same) (does.0, refl);
           group = subst (λ cs. IsOneGroup old.totals cs) (sym same) puts.group;
           left = sym (kept_left buffered_changes commit_part leaves.is_settled);
+          counts = inr refl;
           later = omega arith;
         });
       })))
-  by_buffer result (change ∷ changes) none same puts does =
-      elim (match_cases (first_refusal (when (is_last old.totals.mode) code.Failure ∷ [])) _ _ does.outcome) [
-        | inl x ↦ by_mode old.totals.mode refl x.0 x.1
-        | inr x ↦
-            let undone = puts.unchanged (λ d. not_done (Ok result) x.0 (number_refusal _ x.0 x.1) (ap (λ (a : Answer). let r : Result Answer NoMemory = Ok a in r) x.2.0) d) in
-            let kept = rested bound old new only left leaves undone x.2.1 in
-            commit_rests (Ok result) kept (subst (λ (v : TotalsView D). FilesCalled n asked commit_part (Ok result) (part_of bound v left)) kept
-            (answers_commit result (change ∷ changes) left none same puts.group
-            (record { outcome = match_at_some (first_refusal (when (is_last old.totals.mode) code.Failure ∷ [])) x.0 _ _ x.1 (x.2.0, x.2.1) })
-            (sym (subst (λ (t : Totals). left_after commit_part (change ∷ changes) t.mode ≡ left) (sym x.2.1) (kept_left (change ∷ changes) commit_part leaves.is_settled)))
-            (puts.kept.later leaves.honest)))
-      ]
+  by_buffer result (change ∷ changes) none same puts (inl out) =
+      let kept = rested bound old new only left leaves (puts.unchanged (not_done result (answer.Refused code.Failure 0) tt out.1)) out.2 in
+      commit_rests (Ok result) kept (subst (λ (v : TotalsView D). FilesCalled n asked commit_part (Ok result) (part_of bound v left)) kept
+      (answers_commit result (change ∷ changes) left none same puts.group (inl out)
+      (sym (subst (λ (t : Totals). left_after commit_part (change ∷ changes) t.mode ≡ left) (sym out.2) (kept_left (change ∷ changes) commit_part leaves.is_settled)))
+      (puts.counts leaves.honest) (puts.kept.later leaves.honest)))
+  by_buffer result (change ∷ changes) none same puts (inr done) = by_mode old.totals.mode refl
     where
-      by_mode : (mode : Mode) → old.totals.mode ≡ mode → first_refusal (when (is_last old.totals.mode) code.Failure ∷ []) ≡ None → Done (HasFailed bound old.disk new.disk) ended (change ∷ changes) value.Empty result new.totals → FilesStepped bound left old n asked (Ok result) new
-      by_mode Off off numbers done = absurd (off_refused off none)
-      by_mode (Ready files q) ready numbers done =
-          moved bound old new only left leaves files q ready change changes (Ok result) puts n Commits asked result ended value.Empty refl ready refl done
+      by_mode : (mode : Mode) → old.totals.mode ≡ mode → FilesStepped bound left old n asked (Ok result) new
+      by_mode Off off = absurd (off_refused off none)
+      by_mode (Ready files q) ready =
+          moved bound old new only left leaves files q ready change changes (Ok result) puts n asked
           (λ after at. answers_commit result (change ∷ changes) after none same puts.group
-          (record { outcome = match_at_none (first_refusal (when (is_last old.totals.mode) code.Failure ∷ [])) _ _ numbers (caused bound old new only left leaves ended (change ∷ changes) result value.Empty done) })
-          at (puts.kept.later leaves.honest))
+          (inr (caused bound old new only left leaves ended (change ∷ changes) result value.Empty done))
+          at (puts.counts leaves.honest) (puts.kept.later leaves.honest))
 
   by_commit_table : (outcome : Result Answer NoMemory) → CommitsBuffer bound old n outcome new → (o : Option Answer) → first_refusal commit_table ≡ o → FilesStepped bound left old n asked outcome new
   by_commit_table (Ok result) commits (Some refusal) e =

@@ -33,7 +33,7 @@ abbrev a_file : PlainFile
 a_file = record { name = 97 ∷ []; bytes = 0 ∷ [] }
 
 abbrev both : List Standing
-both = Stands [] 1 ∷ Stands (a_file ∷ []) 2 ∷ []
+both = Stands [] 1 ∷ Stands (a_file ∷ []) 1 ∷ Stands (a_file ∷ []) 2 ∷ []
 
 abbrev one_opened : Control
 one_opened = opened (new_control category.HardTotals) (Some 0)
@@ -65,7 +65,7 @@ into_doubt = (
           record {
             found = record { files = []; sequence = 1; found = inl refl; handles = omega arith; totals = refl };
             left = refl;
-            later = omega arith;
+            counts = refl;
           },
           refl,
         );
@@ -75,9 +75,10 @@ into_doubt = (
         record {
           outcome = (
             record {
-              does = record { outcome = inr (refl, inl (omega arith), refl) };
+              does = record { outcome = inr (inr (refl, inl (omega arith), refl)) };
               group = refl;
               left = refl;
+              counts = inl tt;
               later = omega arith;
             },
             refl,
@@ -89,7 +90,7 @@ into_doubt = (
   ),
 )
 
--- the recovery of a machine in doubt finds these files, which are one of both
+-- the recovery of a machine in doubt finds these files, which are one of those
 abbrev recovered : List PlainFile → ℕ → Machine
 recovered files sequence =
     with_one (one_set one_disabled true) (part_with (Ready (numbered 1 files) sequence) (1 + length files) (Stands (plain (numbered 1 files)) sequence ∷ []) 1)
@@ -106,7 +107,7 @@ out_of_doubt files sequence found handles = (
         record {
           found = record { files = files; sequence = sequence; found = found; handles = handles; totals = refl };
           left = refl;
-          later = omega arith;
+          counts = refl;
         },
         refl,
       );
@@ -125,7 +126,7 @@ pub may_keep : MayHave new_machine [] steps_through_doubt (record { start = []; 
 unfolding into_doubt out_of_doubt run_append
 may_keep = record {
   last = recovered (a_file ∷ []) 2;
-  run = run_append new_machine in_doubt (recovered (a_file ∷ []) 2) steps_into_doubt (sets_enabled false ∷ sets_enabled true ∷ []) into_doubt (out_of_doubt (a_file ∷ []) 2 (inr (inl refl)) (omega arith));
+  run = run_append new_machine in_doubt (recovered (a_file ∷ []) 2) steps_into_doubt (sets_enabled false ∷ sets_enabled true ∷ []) into_doubt (out_of_doubt (a_file ∷ []) 2 (inr (inr (inl refl))) (omega arith));
   is = refl;
 }
 

@@ -1,5 +1,5 @@
 -- What each step of the machine does to the totals' files.
-use Rattle.std.proofs.Common.{◌≡◌, ◌∙◌, ◌+◌, ℕ, Bool, true, false, not, List, [], ◌∷◌, Option, Some, cond, inl, inr, refl, sym, ap, subst}
+use Rattle.std.proofs.Common.{◌≡◌, ◌∙◌, ◌⊎◌, ◌+◌, ℕ, Bool, true, false, not, List, [], ◌∷◌, Option, Some, cond, inl, inr, refl, sym, ap, subst}
 use Rattle.std.specs.Bool.{MatchBool}
 use Rattle.std.specs.Prelude.{⊤, slice_get, is_some, Ok, None}
 use Rattle.std.proofs.lemmas.Bool.{and_parts}
@@ -19,9 +19,9 @@ use Rattle.pos_service.specs.declared.property.Property.{Property}
 use Rattle.pos_service.specs.Claims.{after_release}
 use Rattle.pos_service.specs.Controls.{Control, closed}
 use Rattle.pos_service.specs.DisplayCalls.{DisplayDoes}
-use Rattle.pos_service.specs.HardTotals.{File, Totals, Mode, Off, Ready, Change, Done, DoesCommit, DoesTogether, IsAmong, sequences_after, mode_after, files_after_all, files_of, is_called, is_last, is_own_claim, is_ready, with_each, with_files, with_transaction, claimed as claimed_file, changes_in, in_transaction, transaction_of, number_rows, after_disk_fault}
+use Rattle.pos_service.specs.HardTotals.{File, Totals, Mode, Off, Ready, Change, Done, DoesCommit, DoesTogether, IsAmong, sequences_after, mode_after, files_after_all, files_of, is_called, is_own_claim, is_ready, with_each, with_files, with_transaction, claimed as claimed_file, changes_in, in_transaction, transaction_of, number_rows, after_disk_fault, given_by, RunsOut}
 use Rattle.pos_service.specs.HardTotals.{Arrangement, ClaimFile, ReleaseFile, BeginTrans, Rollback, after_arrangement}
-use Rattle.pos_service.specs.Refusals.{Row, Decided, first_refusal, when}
+use Rattle.pos_service.specs.Refusals.{Row, Decided, first_refusal}
 use Rattle.pos_service.specs.Stations.{Effect, Station}
 use Rattle.pos_service.specs.TotalsCalls.{FileCall, Arranges, Asks, Commits, Makes, Nothing, file_call}
 use Rattle.pos_disk.specs.State.{Rises}
@@ -34,8 +34,8 @@ use Rattle.pos_totals.specs.Views.{plain, stored}
 use Rattle.pos_counter.specs.DiskUse.{IsUndone}
 use Rattle.pos_counter.specs.History.{NothingDone, changes_asked, event_between, event_of}
 use Rattle.pos_counter.specs.Machine.{Machine, with_control}
-use Rattle.pos_counter.specs.Steps.{Request, NewControl, CallOf, InputTo, WorkOn, Deliver, Snapshot, Attach, Detach, Response, Made, Full, Answered, TakenIn, NoDevice, WrongInput, Worked, Delivered, Shown, Attached, NotAttached, Detached, NotDetached, OutOfMemory, OnStation, Step, Called, Does, CategoryDoes, Stays, Sets, SetsByRecovery, refusals, claimed, dropped, released}
-use Rattle.pos_counter.specs.Totals.{TotalsPart, ChangesTotals, CommitsTotals, TotalsDo, Recovered, Rests, asks_recovery, in_doubt, left_after, put_at_once, recovers, settled}
+use Rattle.pos_counter.specs.Steps.{Request, NewControl, CallOf, InputTo, WorkOn, Deliver, Snapshot, Attach, Detach, Response, Made, Full, Answered, TakenIn, NoDevice, WrongInput, Worked, Delivered, Shown, Attached, NotAttached, Detached, NotDetached, OutOfMemory, OnStation, Step, Called, Does, CategoryDoes, Sets, SetsByRecovery, refusals, claimed, dropped, released}
+use Rattle.pos_counter.specs.Totals.{TotalsPart, ChangesTotals, CommitsTotals, TotalsDo, Recovered, asks_recovery, in_doubt, left_after, put_at_once, recovers, settled}
 use Rattle.pos_counter.proofs.FileCalls.{kept_left, plain_claimed}
 use Rattle.pos_counter.proofs.Lifts.{match_cases}
 use Rattle.pos_counter.proofs.Prefixes.{Happens}
@@ -81,10 +81,6 @@ rest_undone : (changes : List Change) (old new : TotalsPart) (response : Respons
 rest_undone changes old new response is same =
     let mode = ap (λ (t : TotalsPart). stored t.totals.mode) same in
     rest changes old new response (undone changes old.totals.mode new.totals.mode response is mode) mode (ap (λ (t : TotalsPart). t.left) same)
-
--- the count of failures is no matter
-rest_still : (old new : TotalsPart) (response : Response) → Rests old new → Told [] old response new
-rest_still old new response h = rest_beside old new response (ap (λ (t : Totals). stored t.mode) h.totals) h.left
 
 -- files with other claims are stored as they were
 stored_claimed : (test : File → Bool) (claim : Option ℕ) (mode : Mode) → stored (with_files (with_each test (claimed_file claim)) mode) ≡ stored mode
@@ -158,19 +154,23 @@ module _ (old new : TotalsPart) (result : Answer) (is : old.left ≡ settled old
             left = left ∙ ap (left_after old all) off ∙ ap (in_doubt old all) ready;
           })
 
-  -- a group that a number refuses, that is done, or in which the disk fails
-  group_told : (failed : Type 0) (rows : List Row) (given : Value) → Decided rows result (new.totals ≡ old.totals) (Done failed ended all given result new.totals) → Told all old (Answered result) new
-  group_told failed rows given h =
-      elim (match_cases (first_refusal rows) _ _ h.outcome) [
-        | inl x ↦ elim x.1 [
+  -- a group that is refused
+  refused_told : (refusal : Answer) → IsUndone (Answered refusal) → result ≡ refusal → new.totals ≡ old.totals → Told all old (Answered result) new
+  refused_told refusal undone_there same still =
+      let mode = ap (λ (t : Totals). t.mode) still in
+      rest all old new (Answered result)
+      (undone all old.totals.mode new.totals.mode (Answered result) (subst (λ a. IsUndone (Answered a)) (sym same) undone_there) (ap stored mode))
+      (ap stored mode) (left ∙ ap (left_after old all) mode ∙ kept_left all old is)
+
+  -- a group for which the sequences have run out, that is done, or in which the disk fails
+  group_told : (failed : Type 0) (given : Value) → RunsOut old.totals result new.totals ⊎ Done failed ended all given result new.totals → Told all old (Answered result) new
+  group_told failed given h =
+      elim h [
+        | inl out ↦ refused_told (answer.Refused code.Failure 0) tt out.1 out.2
+        | inr x ↦ elim x [
           | inl done ↦ subst (λ a. Told all old (Answered a) new) (sym done.0) (done_told given done.1)
           | inr fault ↦ failed_told fault.0 fault.2
         ]
-        | inr x ↦
-            let same = ap (λ (t : Totals). t.mode) x.2.1 in
-            rest all old new (Answered result)
-            (undone all old.totals.mode new.totals.mode (Answered result) (refused_undone rows x.0 result x.1 x.2.0) (ap stored same))
-            (ap stored same) (left ∙ ap (left_after old all) same ∙ kept_left all old is)
       ]
 
 -- totals whose files are as they were, and in which nothing is put on the disk
@@ -183,13 +183,25 @@ changed_told change old new number result is h =
       | inl x ↦
           let out : put_at_once (in_transaction old.totals number) change ≡ change ∷ [] = ap (λ (o : Option (List Change)). put_at_once (is_some o) change) x.0 in
           subst (λ changes. Told changes old (Answered result) new) (sym out)
-          (group_told old new result is old.totals refl refl change [] (subst (λ changes. IsOneGroup old.totals changes) out h.group) (h.left ∙ ap (λ changes. left_after old changes new.totals.mode) out)
-          _ (number_rows old.totals change) _ x.1)
+          (unbuffered (subst (λ changes. IsOneGroup old.totals changes) out h.group) (h.left ∙ ap (λ changes. left_after old changes new.totals.mode) out) x.1)
       | inr x ↦
           let kept : put_at_once (in_transaction old.totals number) change ≡ [] = ap (λ (o : Option (List Change)). put_at_once (is_some o) change) x.1 in
           subst (λ changes. Told changes old (Answered result) new) (sym kept)
           (still_told old new (Answered result) is (h.left ∙ ap (λ changes. left_after old changes new.totals.mode) kept) (ap (λ (t : Totals). t.mode) x.2.1))
     ]
+  where
+    given : Value
+    given = given_by old.totals.next change
+
+    unbuffered : IsOneGroup old.totals (change ∷ []) → new.left ≡ left_after old (change ∷ []) new.totals.mode
+        → Decided (number_rows old.totals change) result (new.totals ≡ old.totals) (RunsOut old.totals result new.totals ⊎ Done (Rises old.failures new.failures) old.totals (change ∷ []) given result new.totals)
+        → Told (change ∷ []) old (Answered result) new
+    unbuffered group left d =
+        elim (match_cases (first_refusal (number_rows old.totals change)) _ _ d.outcome) [
+          | inl x ↦ group_told old new result is old.totals refl refl change [] group left _ given x.1
+          | inr x ↦ refused_told old new result is old.totals refl refl change [] group left x.0
+              (refused_undone (number_rows old.totals change) x.0 x.0 x.1 refl) x.2.0 x.2.1
+        ]
 
 commit_told : (old new : TotalsPart) (number : ℕ) (result : Answer) → old.left ≡ settled old.totals.mode old.left → CommitsTotals old number result new → Told (changes_in (transaction_of old.totals number)) old (Answered result) new
 commit_told old new number result is h = by (changes_in (transaction_of old.totals number)) h.group h.left h.does
@@ -199,7 +211,7 @@ commit_told old new number result is h = by (changes_in (transaction_of old.tota
 
     by : (changes : List Change) → IsOneGroup old.totals changes → new.left ≡ left_after old changes new.totals.mode → DoesCommit (Rises old.failures new.failures) old.totals ended changes result new.totals → Told changes old (Answered result) new
     by [] group left does = still_told old new (Answered result) is left (ap (λ (t : Totals). t.mode) does.1)
-    by (change ∷ changes) group left does = group_told old new result is ended refl refl change changes group left _ (when (is_last old.totals.mode) code.Failure ∷ []) _ does
+    by (change ∷ changes) group left does = group_told old new result is ended refl refl change changes group left _ _ does
 
 -- an arrangement leaves the files as they are, but for their claims
 stored_arranged : (old : Totals) (number : ℕ) (arrangement : Arrangement) → stored (after_arrangement old number arrangement).mode ≡ stored old.mode
@@ -250,8 +262,11 @@ set_told : (old new : Machine) (n : ℕ) (c : Control) (p : Property) (v : Value
 set_told old new n c p v result false e h = rest_unasked old.totals new.totals (Answered result) (ap (λ (m : Machine). m.totals) h.1)
 set_told old new n c p v result true e (inl h) = found_told old.totals new.totals (Answered result) (recovers_off old.totals c p v e) h.1
 set_told old new n c p v result true e (inr (h, is)) = elim h [
-  | inl x ↦ rest_still old.totals new.totals (Answered result) x.2
-  | inr x ↦ rest_still old.totals new.totals (Answered result) x.2
+  | inl x ↦ rest_unasked old.totals new.totals (Answered result) x.2
+  | inr x ↦ elim x.1 [
+    | inl y ↦ rest_unasked old.totals new.totals (Answered result) y.1
+    | inr y ↦ rest_beside old.totals new.totals (Answered result) (ap (λ (t : TotalsPart). stored t.totals.mode) y.else_same) (ap (λ (t : TotalsPart). t.left) y.else_same)
+  ]
 ]
 
 -- ---- calls
@@ -315,11 +330,6 @@ called_told old new n c asked result is h =
           (refused_undone (refusals old n c asked) x.0 result x.1 x.2.0) (ap (λ (m : Machine). m.totals) x.2.1)
     ]
 
--- want of memory
-stays_told : (old new : Machine) (n : ℕ) (c : Control) (asked : Call) → Stays old c asked new → Told (changes_asked old.totals.totals n (file_call asked)) old.totals OutOfMemory new.totals
-stays_told old new n c (call.Set p v) h = rest_still old.totals new.totals OutOfMemory h.0
-stays_told old new n c asked h = rest_undone (changes_asked old.totals.totals n (file_call asked)) old.totals new.totals OutOfMemory tt (ap (λ (m : Machine). m.totals) h)
-
 -- ---- steps
 
 same_machine : (old new then : Machine) (response : Response) → new ≡ then → then.totals ≡ old.totals → Told [] old.totals response new.totals
@@ -338,7 +348,7 @@ step_told old (CallOf n asked) (Answered result) new is h =
 step_told old (CallOf n asked) OutOfMemory new is h =
     elim (match_cases (slice_get old.controls n) _ _ h) [
       | inl x ↦ absurd x.1
-      | inr x ↦ stays_told old new n x.0 asked x.2.2
+      | inr x ↦ rest_undone (changes_asked old.totals.totals n (file_call asked)) old.totals new.totals OutOfMemory tt (ap (λ (m : Machine). m.totals) x.2.2)
     ]
 step_told old (InputTo name input) TakenIn new is h = rest_unasked old.totals new.totals TakenIn (station_same old new _ _ h)
 step_told old (InputTo name input) NoDevice new is h = same_machine old new old NoDevice h.1 refl

@@ -1,7 +1,7 @@
 -- Setting a property as a step of the machine, where it recovers the totals and where it doesn't.
 use Rattle.std.proofs.Common.{◌≡◌, ◌⊎◌, inl, inr, ℕ, List, [], ◌∷◌, Option, Some, None, Result, Ok, Err, Bool, true, false, not, ◌&&◌, set, get_or, length, ◌<◌, refl, sym, ap, ◌∙◌, subst}
 use Rattle.std.specs.Bool.{MatchBool}
-use Rattle.std.specs.Prelude.{MatchOption, IsSome, is_some, is_none, slice_get, ⊤}
+use Rattle.std.specs.Prelude.{MatchOption, IsErrOf, IsSome, is_some, is_none, slice_get, ⊤}
 use Rattle.std.proofs.lemmas.List.{map-set}
 use Rattle.pos_disk.specs.State.{LeavesOnly}
 use Rattle.pos_disk.specs.declared.device.Disk.{Ghosts}
@@ -145,6 +145,33 @@ module _ {D : Type 0} (bound : Ghosts D) (old new : TotalsView D) (off : old.tot
   settled_twice left Off = refl
   settled_twice left (Ready files q) = refl
 
+  -- a recovery that fails keeps the totals
+  kept_totals : (x : RecoveryFault) → DiskRecovers bound old (Err x) new → new.totals ≡ old.totals
+  kept_totals x recovers = by_fault x (subst (λ m. WhenOff m (FindsFiles (ReadsAs bound old.disk) old.totals (Err x) new.totals)) off recovers.answer)
+    where
+      by_fault : (x : RecoveryFault) → FindsFiles (ReadsAs bound old.disk) old.totals (Err x) new.totals → new.totals ≡ old.totals
+      by_fault fault.Unformatted h = h.1
+      by_fault fault.Damaged h = h.1
+      by_fault fault.Handles h = h.1
+      by_fault fault.NoMemory h = h
+      by_fault fault.Device h = h
+
+  -- unless the disk's fault is answered, it hasn't failed
+  never_failed : (r : Result (Unit {0}) RecoveryFault) → DiskRecovers bound old r new → bound.honest old.disk → (IsErrOf r fault.Device → ⊥) → (bound.state new.disk).failures ≡ (bound.state old.disk).failures
+  never_failed r recovers honest other = elim (recovers.counts honest) [
+    | inl failed ↦ absurd (other failed)
+    | inr same ↦ same
+  ]
+
+  -- a recovery that fails leaves all but the count of failures as it was
+  same_else : (x : RecoveryFault) (left : List Standing) → DiskRecovers bound old (Err x) new → part_of bound new left ≡ record (part_of bound old left) { failures = (bound.state new.disk).failures }
+  same_else x left recovers = ap (λ (t : Totals). let part : TotalsPart = record { totals = t; left = left; failures = (bound.state new.disk).failures } in part) (kept_totals x recovers)
+
+  -- and the count too, where the disk's fault isn't answered
+  same_part : (x : RecoveryFault) (left : List Standing) → DiskRecovers bound old (Err x) new → bound.honest old.disk → (IsErrOf {A = Unit {0}} (Err x) fault.Device → ⊥) → part_of bound new left ≡ part_of bound old left
+  same_part x left recovers honest other =
+      same_else x left recovers ∙ ap (λ (k : ℕ). let part : TotalsPart = record { totals = old.totals; left = left; failures = k } in part) (never_failed (Err x) recovers honest other)
+
   module _ (hs : List Held) (cl : List (Option ℕ)) (ds : List Device) (sound : ArePartsSound hs ds) (n : ℕ) (c : Control) (p : Property) (v : Value) (at : slice_get (controls_of hs) n ≡ Some c) (asks : asks_recovery c p v ≡ true) (recovering : (asks_recovery c p v && not (is_ready old.totals.mode)) ≡ true) where
     abbrev before : List Standing → Machine
     before left = machine_with hs cl ds (part_of bound old left)
@@ -186,7 +213,7 @@ module _ {D : Type 0} (bound : Ghosts D) (old new : TotalsView D) (off : old.tot
             step = match_at_some _ c _ _ at (record {
               outcome = match_at_none (first_refusal (set_rows n (holder left) (kind_of (before left) c) c p v)) _ _ (enabling_unrefused n (holder left) (kind_of (before left) c) c p v asks)
                   (subst (λ b. MatchBool b (SetsByRecovery (before left) n c p v r (machine_with (set hs n g) cl ds (part_of bound new after))) (Sets (before left) n c p v r (machine_with (set hs n g) cl ds (part_of bound new after)))) (sym recovering)
-                  (inl (done, record { found = f.found; left = refl; later = recovers.kept.later leaves.honest }, set_machine hs cl ds n g (after_set c p v) (part_of bound old left) (part_of bound new after) is)));
+                  (inl (done, record { found = f.found; left = refl; counts = never_failed (Ok tt) recovers leaves.honest (λ failed. failed) }, set_machine hs cl ds n g (after_set c p v) (part_of bound old left) (part_of bound new after) is)));
             });
             any_moment = weaker (bound.state old.disk) (bound.state new.disk) (StandsForOneOf left) (IsLeft left after) (λ b q. inl q) f.any_moment;
           };
@@ -199,31 +226,20 @@ module _ {D : Type 0} (bound : Ghosts D) (old new : TotalsView D) (off : old.tot
     }
 
     -- why a recovery has failed
-    why : (left : List Standing) (x : RecoveryFault) (k : Code) → DiskRecovers bound old (Err x) new → Leaves bound old left → Some k ≡ code_of x → new.totals ≡ old.totals → Recovers (part_of bound old left) (answer.Refused k 0) (part_of bound new left)
-    why left fault.Unformatted k recovers leaves is same =
+    why : (left : List Standing) (x : RecoveryFault) (k : Code) → DiskRecovers bound old (Err x) new → Leaves bound old left → Some k ≡ code_of x → Recovers (part_of bound old left) (answer.Refused k 0) (part_of bound new left)
+    why left fault.Unformatted k recovers leaves is =
         let code : k ≡ code.NoHardware = cc in
-        inl (ap (λ j. answer.Refused j 0) code, (found_one (Err fault.Unformatted) left recovers leaves).found.0, record { totals = same; left = refl; later = recovers.kept.later leaves.honest })
-    why left fault.Damaged k recovers leaves is same =
+        inl (ap (λ j. answer.Refused j 0) code, (found_one (Err fault.Unformatted) left recovers leaves).found.0, same_part fault.Unformatted left recovers leaves.honest (λ failed. failed))
+    why left fault.Damaged k recovers leaves is =
         let code : k ≡ code.Failure = cc in
-        inr (ap (λ j. answer.Refused j 0) code, inl (found_one (Err fault.Damaged) left recovers leaves).found.0, record { totals = same; left = refl; later = recovers.kept.later leaves.honest })
-    why left fault.Handles k recovers leaves is same =
+        inr (ap (λ j. answer.Refused j 0) code, inl (inl (found_one (Err fault.Damaged) left recovers leaves).found.0, same_part fault.Damaged left recovers leaves.honest (λ failed. failed)))
+    why left fault.Handles k recovers leaves is =
         let code : k ≡ code.Failure = cc in
-        inr (ap (λ j. answer.Refused j 0) code, inr (inl (found_one (Err fault.Handles) left recovers leaves).found.0), record { totals = same; left = refl; later = recovers.kept.later leaves.honest })
-    why left fault.NoMemory k recovers leaves is same = let bad : ⊥ = cc in absurd bad
-    why left fault.Device k recovers leaves is same =
+        inr (ap (λ j. answer.Refused j 0) code, inl (inr (found_one (Err fault.Handles) left recovers leaves).found.0, same_part fault.Handles left recovers leaves.honest (λ failed. failed)))
+    why left fault.NoMemory k recovers leaves is = let bad : ⊥ = cc in absurd bad
+    why left fault.Device k recovers leaves is =
         let code : k ≡ code.Failure = cc in
-        inr (ap (λ j. answer.Refused j 0) code, inr (inr (recovers.device refl leaves.honest)), record { totals = same; left = refl; later = recovers.kept.later leaves.honest })
-
-    -- a recovery that fails keeps the totals
-    kept_totals : (x : RecoveryFault) → DiskRecovers bound old (Err x) new → new.totals ≡ old.totals
-    kept_totals x recovers = by_fault x (subst (λ m. WhenOff m (FindsFiles (ReadsAs bound old.disk) old.totals (Err x) new.totals)) off recovers.answer)
-      where
-        by_fault : (x : RecoveryFault) → FindsFiles (ReadsAs bound old.disk) old.totals (Err x) new.totals → new.totals ≡ old.totals
-        by_fault fault.Unformatted h = h.1
-        by_fault fault.Damaged h = h.1
-        by_fault fault.Handles h = h.1
-        by_fault fault.NoMemory h = h
-        by_fault fault.Device h = h
+        inr (ap (λ j. answer.Refused j 0) code, inr (record { rises = recovers.device refl leaves.honest; later = recovers.kept.later leaves.honest; else_same = same_else fault.Device left recovers }))
 
     -- the recovery fails, and the control stays as it is
     pub failed_serves : (x : RecoveryFault) (k : Code) → DiskRecovers bound old (Err x) new → Some k ≡ code_of x → Serves bound hs cl ds old (CallOf n (call.Set p v)) (Answered (answer.Refused k 0)) hs cl ds new
@@ -236,7 +252,7 @@ module _ {D : Type 0} (bound : Ghosts D) (old new : TotalsView D) (off : old.tot
             step = match_at_some _ c _ _ at (record {
               outcome = match_at_none (first_refusal (set_rows n (holder left) (kind_of (before left) c) c p v)) _ _ (enabling_unrefused n (holder left) (kind_of (before left) c) c p v asks)
                   (subst (λ b. MatchBool b (SetsByRecovery (before left) n c p v (answer.Refused k 0) (machine_with hs cl ds (part_of bound new left))) (Sets (before left) n c p v (answer.Refused k 0) (machine_with hs cl ds (part_of bound new left)))) (sym recovering)
-                  (inr (why left x k recovers leaves is same, refl)));
+                  (inr (why left x k recovers leaves is, refl)));
             });
             any_moment = failed_moments (Err x) left recovers leaves;
           };

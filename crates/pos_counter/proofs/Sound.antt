@@ -41,7 +41,7 @@ use Rattle.pos_service.specs.Stations.{Station, Effect, SameStation, TakesIn, re
 use Rattle.pos_service.specs.DrawerCalls.{DrawerOpens, DrawerDoes, LineFailed}
 use Rattle.pos_service.specs.HardTotals.{with_control as with_place}
 use Rattle.pos_counter.specs.Machine.{Device, Machine, device_at, kind_in, kind_of, place_of, found_at, with_control, with_totals}
-use Rattle.pos_counter.specs.Steps.{Request, NewControl, CallOf, InputTo, WorkOn, Deliver, Snapshot, Attach, Detach, Response, Made, Full, Answered, TakenIn, NoDevice, WrongInput, Worked, Delivered, Shown, Attached, NotAttached, Detached, NotDetached, OutOfMemory, IsAttached, IsDetached, has_open, is_open_at, is_place, OnStation, Step, Called, Stays, Sets, SetsByRecovery, CategoryDoes, DeviceDoes, category_rows, claimed, released, dropped, facts_of, refusals, IsSound, IsPlaceOn, HasItsKind, HasItsDevice}
+use Rattle.pos_counter.specs.Steps.{Request, NewControl, CallOf, InputTo, WorkOn, Deliver, Snapshot, Attach, Detach, Response, Made, Full, Answered, TakenIn, NoDevice, WrongInput, Worked, Delivered, Shown, Attached, NotAttached, Detached, NotDetached, OutOfMemory, IsAttached, IsDetached, has_open, is_open_at, is_place, OnStation, Step, Called, Sets, SetsByRecovery, CategoryDoes, DeviceDoes, category_rows, claimed, released, dropped, facts_of, refusals, IsSound, IsPlaceOn, HasItsKind, HasItsDevice}
 use Rattle.pos_counter.specs.Totals.{TotalsPart, recovers}
 use Rattle.pos_counter.proofs.Cursors.{NoneApplies, none_applies, place_called, place_opened, place_set, unless_not}
 use Rattle.pos_counter.proofs.Lifts.{match_at_some, match_cases}
@@ -413,11 +413,6 @@ called_sound m m' n c own r e h s =
       | inr x ↦ same_machine m m' x.2.1 s
     ]
 
--- want of memory leaves the machine as it was, the count of the disk's failures aside
-stays_sound : (m m' : Machine) (c : Control) (q : Call) → Stays m c q m' → IsSound m → IsSound m'
-stays_sound m m' c (call.Set p v) h s = other_totals m m' h.1 s
-stays_sound m m' c other h s = same_machine m m' h s
-
 -- a device that gets a peripheral of its kind keeps each control's device
 attached_sound : (m m' : Machine) (name : List ℕ) (station : Station) → IsAttached m name station m' → IsSound m → IsSound m'
 attached_sound m m' name station o s =
@@ -474,7 +469,7 @@ step_sound m m' (NewControl category) Full h s = same_machine m m' h.1 s
 step_sound m m' (NewControl category) OutOfMemory h s = same_machine m m' h.1 s
 step_sound m m' (CallOf n q) (Answered r) h s =
     elim (match_cases (slice_get m.controls n) _ _ h) [ inl x ↦ same_machine m m' x.1.1 s | inr x ↦ called_sound m m' n x.0 q r x.1 x.2 s ]
-step_sound m m' (CallOf n q) OutOfMemory h s = elim (match_cases (slice_get m.controls n) _ _ h) [ inl x ↦ absurd x.1 | inr x ↦ stays_sound m m' x.0 q x.2.2 s ]
+step_sound m m' (CallOf n q) OutOfMemory h s = elim (match_cases (slice_get m.controls n) _ _ h) [ inl x ↦ absurd x.1 | inr x ↦ same_machine m m' x.2.2 s ]
 step_sound m m' (InputTo name input) TakenIn h s = on_station_sound m m' _ _ (λ place before new after stands. takes_keeps m.devices input place m.controls before new after) h s
 step_sound m m' (InputTo name input) NoDevice h s = same_machine m m' h.1 s
 step_sound m m' (InputTo name input) WrongInput h s = same_machine m m' h.1 s

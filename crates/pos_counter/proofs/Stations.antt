@@ -25,7 +25,7 @@ use Rattle.pos_common.specs.Held.{Held, controls_of}
 use Rattle.pos_counter.specs.Machine.{Device, Machine, Shared, station_in, station_named, device_at, kind_in, kind_of, place_of}
 use Rattle.pos_counter.specs.Parts.{over, CallsAt, IsDoneAt, MayBeCalled}
 use Rattle.pos_counter.specs.Responses.{answered}
-use Rattle.pos_counter.specs.Steps.{OnStation, Step, CallOf, Answered, Does, DeviceDoes, CategoryDoes, Stays, category_rows, device_rows, refusals, takes_memory, FindsFit, FindsWork, IsPlaceOn, IsSound}
+use Rattle.pos_counter.specs.Steps.{OnStation, Step, CallOf, Answered, Does, DeviceDoes, CategoryDoes, category_rows, device_rows, refusals, takes_memory, FindsFit, FindsWork, IsPlaceOn, IsSound}
 use Rattle.pos_counter.specs.Totals.{is_totals}
 use Rattle.pos_counter.proofs.Lifts.{match_cases, match_at_some, match_by, match_weaker}
 use Rattle.pos_counter.proofs.Sound.{seated, Served}
@@ -149,15 +149,6 @@ own_takes m c (call.Set p v) own h = cc
 own_takes m c (call.Get p) own h = cc
 own_takes m c asked own h = h
 
-pub own_stays : (m m' : Machine) (c : Control) (asked : Call) → is_common asked ≡ false → m' ≡ m → Stays m c asked m'
-own_stays m m' c (call.Open name) own h = h
-own_stays m m' c call.Close own h = h
-own_stays m m' c (call.Claim timeout) own h = h
-own_stays m m' c call.Release own h = h
-own_stays m m' c (call.Set p v) own h = cc
-own_stays m m' c (call.Get p) own h = h
-own_stays m m' c asked own h = h
-
 -- a call that is the first that is asked of an open control
 pub is_open_there : (cs : List Control) (n : ℕ) (c : Control) (k : Category) (place : ℕ) → slice_get cs n ≡ Some c → c.category ≡ k → c.device ≡ Some place → IsOpen k cs n
 is_open_there cs n c k place at is device = match_at_some _ c _ _ at (is, ap is_some device)
@@ -247,5 +238,5 @@ device_step hs gs ds es shared n place c asked r own at is device done =
         match_at_some _ c _ _ at (
           own_takes m c asked own h.0,
           unrefused ∙ h.1,
-          own_stays m m' c asked own (same h.2),
+          same h.2,
         )

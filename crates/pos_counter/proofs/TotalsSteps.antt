@@ -30,7 +30,7 @@ use Rattle.pos_counter.specs.DiskUse.{AsksNothing, IsUndone, SparesDisk, SparesF
 use Rattle.pos_counter.specs.History.{changes_asked}
 use Rattle.pos_counter.specs.Totals.{TotalsPart, FilesCalled}
 use Rattle.pos_counter.proofs.Lifts.{control_at, match_at_some, match_by, match_cases, match_weaker}
-use Rattle.pos_counter.proofs.Stations.{own_does, own_takes, own_stays, open_refusals}
+use Rattle.pos_counter.proofs.Stations.{own_does, own_takes, open_refusals}
 
 -- a call that is refused is a step
 pub refused_step : (m : Machine) (n : ℕ) (c : Control) (asked : Call) (refusal : Answer) → slice_get m.controls n ≡ Some c → first_refusal (refusals m n c asked) ≡ Some refusal → Step m (CallOf n asked) (Answered refusal) m
@@ -73,7 +73,7 @@ called_step m part n c asked (Err want) own at is device area able h =
     match_at_some _ c _ _ at (
       own_takes m c asked own h.0,
       totals_refusals m n c asked (has_call category.HardTotals asked) false true own is device refl area able ∙ h.1,
-      own_stays m (record m { totals = part }) c asked own (ap (λ (p : TotalsPart). let o : Machine = record m { totals = p } in o) h.2),
+      ap (λ (p : TotalsPart). let o : Machine = record m { totals = p } in o) h.2,
     )
 
 -- a call of the totals' own that asks nothing of the disk has no changes

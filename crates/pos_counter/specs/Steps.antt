@@ -39,7 +39,7 @@ use Rattle.pos_profile.specs.declared.registry_fault.DetachFault.{DetachFault}
 use Rattle.pos_profile.specs.declared.registry_fault.DetachFault.TheVariants as detach
 use Rattle.pos_service.specs.HardTotals.{layout_1, in_transaction, is_area_taken, without_control, with_control as with_place}
 use Rattle.pos_service.specs.TotalsCalls.{file_call, totals_rows}
-use Rattle.pos_counter.specs.Totals.{TotalsDo, Recovered, Recovers, Rests, recovers, file_facts}
+use Rattle.pos_counter.specs.Totals.{TotalsDo, Recovered, Recovers, recovers, file_facts}
 use Rattle.pos_counter.specs.Machine.{Device, Machine, place_of, device_at, station_in, station_named, kind_named, found_under, holder_of, kind_of, with_control, with_station, with_standing, with_totals}
 
 -- what may be asked of the machine: controls by their numbers, devices by their names; a peripheral that is to be
@@ -222,16 +222,10 @@ abbrev pub Called : Machine → ℕ → Control → Call → Answer → Machine 
 Called old number control call result new =
     Decided (refusals old number control call) result (new ≡ old) (Does old number control call result new)
 
--- the machine is as it was, but that a recovery which found no memory may have met a failure of the disk
-abbrev pub Stays : Machine → Control → Call → Machine → Type 0
-Stays old control (call.Set property v) new = Rests old.totals new.totals × (new ≡ record old { totals = new.totals })
-Stays old control other new = new ≡ old
-
--- A call may find no memory only where it takes some and nothing refuses it before.
+-- A call may find no memory only where it takes some and nothing refuses it before, and then nothing has changed.
 abbrev pub Wants : Machine → ℕ → Control → Call → Machine → Type 0
 Wants old number control call new =
-    IsTrue (takes_memory old control call) × (first_refusal (refusals old number control call) ≡ None)
-    × Stays old control call new
+    IsTrue (takes_memory old control call) × (first_refusal (refusals old number control call) ≡ None) × (new ≡ old)
 
 -- A device has a peripheral, and the input fits its kind, or doesn't.
 pub record FindsFit (station : Option Station) (input : Input) (fits : Bool) : Type 0 where

@@ -21,9 +21,10 @@ use Rattle.pos_service.specs.Calls.{has_call, takes_memory}
 use Rattle.pos_service.specs.Refusals.{Decided, first_refusal, when}
 use Rattle.pos_service.specs.TotalsCalls.{FileCall, Asks, Makes, Arranges, Commits, Nothing, file_call, file_rows}
 use Rattle.pos_store.specs.Standing.{Standing, Unformatted, Damaged, Stands, IsOneOf}
+pub use Rattle.pos_totals.specs.Changes.{settled}
 use Rattle.pos_totals.specs.Changes.{IsOneGroup, before_or_after}
 use Rattle.pos_totals.specs.Recoveries.{HasFound, HasTooMany}
-use Rattle.pos_totals.specs.Views.{plain}
+use Rattle.pos_totals.specs.Views.{TurnsOff}
 
 -- The totals: what is known of them, for what the bytes may stand that a crash leaves now, and how often their disk has
 -- failed.
@@ -37,11 +38,6 @@ abbrev pub file_facts : Mode → Option FileFacts
 file_facts Off = None
 file_facts (Ready files sequence) = Some (record { free = free_data layout_1 files; count = length files })
 
--- what a crash leaves while the disk stands for these files alone
-abbrev pub settled : Mode → List Standing → List Standing
-settled Off otherwise = otherwise
-settled (Ready files sequence) otherwise = Stands (plain files) sequence ∷ []
-
 -- what a crash leaves where the disk has failed while these changes were put on it as one group
 abbrev pub in_doubt : TotalsPart → List Change → Mode → List Standing
 in_doubt old changes Off = old.left
@@ -51,6 +47,10 @@ in_doubt old changes (Ready files sequence) = before_or_after old.totals.next (R
 abbrev pub left_after : TotalsPart → List Change → Mode → List Standing
 left_after old changes now = settled now (in_doubt old changes old.totals.mode)
 
+-- the disk fails only where that turns the totals off: else the count of its failures is as it was
+abbrev pub FailsTurningOff : TotalsPart → TotalsPart → Type 0
+FailsTurningOff old new = TurnsOff old.totals.mode new.totals.mode ⊎ (new.failures ≡ old.failures)
+
 -- Changes are put on the disk as one group, or the disk fails in them; and what a crash leaves then. Without changes
 -- the disk is left alone.
 pub record PutsChanges (Does : Answer → Totals → Type 0) (old : TotalsPart) (changes : List Change) (result : Answer)
@@ -58,21 +58,23 @@ pub record PutsChanges (Does : Answer → Totals → Type 0) (old : TotalsPart) 
   pub does : Does result new.totals
   pub group : IsOneGroup old.totals changes
   pub left : new.left ≡ left_after old changes new.totals.mode
+  pub counts : FailsTurningOff old new
   pub later : old.failures ≤ new.failures
 
 -- the changes that a change puts on the disk: none in a transaction, which buffers it
 abbrev pub put_at_once : Bool → Change → List Change
 put_at_once in_transaction change = if in_transaction then [] else change ∷ []
 
--- A change is buffered, or refused by a number that has run out, or is done as one group, or the disk fails in it.
+-- A change is buffered, or refused where a handle or the sequences have run out, or is done as one group, or the disk
+-- fails in it.
 abbrev pub ChangesTotals : TotalsPart → ℕ → Change → Answer → TotalsPart → Type 0
 ChangesTotals old number change result new =
     let fails = Rises old.failures new.failures in
     PutsChanges (λ answer totals. DoesChange fails old.totals number change answer totals) old
     (put_at_once (in_transaction old.totals number) change) result new
 
--- A commit is refused by a sequence that has run out, or what was buffered is done as one group, or the disk fails in
--- it.
+-- A commit is refused where the sequences have run out, or what was buffered is done as one group, or the disk fails
+-- in it.
 abbrev pub CommitsTotals : TotalsPart → ℕ → Answer → TotalsPart → Type 0
 CommitsTotals old number result new =
     let changes = changes_in (transaction_of old.totals number) in
@@ -101,28 +103,30 @@ FilesCalled number asked old outcome new =
     (λ result. Decided rows result (new ≡ old) (TotalsDo (file_call asked) old number result new))
     (λ want. IsTrue (takes_memory asked) × (first_refusal rows ≡ None) × (new ≡ old))
 
--- The totals are as they were; the count of failures may have risen.
-pub record Rests (old new : TotalsPart) : Type 0 where
-  pub totals : new.totals ≡ old.totals
-  pub left : new.left ≡ old.left
-  pub later : old.failures ≤ new.failures
-
--- One of the standings was found, which a crash leaves alone from then on.
+-- One of the standings was found, which a crash leaves alone from then on. The disk hasn't failed.
 pub record Recovered (old new : TotalsPart) : Type 0 where
   pub found : HasFound (IsOneOf old.left) old.totals new.totals
   pub left : new.left ≡ settled new.totals.mode old.left
-  pub later : old.failures ≤ new.failures
+  pub counts : new.failures ≡ old.failures
 
--- a recovery fails with E_FAILURE: by damage, by too few handles, or because the disk failed
+-- The disk failed in a recovery: the count of its failures rose, and all else is as it was.
+pub record DiskFails (old new : TotalsPart) : Type 0 where
+  pub rises : Rises old.failures new.failures
+  pub later : old.failures ≤ new.failures
+  pub else_same : new ≡ record old { failures = new.failures }
+
+-- a recovery fails with E_FAILURE: by damage or by too few handles, which leaves all as it was, or because the disk
+-- failed
 abbrev pub Fails : TotalsPart → TotalsPart → Type 0
 Fails old new =
-    IsOneOf old.left Damaged ⊎ (HasTooMany (IsOneOf old.left) old.totals.next ⊎ Rises old.failures new.failures)
+    ((IsOneOf old.left Damaged ⊎ HasTooMany (IsOneOf old.left) old.totals.next) × (new ≡ old))
+    ⊎ DiskFails old new
 
 -- what a recovery answers where it recovers nothing: there are no totals, or it fails
 abbrev pub Recovers : TotalsPart → Answer → TotalsPart → Type 0
 Recovers old result new =
-    ((result ≡ answer.Refused code.NoHardware 0) × IsOneOf old.left Unformatted × Rests old new)
-    ⊎ ((result ≡ answer.Refused code.Failure 0) × Fails old new × Rests old new)
+    ((result ≡ answer.Refused code.NoHardware 0) × IsOneOf old.left Unformatted × (new ≡ old))
+    ⊎ ((result ≡ answer.Refused code.Failure 0) × Fails old new)
 
 -- the property is set to true
 abbrev pub is_enabling : Property → Value → Bool
