@@ -64,7 +64,8 @@ impl<D: Disk> Images<D> {
         ensures unmarked { D.honest disk → IfOk result (λ formatted. is_marked (D.state disk).reading ≡ false) }
         ensures marked { D.honest disk → IfErr result (λ e. RefusesMarked (D.state disk) (D.state e.1) e.0) }
         ensures device { D.honest disk → IfErr result (λ e. FailsWithCause (D.state disk) (D.state e.1) e.0) }
-        ensures counts { D.honest disk → CountsFaults (D.state disk) (D.state (handed_back result)) (without_disk result) }
+        ensures counts { D.honest disk →
+            CountsFaults (D.state disk) (D.state (handed_back result)) (without_disk result) }
         ensures faults { IfErr result (λ e. IsFormatFault e.0) }
         ensures untouched { IfErr result (λ e. e.0 ≡ TooSmall → e.1 ≡ disk) }
 
@@ -102,7 +103,8 @@ impl<D: Disk> Images<D> {
         ensures unformatted { D.honest disk → IfErr result (λ e. FindsNone (D.state disk).reading e.0) }
         ensures damaged { D.honest disk → IfErr result (λ e. FindsDamage (D.state disk).reading e.0) }
         ensures device { D.honest disk → IfErr result (λ e. FailsWithCause (D.state disk) (D.state e.1) e.0) }
-        ensures counts { D.honest disk → CountsFaults (D.state disk) (D.state (disk_after result)) (without_disk result) }
+        ensures counts { D.honest disk →
+            CountsFaults (D.state disk) (D.state (disk_after result)) (without_disk result) }
         ensures faults { IfErr result (λ e. IsOpenFault e.0) }
         ensures untouched { IfErr result (λ e. e.0 ≡ TooSmall → e.1 ≡ disk) }
 

@@ -64,7 +64,8 @@ impl<D: Disk> Images<D> {
             (span_of self.old (D.state self.new.disk)) (at - log_place) bytes.now result }
 
         // A crash at any moment of the call leaves the current image, and of its log what a crash after it may leave.
-        ensures any_moment { D.honest self.old.disk → CrashKeepsImage self.old (span_of self.old (D.state self.new.disk))
+        ensures any_moment { D.honest self.old.disk →
+            CrashKeepsImage self.old (span_of self.old (D.state self.new.disk))
             (D.state self.old.disk) (D.state self.new.disk) }
 
         ensures faults { IsErr result → IsErrOf result Device }
@@ -88,7 +89,8 @@ impl<D: Disk> Images<D> {
         ensures reading { D.honest self.old.disk → (D.state self.new.disk).reading ≡ (D.state self.old.disk).reading }
 
         // A crash at any moment of the call leaves the current image, and of its log what a crash before it may leave.
-        ensures any_moment { D.honest self.old.disk → CrashKeepsImage self.old (span_of self.old (D.state self.old.disk))
+        ensures any_moment { D.honest self.old.disk →
+            CrashKeepsImage self.old (span_of self.old (D.state self.old.disk))
             (D.state self.old.disk) (D.state self.new.disk) }
 
         ensures faults { IsErr result → IsErrOf result Device }

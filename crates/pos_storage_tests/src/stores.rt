@@ -29,12 +29,7 @@ fn full_log(alloc: Global) -> Result<Vec<u8>, Fail> {
 
 // A formatted disk with these bytes in its other slot, and these in the log at a place. Where the other slot has an
 // image, the gate of the first is to be closed before a new one.
-fn fresh(
-    alloc: Global,
-    second: &[u8],
-    at: usize,
-    log: &[u8],
-) -> Result<MemDisk, AllocError> {
+fn fresh(alloc: Global, second: &[u8], at: usize, log: &[u8]) -> Result<MemDisk, AllocError> {
     let runs = [(0, FORMATTED.as_slice()), (SECOND, second), (at, log)];
     disk_of(alloc, 0, &runs)
 }
@@ -76,7 +71,9 @@ fn a_group_on_the_disk(rt: HostRuntime) -> Result<(), Fail> {
     assert!(rt; is_after(&store) == Ok(true));
     let bytes = bytes_of(alloc, &mut store.into_disk())?;
     assert!(rt; has(&bytes, LOG, &[0xA5, 0, 0, 0, 24]) && has(&bytes, LOG + 5, &GROUP));
-    assert!(rt; has(&bytes, LOG + 29, &[0]) && has(&bytes, 0, &FORMATTED) && has(&bytes, SECOND, &[0]));
+    assert!(rt;
+        has(&bytes, LOG + 29, &[0]) && has(&bytes, 0, &FORMATTED) && has(&bytes, SECOND, &[0])
+    );
     Ok(())
 }
 
@@ -163,9 +160,9 @@ fn crash_each(alloc: Global, stops: &[(bool, MemDisk)], fill: Fill) -> Result<[u
     Ok(counts)
 }
 
-// A recovery is seven calls, and is tried again. A commit is four, two of them for the gate of its record; where it makes
-// an image it is seven, or nine where a gate is closed first, and the last two open the new gate. These two alone may
-// leave the files after a commit that wasn't acknowledged.
+// A recovery is seven calls, and is tried again. A commit is four, two of them for the gate of its record; where it
+// makes an image it is seven, or nine where a gate is closed first, and the last two open the new gate. These two alone
+// may leave the files after a commit that wasn't acknowledged.
 #[test]
 fn each_stop_leaves_the_files_before_or_after(rt: HostRuntime) -> Result<(), Fail> {
     let alloc = rt.alloc();

@@ -27,8 +27,8 @@ settled Off otherwise = otherwise
 settled (Ready files sequence) otherwise = Stands (plain files) sequence ∷ []
 
 -- what a crash during a group may leave, by the modes before and after it: while the totals are off, what a crash might
--- have left before the call; while they are ready, bytes that stand for the files before it or for those after it, which
--- are those that the totals have then, or where the disk failed in it, those after the whole of it
+-- have left before the call; while they are ready, bytes that stand for the files before it or for those after it,
+-- which are those that the totals have then, or where the disk failed in it, those after the whole of it
 abbrev pub IsBeforeOrAfter : DiskState → ℕ → Mode → List Change → Mode → List ℕ → Type 0
 IsBeforeOrAfter disk next Off changes now bytes = MayLeave disk bytes
 IsBeforeOrAfter disk next (Ready files sequence) changes now bytes = StandsForOneOf

@@ -164,8 +164,8 @@ impl<D: Disk> Totals<D> {
     /// `setAll`: makes each byte of a file the same.
     ///
     /// Refused with E_ILLEGAL where no file has the handle, or the value isn't 0 to 255, E_CLAIMED where another
-    /// control has claimed the file; in a transaction of the control E_EXTENDED ETOT_NOROOM where less than 16 is left of
-    /// its cost; else E_FAILURE where no sequence is left or the disk fails.
+    /// control has claimed the file; in a transaction of the control E_EXTENDED ETOT_NOROOM where less than 16 is left
+    /// of its cost; else E_FAILURE where no sequence is left or the disk fails.
     pub fn set_all(&mut self, control: usize, handle: i128, value: i128) -> Result<Answer, NoMemory>
         ensures { Changes D.Disk self.old control (SetAll handle value) result self.new }
     {
