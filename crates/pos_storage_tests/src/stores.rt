@@ -10,8 +10,8 @@ use std::test::Fail;
 // The log of a formatted disk.
 const LOG: usize = 16_384;
 
-// A record of 16,367 bytes, nearly all of them zero: it makes a file, writes it twice and deletes it. Its first bytes, those
-// of the second write, and those of the deletion.
+// A record of 16,367 bytes, nearly all of them zero: it makes a file, writes it twice and deletes it. Its first bytes,
+// those of the second write, and those of the deletion.
 const MADE: [u8; 25] = [
     0xA5, 0, 0, 0x3F, 0xEA, 0, 4, 1, 1, 0x41, 0, 0, 0x20, 0, 4, 0, 0, 0, 0, 0, 0, 0, 0, 0x20, 0,
 ];
@@ -137,16 +137,20 @@ fn stop(alloc: Global, disk: MemDisk, pass: u64, fail: u64) -> Result<(bool, Mem
     Ok((is_done, store.into_disk().into_inner()))
 }
 
-// The stops at each of so many calls.
+// The stops at each of so many calls over a disk with these bytes in its other slot, and a full log at a place.
 fn stop_at_each(
     alloc: Global,
-    disk: &MemDisk,
+    (second, log): (&[u8], Option<usize>),
     calls: u64,
     fail: u64,
 ) -> Result<Vec<(bool, MemDisk)>, Fail> {
     let mut stops = Vec::new(alloc);
     for pass in 0..calls {
-        stops.push(stop(alloc, disk.crash(Fill::New)?, pass, fail)?)?;
+        let disk = match log {
+            None => fresh(alloc, &[])?,
+            Some(at) => full(alloc, second, at)?,
+        };
+        stops.push(stop(alloc, disk, pass, fail)?)?;
     }
     Ok(stops)
 }
@@ -164,29 +168,48 @@ fn crash_each(alloc: Global, stops: &[(bool, MemDisk)], fill: Fill) -> Result<[u
     Ok(counts)
 }
 
-// A recovery is seven calls, and is tried again. A commit is four, two of them for the gate of its record; where it makes
-// an image it is seven, or nine where a gate is closed first, and the last two open the new gate. These two alone may
-// leave the files after a commit that wasn't acknowledged.
+// How often crashes of these stops leave what, by how the loose places are filled.
+fn crash_by_fill(alloc: Global, stops: &[(bool, MemDisk)]) -> Result<[[u32; 4]; 4], Fail> {
+    Ok([
+        crash_each(alloc, stops, Fill::Old)?,
+        crash_each(alloc, stops, Fill::New)?,
+        crash_each(alloc, stops, Fill::Byte(0xA5))?,
+        crash_each(alloc, stops, Fill::Byte(0))?,
+    ])
+}
+
+// A recovery is seven calls, and is tried again. A commit is four, the last two of which open the gate of its record:
+// they alone may leave the files after a commit that wasn't acknowledged.
 #[test]
-fn each_stop_leaves_the_files_before_or_after(rt: HostRuntime) -> Result<(), Fail> {
-    let alloc = rt.alloc();
-    let rows = [
-        (fresh(alloc, &[])?, 4, 1),
-        (full(alloc, &[], LOG)?, 7, 1),
-        (full(alloc, &AGAIN, SECOND + LOG)?, 9, 1),
-        (full(alloc, &AGAIN, SECOND + LOG)?, 9, 3),
-    ];
-    for (disk, calls, fail) in rows {
-        let stops = stop_at_each(alloc, &disk, 7 + calls as u64, fail)?;
-        for (fill, after) in [
-            (Fill::Old, 0),
-            (Fill::New, 1),
-            (Fill::Byte(0xA5), 2),
-            (Fill::Byte(0), 0),
-        ] {
-            let counts = crash_each(alloc, &stops, fill)?;
-            assert_eq!(rt; counts, [0, 7, calls - after, after], "{fail}");
-        }
+fn each_stop_of_an_append(rt: HostRuntime) -> Result<(), Fail> {
+    let stops = stop_at_each(rt.alloc(), (&[], None), 11, 1)?;
+    let counts = crash_by_fill(rt.alloc(), &stops)?;
+    assert_eq!(rt;
+        counts,
+        [[0, 7, 4, 0], [0, 7, 3, 1], [0, 7, 2, 2], [0, 7, 4, 0]]
+    );
+    Ok(())
+}
+
+// A commit that makes an image is seven calls, or nine where a gate is closed first; the last two open the new gate.
+#[test]
+fn each_stop_of_an_image(rt: HostRuntime) -> Result<(), Fail> {
+    let stops = stop_at_each(rt.alloc(), (&[], Some(LOG)), 14, 1)?;
+    let counts = crash_by_fill(rt.alloc(), &stops)?;
+    assert_eq!(rt;
+        counts,
+        [[0, 7, 7, 0], [0, 7, 6, 1], [0, 7, 5, 2], [0, 7, 7, 0]]
+    );
+    Ok(())
+}
+
+#[test]
+fn each_stop_of_a_later_image(rt: HostRuntime) -> Result<(), Fail> {
+    for fail in [1, 3] {
+        let stops = stop_at_each(rt.alloc(), (&AGAIN, Some(SECOND + LOG)), 16, fail)?;
+        let counts = crash_by_fill(rt.alloc(), &stops)?;
+        let wanted = [[0, 7, 9, 0], [0, 7, 8, 1], [0, 7, 7, 2], [0, 7, 9, 0]];
+        assert_eq!(rt; counts, wanted, "{fail}");
     }
     Ok(())
 }
