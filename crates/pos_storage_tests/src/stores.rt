@@ -10,27 +10,34 @@ use std::test::Fail;
 // The log of a formatted disk.
 const LOG: usize = 16_384;
 
-// A change that makes a file of four bytes, and one that deletes it.
-const MADE_AND_DELETED: [u8; 10] = [1, 1, 0x41, 0, 0, 0, 4, 2, 0, 0];
+// A record of 16,367 bytes, nearly all of them zero: it makes a file, writes it twice and deletes it. Its first bytes,
+// those of the second write, and those of the deletion.
+const MADE: [u8; 25] = [
+    0xA5, 0, 0, 0x3F, 0xEA, 0, 4, 1, 1, 0x41, 0, 0, 0x20, 0, 4, 0, 0, 0, 0, 0, 0, 0, 0, 0x20, 0,
+];
+
+const WRITTEN: [u8; 11] = [4, 0, 0, 0, 0, 0, 0, 0, 0, 0x1F, 0xC8];
+
+const DELETED: [u8; 3] = [2, 0, 0];
 
 // How a body of no files stands on a disk with sequence 2, behind a formatted slot.
 const AGAIN: [u8; 15] = [0xA5, 0, 0, 0, 0, 0, 0, 0, 2, 0, 0, 0, 2, 0, 0];
 
-// A log with one record, of 3,272 changes that leave no files, behind which none of two changes fits.
-fn full_log(alloc: Global) -> Result<Vec<u8>, Fail> {
-    let mut log = Vec::from_slice(alloc, &[0xA5, 0, 0, 0x3F, 0xEA, 0x0C, 0xC8])?;
-    for _ in 0..1_636 {
-        for byte in MADE_AND_DELETED {
-            log.push(byte)?;
-        }
-    }
-    Ok(log)
+// A formatted disk with this log.
+fn fresh(alloc: Global, log: &[u8]) -> Result<MemDisk, AllocError> {
+    disk_of(alloc, 0, &[(0, FORMATTED.as_slice()), (LOG, log)])
 }
 
-// A formatted disk with these bytes in its other slot, and these in the log at a place. Where the other slot has an
-// image, the gate of the first is to be closed before a new one.
-fn fresh(alloc: Global, second: &[u8], at: usize, log: &[u8]) -> Result<MemDisk, AllocError> {
-    let runs = [(0, FORMATTED.as_slice()), (SECOND, second), (at, log)];
+// A formatted disk with these bytes in its other slot, and a log at this place behind whose record no two changes fit.
+// Where the other slot has an image, the gate of the first is to be closed before a new one.
+fn full(alloc: Global, second: &[u8], at: usize) -> Result<MemDisk, AllocError> {
+    let runs = [
+        (0, FORMATTED.as_slice()),
+        (SECOND, second),
+        (at, MADE.as_slice()),
+        (at + 8_217, WRITTEN.as_slice()),
+        (at + 16_364, DELETED.as_slice()),
+    ];
     disk_of(alloc, 0, &runs)
 }
 
@@ -66,7 +73,7 @@ fn commit<D: Disk>(store: &mut Store<D>, group: &Group) -> Result<(), StoreFault
 #[test]
 fn a_group_on_the_disk(rt: HostRuntime) -> Result<(), Fail> {
     let alloc = rt.alloc();
-    let mut store = Store::new(alloc, fresh(alloc, &[], LOG, &[])?);
+    let mut store = Store::new(alloc, fresh(alloc, &[])?);
     carry_out(&mut store, &decode_group(alloc, &GROUP)?)?;
     assert!(rt; is_after(&store) == Ok(true));
     let bytes = bytes_of(alloc, &mut store.into_disk())?;
@@ -80,20 +87,19 @@ fn a_group_on_the_disk(rt: HostRuntime) -> Result<(), Fail> {
 #[test]
 fn a_group_that_does_not_fit(rt: HostRuntime) -> Result<(), Fail> {
     let alloc = rt.alloc();
-    let full = full_log(alloc)?;
-    let mut store = Store::new(alloc, fresh(alloc, &[], LOG, &full)?);
+    let mut store = Store::new(alloc, full(alloc, &[], LOG)?);
     carry_out(&mut store, &decode_group(alloc, &GROUP)?)?;
     assert!(rt; is_after(&store) == Ok(true));
     let head = [0xA5, 0, 0, 0, 0, 0, 0, 0, 2, 0, 0, 0, 12];
     let bytes = bytes_of(alloc, &mut store.into_disk())?;
     assert!(rt; has(&bytes, SECOND, &head) && has(&bytes, SECOND + 13, &BODY));
-    assert!(rt; has(&bytes, SECOND + LOG, &[0]) && has(&bytes, LOG, &full));
+    assert!(rt; has(&bytes, SECOND + LOG, &[0]) && has(&bytes, LOG, &MADE));
     Ok(())
 }
 
 // Whether a formatted disk with this log has the file of the two changes, or why it isn't recovered.
 fn recovered(alloc: Global, log: &[u8]) -> Result<bool, StoreFault> {
-    let Ok(disk) = fresh(alloc, &[], LOG, log) else {
+    let Ok(disk) = fresh(alloc, log) else {
         return Err(StoreFault::NoMemory);
     };
     let mut store = Store::new(alloc, disk);
@@ -101,16 +107,14 @@ fn recovered(alloc: Global, log: &[u8]) -> Result<bool, StoreFault> {
     is_after(&store)
 }
 
-// No record; one that was torn; a full log; a record one byte too long; an empty group; bytes that are no group; a
+// No record; one that was torn; one that is a byte too long; an empty group; bytes that are no group; a
 // group that isn't applicable.
 #[test]
 fn disks_with_a_log(rt: HostRuntime) -> Result<(), Fail> {
     let damaged = Err(StoreFault::Damaged);
-    let full = full_log(rt.alloc())?;
     for (log, wanted) in [
         ([].as_slice(), Ok(false)),
         ([0, 0, 0, 0, 2, 0, 0].as_slice(), Ok(false)),
-        (full.as_slice(), Ok(false)),
         ([0xA5, 0, 0, 0x3F, 0xFB].as_slice(), damaged),
         ([0xA5, 0, 0, 0, 2, 0, 0].as_slice(), damaged),
         ([0xA5, 0, 0, 0, 1, 0].as_slice(), damaged),
@@ -133,16 +137,20 @@ fn stop(alloc: Global, disk: MemDisk, pass: u64, fail: u64) -> Result<(bool, Mem
     Ok((is_done, store.into_disk().into_inner()))
 }
 
-// The stops at each of so many calls.
+// The stops at each of so many calls over a disk with these bytes in its other slot, and a full log at a place.
 fn stop_at_each(
     alloc: Global,
-    disk: &MemDisk,
+    (second, log): (&[u8], Option<usize>),
     calls: u64,
     fail: u64,
 ) -> Result<Vec<(bool, MemDisk)>, Fail> {
     let mut stops = Vec::new(alloc);
     for pass in 0..calls {
-        stops.push(stop(alloc, disk.crash(Fill::New)?, pass, fail)?)?;
+        let disk = match log {
+            None => fresh(alloc, &[])?,
+            Some(at) => full(alloc, second, at)?,
+        };
+        stops.push(stop(alloc, disk, pass, fail)?)?;
     }
     Ok(stops)
 }
@@ -160,30 +168,48 @@ fn crash_each(alloc: Global, stops: &[(bool, MemDisk)], fill: Fill) -> Result<[u
     Ok(counts)
 }
 
-// A recovery is seven calls, and is tried again. A commit is four, two of them for the gate of its record; where it
-// makes an image it is seven, or nine where a gate is closed first, and the last two open the new gate. These two alone
-// may leave the files after a commit that wasn't acknowledged.
+// How often crashes of these stops leave what, by how the loose places are filled.
+fn crash_by_fill(alloc: Global, stops: &[(bool, MemDisk)]) -> Result<[[u32; 4]; 4], Fail> {
+    Ok([
+        crash_each(alloc, stops, Fill::Old)?,
+        crash_each(alloc, stops, Fill::New)?,
+        crash_each(alloc, stops, Fill::Byte(0xA5))?,
+        crash_each(alloc, stops, Fill::Byte(0))?,
+    ])
+}
+
+// A recovery is seven calls, and is tried again. A commit is four, the last two of which open the gate of its record:
+// they alone may leave the files after a commit that wasn't acknowledged.
 #[test]
-fn each_stop_leaves_the_files_before_or_after(rt: HostRuntime) -> Result<(), Fail> {
-    let alloc = rt.alloc();
-    let full = full_log(alloc)?;
-    let rows = [
-        (fresh(alloc, &[], LOG, &[])?, 4, 1),
-        (fresh(alloc, &[], LOG, &full)?, 7, 1),
-        (fresh(alloc, &AGAIN, SECOND + LOG, &full)?, 9, 1),
-        (fresh(alloc, &AGAIN, SECOND + LOG, &full)?, 9, 3),
-    ];
-    for (disk, calls, fail) in rows {
-        let stops = stop_at_each(alloc, &disk, 7 + calls as u64, fail)?;
-        for (fill, after) in [
-            (Fill::Old, 0),
-            (Fill::New, 1),
-            (Fill::Byte(0xA5), 2),
-            (Fill::Byte(0), 0),
-        ] {
-            let counts = crash_each(alloc, &stops, fill)?;
-            assert_eq!(rt; counts, [0, 7, calls - after, after], "{fail}");
-        }
+fn each_stop_of_an_append(rt: HostRuntime) -> Result<(), Fail> {
+    let stops = stop_at_each(rt.alloc(), (&[], None), 11, 1)?;
+    let counts = crash_by_fill(rt.alloc(), &stops)?;
+    assert_eq!(rt;
+        counts,
+        [[0, 7, 4, 0], [0, 7, 3, 1], [0, 7, 2, 2], [0, 7, 4, 0]]
+    );
+    Ok(())
+}
+
+// A commit that makes an image is seven calls, or nine where a gate is closed first; the last two open the new gate.
+#[test]
+fn each_stop_of_an_image(rt: HostRuntime) -> Result<(), Fail> {
+    let stops = stop_at_each(rt.alloc(), (&[], Some(LOG)), 14, 1)?;
+    let counts = crash_by_fill(rt.alloc(), &stops)?;
+    assert_eq!(rt;
+        counts,
+        [[0, 7, 7, 0], [0, 7, 6, 1], [0, 7, 5, 2], [0, 7, 7, 0]]
+    );
+    Ok(())
+}
+
+#[test]
+fn each_stop_of_a_later_image(rt: HostRuntime) -> Result<(), Fail> {
+    for fail in [1, 3] {
+        let stops = stop_at_each(rt.alloc(), (&AGAIN, Some(SECOND + LOG)), 16, fail)?;
+        let counts = crash_by_fill(rt.alloc(), &stops)?;
+        let wanted = [[0, 7, 9, 0], [0, 7, 8, 1], [0, 7, 7, 2], [0, 7, 9, 0]];
+        assert_eq!(rt; counts, wanted, "{fail}");
     }
     Ok(())
 }

@@ -1,5 +1,5 @@
 -- What an append or a renewal of the log means for the files.
-use Rattle.std.proofs.Common.{◌≡◌, ◌≢◌, true, false, cond, ◌+◌, length, inl, inr, ⊎_elim, ℕ, List, [], ◌∷◌, Result, Ok, Err, refl, sym, ap, subst, ◌∙◌}
+use Rattle.std.proofs.Common.{◌≡◌, ◌≢◌, true, false, cond, ◌+◌, length, inl, inr, ⊎_elim, ℕ, List, [], Ok, Err, refl, sym, ap, subst, ◌∙◌}
 use Rattle.pos_dir.specs.Changes.{outcome_of_all, IsGroup}
 use Rattle.pos_dir.specs.Files.{IsDirectory}
 use Rattle.pos_dir.specs.Spelling.{spelling, group_spelling}
@@ -14,7 +14,7 @@ use Rattle.pos_image.specs.Standing as image
 use Rattle.pos_log.specs.Logs.{LogView, IsLogReady, KeepsRecords, HasOldOrNew, Appends, Renews}
 use Rattle.pos_store.proofs.Held.{shows_now, still_holds, has_image_holds, holds_more, holds_new, leaves_files}
 use Rattle.pos_store.specs.Commits.{Commits, IsExhausted, IsLast, before_or_after, left_by, fits_behind, sequence_after}
-use Rattle.pos_store.specs.Modes.{StoreView, Off, Ready, view_of}
+use Rattle.pos_store.specs.Modes.{Ready, view_of}
 use Rattle.pos_store.specs.Standing.{HoldsFiles, IsStep, StandsForOneOf}
 use Rattle.pos_store.specs.declared.fault.StoreFault.TheVariants as fault
 use Rattle.pos_store.specs.declared.medium.Medium.TheVariants as medium

@@ -1,5 +1,5 @@
 -- Bytes always stand for something: what it is is found by reading them.
-use Rattle.std.proofs.Common.{◌≡◌, ◌⊎◌, inl, inr, ⊎_elim, ℕ, ◌+◌, ◌<◌, Bool, true, false, cond, List, [], ◌∷◌, ◌++◌, length, drop, refl, sym, ap, subst, ◌∙◌, arith, Option, Some, None, Result, Ok, Err}
+use Rattle.std.proofs.Common.{◌≡◌, ◌⊎◌, inl, inr, ⊎_elim, ℕ, ◌+◌, Bool, true, false, cond, List, [], ◌∷◌, ◌++◌, length, drop, refl, sym, ap, subst, ◌∙◌, arith, Option, Some, None, Result, Ok, Err}
 use Rattle.std.specs.List.{AllByRecursion}
 use Rattle.std.proofs.lemmas.List.{take_at, drop_at}
 use Rattle.pos_dir.proofs.Directories.{layout_1_writable, directory_takes, no_body}
@@ -7,7 +7,7 @@ use Rattle.pos_dir.proofs.Groups.{group_takes, no_group, one_group_spelling}
 use Rattle.pos_dir.proofs.Readers.{IsBytes, IsBytes-drop, IsBytes-take}
 use Rattle.pos_dir.specs.Changes.{outcome_of_all, IsGroup}
 use Rattle.pos_dir.specs.Reading.{directory_at, group_at}
-use Rattle.pos_dir.specs.Spelling.{spelling, group_spelling}
+use Rattle.pos_dir.specs.Spelling.{group_spelling}
 use Rattle.pos_dir.specs.declared.change.Change.{Change}
 use Rattle.pos_dir.specs.declared.fault.DirectoryFault.{DirectoryFault}
 use Rattle.pos_dir.specs.declared.file.File.{File}

@@ -1,5 +1,5 @@
 -- What was made of a group, or why nothing was.
-use Rattle.std.proofs.Common.{◌≡◌, ◌+◌, true, false, cond, arith, inl, inr, ⊎_elim, ℕ, List, [], ◌∷◌, length, Result, Ok, Err, MatchResult, IsErrOf, refl, sym, ap, subst, ◌∙◌}
+use Rattle.std.proofs.Common.{◌≡◌, arith, inl, inr, ⊎_elim, ℕ, List, [], ◌∷◌, Result, Ok, Err, MatchResult, IsErrOf, refl, sym, ap, subst}
 use Rattle.std.specs.Prelude.{Some}
 use Rattle.std.specs.Result.{result_ok, result_err}
 use Rattle.pos_dir.proofs.Applied.{never_memory}
@@ -14,11 +14,10 @@ use Rattle.pos_disk.specs.State.{MayLeave}
 use Rattle.pos_disk.specs.declared.device.Disk.{Ghosts}
 use Rattle.pos_log.specs.Logs.{LogView, IsLogReady}
 use Rattle.pos_store.proofs.Held.{leaves_files}
-use Rattle.pos_store.specs.Commits.{Commits, PutsDown, IsDraft, IsUnmade, before_or_after, sequence_after}
+use Rattle.pos_store.specs.Commits.{Commits, PutsDown, IsUnmade, before_or_after, sequence_after}
 use Rattle.pos_store.specs.Faults.{refusal}
 use Rattle.pos_store.specs.Modes.{StoreView, view_of}
 use Rattle.pos_store.specs.Standing.{Stands, HoldsFiles, StandsForOneOf}
-use Rattle.pos_store.specs.declared.draft.Draft.{Draft}
 use Rattle.pos_store.specs.declared.fault.StoreFault.{StoreFault}
 use Rattle.pos_store.specs.declared.fault.StoreFault.TheVariants as fault
 use Rattle.pos_store.specs.declared.medium.Medium.TheVariants as medium

@@ -10,19 +10,17 @@ use Rattle.pos_dir.proofs.Directories.{one_spelling, layout_1_writable}
 use Rattle.pos_log.specs.Records.{HoldsRecords, HoldsSome}
 use Rattle.pos_log.proofs.Unique.{one_log}
 use Rattle.pos_dir.specs.declared.limits.TheConstants.{LAYOUT_1}
-use Rattle.pos_disk.specs.State.{DiskState, Watches, Rises, HasNotFailed}
+use Rattle.pos_disk.specs.State.{Watches, Rises, HasNotFailed}
 use Rattle.pos_disk.specs.Keeps.{KeepsDisk}
 use Rattle.pos_disk.specs.declared.device.Disk.{Ghosts}
-use Rattle.pos_image.specs.Images.{CountsFaults}
 use Rattle.pos_image.specs.Standing as image
-use Rattle.pos_log.specs.Logs.{CountsLogFaults}
 use Rattle.pos_image.specs.Standing.{image_on}
 use Rattle.pos_image.specs.declared.fault.ImageFault.{ImageFault}
 use Rattle.pos_image.specs.declared.fault.ImageFault.TheVariants as images
 use Rattle.pos_store.proofs.Found.{finds_so, recovers_one}
 use Rattle.pos_store.specs.Modes.{StoreView, Off, LeavesItsFiles}
 use Rattle.pos_store.specs.Recoveries.{FindsStanding, DiskStandsFor, EndsAt, Recovers}
-use Rattle.pos_store.specs.Standing.{Standing, Unformatted, Damaged, StandsFor, HoldsFiles, Applies}
+use Rattle.pos_store.specs.Standing.{Standing, Unformatted, Damaged, StandsFor, Applies}
 use Rattle.pos_log.specs.declared.fault.LogFault.{LogFault}
 use Rattle.pos_log.specs.declared.fault.LogFault.TheVariants as logs
 use Rattle.pos_store.specs.Faults.{Tells, TellsLog}

@@ -1,15 +1,14 @@
-use Rattle.std.proofs.Common.{◌≡◌, ◌+◌, true, false, inl, inr, ⊎_elim, ℕ, List, Ok, Err, refl, sym, ap, subst, ◌∙◌, arith, rules}
+use Rattle.std.proofs.Common.{◌≡◌, ⊎_elim, ℕ, List, Ok, Err, refl, ap, subst, ◌∙◌, arith, rules}
 use Rattle.pos_disk.proofs.Moments.{weaker}
 use Rattle.pos_dir.specs.Changes.{outcome_of_all}
 use Rattle.pos_dir.specs.Spelling.{group_spelling}
-use Rattle.pos_dir.specs.declared.file.File.{File}
 use Rattle.pos_dir.specs.declared.limits.TheConstants.{LAYOUT_1}
 use Rattle.pos_image.specs.declared.fault.ImageFault.{ImageFault}
 use Rattle.pos_image.specs.declared.fault.ImageFault.TheVariants as image
 use Rattle.pos_log.proofs.LaidOut.{at_most}
 use Rattle.pos_log.specs.Logs.{Appends, IsLogReady}
 use Rattle.pos_log.specs.declared.fault.LogFault.TheVariants as log
-use Rattle.pos_store.specs.Commits.{IsDraft, IsExhausted}
+use Rattle.pos_store.specs.Commits.{IsDraft}
 use Rattle.pos_store.specs.Modes.{HasItsFiles}
 use Rattle.pos_store.specs.Standing.{HoldsFiles}
 use Rattle.pos_store.specs.declared.draft.Draft.{Draft}

@@ -1,8 +1,4 @@
-use Rattle.std.proofs.Common.{List, sym, ap, ◌∙◌, rules}
-use Rattle.pos_dir.specs.declared.file.File.{File}
-use Rattle.pos_store.specs.Commits.{IsDraft, IsLast}
-use Rattle.pos_store.specs.declared.draft.Draft.TheVariants as draft
-use Rattle.pos_store.proofs.Drafted.{fault_told, draft_made}
+use Rattle.pos_store.proofs.Drafted.{fault_told}
 use Rattle.pos_store.proofs.committing.make_draft.Goals as goal
 
 pub returns-in-Err-clause-made : goal.returns-in-Err-clause-made

@@ -1,4 +1,4 @@
-use Rattle.std.proofs.Common.{◌≡◌, ℕ, List, map, Vec, Global, Err, inl, inr, ⊎_elim, refl, sym, ap, subst, ◌∙◌, arith}
+use Rattle.std.proofs.Common.{◌≡◌, ℕ, List, map, Vec, Global, inl, inr, ⊎_elim, refl, sym, ap, subst, ◌∙◌}
 use Rattle.pos_dir.specs.Calls.{IsBody}
 use Rattle.pos_dir.specs.declared.limits.TheConstants.{LAYOUT_1}
 use Rattle.pos_disk.specs.State.{Watches, HasNotFailed}
