@@ -7,7 +7,7 @@ use Rattle.pos_service.specs.declared.answer.Value.TheVariants as value
 use Rattle.pos_service.specs.declared.memory.NoMemory.{NoMemory}
 use Rattle.pos_service.specs.declared.property.Property.{Property}
 use Rattle.pos_service.specs.declared.scan.Scan.{Scan}
-use Rattle.pos_service.specs.Calls.{is_of_bytes}
+use Rattle.pos_service.specs.Properties.{is_of_bytes}
 use Rattle.pos_service.specs.Controls.{Control, listens, if_listening, read as read_by}
 use Rattle.pos_service.specs.Refusals.{Row, Decided, first_refusal}
 

@@ -14,7 +14,8 @@ use Rattle.pos_service.specs.declared.code.Code.TheVariants as code
 use Rattle.pos_service.specs.Calls.{close_rows}
 use Rattle.pos_service.specs.Claims.{is_own, is_foreign, holder_at, claim_rows, claimed_by, release_rows, released_by, after_release}
 use Rattle.pos_service.specs.Controls.{Control, closed}
-use Rattle.pos_service.specs.HardTotals.{Totals, is_area_taken, without_control}
+use Rattle.pos_totals.specs.HardTotals.{Totals}
+use Rattle.pos_totals.specs.TotalsClaims.{is_area_taken, without_control}
 use Rattle.pos_service.specs.Refusals.{Row, Decided, first_refusal, when}
 use Rattle.pos_common.specs.Held.{Held, TurnsInto, controls_of}
 use Rattle.pos_counter.specs.Machine.{Device, Machine, Shared, holder_in, with_control}

@@ -16,7 +16,7 @@ use Rattle.pos_service.specs.declared.property.Property.TheVariants as property
 use Rattle.pos_service.specs.declared.answer.Answer.TheVariants as answer
 use Rattle.pos_service.specs.declared.answer.Value.{Value}
 use Rattle.pos_service.specs.declared.answer.Value.TheVariants as value
-use Rattle.pos_service.specs.Calls.{takes, cursor_after}
+use Rattle.pos_service.specs.Properties.{takes, cursor_after}
 use Rattle.pos_service.specs.DisplayCalls.{argument_rows, place_after_call}
 use Rattle.pos_service.specs.Displays.{Strip, fed, is_cursor_place, origin, place_in_window, place_left, returned, text_from, with_run, with_text}
 use Rattle.pos_service.specs.Kinds.{rows_of, columns_of}

@@ -15,12 +15,19 @@ use Rattle.pos_service.specs.declared.category.Category.TheVariants as category
 use Rattle.pos_service.specs.declared.code.Code.TheVariants as code
 use Rattle.pos_service.specs.declared.memory.NoMemory.{NoMemory}
 use Rattle.pos_service.specs.Calls.{has_call, takes_memory}
-use Rattle.pos_service.specs.HardTotals.{File, Mode, Off, Ready, Totals, Change, Question, layout_1, refusals_of_change, refusals_of_question, number_rows, given_by, Done, DoesChange, MayTell, RunsOut}
-use Rattle.pos_service.specs.HardTotals.{Arrangement, ClaimFile, ReleaseFile, BeginTrans, Rollback, DoesCommit, after_arrangement, changes_in, claimed, in_transaction, refusals_of_arrangement, refusals_of_commit, transaction_of, with_each, with_files, with_transaction, is_called}
+use Rattle.pos_totals.specs.HardTotals.{File, Mode, Off, Ready, Totals, Change, layout_1}
+use Rattle.pos_totals.specs.TotalsQuestions.{Question, refusals_of_question, MayTell}
+use Rattle.pos_totals.specs.TotalsChanges.{refusals_of_change, number_rows, given_by, Done, DoesChange, RunsOut}
+use Rattle.pos_totals.specs.TotalsArrangements.{Arrangement, ClaimFile, ReleaseFile, BeginTrans, Rollback, after_arrangement, claimed, refusals_of_arrangement}
+use Rattle.pos_totals.specs.TotalsCommits.{DoesCommit, refusals_of_commit}
+use Rattle.pos_totals.specs.HardTotals.{changes_in, in_transaction, transaction_of, with_files, with_transaction}
+use Rattle.pos_totals.specs.TotalsFiles.{with_each, is_called}
 use Rattle.pos_service.specs.Claims.{is_foreign}
-use Rattle.pos_service.specs.HardTotals.{when_foreign_area, while_ready, change_rows, spent_by, commit_rows}
+use Rattle.pos_totals.specs.TotalsRows.{when_foreign_area, while_ready}
+use Rattle.pos_totals.specs.TotalsChanges.{change_rows, spent_by}
+use Rattle.pos_totals.specs.TotalsCommits.{commit_rows}
 use Rattle.pos_service.specs.Refusals.{Row, Decided, first_refusal, when}
-use Rattle.pos_service.specs.TotalsCalls.{FileCall, Arranges as ArrangesCall, Asks, Commits, Makes, file_call, file_rows}
+use Rattle.pos_totals.specs.TotalsCalls.{FileCall, Arranges as ArrangesCall, Asks, Commits, Makes, file_call, file_rows}
 use Rattle.pos_store.specs.Standing.{Standing, Stands, LeavesOneOf, StandsForOneOf}
 use Rattle.pos_totals.specs.Changes.{Arranged, Changes, CommitsBuffer, PutsGroup, HasFailed, IsDone, IsOneGroup, IsBeforeOrAfter, before_or_after}
 use Rattle.pos_totals.specs.Views.{TotalsView, TurnsOff, LeavesTheirFiles, plain, plain_file}

@@ -7,7 +7,7 @@ use Rattle.pos_service.specs.declared.answer.Answer.{Answer}
 use Rattle.pos_service.specs.declared.call.Call.TheVariants as call
 use Rattle.pos_service.specs.declared.memory.NoMemory.{NoMemory}
 use Rattle.pos_service.specs.declared.property.Property.{Property}
-use Rattle.pos_service.specs.Calls.{get_rows, property_of}
+use Rattle.pos_service.specs.Properties.{get_rows, property_of}
 use Rattle.pos_service.specs.declared.event.Event.{Event}
 use Rattle.pos_service.specs.declared.event.ErrorReply.{ErrorReply}
 use Rattle.pos_service.specs.Controls.{Control, deliverable, delivered}

@@ -4,9 +4,9 @@ use Rattle.pos_dir.specs.declared.file.File.{File as PlainFile}
 use Rattle.pos_service.specs.declared.category.Category.TheVariants as category
 use Rattle.pos_service.specs.declared.property.Property.TheVariants as property
 use Rattle.pos_service.specs.declared.answer.Value.TheVariants as value
-use Rattle.pos_service.specs.Calls.{after_set}
+use Rattle.pos_service.specs.Properties.{after_set}
 use Rattle.pos_service.specs.Controls.{Control, new_control, opened}
-use Rattle.pos_service.specs.HardTotals.{Mode, Off, Ready}
+use Rattle.pos_totals.specs.HardTotals.{Mode, Off, Ready}
 use Rattle.pos_store.specs.Standing.{Standing, Stands, IsOneOf}
 use Rattle.pos_totals.specs.Recoveries.{AreLeft, numbered}
 use Rattle.pos_totals.specs.Views.{plain}

@@ -19,11 +19,16 @@ use Rattle.pos_service.specs.declared.property.Property.{Property}
 use Rattle.pos_service.specs.Claims.{after_release}
 use Rattle.pos_service.specs.Controls.{Control, closed}
 use Rattle.pos_service.specs.DisplayCalls.{DisplayDoes}
-use Rattle.pos_service.specs.HardTotals.{File, Totals, Mode, Off, Ready, Change, Done, DoesCommit, DoesTogether, IsAmong, sequences_after, mode_after, files_after_all, files_of, is_called, is_own_claim, is_ready, with_each, with_files, with_transaction, claimed as claimed_file, changes_in, in_transaction, transaction_of, number_rows, after_disk_fault, given_by, RunsOut}
-use Rattle.pos_service.specs.HardTotals.{Arrangement, ClaimFile, ReleaseFile, BeginTrans, Rollback, after_arrangement}
+use Rattle.pos_totals.specs.HardTotals.{File, Totals, Mode, Off, Ready, Change, IsAmong, sequences_after, files_of, is_ready, with_files, with_transaction, changes_in, in_transaction, transaction_of, after_disk_fault}
+use Rattle.pos_totals.specs.TotalsChanges.{Done, DoesTogether, mode_after, files_after_all, number_rows, given_by, RunsOut}
+use Rattle.pos_totals.specs.TotalsCommits.{DoesCommit}
+use Rattle.pos_totals.specs.TotalsFiles.{is_called, with_each}
+use Rattle.pos_totals.specs.TotalsClaims.{is_own_claim}
+use Rattle.pos_totals.specs.TotalsArrangements.{claimed as claimed_file}
+use Rattle.pos_totals.specs.TotalsArrangements.{Arrangement, ClaimFile, ReleaseFile, BeginTrans, Rollback, after_arrangement}
 use Rattle.pos_service.specs.Refusals.{Row, Decided, first_refusal}
 use Rattle.pos_service.specs.Stations.{Effect, Station}
-use Rattle.pos_service.specs.TotalsCalls.{FileCall, Arranges, Asks, Commits, Makes, Nothing, file_call}
+use Rattle.pos_totals.specs.TotalsCalls.{FileCall, Arranges, Asks, Commits, Makes, Nothing, file_call}
 use Rattle.pos_disk.specs.State.{Rises}
 use Rattle.pos_store.specs.Modes.{Ready as StoreReady}
 use Rattle.pos_store.specs.Standing.{Stands, IsOneOf}

@@ -10,7 +10,7 @@ use Rattle.pos_dir.specs.Changes.{outcome_of_all, and_then}
 use Rattle.pos_dir.specs.declared.fault.DirectoryFault.{DirectoryFault}
 use Rattle.pos_dir.specs.declared.file.File.{File as PlainFile}
 use Rattle.pos_dir.specs.declared.limits.TheConstants.{LAYOUT_1}
-use Rattle.pos_service.specs.HardTotals.{File, Mode, Off, Ready, next_sequences}
+use Rattle.pos_totals.specs.HardTotals.{File, Mode, Off, Ready, next_sequences}
 use Rattle.pos_store.specs.Standing.{Standing, Stands, IsOneOf}
 use Rattle.pos_store.specs.Modes.{Ready as StoreReady}
 use Rattle.pos_totals.specs.Views.{plain, stored}

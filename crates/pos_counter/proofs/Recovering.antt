@@ -18,9 +18,9 @@ use Rattle.pos_service.specs.declared.code.Code.TheVariants as code
 use Rattle.pos_service.specs.declared.kind.Kind.{Kind}
 use Rattle.pos_service.specs.declared.property.Property.{Property}
 use Rattle.pos_service.specs.declared.property.Property.TheVariants as property
-use Rattle.pos_service.specs.Calls.{set_rows, after_set, has_property, takes}
+use Rattle.pos_service.specs.Properties.{set_rows, after_set, has_property, takes}
 use Rattle.pos_service.specs.Controls.{Control}
-use Rattle.pos_service.specs.HardTotals.{Mode, Off, Ready, Totals, is_ready}
+use Rattle.pos_totals.specs.HardTotals.{Mode, Off, Ready, Totals, is_ready}
 use Rattle.pos_service.specs.Claims.{is_exclusive, is_foreign}
 use Rattle.pos_service.specs.Refusals.{Row, first_refusal, when}
 use Rattle.pos_common.specs.Held.{Held, TurnsInto, controls_of}

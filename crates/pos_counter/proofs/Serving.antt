@@ -6,7 +6,7 @@ use Rattle.pos_disk.proofs.Moments.{started}
 use Rattle.pos_common.specs.Held.{Held}
 use Rattle.pos_store.specs.Standing.{Standing}
 use Rattle.pos_disk.specs.Keeps.{KeepsDisk}
-use Rattle.pos_service.specs.HardTotals.{Totals}
+use Rattle.pos_totals.specs.HardTotals.{Totals}
 use Rattle.pos_totals.specs.Views.{TotalsView}
 use Rattle.pos_counter.specs.Machine.{Device, Machine, Shared}
 use Rattle.pos_counter.specs.Parts.{over, machine_with, part_of, ArePartsSound, IsLeft, Leaves, Serves, ServesBeside, ServesUnder, Stepped}

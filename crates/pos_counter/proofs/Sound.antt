@@ -30,7 +30,8 @@ use Rattle.pos_service.specs.declared.call.Call.TheVariants as call
 use Rattle.pos_service.specs.Controls.{Control, new_control, closed, stopped, delivered, heard, queued, read, without_output, listens, if_listening, all_listening, with_place as moved}
 use Rattle.pos_service.specs.Events.{EventList, Enqueued}
 use Rattle.pos_service.specs.Refusals.{Row, Decided, first_refusal}
-use Rattle.pos_service.specs.Calls.{serves, takes, place_found, after_set, cursor_after, close_rows, get_rows}
+use Rattle.pos_service.specs.Calls.{serves, place_found, close_rows}
+use Rattle.pos_service.specs.Properties.{takes, after_set, cursor_after, get_rows}
 use Rattle.pos_service.specs.DisplayCalls.{DisplayDoes, OrdersDisplay, argument_rows, display_order, place_after_call}
 use Rattle.pos_service.specs.Displays.{origin}
 use Rattle.pos_service.specs.Peripherals.{IsInRange}
@@ -39,7 +40,7 @@ use Rattle.pos_service.specs.Claims.{after_release, holder_at, is_exclusive}
 use Rattle.pos_service.specs.ScannerCalls.{ChangesItself, ScannerDoes, without_input, without_scan}
 use Rattle.pos_service.specs.Stations.{Station, Effect, SameStation, TakesIn, reaction}
 use Rattle.pos_service.specs.DrawerCalls.{DrawerOpens, DrawerDoes, LineFailed}
-use Rattle.pos_service.specs.HardTotals.{with_control as with_place}
+use Rattle.pos_totals.specs.HardTotals.{with_control as with_place}
 use Rattle.pos_counter.specs.Machine.{Device, Machine, device_at, kind_in, kind_of, place_of, found_at, with_control, with_totals}
 use Rattle.pos_counter.specs.Steps.{Request, NewControl, CallOf, InputTo, WorkOn, Deliver, Snapshot, Attach, Detach, Response, Made, Full, Answered, TakenIn, NoDevice, WrongInput, Worked, Delivered, Shown, Attached, NotAttached, Detached, NotDetached, OutOfMemory, IsAttached, IsDetached, has_open, is_open_at, is_place, OnStation, Step, Called, Sets, SetsByRecovery, CategoryDoes, DeviceDoes, category_rows, claimed, released, dropped, facts_of, refusals, IsSound, IsPlaceOn, HasItsKind, HasItsDevice}
 use Rattle.pos_counter.specs.Totals.{TotalsPart, recovers}

@@ -14,11 +14,11 @@ use Rattle.pos_service.specs.declared.code.Code.TheVariants as code
 use Rattle.pos_service.specs.declared.memory.NoMemory.{NoMemory}
 use Rattle.pos_service.specs.Calls.{is_common, has_call}
 use Rattle.pos_service.specs.Controls.{Control}
-use Rattle.pos_service.specs.HardTotals.{Mode, Off, Ready}
+use Rattle.pos_totals.specs.HardTotals.{Mode, Off, Ready}
 use Rattle.pos_service.specs.Refusals.{Row, first_refusal, when}
 use Rattle.pos_service.specs.Stations.{IsOpen}
 use Rattle.pos_service.specs.Claims.{is_foreign}
-use Rattle.pos_service.specs.TotalsCalls.{asks_area, file_call, file_rows}
+use Rattle.pos_totals.specs.TotalsCalls.{asks_area, file_call, file_rows}
 use Rattle.pos_common.specs.Held.{Held, controls_of}
 use Rattle.pos_totals.specs.Changes.{IsDone}
 use Rattle.pos_totals.specs.Views.{IsReady, TotalsView, TurnsOff}

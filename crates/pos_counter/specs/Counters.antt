@@ -4,7 +4,7 @@ use Rattle.pos_disk.specs.State.{LeavesOnly}
 use Rattle.pos_disk.specs.declared.device.Disk.{Ghosts as DiskGhosts}
 use Rattle.pos_service.specs.declared.peripheral_box.PeripheralBox.{PeripheralBox}
 use Rattle.pos_service.specs.declared.peripheral_box.HasState.{Ghosts}
-use Rattle.pos_service.specs.HardTotals.{Off}
+use Rattle.pos_totals.specs.HardTotals.{Off}
 use Rattle.pos_store.specs.Standing.{Standing, StandsForOneOf}
 use Rattle.pos_totals.specs.Views.{IsReady}
 use Rattle.pos_disk.specs.Keeps.{KeepsDisk}

@@ -4,9 +4,9 @@ use Rattle.pos_service.specs.declared.answer.Answer.TheVariants as answer
 use Rattle.pos_service.specs.declared.call.Call.{Call}
 use Rattle.pos_service.specs.declared.call.Call.TheVariants as call
 use Rattle.pos_service.specs.Controls.{Control}
-use Rattle.pos_service.specs.HardTotals.{Totals}
+use Rattle.pos_totals.specs.HardTotals.{Totals}
 use Rattle.pos_service.specs.Refusals.{first_refusal}
-use Rattle.pos_service.specs.TotalsCalls.{FileCall, file_call, file_rows}
+use Rattle.pos_totals.specs.TotalsCalls.{FileCall, file_call, file_rows}
 use Rattle.pos_counter.specs.History.{changes_asked}
 use Rattle.pos_counter.specs.Machine.{Machine}
 use Rattle.pos_counter.specs.Steps.{Request, CallOf, Response, Answered, refusals}

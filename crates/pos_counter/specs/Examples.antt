@@ -8,7 +8,7 @@ use Rattle.pos_service.specs.declared.call.Call.TheVariants as call
 use Rattle.pos_service.specs.declared.category.Category.TheVariants as category
 use Rattle.pos_service.specs.declared.code.Code.TheVariants as code
 use Rattle.pos_service.specs.declared.property.Property.TheVariants as property
-use Rattle.pos_service.specs.HardTotals.{Off}
+use Rattle.pos_totals.specs.HardTotals.{Off}
 use Rattle.pos_store.specs.Standing.{Stands}
 use Rattle.pos_counter.specs.History.{Group, History, history_of}
 use Rattle.pos_counter.specs.Machine.{Machine}

@@ -7,8 +7,8 @@ use Rattle.pos_dir.specs.declared.fault.DirectoryFault.{DirectoryFault}
 use Rattle.pos_dir.specs.declared.file.File.{File as PlainFile}
 use Rattle.pos_dir.specs.declared.limits.TheConstants.{LAYOUT_1}
 use Rattle.pos_service.specs.declared.answer.Answer.TheVariants as answer
-use Rattle.pos_service.specs.HardTotals.{Change, Mode, Off, Ready, Totals, changes_in, in_transaction, transaction_of}
-use Rattle.pos_service.specs.TotalsCalls.{FileCall, Commits, Makes, file_call}
+use Rattle.pos_totals.specs.HardTotals.{Change, Mode, Off, Ready, Totals, changes_in, in_transaction, transaction_of}
+use Rattle.pos_totals.specs.TotalsCalls.{FileCall, Commits, Makes, file_call}
 use Rattle.pos_totals.specs.Groups.{group_of}
 use Rattle.pos_totals.specs.Views.{plain}
 use Rattle.pos_counter.specs.Machine.{Machine}

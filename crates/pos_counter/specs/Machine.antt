@@ -8,7 +8,7 @@ use Rattle.pos_service.specs.declared.kind.Kind.{Kind}
 use Rattle.pos_service.specs.Calls.{serves}
 use Rattle.pos_service.specs.Claims.{holder_at}
 use Rattle.pos_service.specs.Controls.{Control}
-use Rattle.pos_service.specs.HardTotals.{Totals}
+use Rattle.pos_totals.specs.HardTotals.{Totals}
 use Rattle.pos_service.specs.Stations.{Station}
 use Rattle.pos_counter.specs.Totals.{TotalsPart}
 

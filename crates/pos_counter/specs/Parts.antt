@@ -4,14 +4,14 @@ use Rattle.std.specs.List.{filter, find}
 use Rattle.pos_service.specs.declared.answer.Answer.{Answer}
 use Rattle.pos_service.specs.declared.call.Call.{Call}
 use Rattle.pos_service.specs.declared.memory.NoMemory.{NoMemory}
-use Rattle.pos_service.specs.HardTotals.{Mode, is_ready}
+use Rattle.pos_totals.specs.HardTotals.{Mode, is_ready}
 use Rattle.pos_service.specs.Calls.{serves}
 use Rattle.pos_service.specs.Controls.{Control}
 use Rattle.pos_service.specs.DisplayCalls.{HasCursor}
 use Rattle.pos_service.specs.Kinds.{is_display}
 use Rattle.pos_service.specs.declared.input.Input.{Input}
 use Rattle.pos_service.specs.Stations.{CalledBy, Effect, Station, station_of}
-use Rattle.pos_service.specs.TotalsCalls.{file_call}
+use Rattle.pos_totals.specs.TotalsCalls.{file_call}
 use Rattle.pos_common.specs.Held.{Held, controls_of}
 use Rattle.pos_disk.specs.State.{LeavesOnly}
 use Rattle.pos_disk.specs.declared.device.Disk.{Ghosts}

@@ -1,7 +1,7 @@
 -- What a prefix of a history is, and where in a run a crash leaves one.
 use Rattle.std.specs.Prelude.{◌≡◌, ◌⊎◌, ◌++◌, ℕ, List, [], ◌∷◌, Ok, ⊤}
 use Rattle.pos_dir.specs.declared.file.File.{File as PlainFile}
-use Rattle.pos_service.specs.HardTotals.{Off}
+use Rattle.pos_totals.specs.HardTotals.{Off}
 use Rattle.pos_store.specs.Standing.{Standing, Unformatted, Damaged, Stands, StandsFor, IsOneOf}
 use Rattle.pos_counter.specs.History.{Group, History, groups_in, after_groups, history_with}
 use Rattle.pos_counter.specs.Machine.{Machine}

@@ -24,7 +24,8 @@ use Rattle.pos_service.specs.Controls.{Control, new_control, opened, closed, del
 use Rattle.pos_service.specs.Claims.{is_own, is_foreign, holder_at, claimed_by, released_by, claim_rows, release_rows, after_release}
 use Rattle.pos_service.specs.Refusals.{Row, Decided, first_refusal, when}
 use Rattle.pos_service.specs.Calls.{takes_memory as own_takes_memory}
-use Rattle.pos_service.specs.Calls.{serves, own_rows, place_found, open_rows, close_rows, set_rows, after_set, get_rows, is_of_bytes, property_of}
+use Rattle.pos_service.specs.Calls.{serves, own_rows, place_found, open_rows, close_rows}
+use Rattle.pos_service.specs.Properties.{set_rows, after_set, get_rows, is_of_bytes, property_of}
 use Rattle.pos_service.specs.Stations.{Station, Effect, TakesIn, signs_in}
 use Rattle.pos_service.specs.DisplayCalls.{display_rows, DisplayDoes}
 use Rattle.pos_service.specs.DrawerCalls.{drawer_rows, DrawerDoes}
@@ -37,8 +38,9 @@ use Rattle.pos_profile.specs.declared.registry_fault.AttachFault.{AttachFault}
 use Rattle.pos_profile.specs.declared.registry_fault.AttachFault.TheVariants as attach
 use Rattle.pos_profile.specs.declared.registry_fault.DetachFault.{DetachFault}
 use Rattle.pos_profile.specs.declared.registry_fault.DetachFault.TheVariants as detach
-use Rattle.pos_service.specs.HardTotals.{layout_1, in_transaction, is_area_taken, without_control, with_control as with_place}
-use Rattle.pos_service.specs.TotalsCalls.{file_call, totals_rows}
+use Rattle.pos_totals.specs.HardTotals.{layout_1, in_transaction, with_control as with_place}
+use Rattle.pos_totals.specs.TotalsClaims.{is_area_taken, without_control}
+use Rattle.pos_totals.specs.TotalsCalls.{file_call, totals_rows}
 use Rattle.pos_counter.specs.Totals.{TotalsDo, Recovered, Recovers, recovers, file_facts}
 use Rattle.pos_counter.specs.Machine.{Device, Machine, place_of, device_at, station_in, station_named, kind_named, found_under, holder_of, kind_of, with_control, with_station, with_standing, with_totals}
 

@@ -15,11 +15,16 @@ use Rattle.pos_service.specs.declared.facts.FileFacts.{FileFacts}
 use Rattle.pos_service.specs.declared.property.Property.{Property}
 use Rattle.pos_service.specs.declared.property.Property.TheVariants as property
 use Rattle.pos_service.specs.Controls.{Control}
-use Rattle.pos_service.specs.HardTotals.{Totals, Mode, Off, Ready, Change, layout_1, free_data, files_of, is_ready, told_of}
-use Rattle.pos_service.specs.HardTotals.{DoesChange, DoesCommit, changes_in, in_transaction, transaction_of, with_transaction, after_arrangement}
+use Rattle.pos_totals.specs.HardTotals.{Totals, Mode, Off, Ready, Change, layout_1, files_of, is_ready}
+use Rattle.pos_totals.specs.TotalsFiles.{free_data}
+use Rattle.pos_totals.specs.TotalsQuestions.{told_of}
+use Rattle.pos_totals.specs.TotalsChanges.{DoesChange}
+use Rattle.pos_totals.specs.TotalsCommits.{DoesCommit}
+use Rattle.pos_totals.specs.HardTotals.{changes_in, in_transaction, transaction_of, with_transaction}
+use Rattle.pos_totals.specs.TotalsArrangements.{after_arrangement}
 use Rattle.pos_service.specs.Calls.{has_call, takes_memory}
 use Rattle.pos_service.specs.Refusals.{Decided, first_refusal, when}
-use Rattle.pos_service.specs.TotalsCalls.{FileCall, Asks, Makes, Arranges, Commits, Nothing, file_call, file_rows}
+use Rattle.pos_totals.specs.TotalsCalls.{FileCall, Asks, Makes, Arranges, Commits, Nothing, file_call, file_rows}
 use Rattle.pos_store.specs.Standing.{Standing, Unformatted, Damaged, Stands, IsOneOf}
 pub use Rattle.pos_totals.specs.Changes.{settled}
 use Rattle.pos_totals.specs.Changes.{IsOneGroup, before_or_after}

@@ -2,7 +2,7 @@
 ghost use Rattle.std.specs.Prelude.{◌≡◌, ◌<◌, List, Some, None, IfSome, length};
 ghost use Rattle.pos_service.specs.declared.call.Call.TheVariants as call;
 ghost use Rattle.pos_service.specs.Claims.{holder_at, is_own, is_foreign, claim_rows, claimed_by, release_rows, released_by, after_release};
-ghost use Rattle.pos_service.specs.HardTotals.{is_area_taken};
+ghost use Rattle.pos_totals.specs.TotalsClaims.{is_area_taken};
 ghost use Rattle.pos_service.specs.Refusals.{Decided};
 ghost use Rattle.pos_counter.specs.Machine.{Device};
 ghost use Rattle.pos_counter.specs.Parts.{AreCovered, AreDevicesSound, ArePartsSound, Serves, ServesBeside, devices_in};

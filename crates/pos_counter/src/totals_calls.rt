@@ -3,7 +3,7 @@ ghost use Rattle.std.specs.Prelude.{◌≡◌, List, false};
 ghost use Rattle.pos_service.specs.declared.category.Category.TheVariants as category;
 ghost use Rattle.pos_service.specs.Calls.{is_common};
 ghost use Rattle.pos_service.specs.Stations.{IsOpen};
-ghost use Rattle.pos_service.specs.TotalsCalls.{asks_area, file_call};
+ghost use Rattle.pos_totals.specs.TotalsCalls.{asks_area, file_call};
 ghost use Rattle.pos_common.specs.Needs.{needs_no_other, needs_holder};
 ghost use Rattle.pos_common.specs.Held.{controls_of};
 ghost use Rattle.pos_counter.specs.Machine.{Device};

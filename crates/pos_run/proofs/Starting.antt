@@ -5,7 +5,7 @@ use Rattle.pos_disk.specs.declared.device.Disk.{Ghosts as DiskGhosts}
 use Rattle.pos_service.specs.declared.peripheral_box.PeripheralBox.{PeripheralBox}
 use Rattle.pos_service.specs.declared.peripheral_box.HasState.{Ghosts}
 use Rattle.pos_profile.specs.Entries.{Contents}
-use Rattle.pos_service.specs.HardTotals.{Off}
+use Rattle.pos_totals.specs.HardTotals.{Off}
 use Rattle.pos_store.specs.Standing.{Standing, LeavesOneOf}
 use Rattle.pos_counter.specs.declared.counter.Counter.{Counter}
 use Rattle.pos_disk.specs.State.{MayLeave}

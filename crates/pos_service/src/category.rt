@@ -1,5 +1,6 @@
 ghost use Rattle.std.specs.Prelude.{◌≡◌};
-ghost use Rattle.pos_service.specs.Calls.{serves, has_call, has_property};
+ghost use Rattle.pos_service.specs.Calls.{serves, has_call};
+ghost use Rattle.pos_service.specs.Properties.{has_property};
 ghost use Rattle.pos_service.specs.Claims.{is_exclusive};
 ghost use Rattle.pos_service.specs.Names.{category_named};
 

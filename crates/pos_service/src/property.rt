@@ -1,5 +1,5 @@
 ghost use Rattle.std.specs.Prelude.{◌≡◌};
-ghost use Rattle.pos_service.specs.Calls.{is_settable, needs_open, needs_holder, needs_enabled};
+ghost use Rattle.pos_service.specs.Properties.{is_settable, needs_open, needs_holder, needs_enabled};
 
 /// A property of a control (common chapter, and chapters Cash Drawer, Scanner, Line Display, POS Printer and Hard
 /// Totals).

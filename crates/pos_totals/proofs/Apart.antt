@@ -7,7 +7,7 @@ use Rattle.pos_dir.specs.declared.change.Change.{Change as FileChange}
 use Rattle.pos_dir.specs.declared.change.Change.TheVariants as file
 use Rattle.pos_dir.specs.declared.file.File.{File as PlainFile}
 use Rattle.pos_service.specs.Claims.{is_foreign, is_own}
-use Rattle.pos_service.specs.HardTotals.{is_foreign_claim, foreign_area, is_area_taken}
+use Rattle.pos_totals.specs.TotalsClaims.{is_foreign_claim, foreign_area, is_area_taken}
 use Rattle.pos_store.specs.Modes.{StoreState as State}
 use Rattle.pos_store.specs.Modes.{Off as StoreOff, Ready as StoreReady}
 use Rattle.pos_totals.proofs.Grouped.{neither}

@@ -7,7 +7,10 @@ use Rattle.std.proofs.Math.ListN.{length-replicate}
 use Rattle.pos_dir.specs.Changes.{outcome_of_all, and_then}
 use Rattle.pos_dir.specs.declared.change.Change.{Change as FileChange}
 use Rattle.pos_dir.specs.declared.limits.TheConstants.{LAYOUT_1}
-use Rattle.pos_service.specs.HardTotals.{File, Mode, Off, Ready, Change, Create, Delete, Rename, Write, SetAll, is_called, is_named, is_range, is_range_of, with_each, overwritten, layout_1, change_rows, files_after, files_after_all, next_after, next_after_all, is_of_none, transaction_at, without_transactions}
+use Rattle.pos_totals.specs.HardTotals.{File, Mode, Off, Ready, Change, Create, Delete, Rename, Write, SetAll, layout_1, transaction_at, without_transactions}
+use Rattle.pos_totals.specs.TotalsFiles.{is_called, is_named, is_range, is_range_of, with_each, overwritten}
+use Rattle.pos_totals.specs.TotalsChanges.{change_rows, files_after, files_after_all, next_after, next_after_all}
+use Rattle.pos_totals.specs.TotalsCommits.{is_of_none}
 use Rattle.pos_service.specs.Refusals.{first_refusal}
 use Rattle.pos_totals.proofs.Grouped.{Makes, made_write, made_set_all, neither, some_file, ranged, range_fits, only_called}
 use Rattle.pos_totals.proofs.Handled.{all_so, same_tags}

@@ -17,7 +17,11 @@ use Rattle.pos_service.specs.declared.answer.Value.TheVariants as value
 use Rattle.pos_service.specs.declared.code.Code.TheVariants as code
 use Rattle.pos_service.specs.declared.memory.NoMemory.{NoMemory}
 use Rattle.pos_service.specs.Claims.{is_foreign}
-use Rattle.pos_service.specs.HardTotals.{File, Off, Ready, Totals, Change, Create, Delete, Rename, Write, SetAll, is_name, is_natural, is_named, is_called, is_up_to, has_file, has_room, free_data, is_create, is_foreign_file, is_foreign_claim, is_range_of, last_number, layout_1, change_rows, refusals_of_change, group_by_change, number_rows, files_after, next_after, after_changes, after_disk_fault, given_by, spent_by, transaction_at, with_transaction, cost_of, cost_of_all, is_over, Changed, DoesChange, Done, RunsOut}
+use Rattle.pos_totals.specs.HardTotals.{File, Off, Ready, Totals, Change, Create, Delete, Rename, Write, SetAll, last_number, layout_1, after_disk_fault, transaction_at, with_transaction}
+use Rattle.pos_totals.specs.TotalsFiles.{is_name, is_named, is_called, has_file, has_room, free_data, is_foreign_file, is_range_of}
+use Rattle.pos_service.specs.Numbers.{is_natural, is_up_to}
+use Rattle.pos_totals.specs.TotalsChanges.{is_create, change_rows, refusals_of_change, group_by_change, number_rows, files_after, next_after, after_changes, given_by, spent_by, cost_of, cost_of_all, is_over, Changed, DoesChange, Done, RunsOut}
+use Rattle.pos_totals.specs.TotalsClaims.{is_foreign_claim}
 use Rattle.pos_service.specs.Refusals.{first_refusal, Decided}
 use Rattle.pos_store.specs.Commits.{Commits, sequence_after}
 use Rattle.pos_store.specs.Modes.{StoreState as State, LeavesItsFiles}

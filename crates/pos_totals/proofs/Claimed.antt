@@ -7,7 +7,10 @@ use Rattle.pos_dir.specs.declared.file.File.{File as PlainFile}
 use Rattle.pos_service.specs.declared.answer.Answer.TheVariants as answer
 use Rattle.pos_service.specs.declared.answer.Value.TheVariants as value
 use Rattle.pos_service.specs.Claims.{is_foreign, is_own, is_timeout}
-use Rattle.pos_service.specs.HardTotals.{File, Mode, Off, Ready, Change, ClaimFile, ReleaseFile, is_called, is_own_claim, is_foreign_claim, claimed, with_each, with_files, files_of, refusals_of_arrangement, after_arrangement, Arranges, foreign_area, without_control, has_file, is_foreign_file}
+use Rattle.pos_totals.specs.HardTotals.{File, Mode, Off, Ready, Change, with_files, files_of}
+use Rattle.pos_totals.specs.TotalsArrangements.{ClaimFile, ReleaseFile, claimed, refusals_of_arrangement, after_arrangement, Arranges}
+use Rattle.pos_totals.specs.TotalsFiles.{is_called, with_each, has_file, is_foreign_file}
+use Rattle.pos_totals.specs.TotalsClaims.{is_own_claim, is_foreign_claim, foreign_area, without_control}
 use Rattle.pos_service.specs.Refusals.{first_refusal}
 use Rattle.pos_store.specs.Modes.{StoreState as State}
 use Rattle.pos_store.specs.Modes.{Off as StoreOff, Ready as StoreReady}

@@ -16,7 +16,10 @@ use Rattle.pos_service.specs.declared.answer.Value.TheVariants as value
 use Rattle.pos_service.specs.declared.code.Code.TheVariants as code
 use Rattle.pos_service.specs.declared.memory.NoMemory.{NoMemory}
 use Rattle.pos_service.specs.Claims.{is_foreign}
-use Rattle.pos_service.specs.HardTotals.{while_ready, files_of, File, Mode, Off, Ready, Totals, Change, is_of_none, is_of_foreign, last_number, commit_rows, refusals_of_commit, group_by_commit, changes_in, transaction_at, transaction_of, with_transaction, without_transactions, after_changes, after_disk_fault, files_after_all, DoesCommit, Committed, Done, RunsOut}
+use Rattle.pos_totals.specs.TotalsRows.{while_ready}
+use Rattle.pos_totals.specs.HardTotals.{files_of, File, Mode, Off, Ready, Totals, Change, last_number, changes_in, transaction_at, transaction_of, with_transaction, without_transactions, after_disk_fault}
+use Rattle.pos_totals.specs.TotalsCommits.{is_of_none, is_of_foreign, commit_rows, refusals_of_commit, group_by_commit, DoesCommit, Committed}
+use Rattle.pos_totals.specs.TotalsChanges.{after_changes, files_after_all, Done, RunsOut}
 use Rattle.pos_service.specs.Refusals.{first_refusal}
 use Rattle.pos_store.specs.Commits.{Commits, sequence_after}
 use Rattle.pos_store.specs.Modes.{StoreState as State, LeavesItsFiles}

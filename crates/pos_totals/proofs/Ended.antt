@@ -3,7 +3,7 @@ use Rattle.std.proofs.Common.{◌≡◌, ◌∙◌, ℕ, zero, suc, List, [], �
 use Rattle.std.specs.Option.{option_map}
 use Rattle.std.proofs.lemmas.List.{set-set}
 use Rattle.pos_service.specs.declared.memory.NoMemory.{NoMemory}
-use Rattle.pos_service.specs.HardTotals.{Change, transaction_at}
+use Rattle.pos_totals.specs.HardTotals.{Change, transaction_at}
 use Rattle.pos_totals.specs.Buffers.{with_buffered}
 
 -- what stands at a place, put there once more, changes nothing

@@ -4,7 +4,9 @@ use Rattle.std.specs.Prelude.{bytes_eq, nat_eq}
 use Rattle.std.specs.List.{find, position_or_len}
 use Rattle.std.proofs.lemmas.Bool.{eqb-true}
 use Rattle.pos_dir.specs.declared.file.File.{File as PlainFile}
-use Rattle.pos_service.specs.HardTotals.{File, is_natural, is_named, is_called}
+use Rattle.pos_totals.specs.HardTotals.{File}
+use Rattle.pos_service.specs.Numbers.{is_natural}
+use Rattle.pos_totals.specs.TotalsFiles.{is_named, is_called}
 use Rattle.pos_totals.proofs.Places.{found_meets}
 use Rattle.pos_totals.specs.Groups.{index_of}
 use Rattle.pos_totals.specs.Views.{with_tags}

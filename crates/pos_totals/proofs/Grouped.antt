@@ -17,7 +17,10 @@ use Rattle.pos_dir.specs.declared.file.File.{File as PlainFile}
 use Rattle.pos_dir.specs.declared.limits.Limits.{Limits}
 use Rattle.pos_dir.specs.declared.limits.TheConstants.{LAYOUT_1}
 use Rattle.pos_service.specs.declared.answer.Answer.{Answer}
-use Rattle.pos_service.specs.HardTotals.{File, Change, Create, Delete, Rename, Write, SetAll, is_name, is_natural, is_up_to, is_range, is_range_of, is_named, is_called, has_file, has_room, free_data, size_in_sum, with_each, overwritten, layout_1, change_rows, files_after}
+use Rattle.pos_totals.specs.HardTotals.{File, Change, Create, Delete, Rename, Write, SetAll, layout_1}
+use Rattle.pos_totals.specs.TotalsFiles.{is_name, is_range, is_range_of, is_named, is_called, has_file, has_room, free_data, size_in_sum, with_each, overwritten}
+use Rattle.pos_service.specs.Numbers.{is_natural, is_up_to}
+use Rattle.pos_totals.specs.TotalsChanges.{change_rows, files_after}
 use Rattle.pos_service.specs.Refusals.{first_refusal}
 use Rattle.pos_totals.proofs.Places.{OnlyOne, found_at, one_changed, one_gone}
 use Rattle.pos_totals.specs.Groups.{index_of, file_change, group_of}

@@ -5,7 +5,9 @@ use Rattle.std.specs.List.{AllByRecursion}
 use Rattle.std.proofs.lemmas.List.{map-append, length-map}
 use Rattle.std.proofs.Math.Seq.{take-nil, drop-nil}
 use Rattle.pos_dir.specs.Files.{are_distinct}
-use Rattle.pos_service.specs.HardTotals.{File, Change, Create, Delete, Rename, Write, SetAll, is_named, is_called, with_each, overwritten, layout_1, change_rows, files_after, next_after, given_by}
+use Rattle.pos_totals.specs.HardTotals.{File, Change, Create, Delete, Rename, Write, SetAll, layout_1}
+use Rattle.pos_totals.specs.TotalsFiles.{is_named, is_called, with_each, overwritten}
+use Rattle.pos_totals.specs.TotalsChanges.{change_rows, files_after, next_after, given_by}
 use Rattle.pos_service.specs.Refusals.{first_refusal}
 use Rattle.pos_totals.proofs.Grouped.{deleted, only_named, map-remove}
 use Rattle.pos_totals.proofs.Places.{one_gone}

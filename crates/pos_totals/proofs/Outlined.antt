@@ -6,7 +6,9 @@ use Rattle.std.proofs.lemmas.Bool.{leb-true}
 use Rattle.std.proofs.lemmas.List.{length-append, length-take, length-drop}
 use Rattle.std.proofs.lemmas.Option.{same_Some}
 use Rattle.pos_dir.specs.declared.change.Change.TheVariants as file
-use Rattle.pos_service.specs.HardTotals.{File, Change, Create, Delete, Rename, Write, SetAll, is_called, is_range, with_each, overwritten, is_of_none}
+use Rattle.pos_totals.specs.HardTotals.{File, Change, Create, Delete, Rename, Write, SetAll}
+use Rattle.pos_totals.specs.TotalsFiles.{is_called, is_range, with_each, overwritten}
+use Rattle.pos_totals.specs.TotalsCommits.{is_of_none}
 use Rattle.pos_totals.proofs.Grouped.{range_end}
 use Rattle.pos_totals.proofs.Places.{OnlyOne}
 use Rattle.pos_totals.specs.Buffers.{IsBuffered}

@@ -6,7 +6,7 @@ use Rattle.std.proofs.lemmas.List.Sums.{sum_by-cons}
 use Rattle.std.proofs.lemmas.Option.{same_Some}
 use Rattle.pos_dir.specs.declared.file.File.{File as PlainFile}
 use Rattle.pos_dir.specs.Files.{total_size}
-use Rattle.pos_service.specs.HardTotals.{File}
+use Rattle.pos_totals.specs.HardTotals.{File}
 use Rattle.pos_totals.specs.Views.{plain, with_tags, handles_of, tags_of, numbers_of}
 use Rattle.pos_totals.specs.declared.handles.Tag.{Tag}
 

@@ -6,7 +6,8 @@ use Rattle.std.proofs.lemmas.Bool.{ltb-false}
 use Rattle.std.proofs.lemmas.List.Folds.{find_at}
 use Rattle.std.proofs.lemmas.List.Sums.{prefix_len-le-length}
 use Rattle.std.proofs.lemmas.Option.{slice_get_within, same_Some}
-use Rattle.pos_service.specs.HardTotals.{File, with_each}
+use Rattle.pos_totals.specs.HardTotals.{File}
+use Rattle.pos_totals.specs.TotalsFiles.{with_each}
 use Rattle.pos_totals.specs.Groups.{index_of}
 
 -- at most one file meets a test

@@ -16,7 +16,8 @@ use Rattle.pos_service.specs.declared.answer.Answer.{Answer}
 use Rattle.pos_service.specs.declared.answer.Answer.TheVariants as answer
 use Rattle.pos_service.specs.declared.answer.Value.{Value}
 use Rattle.pos_service.specs.declared.memory.NoMemory.{NoMemory}
-use Rattle.pos_service.specs.HardTotals.{File, Mode, Off, Ready, Totals, Change, IsAmong, files_after_all, last_number, next_sequences}
+use Rattle.pos_totals.specs.HardTotals.{File, Mode, Off, Ready, Totals, Change, IsAmong, last_number, next_sequences}
+use Rattle.pos_totals.specs.TotalsChanges.{files_after_all}
 use Rattle.pos_service.specs.Refusals.{Row, first_refusal, Decided}
 use Rattle.pos_store.specs.Commits.{Commits, PutsDown, IsExhausted, fits_behind, sequence_after}
 use Rattle.pos_store.specs.Commits as store

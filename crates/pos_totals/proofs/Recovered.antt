@@ -4,7 +4,7 @@ use Rattle.std.specs.Prelude.{is_some}
 use Rattle.std.proofs.lemmas.Option.{same_Some}
 use Rattle.pos_dir.specs.declared.file.File.{File as PlainFile}
 use Rattle.pos_disk.specs.declared.device.Disk.{Ghosts}
-use Rattle.pos_service.specs.HardTotals.{Ready, last_number}
+use Rattle.pos_totals.specs.HardTotals.{Ready, last_number}
 use Rattle.pos_store.specs.Modes.{StoreState as State, LeavesItsFiles}
 use Rattle.pos_store.specs.Modes.{Off as StoreOff, Ready as StoreReady, StoreView, mode_of as store_mode_of, files_of as store_files_of}
 use Rattle.pos_store.specs.Recoveries as store

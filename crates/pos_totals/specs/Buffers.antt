@@ -6,7 +6,10 @@ use Rattle.pos_service.specs.declared.answer.Answer.{Answer}
 use Rattle.pos_service.specs.declared.answer.Answer.TheVariants as answer
 use Rattle.pos_service.specs.declared.answer.Value.TheVariants as value
 use Rattle.pos_service.specs.declared.memory.NoMemory.{NoMemory}
-use Rattle.pos_service.specs.HardTotals.{File, Mode, Off, Ready, Change, Create, Delete, Rename, Write, SetAll, is_called, is_range, is_up_to, cost_of_all, layout_1, transaction_at, without_transactions}
+use Rattle.pos_totals.specs.HardTotals.{File, Mode, Off, Ready, Change, Create, Delete, Rename, Write, SetAll, layout_1, transaction_at, without_transactions}
+use Rattle.pos_totals.specs.TotalsFiles.{is_called, is_range}
+use Rattle.pos_service.specs.Numbers.{is_up_to}
+use Rattle.pos_totals.specs.TotalsChanges.{cost_of_all}
 use Rattle.pos_dir.specs.declared.change.Change.{Change as FileChange}
 use Rattle.pos_dir.specs.declared.change.Change.TheVariants as file
 use Rattle.pos_store.specs.declared.fault.StoreFault.{StoreFault}

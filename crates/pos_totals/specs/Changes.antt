@@ -8,7 +8,10 @@ use Rattle.pos_dir.specs.declared.limits.TheConstants.{LAYOUT_1}
 use Rattle.pos_service.specs.declared.answer.Answer.{Answer}
 use Rattle.pos_service.specs.declared.answer.Answer.TheVariants as answer
 use Rattle.pos_service.specs.declared.memory.NoMemory.{NoMemory}
-use Rattle.pos_service.specs.HardTotals.{Mode, Off, Ready, Totals, Change, files_of, files_after_all, next_sequences, layout_1, Changed, group_by_change, Committed, group_by_commit, Arrangement, Arranges}
+use Rattle.pos_totals.specs.HardTotals.{Mode, Off, Ready, Totals, Change, files_of, next_sequences, layout_1}
+use Rattle.pos_totals.specs.TotalsChanges.{files_after_all, Changed, group_by_change}
+use Rattle.pos_totals.specs.TotalsCommits.{Committed, group_by_commit}
+use Rattle.pos_totals.specs.TotalsArrangements.{Arrangement, Arranges}
 use Rattle.pos_store.specs.Standing.{Standing, Stands, StandsForOneOf, LeavesOneOf}
 use Rattle.pos_totals.specs.Groups.{group_of}
 use Rattle.pos_totals.specs.Views.{TotalsView, plain, TurnsOff, LeavesTheirFiles}

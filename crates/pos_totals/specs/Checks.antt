@@ -12,7 +12,11 @@ use Rattle.pos_service.specs.declared.answer.Answer.TheVariants as answer
 use Rattle.pos_service.specs.declared.code.Code.TheVariants as code
 use Rattle.pos_service.specs.declared.memory.NoMemory.{NoMemory}
 use Rattle.pos_service.specs.Claims.{is_foreign}
-use Rattle.pos_service.specs.HardTotals.{File, Mode, Off, Ready, Totals, Change, Create, Delete, Rename, Write, SetAll, layout_1, change_rows, refusals_of_change, spent_by, Arrangement, arrangement_rows, refusals_of_arrangement, refusals_of_commit, transaction_of, files_of, Question, question_rows, told_of}
+use Rattle.pos_totals.specs.HardTotals.{File, Mode, Off, Ready, Totals, Change, Create, Delete, Rename, Write, SetAll, layout_1, transaction_of, files_of}
+use Rattle.pos_totals.specs.TotalsChanges.{change_rows, refusals_of_change, spent_by}
+use Rattle.pos_totals.specs.TotalsArrangements.{Arrangement, arrangement_rows, refusals_of_arrangement}
+use Rattle.pos_totals.specs.TotalsCommits.{refusals_of_commit}
+use Rattle.pos_totals.specs.TotalsQuestions.{Question, question_rows, told_of}
 use Rattle.pos_service.specs.Refusals.{Row, first_refusal, Decided}
 use Rattle.pos_store.specs.declared.fault.StoreFault.{StoreFault}
 use Rattle.pos_store.specs.declared.fault.StoreFault.TheVariants as fault

@@ -3,7 +3,8 @@ use Rattle.std.specs.Prelude.{ℕ, nat_abs, Bool, List, map}
 use Rattle.std.specs.List.{position_or_len}
 use Rattle.pos_dir.specs.declared.change.Change.{Change as FileChange}
 use Rattle.pos_dir.specs.declared.change.Change.TheVariants as file
-use Rattle.pos_service.specs.HardTotals.{File, Change, Create, Delete, Rename, Write, SetAll, is_named, is_called}
+use Rattle.pos_totals.specs.HardTotals.{File, Change, Create, Delete, Rename, Write, SetAll}
+use Rattle.pos_totals.specs.TotalsFiles.{is_named, is_called}
 
 -- the index of the first file that meets a test; without one it is the number of files
 abbrev pub index_of : (File → Bool) → List File → ℕ

@@ -2,7 +2,16 @@ pub mod Buffers
 pub mod Changes
 pub mod Checks
 pub mod Groups
+pub mod HardTotals
 pub mod Numbering
 pub mod Recoveries
 pub mod Tables
+pub mod TotalsArrangements
+pub mod TotalsCalls
+pub mod TotalsChanges
+pub mod TotalsClaims
+pub mod TotalsCommits
+pub mod TotalsFiles
+pub mod TotalsQuestions
+pub mod TotalsRows
 pub mod Views

@@ -2,7 +2,7 @@
 use Rattle.std.specs.Prelude.{ℕ, ◌+◌, ◌<◌, ◌≤◌, pos, ◌≡◌, Bool, true, false, List, [], ◌∷◌, ◌++◌, length, remove, zero, suc, nat_eq, ⊤}
 use Rattle.pos_service.specs.declared.answer.Value.{Value}
 use Rattle.pos_service.specs.declared.answer.Value.TheVariants as value
-use Rattle.pos_service.specs.HardTotals.{last_number}
+use Rattle.pos_totals.specs.HardTotals.{last_number}
 use Rattle.pos_totals.specs.Tables.{new_tag}
 use Rattle.pos_totals.specs.declared.handles.Tag.{Tag}
 use Rattle.pos_dir.specs.declared.change.Change.{Change as FileChange}

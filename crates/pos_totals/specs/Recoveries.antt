@@ -6,7 +6,7 @@ use Rattle.pos_disk.specs.declared.device.Disk.{Ghosts}
 use Rattle.pos_dir.specs.declared.file.File.{File as PlainFile}
 use Rattle.pos_service.specs.declared.code.Code.{Code}
 use Rattle.pos_service.specs.declared.code.Code.TheVariants as code
-use Rattle.pos_service.specs.HardTotals.{File, Ready, Totals, last_number}
+use Rattle.pos_totals.specs.HardTotals.{File, Ready, Totals, last_number}
 use Rattle.pos_store.specs.Standing.{Standing, Unformatted, Damaged, Stands, IsOneOf, StandsFor, StandsForOneOf, LeavesOneOf}
 use Rattle.pos_store.specs.declared.fault.StoreFault.{StoreFault}
 use Rattle.pos_store.specs.declared.fault.StoreFault.TheVariants as store

@@ -6,7 +6,8 @@ use Rattle.pos_dir.specs.Files.{IsDirectory}
 use Rattle.pos_dir.specs.declared.file.File.{File as PlainFile}
 use Rattle.pos_dir.specs.declared.limits.TheConstants.{LAYOUT_1}
 use Rattle.pos_service.specs.Claims.{is_foreign}
-use Rattle.pos_service.specs.HardTotals.{File, Mode, Off, Ready, Totals, files_of, is_foreign_claim}
+use Rattle.pos_totals.specs.HardTotals.{File, Mode, Off, Ready, Totals, files_of}
+use Rattle.pos_totals.specs.TotalsClaims.{is_foreign_claim}
 use Rattle.pos_store.specs.Modes.{StoreState as State, LeavesItsFiles}
 use Rattle.pos_store.specs.Modes.{Off as StoreOff, Ready as StoreReady, StoreView}
 use Rattle.pos_totals.specs.Buffers.{HaveBuffers}

@@ -1,7 +1,8 @@
 //! The questions about the files, by their tables.
 ghost use Rattle.std.specs.Prelude.{◌≡◌};
 ghost use Rattle.std.specs.Option.{option_map};
-ghost use Rattle.pos_service.specs.HardTotals.{Find, FindByIndex, Read, Tells, MayTell, file_at};
+ghost use Rattle.pos_totals.specs.TotalsQuestions.{Find, FindByIndex, Read, Tells, MayTell};
+ghost use Rattle.pos_totals.specs.TotalsFiles.{file_at};
 ghost use Rattle.pos_totals.specs.Checks.{files_in, file_of, AreFiles, TellsIn, MayTellIn};
 ghost use Rattle.pos_totals.specs.Views.{IsSound, totals_of};
 

@@ -1,6 +1,7 @@
 //! The tables of the changes: what is refused, and what is to be done where nothing is.
 ghost use Rattle.std.specs.Prelude.{◌≡◌, ◌≤◌, ◌+◌};
-ghost use Rattle.pos_service.specs.HardTotals.{Create, Delete, Rename, Write, SetAll, layout_1, is_over};
+ghost use Rattle.pos_totals.specs.HardTotals.{Create, Delete, Rename, Write, SetAll, layout_1};
+ghost use Rattle.pos_totals.specs.TotalsChanges.{is_over};
 ghost use Rattle.pos_totals.specs.Checks.{files_in, change_of, AreFiles, Checks};
 
 use crate::files::{Files, TOTALS_SIZE, find_handle, find_name, has_room};

@@ -2,8 +2,10 @@
 ghost use Rattle.std.specs.Prelude.{◌≡◌};
 ghost use Rattle.std.specs.List.{list_any};
 ghost use Rattle.pos_service.specs.Claims.{is_foreign};
-ghost use Rattle.pos_service.specs.HardTotals.{is_area_taken, Arranges, ClaimFile};
-ghost use Rattle.pos_service.specs.HardTotals.{ReleaseFile, ClaimsArea, ReleasesArea};
+ghost use Rattle.pos_totals.specs.TotalsClaims.{is_area_taken};
+ghost use Rattle.pos_totals.specs.TotalsArrangements.{Arranges, ClaimFile};
+ghost use Rattle.pos_totals.specs.TotalsArrangements.{ReleaseFile};
+ghost use Rattle.pos_totals.specs.TotalsClaims.{ClaimsArea, ReleasesArea};
 ghost use Rattle.pos_totals.specs.Checks.{files_in, AreFiles, LetsThrough, LetsThroughAt};
 ghost use Rattle.pos_totals.specs.Views.{IsSound, totals_of};
 

@@ -2,7 +2,8 @@
 ghost use Rattle.std.specs.Prelude.{◌≡◌, Some, IfOk};
 ghost use Rattle.std.specs.List.{list_any};
 ghost use Rattle.std.specs.Option.{option_map};
-ghost use Rattle.pos_service.specs.HardTotals.{changed_file, commit_rows, is_of_foreign, is_of_none};
+ghost use Rattle.pos_totals.specs.TotalsChanges.{changed_file};
+ghost use Rattle.pos_totals.specs.TotalsCommits.{commit_rows, is_of_foreign, is_of_none};
 ghost use Rattle.pos_totals.specs.Changes.{CommitsBuffer};
 ghost use Rattle.pos_totals.specs.Checks.{file_of, files_in, AreFiles, Plans, PlansAt};
 ghost use Rattle.pos_totals.specs.Groups.{file_change, group_of};

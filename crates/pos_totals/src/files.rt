@@ -1,6 +1,7 @@
 ghost use Rattle.std.specs.Prelude.{◌≡◌, ◌≤◌, pos, length, position, IfSome, slice_get, nat_eq};
 ghost use Rattle.std.specs.Option.{option_map};
-ghost use Rattle.pos_service.specs.HardTotals.{is_named, is_called, layout_1, free_data, has_room};
+ghost use Rattle.pos_totals.specs.TotalsFiles.{is_named, is_called, free_data, has_room};
+ghost use Rattle.pos_totals.specs.HardTotals.{layout_1};
 ghost use Rattle.pos_totals.specs.Groups.{index_of};
 ghost use Rattle.pos_totals.specs.Checks.{files_in, file_of, AreFiles, FindsFile, IsSeen};
 ghost use Rattle.pos_totals.specs.Views.{HasDirectory, IsSound, mode_of};

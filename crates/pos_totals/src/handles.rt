@@ -1,5 +1,5 @@
 ghost use Rattle.std.specs.Prelude.{◌≡◌, ◌<◌, ◌≤◌, ◌+◌, ◌^◌, [], map};
-ghost use Rattle.pos_service.specs.HardTotals.{last_number};
+ghost use Rattle.pos_totals.specs.HardTotals.{last_number};
 ghost use Rattle.pos_totals.specs.Checks.{file_change_of};
 ghost use Rattle.pos_totals.specs.Tables.{tag_claimed, tag_released};
 ghost use Rattle.pos_totals.specs.Numbering.{tags_from, lacks, given_after, following, value_after, HasPlace, Numbers};

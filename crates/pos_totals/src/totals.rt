@@ -51,10 +51,16 @@ impl<D: Disk> Model for Totals<D> {
 
 impl<D: Disk> Totals<D> {
     ghost use Rattle.pos_disk.specs.State.{IsAtRest};
-    ghost use Rattle.pos_service.specs.HardTotals.{Off, Create, Delete, Rename, Write, SetAll, Find, FindByIndex, Read};
-    ghost use Rattle.pos_service.specs.HardTotals.{ClaimFile, ReleaseFile, BeginTrans, Rollback, ClaimsArea};
-    ghost use Rattle.pos_service.specs.HardTotals.{ReleasesArea, Tells, MayTell, in_transaction, with_control};
-    ghost use Rattle.pos_service.specs.HardTotals.{without_control, is_ready, files_of, free_data, layout_1};
+    ghost use Rattle.pos_totals.specs.HardTotals.{Off, Create, Delete, Rename, Write, SetAll};
+    ghost use Rattle.pos_totals.specs.TotalsQuestions.{Find, FindByIndex, Read};
+    ghost use Rattle.pos_totals.specs.TotalsArrangements.{ClaimFile, ReleaseFile, BeginTrans, Rollback};
+    ghost use Rattle.pos_totals.specs.TotalsClaims.{ClaimsArea};
+    ghost use Rattle.pos_totals.specs.TotalsClaims.{ReleasesArea};
+    ghost use Rattle.pos_totals.specs.TotalsQuestions.{Tells, MayTell};
+    ghost use Rattle.pos_totals.specs.HardTotals.{in_transaction, with_control};
+    ghost use Rattle.pos_totals.specs.TotalsClaims.{without_control};
+    ghost use Rattle.pos_totals.specs.HardTotals.{is_ready, files_of, layout_1};
+    ghost use Rattle.pos_totals.specs.TotalsFiles.{free_data};
     ghost use Rattle.pos_totals.specs.Changes.{Arranged, Changes, CommitsBuffer};
     ghost use Rattle.pos_totals.specs.Checks.{change_of};
     ghost use Rattle.pos_totals.specs.Recoveries.{Recovers};

@@ -1,6 +1,7 @@
 //! The calls that begin a transaction and that drop one.
 ghost use Rattle.std.specs.Prelude.{◌≡◌};
-ghost use Rattle.pos_service.specs.HardTotals.{foreign_area, without_control, Arranges, BeginTrans, Rollback};
+ghost use Rattle.pos_totals.specs.TotalsClaims.{foreign_area, without_control};
+ghost use Rattle.pos_totals.specs.TotalsArrangements.{Arranges, BeginTrans, Rollback};
 ghost use Rattle.pos_totals.specs.Views.{IsSound, totals_of};
 
 use crate::ledger::Ledger;

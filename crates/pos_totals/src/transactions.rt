@@ -2,7 +2,9 @@
 ghost use Rattle.std.specs.Prelude.{◌≡◌, ◌≤◌, ◌+◌, ◌++◌, ◌∷◌, [], Some, None, IfOk, OnOk, OnErr, is_some, slice_get};
 ghost use Rattle.std.specs.Prelude.{slice_set};
 ghost use Rattle.std.specs.Option.{option_copied, option_map};
-ghost use Rattle.pos_service.specs.HardTotals.{cost_of, cost_of_all, layout_1, may_begin, transaction_at, without_transactions};
+ghost use Rattle.pos_totals.specs.TotalsChanges.{cost_of, cost_of_all};
+ghost use Rattle.pos_totals.specs.HardTotals.{layout_1, transaction_at, without_transactions};
+ghost use Rattle.pos_totals.specs.TotalsArrangements.{may_begin};
 ghost use Rattle.pos_totals.specs.Buffers.{buffered_change, placed_change, with_buffered, HasLeft, IsOf};
 
 use pos_dir::{Bytes, Change as FileChange};
@@ -30,7 +32,7 @@ pub struct Buffered {
 }
 
 impl Model for Buffered {
-    ghost use Rattle.pos_service.specs.HardTotals.{Change};
+    ghost use Rattle.pos_totals.specs.HardTotals.{Change};
     ghost use Rattle.pos_totals.specs.Buffers.{buffered_change};
 
     ghost Value = { Change };
@@ -91,7 +93,8 @@ pub struct Buffer {
 
 impl Model for Buffer {
     ghost use Rattle.std.specs.Prelude.{◌≡◌, List};
-    ghost use Rattle.pos_service.specs.HardTotals.{Change, cost_of_all};
+    ghost use Rattle.pos_totals.specs.HardTotals.{Change};
+    ghost use Rattle.pos_totals.specs.TotalsChanges.{cost_of_all};
 
     ghost Value = { List Change };
 
@@ -150,7 +153,7 @@ pub struct Transactions {
 
 impl Model for Transactions {
     ghost use Rattle.std.specs.Prelude.{List, Option};
-    ghost use Rattle.pos_service.specs.HardTotals.{Change};
+    ghost use Rattle.pos_totals.specs.HardTotals.{Change};
 
     ghost Value = { List (Option (List Change)) };
 

@@ -1,6 +1,6 @@
 ghost use Rattle.std.specs.Prelude.{◌≡◌, ◌&&◌, ◌∷◌, [], ⊤, true, false, not, is_none};
 ghost use Rattle.pos_service.specs.Controls.{state_of};
-ghost use Rattle.pos_service.specs.Calls.{needs_files, is_of_bytes, takes, is_settable, set_rows, after_set, get_rows, property_of};
+ghost use Rattle.pos_service.specs.Properties.{needs_files, is_of_bytes, takes, is_settable, set_rows, after_set, get_rows, property_of};
 ghost use Rattle.pos_service.specs.Kinds.{rows_of, columns_of};
 ghost use Rattle.pos_service.specs.Numbers.{is_index, is_up_to};
 ghost use Rattle.pos_service.specs.Refusals.{Decided, when};

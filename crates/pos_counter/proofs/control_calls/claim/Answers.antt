@@ -4,7 +4,7 @@ use Rattle.std.proofs.Common.{◌∙◌, Some, ap, refl, sym}
 use Rattle.std.proofs.lemmas.Int.{to_z-of_z}
 use Rattle.pos_service.specs.declared.call.Call.TheVariants as call
 use Rattle.pos_service.specs.Claims.{claim_rows, holder_at, is_foreign}
-use Rattle.pos_service.specs.HardTotals.{is_area_taken}
+use Rattle.pos_totals.specs.TotalsClaims.{is_area_taken}
 use Rattle.pos_common.specs.Held.{Held}
 use Rattle.pos_counter.specs.Parts.{part_of}
 use Rattle.pos_counter.specs.Steps.{CallOf, Answered}

@@ -5,7 +5,7 @@ use Rattle.std.proofs.lemmas.List.{get_or_default}
 use Rattle.pos_service.specs.declared.answer.Answer.TheVariants as answer
 use Rattle.pos_service.specs.declared.call.Call.TheVariants as call
 use Rattle.pos_service.specs.declared.code.Code.TheVariants as code
-use Rattle.pos_service.specs.HardTotals.{is_own_claim, without_control}
+use Rattle.pos_totals.specs.TotalsClaims.{is_own_claim, without_control}
 use Rattle.pos_common.specs.Held.{Held}
 use Rattle.pos_counter.specs.Parts.{machine_with, part_of}
 use Rattle.pos_counter.specs.Steps.{CallOf, Answered}

@@ -1,5 +1,5 @@
 use Rattle.std.proofs.Common.{◌≡◌, ◌∙◌, Some, ap, subst, sym}
-use Rattle.pos_service.specs.Calls.{property_of, get_rows}
+use Rattle.pos_service.specs.Properties.{property_of, get_rows}
 use Rattle.pos_common.specs.Held.{Gets, Held}
 use Rattle.pos_service.specs.declared.peripheral_box.HasState.{Ghosts}
 use Rattle.pos_counter.specs.Parts.{devices_in, machine_with, part_of}

@@ -1,6 +1,6 @@
 use Rattle.std.proofs.Common.{◌≡◌, ◌∙◌, ◌&&◌, List, [], not, ap, get_or, set, subst, sym, false, refl}
-use Rattle.pos_service.specs.HardTotals.{is_ready}
-use Rattle.pos_service.specs.Calls.{after_set, set_rows}
+use Rattle.pos_totals.specs.HardTotals.{is_ready}
+use Rattle.pos_service.specs.Properties.{after_set, set_rows}
 use Rattle.pos_common.specs.Held.{Held, TurnsInto}
 use Rattle.pos_store.specs.Standing.{Standing}
 use Rattle.pos_service.specs.declared.peripheral_box.HasState.{Ghosts}

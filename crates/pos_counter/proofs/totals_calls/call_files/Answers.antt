@@ -3,7 +3,8 @@ use mir.Val.{SFits}
 use Rattle.std.proofs.Common.{refl, sym, subst, inl, rules, Ok}
 use Rattle.std.proofs.lemmas.Int.{to_z-of_z}
 use Rattle.pos_service.specs.declared.call.Call.TheVariants as call
-use Rattle.pos_service.specs.HardTotals.{Create, Delete, Rename, Write, BeginTrans, ClaimFile, ReleaseFile, Rollback}
+use Rattle.pos_totals.specs.HardTotals.{Create, Delete, Rename, Write}
+use Rattle.pos_totals.specs.TotalsArrangements.{BeginTrans, ClaimFile, ReleaseFile, Rollback}
 use Rattle.pos_totals.specs.Changes.{Changes}
 use Rattle.pos_counter.specs.Parts.{CallsFiles}
 use Rattle.pos_counter.proofs.FileCalls.{arrangement_calls, change_calls, commit_calls, question_calls}

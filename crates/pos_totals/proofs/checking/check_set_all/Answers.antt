@@ -1,7 +1,7 @@
 use Rattle.std.proofs.Common.{ℤ, pos, ap, sym, ◌∙◌, rules}
 use Rattle.std.specs.Int.{w128}
 use Rattle.std.proofs.lemmas.Int.{to_z-of_z}
-use Rattle.pos_service.specs.HardTotals.{SetAll}
+use Rattle.pos_totals.specs.HardTotals.{SetAll}
 use Rattle.pos_totals.proofs.Found.{called_is}
 use Rattle.pos_totals.specs.Checks.{files_in, file_of}
 use Rattle.pos_totals.proofs.checking.check_set_all.Goals as goal

@@ -1,7 +1,7 @@
 use Rattle.std.proofs.Common.{ℤ, Ok, to_z, of_z, subst}
 use Rattle.std.specs.Int.{w128}
 use Rattle.std.proofs.lemmas.Int.{to_z-of_z}
-use Rattle.pos_service.specs.HardTotals.{ClaimFile}
+use Rattle.pos_totals.specs.TotalsArrangements.{ClaimFile}
 use Rattle.pos_totals.proofs.Claimed.{file_claimed}
 use Rattle.pos_totals.specs.Checks.{LetsThroughAt}
 use Rattle.pos_totals.specs.Views.{totals_of}

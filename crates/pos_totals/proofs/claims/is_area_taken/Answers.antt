@@ -1,6 +1,7 @@
 use Rattle.std.proofs.Common.{Bool, ap, sym, ◌∙◌, ◌||◌}
 use Rattle.std.specs.List.{list_any}
-use Rattle.pos_service.specs.HardTotals.{is_foreign_claim, files_of}
+use Rattle.pos_totals.specs.TotalsClaims.{is_foreign_claim}
+use Rattle.pos_totals.specs.HardTotals.{files_of}
 use Rattle.pos_totals.proofs.Claimed.{foreign_seen}
 use Rattle.pos_totals.specs.Views.{mode_of}
 use Rattle.pos_totals.proofs.claims.is_area_taken.Goals as goal

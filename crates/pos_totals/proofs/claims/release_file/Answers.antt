@@ -1,7 +1,7 @@
 use Rattle.std.proofs.Common.{ℤ, Ok, subst}
 use Rattle.std.specs.Int.{w128}
 use Rattle.std.proofs.lemmas.Int.{to_z-of_z}
-use Rattle.pos_service.specs.HardTotals.{ReleaseFile}
+use Rattle.pos_totals.specs.TotalsArrangements.{ReleaseFile}
 use Rattle.pos_totals.proofs.Claimed.{file_released}
 use Rattle.pos_totals.specs.Checks.{LetsThroughAt}
 use Rattle.pos_totals.specs.Views.{totals_of}

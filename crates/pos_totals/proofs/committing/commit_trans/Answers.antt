@@ -1,6 +1,6 @@
 use Rattle.std.proofs.Common.{◌∙◌, List, Option, None, Result, Ok, ap, subst}
 use Rattle.std.specs.Prelude.{slice_set}
-use Rattle.pos_service.specs.HardTotals.{Change}
+use Rattle.pos_totals.specs.HardTotals.{Change}
 use Rattle.pos_service.specs.declared.memory.NoMemory.{NoMemory}
 use Rattle.pos_totals.specs.Checks.{PlansAt}
 use Rattle.pos_totals.specs.Views.{totals_of}

@@ -1,6 +1,6 @@
 use Rattle.std.proofs.Common.{◌≡◌, false, take}
 use Rattle.std.specs.List.{list_any}
-use Rattle.pos_service.specs.HardTotals.{is_of_foreign}
+use Rattle.pos_totals.specs.TotalsCommits.{is_of_foreign}
 use Rattle.pos_totals.specs.Checks.{files_in}
 use Rattle.pos_totals.proofs.committing.is_one_foreign.Given as goal
 

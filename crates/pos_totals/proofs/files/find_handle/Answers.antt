@@ -4,7 +4,8 @@ use Rattle.std.proofs.lemmas.Int.{to_z-of_z}
 use Rattle.std.specs.Prelude.{nat_eq}
 use Rattle.std.specs.List.{position_or_len}
 use Rattle.std.proofs.lemmas.Option.{IfSome_then}
-use Rattle.pos_service.specs.HardTotals.{is_natural, is_called}
+use Rattle.pos_service.specs.Numbers.{is_natural}
+use Rattle.pos_totals.specs.TotalsFiles.{is_called}
 use Rattle.pos_totals.proofs.Found.{index_by_handle, none_below}
 use Rattle.pos_totals.proofs.Pairs.{length-with_tags}
 use Rattle.pos_totals.proofs.Places.{is_at, is_none, at_index}

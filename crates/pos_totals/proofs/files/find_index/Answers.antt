@@ -1,6 +1,6 @@
 use Rattle.std.proofs.Common.{pos, sym}
 use Rattle.std.specs.Prelude.{nat_eq}
-use Rattle.pos_service.specs.HardTotals.{is_called}
+use Rattle.pos_totals.specs.TotalsFiles.{is_called}
 use Rattle.pos_totals.proofs.Found.{index_by_handle}
 use Rattle.pos_totals.proofs.Places.{is_at, is_past}
 use Rattle.pos_totals.specs.Views.{with_tags}

@@ -1,5 +1,5 @@
 use Rattle.std.proofs.Common.{◌≡◌, ◌++◌, take, drop}
-use Rattle.pos_service.specs.HardTotals.{without_transactions}
+use Rattle.pos_totals.specs.HardTotals.{without_transactions}
 use Rattle.pos_totals.proofs.transactions.Transactions.end_all.Given as goal
 
 -- the transactions before the place have ended

@@ -1,0 +1,123 @@
+-- Hard Totals: their files, their mode, and what controls have of them (chapter Hard Totals). Numbers of a call may be
+-- below 0.
+use Rattle.std.specs.Prelude.{◌≡◌, ◌⊎◌, ℕ, ◌+◌, ℤ, Bool, true, false, List, [], ◌∷◌, ◌++◌, map, slice_get, slice_set, Option, Some, None, is_some, nat_eq, if◌then◌else◌}
+use Rattle.std.specs.Option.{option_flatten}
+use Rattle.pos_service.specs.declared.answer.Value.TheVariants as value
+
+-- How much totals may hold, which goes by the layout of their disk: the most bytes of all files in sum (TotalsSize),
+-- the most files, and the most that the changes of one transaction may cost in sum.
+pub record TotalsLimits : Type 0 where
+  pub bytes : ℕ
+  pub files : ℕ
+  pub cost : ℕ
+
+-- TotalsSize on a disk of the first layout; a transaction may cost as much
+abbrev pub totals_size : ℕ
+totals_size = 8192
+
+-- the limits of totals on a disk of the first layout
+abbrev pub layout_1 : TotalsLimits
+layout_1 = record { bytes = totals_size; files = 64; cost = totals_size }
+
+-- the last number of 64 bits: no file gets it as its handle, and no sequence follows it
+abbrev pub last_number : ℕ
+last_number = 18446744073709551615
+
+-- the sequences to which a group of changes may lead from one: it stays where the group goes behind the image that is
+-- there, and a new image has the next one; the last sequence has none
+abbrev pub next_sequences : ℕ → List ℕ
+next_sequences sequence =
+    if nat_eq sequence last_number then sequence ∷ [] else sequence ∷ (sequence + 1) ∷ []
+
+-- a number is one of these
+abbrev pub IsAmong : ℕ → List ℕ → Type 0
+IsAmong number [] = ⊥
+IsAmong number (first ∷ others) = (number ≡ first) ⊎ IsAmong number others
+
+-- a file: the handle by which calls name it, its name, its bytes, and the control that has claimed it
+pub record File : Type 0 where
+  pub handle : ℕ
+  pub name : List ℕ
+  pub bytes : List ℕ
+  pub claim : Option ℕ
+
+-- off, or ready with the files in the order of their creation and the sequence of the image that they stand on
+pub data Mode : Type 0 where
+  Off : Mode
+  Ready : (files : List File) (sequence : ℕ) → Mode
+
+-- a change of the files, as a call asks for it: create, delete, rename, write, setAll
+pub data Change : Type 0 where
+  Create : (name : List ℕ) (size : ℤ) → Change
+  Delete : (name : List ℕ) → Change
+  Rename : (handle : ℤ) (name : List ℕ) → Change
+  Write : (handle offset : ℤ) (bytes : List ℕ) → Change
+  SetAll : (handle value : ℤ) → Change
+
+-- The totals: what is known of the files, the handle that the next new file gets, the control that has claimed the area
+-- (the whole device), and, by the controls' numbers, the changes that each has buffered, in their order; a control that
+-- is in no transaction has None.
+pub record Totals : Type 0 where
+  pub mode : Mode
+  pub next : ℕ
+  pub area : Option ℕ
+  pub transactions : List (Option (List Change))
+
+-- what a control has buffered: None where it is in no transaction
+abbrev pub transaction_at : List (Option (List Change)) → ℕ → Option (List Change)
+transaction_at transactions control = option_flatten (slice_get transactions control)
+
+abbrev pub transaction_of : Totals → ℕ → Option (List Change)
+transaction_of totals control = transaction_at totals.transactions control
+
+-- TransactionInProgress
+abbrev pub in_transaction : Totals → ℕ → Bool
+in_transaction totals control = is_some (transaction_of totals control)
+
+-- the files are known
+abbrev pub is_ready : Mode → Bool
+is_ready Off = false
+is_ready (Ready files sequence) = true
+
+-- the files, where they are known
+abbrev pub files_of : Mode → List File
+files_of Off = []
+files_of (Ready files sequence) = files
+
+-- the sequences that totals may have after a group
+abbrev pub sequences_after : Mode → List ℕ
+sequences_after Off = []
+sequences_after (Ready files sequence) = next_sequences sequence
+
+-- no control is in a transaction
+abbrev pub without_transactions : List (Option (List Change)) → List (Option (List Change))
+without_transactions transactions = map (λ transaction. None) transactions
+
+-- totals whose disk has failed: what the disk has is not known, nothing is claimed of it nor buffered for it; the next
+-- handle stays, and so does the claim of the area
+abbrev pub after_disk_fault : Totals → Totals
+after_disk_fault totals = record totals { mode = Off; transactions = without_transactions totals.transactions }
+
+-- totals with another transaction of a control
+abbrev pub with_transaction : Totals → ℕ → Option (List Change) → Totals
+with_transaction totals control transaction =
+    record totals { transactions = slice_set totals.transactions control transaction }
+
+-- the sequence is the last one
+abbrev pub is_last : Mode → Bool
+is_last Off = false
+is_last (Ready files sequence) = nat_eq sequence last_number
+
+-- the changes that a control has buffered: none outside a transaction
+abbrev pub changes_in : Option (List Change) → List Change
+changes_in None = []
+changes_in (Some buffer) = buffer
+
+-- the mode with other files, where there are files
+abbrev pub with_files : (List File → List File) → Mode → Mode
+with_files change Off = Off
+with_files change (Ready files sequence) = Ready (change files) sequence
+
+-- the totals with a place for one more control's transaction
+abbrev pub with_control : Totals → Totals
+with_control totals = record totals { transactions = totals.transactions ++ None ∷ [] }

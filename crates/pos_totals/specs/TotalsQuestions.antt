@@ -1,0 +1,57 @@
+-- Questions about the files: find, findByIndex, read (chapter Hard Totals).
+use Rattle.std.specs.Prelude.{◌≡◌, ℕ, ℤ, pos, nat_abs, not, List, [], ◌∷◌, length, take, drop, Option, Some, None, is_none, Result, MatchResult}
+use Rattle.std.specs.List.{find}
+use Rattle.pos_service.specs.declared.answer.Answer.{Answer}
+use Rattle.pos_service.specs.declared.answer.Answer.TheVariants as answer
+use Rattle.pos_service.specs.declared.answer.Value.{Value}
+use Rattle.pos_service.specs.declared.answer.Value.TheVariants as value
+use Rattle.pos_service.specs.declared.code.Code.TheVariants as code
+use Rattle.pos_service.specs.declared.memory.NoMemory.{NoMemory}
+use Rattle.pos_service.specs.Refusals.{Row, when, first_refusal, Decided}
+use Rattle.pos_totals.specs.HardTotals.{File, Totals, files_of}
+use Rattle.pos_totals.specs.TotalsFiles.{is_named, is_called, file_at, has_file, is_foreign_file, is_range_of}
+use Rattle.pos_totals.specs.TotalsRows.{while_ready, when_foreign_area}
+
+-- a question about the files, as a call asks it: find, findByIndex, read
+pub data Question : Type 0 where
+  Find : (name : List ℕ) → Question
+  FindByIndex : (index : ℤ) → Question
+  Read : (handle offset count : ℤ) → Question
+
+-- The refusals of each question, in their order.
+abbrev pub question_rows : List File → ℕ → Question → List Row
+question_rows files control (Find name) = when (not (has_file (is_named name) files)) code.NoExist ∷ []
+question_rows files control (FindByIndex index) = when (is_none (file_at files index)) code.Illegal ∷ []
+question_rows files control (Read handle offset count) =
+    when (not (is_range_of (find (is_called handle) files) offset count)) code.Illegal
+    ∷ when (is_foreign_file control (find (is_called handle) files)) code.Claimed
+    ∷ []
+
+abbrev pub refusals_of_question : Totals → ℕ → Question → List Row
+refusals_of_question totals control question =
+    when_foreign_area totals control ∷ while_ready totals.mode (λ files. question_rows files control question)
+
+-- the value that is told of a file, where there is the file
+abbrev pub told : Option File → (File → Value) → Value
+told None tell = value.Empty
+told (Some file) tell = tell file
+
+-- What each question is answered: handle and size, the name, the bytes.
+abbrev pub told_of : List File → Question → Value
+told_of files (Find name) =
+    told (find (is_named name) files) (λ file. value.Pair (pos file.handle) (pos (length file.bytes)))
+told_of files (FindByIndex index) = told (file_at files index) (λ file. value.Bytes file.name)
+told_of files (Read handle offset count) =
+    told (find (is_called handle) files) (λ file. value.Bytes (take (nat_abs count) (drop (nat_abs offset) file.bytes)))
+
+-- A question is answered by its table, and then told. Nothing changes.
+abbrev pub Tells : Totals → ℕ → Question → Answer → Type 0
+Tells totals control question result =
+    Decided (refusals_of_question totals control question) result (Unit {0})
+    (result ≡ answer.Done (told_of (files_of totals.mode) question))
+
+-- The same where the answer takes memory, which is wanted only behind the table.
+abbrev pub MayTell : Totals → ℕ → Question → Result Answer NoMemory → Type 0
+MayTell totals control question outcome =
+    MatchResult outcome (λ result. Tells totals control question result)
+    (λ want. first_refusal (refusals_of_question totals control question) ≡ None)
