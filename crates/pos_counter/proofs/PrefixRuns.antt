@@ -85,8 +85,9 @@ module _ (start : List PlainFile) (sequence : ℕ) (first last : Machine) (steps
   -- what a recovery answers that recovers nothing
   pub law_recovers : (result : Answer) (new : TotalsPart) → Recovers last.totals result new → (result ≡ answer.Refused code.Failure 0) × (HasTooMany (IsOneOf last.totals.left) last.totals.totals.next ⊎ Rises last.totals.failures new.failures)
   law_recovers result new (inl h) = absurd (law_files Unformatted h.1)
-  law_recovers result new (inr (failed, inl damaged, rests)) = absurd (law_files Damaged damaged)
-  law_recovers result new (inr (failed, inr why, rests)) = (failed, why)
+  law_recovers result new (inr (failed, inl (inl damaged, same))) = absurd (law_files Damaged damaged)
+  law_recovers result new (inr (failed, inl (inr many, same))) = (failed, inl many)
+  law_recovers result new (inr (failed, inr disk)) = (failed, inr disk.rises)
 
 -- the history of one run after another
 pub history_append : (history : History) (a b c : Machine) (steps more : List (Request × Response)) (run : Run a steps b) (rest : Run b more c) → history_along history a (steps ++ more) c (run_append a b c steps more run rest) ≡ history_along (history_along history a steps b run) b more c rest

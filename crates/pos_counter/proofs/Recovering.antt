@@ -168,7 +168,7 @@ module _ {D : Type 0} (bound : Ghosts D) (old new : TotalsView D) (off : old.tot
   same_else x left recovers = ap (λ (t : Totals). let part : TotalsPart = record { totals = t; left = left; failures = (bound.state new.disk).failures } in part) (kept_totals x recovers)
 
   -- and the count too, where the disk's fault isn't answered
-  same_part : (x : RecoveryFault) (left : List Standing) → DiskRecovers bound old (Err x) new → bound.honest old.disk → (IsErrOf {A = Unit {0}} (Err x) fault.Device → ⊥) → part_of bound new left ≡ part_of bound old left
+  same_part : (x : RecoveryFault) (left : List Standing) → DiskRecovers bound old (Err x) new → bound.honest old.disk → (IsErrOf {T = Unit {0}} (Err x) fault.Device → ⊥) → part_of bound new left ≡ part_of bound old left
   same_part x left recovers honest other =
       same_else x left recovers ∙ ap (λ (k : ℕ). let part : TotalsPart = record { totals = old.totals; left = left; failures = k } in part) (never_failed (Err x) recovers honest other)
 
@@ -213,7 +213,7 @@ module _ {D : Type 0} (bound : Ghosts D) (old new : TotalsView D) (off : old.tot
             step = match_at_some _ c _ _ at (record {
               outcome = match_at_none (first_refusal (set_rows n (holder left) (kind_of (before left) c) c p v)) _ _ (enabling_unrefused n (holder left) (kind_of (before left) c) c p v asks)
                   (subst (λ b. MatchBool b (SetsByRecovery (before left) n c p v r (machine_with (set hs n g) cl ds (part_of bound new after))) (Sets (before left) n c p v r (machine_with (set hs n g) cl ds (part_of bound new after)))) (sym recovering)
-                  (inl (done, record { found = f.found; left = refl; counts = never_failed (Ok tt) recovers leaves.honest (λ failed. failed) }, set_machine hs cl ds n g (after_set c p v) (part_of bound old left) (part_of bound new after) is)));
+                  (inl (done, record { found = f.found; left = refl; counts = never_failed (Ok tt) recovers leaves.honest (λ failed. cc) }, set_machine hs cl ds n g (after_set c p v) (part_of bound old left) (part_of bound new after) is)));
             });
             any_moment = weaker (bound.state old.disk) (bound.state new.disk) (StandsForOneOf left) (IsLeft left after) (λ b q. inl q) f.any_moment;
           };
@@ -229,13 +229,13 @@ module _ {D : Type 0} (bound : Ghosts D) (old new : TotalsView D) (off : old.tot
     why : (left : List Standing) (x : RecoveryFault) (k : Code) → DiskRecovers bound old (Err x) new → Leaves bound old left → Some k ≡ code_of x → Recovers (part_of bound old left) (answer.Refused k 0) (part_of bound new left)
     why left fault.Unformatted k recovers leaves is =
         let code : k ≡ code.NoHardware = cc in
-        inl (ap (λ j. answer.Refused j 0) code, (found_one (Err fault.Unformatted) left recovers leaves).found.0, same_part fault.Unformatted left recovers leaves.honest (λ failed. failed))
+        inl (ap (λ j. answer.Refused j 0) code, (found_one (Err fault.Unformatted) left recovers leaves).found.0, same_part fault.Unformatted left recovers leaves.honest (λ failed. cc))
     why left fault.Damaged k recovers leaves is =
         let code : k ≡ code.Failure = cc in
-        inr (ap (λ j. answer.Refused j 0) code, inl (inl (found_one (Err fault.Damaged) left recovers leaves).found.0, same_part fault.Damaged left recovers leaves.honest (λ failed. failed)))
+        inr (ap (λ j. answer.Refused j 0) code, inl (inl (found_one (Err fault.Damaged) left recovers leaves).found.0, same_part fault.Damaged left recovers leaves.honest (λ failed. cc)))
     why left fault.Handles k recovers leaves is =
         let code : k ≡ code.Failure = cc in
-        inr (ap (λ j. answer.Refused j 0) code, inl (inr (found_one (Err fault.Handles) left recovers leaves).found.0, same_part fault.Handles left recovers leaves.honest (λ failed. failed)))
+        inr (ap (λ j. answer.Refused j 0) code, inl (inr (found_one (Err fault.Handles) left recovers leaves).found.0, same_part fault.Handles left recovers leaves.honest (λ failed. cc)))
     why left fault.NoMemory k recovers leaves is = let bad : ⊥ = cc in absurd bad
     why left fault.Device k recovers leaves is =
         let code : k ≡ code.Failure = cc in
