@@ -224,7 +224,7 @@ if strace -o /dev/null true 2> /dev/null; then
   rm -f traced.disk
   told 'the calls of format' slswswsws "$(calls format --disk traced.disk)"
   printf 'new a HardTotals\nopen a t1\nset a DeviceEnabled true\ncall a create 41 4 false\ncall a setAll 1 7\n' > script
-  told 'the calls of two changes' swswswswswst "$(calls run --profile sound.toml --disk traced.disk)"
+  told 'the calls of two changes' swswswswst "$(calls run --profile sound.toml --disk traced.disk)"
   printf 'new a HardTotals\nopen a t1\nset a DeviceEnabled true\ncall a create 41 4 false\ncall a read 1 0 4\n' > script
   told 'the calls of a refused change and a read' st "$(calls run --profile sound.toml --disk traced.disk)"
 fi
