@@ -16,7 +16,8 @@ use Rattle.pos_profile.specs.Kinds.{kind_with}
 use Rattle.pos_profile.specs.Profiles.{is_refused_after, is_totals_entry}
 use Rattle.pos_profile.specs.Registries.{Device as Registered, HasKindInRange, IsServed, planned_of, vacant, vacant_devices}
 use Rattle.pos_counter.specs.Machine.{Device, Shared}
-use Rattle.pos_counter.specs.Parts.{ArePartsSound, device_of, devices_of, profile_devices, totals_devices}
+use Rattle.pos_counter.specs.Assembly.{ArePartsSound}
+use Rattle.pos_counter.specs.KeptDevices.{device_of, devices_of, profile_devices, totals_devices}
 use Rattle.pos_counter.specs.Steps.{HasItsDevice, HasItsKind}
 
 -- no entry behind earlier ones is refused

@@ -19,7 +19,7 @@ use Rattle.pos_totals.specs.TotalsClaims.{is_area_taken, without_control}
 use Rattle.pos_service.specs.Refusals.{Row, Decided, first_refusal, when}
 use Rattle.pos_common.specs.Held.{Held, TurnsInto, controls_of}
 use Rattle.pos_counter.specs.Machine.{Device, Machine, Shared, holder_in, with_control}
-use Rattle.pos_counter.specs.Parts.{machine_with, AreCovered, ArePartsSound}
+use Rattle.pos_counter.specs.Assembly.{machine_with, AreCovered, ArePartsSound}
 use Rattle.pos_counter.specs.Steps.{CallOf, Answered, Step, claimed, dropped, released, is_taken, refusals, HasItsDevice}
 use Rattle.pos_counter.specs.Totals.{TotalsPart, is_totals}
 use Rattle.pos_counter.proofs.Lifts.{match_at_some, match_at_none, match_by, match_cases, match_weaker}

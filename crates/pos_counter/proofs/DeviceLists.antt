@@ -8,7 +8,7 @@ use Rattle.pos_service.specs.Stations.{station_of}
 use Rattle.pos_profile.specs.Registries.{Device as Registered, IsServed, kind_at, parked, standing_at, with_peripheral}
 use Rattle.pos_counter.specs.Machine.{Device, device_at, kind_in, station_in}
 use Rattle.pos_counter.specs.Steps.{FindsFit}
-use Rattle.pos_counter.specs.Parts.{device_of, devices_of, has_kind, totals_devices}
+use Rattle.pos_counter.specs.KeptDevices.{device_of, devices_of, has_kind, totals_devices}
 
 -- what the device at a place is
 pub kind_there : (list : List Registered) (totals : Option (List ℕ)) (place : ℕ) → kind_in (slice_get (devices_of list totals) place) ≡ kind_at list place

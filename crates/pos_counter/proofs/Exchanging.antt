@@ -13,7 +13,9 @@ use Rattle.pos_profile.specs.declared.registry_fault.DetachFault.TheVariants as 
 use Rattle.pos_profile.specs.Places.{place_of as registered_place}
 use Rattle.pos_profile.specs.Registries.{Device as Registered, Attaches, Detaches, IsNamed, kind_at, names_of, standing_at}
 use Rattle.pos_counter.specs.Machine.{Device, Machine, Shared, device_at, kind_in, kind_named, place_of, station_in, station_named}
-use Rattle.pos_counter.specs.Parts.{ArePartsSound, ServesBeside, device_of, devices_of, over}
+use Rattle.pos_counter.specs.Assembly.{ArePartsSound, over}
+use Rattle.pos_counter.specs.Serving.{ServesBeside}
+use Rattle.pos_counter.specs.KeptDevices.{device_of, devices_of}
 use Rattle.pos_counter.specs.Responses.{attached, detached}
 use Rattle.pos_counter.specs.Steps.{Attach, Detach, Step, has_open, is_open_at}
 use Rattle.pos_counter.proofs.DeviceLists.{devices_with, registered_there}

@@ -32,7 +32,8 @@ use Rattle.pos_store.specs.Standing.{Standing, Stands, LeavesOneOf, StandsForOne
 use Rattle.pos_totals.specs.Changes.{Arranged, Changes, CommitsBuffer, PutsGroup, HasFailed, IsDone, IsOneGroup, IsBeforeOrAfter, before_or_after}
 use Rattle.pos_totals.specs.Views.{TotalsView, TurnsOff, LeavesTheirFiles, plain, plain_file}
 use Rattle.pos_counter.specs.DiskUse.{SparesFiles}
-use Rattle.pos_counter.specs.Parts.{CallsFiles, FilesStepped, IsLeft, Leaves, part_of}
+use Rattle.pos_counter.specs.Serving.{CallsFiles, FilesStepped}
+use Rattle.pos_counter.specs.Leaving.{IsLeft, Leaves, part_of}
 use Rattle.pos_counter.specs.Totals.{TotalsPart, TotalsDo, FailsTurningOff, FilesCalled, put_at_once, settled, left_after, in_doubt}
 use Rattle.pos_counter.proofs.Lifts.{match_cases, match_weaker, match_at_none, match_at_some}
 use Rattle.pos_counter.proofs.Serving.{OnlyNow, kept_disk, same_view}

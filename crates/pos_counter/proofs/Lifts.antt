@@ -16,7 +16,7 @@ use Rattle.pos_service.specs.Refusals.{Row, Decided, first_refusal}
 use Rattle.pos_counter.specs.Responses.{answered}
 use Rattle.pos_counter.specs.Steps.{Step, CallOf, Deliver, Delivered, facts_of}
 use Rattle.pos_common.specs.Held.{Gets, Held, controls_of}
-use Rattle.pos_counter.specs.Parts.{over}
+use Rattle.pos_counter.specs.Assembly.{over}
 
 -- the machine of some controls, devices and totals
 abbrev with_controls : List Control → List Device → Shared → Machine

@@ -4,7 +4,7 @@ use Rattle.std.specs.Prelude.{bytes_eq, slice_get, IsSome, ◌++◌}
 use Rattle.pos_profile.specs.Places.{first_of, place_from as registered_from, place_of as registered_place}
 use Rattle.pos_profile.specs.Registries.{Device as Registered, names_of}
 use Rattle.pos_counter.specs.Machine.{Device, device_at, kind_in, place_from, place_of}
-use Rattle.pos_counter.specs.Parts.{devices_of, totals_devices, totals_place}
+use Rattle.pos_counter.specs.KeptDevices.{devices_of, totals_devices, totals_place}
 
 -- the place of the Hard Totals device
 totals_from : (at : ℕ) (name : List ℕ) (totals : Option (List ℕ)) → place_from at name (totals_devices totals) ≡ totals_place at name totals

@@ -11,7 +11,7 @@ use Rattle.pos_counter.specs.declared.counter.Counter.{Counter}
 use Rattle.pos_counter.specs.Counters.{machine, IsRun, IsStep}
 use Rattle.pos_counter.specs.Crashes.{BeginsOver, HasBegun, HasRun, KeepsPrefix, KeepsPrefixes, history_until, machine_now}
 use Rattle.pos_counter.specs.History.{History, begun, history_with}
-use Rattle.pos_counter.specs.Parts.{part_of, Leaves}
+use Rattle.pos_counter.specs.Leaving.{part_of, Leaves}
 use Rattle.pos_counter.specs.Prefixes.{IsPrefixInside, IsPrefixOf, StandsForSome, StartsWith}
 use Rattle.pos_counter.specs.Steps.{Request, Response}
 use Rattle.pos_counter.proofs.Prefixes.{Fits, fits_begun}

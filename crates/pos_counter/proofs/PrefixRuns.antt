@@ -11,7 +11,7 @@ use Rattle.pos_totals.specs.Recoveries.{HasTooMany}
 use Rattle.pos_counter.specs.Counters.{IsLeftDuring}
 use Rattle.pos_counter.specs.History.{History, begun, event_of, history_with, history_along, history_of}
 use Rattle.pos_counter.specs.Machine.{Machine}
-use Rattle.pos_counter.specs.Parts.{IsLeft}
+use Rattle.pos_counter.specs.Leaving.{IsLeft}
 use Rattle.pos_counter.specs.Prefixes.{IsFiles, IsPrefixInside, IsPrefixOf, IsPrefixAlong, LeavesPrefix, LeavesPrefixInside, StandsForSome, StartsWith}
 use Rattle.pos_counter.specs.Steps.{Request, Response, Step, Run}
 use Rattle.pos_counter.specs.Totals.{TotalsPart, Recovers}

@@ -31,7 +31,9 @@ use Rattle.pos_totals.specs.Recoveries.{Recovers as DiskRecovers, RecoversOneOf,
 use Rattle.pos_totals.specs.Views.{TotalsView, IsReady, WhenOff, LeavesTheirFiles}
 use Rattle.pos_counter.specs.Machine.{Device, Machine, device_at, holder_in, holder_of, kind_in, kind_of, with_control}
 use Rattle.pos_counter.specs.DiskUse.{SparesDisk}
-use Rattle.pos_counter.specs.Parts.{over, machine_with, part_of, ArePartsSound, IsRecovering, IsLeft, Leaves, Serves}
+use Rattle.pos_counter.specs.Assembly.{over, machine_with, ArePartsSound}
+use Rattle.pos_counter.specs.Leaving.{part_of, IsLeft, Leaves}
+use Rattle.pos_counter.specs.Serving.{IsRecovering, Serves}
 use Rattle.pos_counter.specs.Steps.{CallOf, Answered, IsSound, Step, Sets, SetsByRecovery}
 use Rattle.pos_counter.specs.Totals.{TotalsPart, Recovers, asks_recovery, recovers, is_enabling, is_totals, settled}
 use Rattle.pos_counter.proofs.Lifts.{control_at, decided_at, match_at_none, match_at_some, match_cases, match_weaker}

@@ -12,7 +12,10 @@ use Rattle.pos_disk.specs.Keeps.{KeepsDisk}
 use Rattle.pos_totals.specs.Views.{TotalsView}
 use Rattle.pos_counter.specs.declared.counter.Counter.{Counter}
 use Rattle.pos_counter.specs.Counters.{machine as machine_of_counter, IsLeftDuring, IsRun, IsStep, IsStepBeside, RunsFrom}
-use Rattle.pos_counter.specs.Parts.{devices_in, machine_with, part_of, IsLeft, Leaves, MakesControl, Stepped}
+use Rattle.pos_counter.specs.KeptDevices.{devices_in}
+use Rattle.pos_counter.specs.Assembly.{machine_with}
+use Rattle.pos_counter.specs.Leaving.{part_of, IsLeft, Leaves, Stepped}
+use Rattle.pos_counter.specs.Serving.{MakesControl}
 use Rattle.pos_counter.specs.Steps.{Step, Run}
 use Rattle.pos_counter.specs.declared.request.Request.{Request}
 use Rattle.pos_counter.specs.declared.request.Response.{Response}

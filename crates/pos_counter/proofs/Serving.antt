@@ -9,7 +9,9 @@ use Rattle.pos_disk.specs.Keeps.{KeepsDisk}
 use Rattle.pos_totals.specs.HardTotals.{Totals}
 use Rattle.pos_totals.specs.Views.{TotalsView}
 use Rattle.pos_counter.specs.Machine.{Device, Machine, Shared}
-use Rattle.pos_counter.specs.Parts.{over, machine_with, part_of, ArePartsSound, IsLeft, Leaves, Serves, ServesBeside, ServesUnder, Stepped}
+use Rattle.pos_counter.specs.Assembly.{over, machine_with, ArePartsSound}
+use Rattle.pos_counter.specs.Leaving.{part_of, IsLeft, Leaves, Stepped}
+use Rattle.pos_counter.specs.Serving.{Serves, ServesBeside, ServesUnder}
 use Rattle.pos_counter.specs.Steps.{Request, Response, Step, IsSound}
 use Rattle.pos_counter.specs.Totals.{TotalsPart, settled}
 use Rattle.pos_counter.proofs.Sound.{step_sound}

@@ -23,7 +23,8 @@ use Rattle.pos_service.specs.Refusals.{Row, first_refusal, when}
 use Rattle.pos_service.specs.Stations.{Station, Effect, CalledAt, IsOpen, SameStation}
 use Rattle.pos_common.specs.Held.{Held, controls_of}
 use Rattle.pos_counter.specs.Machine.{Device, Machine, Shared, station_in, station_named, device_at, kind_in, kind_of, place_of}
-use Rattle.pos_counter.specs.Parts.{over, CallsAt, IsDoneAt, MayBeCalled}
+use Rattle.pos_counter.specs.Assembly.{over}
+use Rattle.pos_counter.specs.AtDevices.{CallsAt, IsDoneAt, MayBeCalled}
 use Rattle.pos_counter.specs.Responses.{answered}
 use Rattle.pos_counter.specs.Steps.{OnStation, Step, CallOf, Answered, Does, DeviceDoes, CategoryDoes, category_rows, device_rows, refusals, takes_memory, FindsFit, FindsWork, IsPlaceOn, IsSound}
 use Rattle.pos_counter.specs.Totals.{is_totals}

@@ -23,7 +23,9 @@ use Rattle.pos_common.specs.Held.{Held, controls_of}
 use Rattle.pos_totals.specs.Changes.{IsDone}
 use Rattle.pos_totals.specs.Views.{IsReady, TotalsView, TurnsOff}
 use Rattle.pos_counter.specs.Machine.{Device, Machine}
-use Rattle.pos_counter.specs.Parts.{machine_with, part_of, ArePartsSound, CallsFiles, Serves}
+use Rattle.pos_counter.specs.Assembly.{machine_with, ArePartsSound}
+use Rattle.pos_counter.specs.Leaving.{part_of}
+use Rattle.pos_counter.specs.Serving.{CallsFiles, Serves}
 use Rattle.pos_counter.specs.Responses.{answered}
 use Rattle.pos_counter.specs.Steps.{CallOf, Answered, Step, CategoryDoes, refusals}
 use Rattle.pos_counter.specs.DiskUse.{AsksNothing, IsUndone, SparesDisk, SparesFiles}

@@ -10,7 +10,9 @@ use Rattle.pos_totals.specs.Views.{IsReady}
 use Rattle.pos_disk.specs.Keeps.{KeepsDisk}
 use Rattle.pos_counter.specs.declared.counter.Counter.{Counter}
 use Rattle.pos_counter.specs.Machine.{Machine}
-use Rattle.pos_counter.specs.Parts.{devices_in, machine_with, part_of, profile_devices, AreDevicesSound, ArePartsSound, Leaves, Stepped}
+use Rattle.pos_counter.specs.KeptDevices.{devices_in, profile_devices, AreDevicesSound}
+use Rattle.pos_counter.specs.Assembly.{machine_with, ArePartsSound}
+use Rattle.pos_counter.specs.Leaving.{part_of, Leaves, Stepped}
 use Rattle.pos_counter.specs.DiskUse.{IsUndone, SparesDisk}
 use Rattle.pos_profile.specs.declared.entry.Entry.{Entry}
 use Rattle.pos_counter.specs.Steps.{Request, Response, Step, Run}

@@ -11,7 +11,7 @@ use Rattle.pos_counter.specs.Counters.{machine, Begins, IsRun}
 use Rattle.pos_counter.specs.declared.counter.Counter.{Counter}
 use Rattle.pos_counter.specs.History.{History, begun, history_of, history_with}
 use Rattle.pos_counter.specs.Machine.{Machine}
-use Rattle.pos_counter.specs.Parts.{part_of, Leaves}
+use Rattle.pos_counter.specs.Leaving.{part_of, Leaves}
 use Rattle.pos_counter.specs.Prefixes.{IsPrefixInside, IsPrefixOf, StandsForSome}
 use Rattle.pos_counter.specs.Steps.{Request, Response, Step, Run}
 

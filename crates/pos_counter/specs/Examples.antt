@@ -12,7 +12,8 @@ use Rattle.pos_totals.specs.HardTotals.{Off}
 use Rattle.pos_store.specs.Standing.{Stands}
 use Rattle.pos_counter.specs.History.{Group, History, history_of}
 use Rattle.pos_counter.specs.Machine.{Machine}
-use Rattle.pos_counter.specs.Parts.{machine_with, totals_devices}
+use Rattle.pos_counter.specs.Assembly.{machine_with}
+use Rattle.pos_counter.specs.KeptDevices.{totals_devices}
 use Rattle.pos_counter.specs.Steps.{Request, NewControl, CallOf, Response, Made, Answered, Run}
 
 -- From a machine whose disk stands for these files, these steps may be run through so that they have this history.

@@ -5,7 +5,9 @@ ghost use Rattle.pos_service.specs.Claims.{holder_at, is_own, is_foreign, claim_
 ghost use Rattle.pos_totals.specs.TotalsClaims.{is_area_taken};
 ghost use Rattle.pos_service.specs.Refusals.{Decided};
 ghost use Rattle.pos_counter.specs.Machine.{Device};
-ghost use Rattle.pos_counter.specs.Parts.{AreCovered, AreDevicesSound, ArePartsSound, Serves, ServesBeside, devices_in};
+ghost use Rattle.pos_counter.specs.Assembly.{AreCovered, ArePartsSound};
+ghost use Rattle.pos_counter.specs.KeptDevices.{AreDevicesSound, devices_in};
+ghost use Rattle.pos_counter.specs.Serving.{Serves, ServesBeside};
 ghost use Rattle.pos_counter.specs.Steps.{CallOf, Answered};
 
 use crate::devices::Devices;

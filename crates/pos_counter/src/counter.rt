@@ -4,7 +4,7 @@ ghost use Rattle.pos_profile.specs.Registries.{devices_of as registered_in};
 ghost use Rattle.pos_service.specs.Stations.{station_of};
 ghost use Rattle.pos_totals.specs.Views.{WhenReady};
 ghost use Rattle.pos_counter.specs.Steps.{Attach, Detach, NewControl, CallOf, InputTo, WorkOn, Deliver, Delivered, Snapshot as SnapshotOf};
-ghost use Rattle.pos_counter.specs.Parts.{HandsOver};
+ghost use Rattle.pos_counter.specs.KeptDevices.{HandsOver};
 ghost use Rattle.pos_counter.specs.Responses.{made, answered, attached, detached, taken_in, worked, shown, request_of, response_of, steps_of};
 ghost use Rattle.pos_counter.specs.Totals.{TotalsPart};
 ghost use Rattle.pos_counter.specs.Counters.{machine, Begins, IsStep, IsStepBeside, IsRun, Stays, IsCounterSound};

@@ -2,7 +2,9 @@ ghost use Rattle.std.specs.Prelude.{◌≡◌, [], List, length};
 ghost use Rattle.pos_counter.specs.Machine.{Device, Shared};
 ghost use Rattle.pos_counter.specs.Responses.{answered};
 ghost use Rattle.pos_counter.specs.Steps.{Step, CallOf, Deliver, Delivered};
-ghost use Rattle.pos_counter.specs.Parts.{over, AreDevicesSound, ArePartsSound, MakesControl, Serves, devices_in};
+ghost use Rattle.pos_counter.specs.Assembly.{over, ArePartsSound};
+ghost use Rattle.pos_counter.specs.KeptDevices.{AreDevicesSound, devices_in};
+ghost use Rattle.pos_counter.specs.Serving.{MakesControl, Serves};
 
 use crate::device_calls;
 use crate::devices::Devices;

@@ -3,7 +3,7 @@ ghost use Rattle.std.specs.Prelude.{◌≡◌, [], Some, IfOk, IsSome, length, m
 ghost use Rattle.pos_profile.specs.Registries.{devices as registered, devices_of as registered_in, parked};
 ghost use Rattle.pos_service.specs.Stations.{signs_in};
 ghost use Rattle.pos_counter.specs.Machine.{device_at, found_at, kind_in, place_of, station_in};
-ghost use Rattle.pos_counter.specs.Parts.{AreDevicesSound, devices_in, profile_devices, totals_name, totals_place};
+ghost use Rattle.pos_counter.specs.KeptDevices.{AreDevicesSound, devices_in, profile_devices, totals_name, totals_place};
 
 use pos_profile::{Profile, Registry, Slot};
 use pos_service::{

@@ -4,7 +4,9 @@ ghost use Rattle.pos_service.specs.Stations.{station_of};
 ghost use Rattle.pos_common.specs.Held.{controls_of};
 ghost use Rattle.pos_profile.specs.Places.{place_of};
 ghost use Rattle.pos_profile.specs.Registries.{devices as registered, names_of};
-ghost use Rattle.pos_counter.specs.Parts.{AreDevicesSound, ArePartsSound, ServesBeside, devices_in};
+ghost use Rattle.pos_counter.specs.KeptDevices.{AreDevicesSound, devices_in};
+ghost use Rattle.pos_counter.specs.Assembly.{ArePartsSound};
+ghost use Rattle.pos_counter.specs.Serving.{ServesBeside};
 ghost use Rattle.pos_counter.specs.Responses.{attached, detached};
 ghost use Rattle.pos_counter.specs.Steps.{Attach, Detach, has_open, is_open_at};
 

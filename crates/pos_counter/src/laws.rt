@@ -12,7 +12,7 @@ ghost use Rattle.pos_counter.specs.Crashes.{BeginsOver, HasBegun, HasRun, KeepsP
 ghost use Rattle.pos_counter.specs.Examples.{MayHave, new_machine, steps_into_doubt, steps_through_doubt, a_group};
 ghost use Rattle.pos_counter.specs.History.{History, FilesEvent, begun, told, history_of, history_with};
 ghost use Rattle.pos_counter.specs.Machine.{Machine};
-ghost use Rattle.pos_counter.specs.Parts.{Leaves};
+ghost use Rattle.pos_counter.specs.Leaving.{Leaves};
 ghost use Rattle.pos_counter.specs.Prefixes.{BeginsWith, IsFiles, IsPrefixAlong, StandsForSome, StartsWith};
 ghost use Rattle.pos_counter.specs.Prefixes.{LeavesPrefix, LeavesPrefixInside};
 ghost use Rattle.pos_counter.specs.Steps.{Request, Response, Step, Run};

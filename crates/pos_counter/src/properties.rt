@@ -2,11 +2,14 @@
 ghost use Rattle.std.specs.Prelude.{◌≡◌, ◌<◌, ◌&&◌, [], ℕ, List, Option, length, not};
 ghost use Rattle.pos_service.specs.declared.call.Call.TheVariants as call;
 ghost use Rattle.pos_store.specs.Standing.{Standing};
-ghost use Rattle.pos_counter.specs.Parts.{ArePartsSound, Serves, devices_in, machine_with, part_of};
+ghost use Rattle.pos_counter.specs.Assembly.{ArePartsSound, machine_with};
+ghost use Rattle.pos_counter.specs.Serving.{Serves};
+ghost use Rattle.pos_counter.specs.KeptDevices.{devices_in};
+ghost use Rattle.pos_counter.specs.Leaving.{part_of};
 ghost use Rattle.pos_counter.specs.Machine.{holder_in};
 ghost use Rattle.pos_counter.specs.Responses.{answered};
 ghost use Rattle.pos_counter.specs.Steps.{Step, CallOf, facts_of};
-ghost use Rattle.pos_counter.specs.Parts.{IsRecovering};
+ghost use Rattle.pos_counter.specs.Serving.{IsRecovering};
 ghost use Rattle.pos_counter.specs.Totals.{asks_recovery, file_facts};
 
 use crate::devices::Devices;

@@ -4,7 +4,10 @@ ghost use Rattle.pos_service.specs.Claims.{holder_at};
 ghost use Rattle.pos_service.specs.PrinterCalls.{WorksAt};
 ghost use Rattle.pos_service.specs.Stations.{station_of, StaysInService};
 ghost use Rattle.pos_common.specs.Held.{controls_of};
-ghost use Rattle.pos_counter.specs.Parts.{AreDevicesSound, ArePartsSound, IsAttachedAt, IsDoneAt, ServesUnder, devices_in};
+ghost use Rattle.pos_counter.specs.KeptDevices.{AreDevicesSound, devices_in};
+ghost use Rattle.pos_counter.specs.Assembly.{ArePartsSound};
+ghost use Rattle.pos_counter.specs.AtDevices.{IsAttachedAt, IsDoneAt};
+ghost use Rattle.pos_counter.specs.Serving.{ServesUnder};
 ghost use Rattle.pos_counter.specs.Responses.{worked};
 ghost use Rattle.pos_counter.specs.Steps.{WorkOn};
 

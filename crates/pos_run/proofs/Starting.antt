@@ -12,7 +12,7 @@ use Rattle.pos_disk.specs.State.{MayLeave}
 use Rattle.pos_counter.specs.Counters.{machine, IsRun}
 use Rattle.pos_run.specs.Carried.{RunsThrough}
 use Rattle.pos_counter.specs.Machine.{Machine}
-use Rattle.pos_counter.specs.Parts.{part_of, Leaves}
+use Rattle.pos_counter.specs.Leaving.{part_of, Leaves}
 use Rattle.pos_counter.specs.Totals.{TotalsPart}
 use Rattle.pos_totals.specs.Views.{TotalsView}
 use Rattle.pos_counter.specs.Steps.{Request, Response, Run}

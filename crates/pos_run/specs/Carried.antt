@@ -6,7 +6,7 @@ use Rattle.pos_service.specs.declared.peripheral_box.HasState.{Ghosts}
 use Rattle.pos_counter.specs.declared.counter.Counter.{Counter}
 use Rattle.pos_store.specs.Standing.{Standing}
 use Rattle.pos_counter.specs.Counters.{IsRun, RunsFrom}
-use Rattle.pos_counter.specs.Parts.{Leaves}
+use Rattle.pos_counter.specs.Leaving.{Leaves}
 use Rattle.pos_counter.specs.Steps.{Request, Response}
 use Rattle.pos_run.specs.declared.names.Names.{Names}
 use Rattle.pos_run.specs.declared.spares.Spares.{Spares}

@@ -8,7 +8,7 @@ use Rattle.pos_totals.specs.HardTotals.{Off}
 use Rattle.pos_service.specs.Peripherals.{PeripheralState}
 use Rattle.pos_service.specs.Stations.{station_of}
 use Rattle.pos_store.specs.Standing.{Standing}
-use Rattle.pos_counter.specs.Parts.{machine_with}
+use Rattle.pos_counter.specs.Assembly.{machine_with}
 use Rattle.pos_counter.specs.Totals.{TotalsPart}
 use Rattle.pos_run.specs.declared.scripts.RunFault.{RunFault}
 use Rattle.pos_run.specs.declared.scripts.RunFault.TheVariants as fault

@@ -18,7 +18,7 @@ use Rattle.pos_disk.specs.State.{DiskState}
 use Rattle.pos_profile.specs.Entries.{Contents}
 use Rattle.pos_store.specs.Standing.{Standing, LeavesOneOf}
 use Rattle.pos_counter.specs.Machine.{Device, Machine}
-use Rattle.pos_counter.specs.Parts.{totals_devices, totals_name}
+use Rattle.pos_counter.specs.KeptDevices.{totals_devices, totals_name}
 use Rattle.pos_counter.specs.Steps.{Run}
 use Rattle.pos_counter.specs.Totals.{TotalsPart}
 use Rattle.pos_run.specs.declared.scripts.RunFault.{RunFault}

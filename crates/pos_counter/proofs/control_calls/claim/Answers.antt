@@ -6,7 +6,7 @@ use Rattle.pos_service.specs.declared.call.Call.TheVariants as call
 use Rattle.pos_service.specs.Claims.{claim_rows, holder_at, is_foreign}
 use Rattle.pos_totals.specs.TotalsClaims.{is_area_taken}
 use Rattle.pos_common.specs.Held.{Held}
-use Rattle.pos_counter.specs.Parts.{part_of}
+use Rattle.pos_counter.specs.Leaving.{part_of}
 use Rattle.pos_counter.specs.Steps.{CallOf, Answered}
 use Rattle.pos_counter.specs.Totals.{settled}
 use Rattle.pos_counter.proofs.Claiming.{are_totals, area_claim_mode, claim_area, claim_device, claimed_covers, covered_at}

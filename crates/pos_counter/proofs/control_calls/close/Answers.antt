@@ -7,7 +7,8 @@ use Rattle.pos_service.specs.declared.call.Call.TheVariants as call
 use Rattle.pos_service.specs.declared.code.Code.TheVariants as code
 use Rattle.pos_totals.specs.TotalsClaims.{is_own_claim, without_control}
 use Rattle.pos_common.specs.Held.{Held}
-use Rattle.pos_counter.specs.Parts.{machine_with, part_of}
+use Rattle.pos_counter.specs.Assembly.{machine_with}
+use Rattle.pos_counter.specs.Leaving.{part_of}
 use Rattle.pos_counter.specs.Steps.{CallOf, Answered}
 use Rattle.pos_counter.specs.Totals.{is_totals}
 use Rattle.pos_counter.proofs.Claiming.{are_totals, close_area, close_device, close_refused, is_none_as, length_released}

@@ -1,7 +1,7 @@
 use Rattle.std.proofs.Common.{get_or, set}
 use Rattle.std.proofs.lemmas.List.{get_or_default}
 use Rattle.pos_service.specs.declared.call.Call.TheVariants as call
-use Rattle.pos_counter.specs.Parts.{boxes_in, devices_in}
+use Rattle.pos_counter.specs.KeptDevices.{boxes_in, devices_in}
 use Rattle.pos_counter.specs.Steps.{CallOf, Answered}
 use Rattle.pos_counter.proofs.Lifts.{match_at_some, control_at, decided_at}
 use Rattle.pos_counter.proofs.Serving.{controls_serve}

@@ -2,7 +2,7 @@ use Rattle.std.proofs.Common.{◌∙◌, None, ap, get_or, refl, set, sym}
 use Rattle.std.proofs.lemmas.List.{get_or_default}
 use Rattle.pos_service.specs.declared.call.Call.TheVariants as call
 use Rattle.pos_service.specs.Claims.{holder_at, is_own, release_rows}
-use Rattle.pos_counter.specs.Parts.{part_of}
+use Rattle.pos_counter.specs.Leaving.{part_of}
 use Rattle.pos_counter.specs.Steps.{CallOf, Answered}
 use Rattle.pos_counter.specs.Totals.{settled}
 use Rattle.pos_counter.proofs.Claiming.{are_totals, area_release_mode, release_area, release_device, released_covers}

@@ -4,7 +4,9 @@ use Rattle.std.proofs.Common.{rules, subst, sym}
 use Rattle.std.proofs.lemmas.Int.{to_z-of_z}
 use Rattle.pos_service.specs.declared.call.Call.TheVariants as call
 use Rattle.std.specs.Prelude.{[]}
-use Rattle.pos_counter.specs.Parts.{Serves, ServesBeside, boxes_in, devices_in, part_of}
+use Rattle.pos_counter.specs.Serving.{Serves, ServesBeside}
+use Rattle.pos_counter.specs.KeptDevices.{boxes_in, devices_in}
+use Rattle.pos_counter.specs.Leaving.{part_of}
 use Rattle.pos_counter.specs.Responses.{answered}
 use Rattle.pos_counter.specs.Steps.{CallOf, Answered}
 use Rattle.pos_counter.proofs.Claiming.{covered}

@@ -7,7 +7,10 @@ use Rattle.pos_service.specs.declared.code.Code.TheVariants as code
 use Rattle.pos_service.specs.Calls.{serves}
 use Rattle.pos_common.specs.Held.{Held, controls_of}
 use Rattle.pos_counter.specs.Machine.{Shared}
-use Rattle.pos_counter.specs.Parts.{CallsAt, IsDoneAt, MayBeCalled, boxes_in, devices_in, machine_with, part_of}
+use Rattle.pos_counter.specs.AtDevices.{CallsAt, IsDoneAt, MayBeCalled}
+use Rattle.pos_counter.specs.KeptDevices.{boxes_in, devices_in}
+use Rattle.pos_counter.specs.Assembly.{machine_with}
+use Rattle.pos_counter.specs.Leaving.{part_of}
 use Rattle.pos_counter.specs.Responses.{answered}
 use Rattle.pos_counter.specs.Steps.{CallOf, Answered}
 use Rattle.pos_counter.specs.Totals.{is_totals}

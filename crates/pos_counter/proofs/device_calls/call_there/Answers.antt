@@ -2,7 +2,7 @@ use Rattle.std.proofs.Common.{◌∙◌, Some, ap, subst, sym}
 use Rattle.pos_service.specs.Stations.{station_of}
 use Rattle.pos_profile.specs.Registries.{MayServe, devices as registered, with_peripheral}
 use Rattle.pos_profile.proofs.CallerLemmas.{put_back}
-use Rattle.pos_counter.specs.Parts.{boxes_in, devices_of}
+use Rattle.pos_counter.specs.KeptDevices.{boxes_in, devices_of}
 use Rattle.pos_counter.proofs.DeviceLists.{is_out}
 use Rattle.pos_counter.proofs.device_calls.call_there.Goals as goal
 

@@ -2,7 +2,7 @@ use Rattle.std.proofs.Common.{◌∙◌, Ok, Some, ap, refl, sym, true, false}
 use Rattle.pos_service.specs.Peripherals.{input_fits}
 use Rattle.pos_service.specs.Stations.{TakenAt, station_of}
 use Rattle.pos_profile.specs.Registries.{devices as registered}
-use Rattle.pos_counter.specs.Parts.{boxes_in, devices_in}
+use Rattle.pos_counter.specs.KeptDevices.{boxes_in, devices_in}
 use Rattle.pos_counter.specs.Steps.{InputTo, NoDevice, WrongInput, TakenIn, OutOfMemory}
 use Rattle.pos_counter.proofs.DeviceLists.{found_fit, missing_there}
 use Rattle.pos_counter.proofs.Serving.{step_serves}

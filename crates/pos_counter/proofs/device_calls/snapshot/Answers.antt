@@ -2,7 +2,7 @@ use Rattle.std.proofs.Common.{◌≡◌, ◌∙◌, Option, Some, None, ap, opti
 use Rattle.std.specs.Prelude.{is_some, IfSome}
 use Rattle.pos_profile.specs.Registries.{devices as registered}
 use Rattle.pos_service.specs.Stations.{Station, station_of}
-use Rattle.pos_counter.specs.Parts.{boxes_in, devices_in}
+use Rattle.pos_counter.specs.KeptDevices.{boxes_in, devices_in}
 use Rattle.pos_counter.proofs.DeviceLists.{missing_there, station_there}
 use Rattle.pos_counter.proofs.Stations.{named, unnamed}
 use Rattle.pos_counter.proofs.device_calls.snapshot.Goals as goal

@@ -1,5 +1,5 @@
 use Rattle.pos_profile.specs.Registries.{devices as registered}
-use Rattle.pos_counter.specs.Parts.{boxes_in}
+use Rattle.pos_counter.specs.KeptDevices.{boxes_in}
 use Rattle.pos_counter.proofs.Exchanging.{attach_serves}
 use Rattle.pos_counter.proofs.exchange.attach.Goals as goal
 

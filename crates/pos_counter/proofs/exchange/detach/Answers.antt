@@ -1,5 +1,5 @@
 use Rattle.pos_profile.specs.Registries.{devices as registered}
-use Rattle.pos_counter.specs.Parts.{boxes_in}
+use Rattle.pos_counter.specs.KeptDevices.{boxes_in}
 use Rattle.pos_counter.proofs.Exchanging.{detach_serves}
 use Rattle.pos_counter.proofs.exchange.detach.Goals as goal
 

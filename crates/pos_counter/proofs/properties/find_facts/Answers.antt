@@ -4,7 +4,9 @@ use Rattle.pos_service.specs.Claims.{is_own, is_foreign}
 use Rattle.pos_service.specs.Stations.{signs_in}
 use Rattle.pos_service.specs.declared.peripheral_box.HasState.{Ghosts}
 use Rattle.pos_counter.specs.Machine.{device_at, holder_in, kind_in, station_in}
-use Rattle.pos_counter.specs.Parts.{devices_in, machine_with, part_of}
+use Rattle.pos_counter.specs.KeptDevices.{devices_in}
+use Rattle.pos_counter.specs.Assembly.{machine_with}
+use Rattle.pos_counter.specs.Leaving.{part_of}
 use Rattle.pos_counter.specs.Steps.{facts_of}
 use Rattle.pos_counter.proofs.properties.find_facts.Goals as goal
 

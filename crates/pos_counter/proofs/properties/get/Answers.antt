@@ -2,7 +2,9 @@ use Rattle.std.proofs.Common.{◌≡◌, ◌∙◌, Some, ap, subst, sym}
 use Rattle.pos_service.specs.Properties.{property_of, get_rows}
 use Rattle.pos_common.specs.Held.{Gets, Held}
 use Rattle.pos_service.specs.declared.peripheral_box.HasState.{Ghosts}
-use Rattle.pos_counter.specs.Parts.{devices_in, machine_with, part_of}
+use Rattle.pos_counter.specs.KeptDevices.{devices_in}
+use Rattle.pos_counter.specs.Assembly.{machine_with}
+use Rattle.pos_counter.specs.Leaving.{part_of}
 use Rattle.pos_counter.specs.Steps.{facts_of}
 use Rattle.pos_counter.proofs.Lifts.{control_at, get_step}
 use Rattle.pos_counter.proofs.properties.get.Goals as goal

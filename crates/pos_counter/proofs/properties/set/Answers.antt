@@ -8,7 +8,9 @@ use Rattle.pos_counter.specs.Machine.{Shared, device_at, holder_in, kind_in}
 use Rattle.pos_counter.specs.Totals.{asks_recovery}
 use Rattle.std.proofs.lemmas.List.{get_or_default}
 use Rattle.pos_service.specs.declared.call.Call.TheVariants as call
-use Rattle.pos_counter.specs.Parts.{devices_in, machine_with, part_of}
+use Rattle.pos_counter.specs.KeptDevices.{devices_in}
+use Rattle.pos_counter.specs.Assembly.{machine_with}
+use Rattle.pos_counter.specs.Leaving.{part_of}
 use Rattle.pos_counter.specs.Steps.{CallOf, Answered}
 use Rattle.pos_counter.proofs.Recovering.{plain_set}
 use Rattle.pos_counter.proofs.Serving.{kept_disk, rests_stepped, stepped_sound}

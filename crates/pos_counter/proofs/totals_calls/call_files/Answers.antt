@@ -6,7 +6,7 @@ use Rattle.pos_service.specs.declared.call.Call.TheVariants as call
 use Rattle.pos_totals.specs.HardTotals.{Create, Delete, Rename, Write}
 use Rattle.pos_totals.specs.TotalsArrangements.{BeginTrans, ClaimFile, ReleaseFile, Rollback}
 use Rattle.pos_totals.specs.Changes.{Changes}
-use Rattle.pos_counter.specs.Parts.{CallsFiles}
+use Rattle.pos_counter.specs.Serving.{CallsFiles}
 use Rattle.pos_counter.proofs.FileCalls.{arrangement_calls, change_calls, commit_calls, question_calls}
 use Rattle.pos_counter.proofs.totals_calls.call_files.Goals as goal
 

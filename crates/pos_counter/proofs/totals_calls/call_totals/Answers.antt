@@ -6,7 +6,8 @@ use Rattle.pos_service.specs.Claims.{is_foreign}
 use Rattle.pos_service.specs.Refusals.{first_refusal, when}
 use Rattle.pos_common.specs.Needs.{needs_no_other}
 use Rattle.pos_totals.specs.TotalsCalls.{asks_area, file_call, file_rows}
-use Rattle.pos_counter.specs.Parts.{machine_with, part_of}
+use Rattle.pos_counter.specs.Assembly.{machine_with}
+use Rattle.pos_counter.specs.Leaving.{part_of}
 use Rattle.pos_counter.specs.Steps.{CallOf, Answered}
 use Rattle.pos_counter.proofs.Serving.{looks_serve}
 use Rattle.pos_counter.proofs.TotalsSteps.{files_serve, foreign_step, opened_here, refused_step, totals_refusals, was_let, was_refused}

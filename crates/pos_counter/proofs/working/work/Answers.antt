@@ -2,7 +2,7 @@ use Rattle.std.proofs.Common.{◌∙◌, Ok, Some, ap, not, refl, sym}
 use Rattle.pos_service.specs.Claims.{holder_at}
 use Rattle.pos_service.specs.PrinterCalls.{WorksAt}
 use Rattle.pos_profile.specs.Registries.{devices as registered}
-use Rattle.pos_counter.specs.Parts.{boxes_in, devices_in}
+use Rattle.pos_counter.specs.KeptDevices.{boxes_in, devices_in}
 use Rattle.pos_counter.specs.Steps.{NoDevice, OutOfMemory, WorkOn, Worked}
 use Rattle.pos_counter.proofs.DeviceLists.{attached_there, vacant_there}
 use Rattle.pos_counter.proofs.Serving.{step_serves_under}

@@ -3,7 +3,7 @@ use Rattle.pos_counter.specs.Steps.{NewControl}
 use Rattle.pos_counter.specs.Responses.{made}
 use Rattle.pos_counter.specs.Counters.{boxes_of}
 use Rattle.pos_counter.specs.Machine.{Shared}
-use Rattle.pos_counter.specs.Parts.{devices_in}
+use Rattle.pos_counter.specs.KeptDevices.{devices_in}
 use Rattle.pos_counter.proofs.Runs.{control_is_step}
 use Rattle.pos_counter.proofs.Serving.{stepped_sound}
 use Rattle.pos_counter.proofs.counter.Counter.control.Goals as goal

@@ -1,7 +1,7 @@
 use Rattle.std.proofs.Common.{refl}
 use Rattle.pos_counter.specs.Steps.{Deliver, Delivered}
 use Rattle.pos_counter.specs.Counters.{boxes_of}
-use Rattle.pos_counter.specs.Parts.{devices_in}
+use Rattle.pos_counter.specs.KeptDevices.{devices_in}
 use Rattle.pos_counter.proofs.Serving.{controls_serve}
 use Rattle.pos_counter.proofs.counter.Counter.deliver.Goals as goal
 

@@ -3,7 +3,8 @@ use Rattle.std.proofs.lemmas.List.{length-replicate}
 use Rattle.pos_common.specs.Held.{Held}
 use Rattle.pos_profile.specs.Registries.{devices as registered}
 use Rattle.pos_counter.specs.Machine.{Device}
-use Rattle.pos_counter.specs.Parts.{ArePartsSound, boxes_in, devices_in, machine_with, profile_devices}
+use Rattle.pos_counter.specs.Assembly.{ArePartsSound, machine_with}
+use Rattle.pos_counter.specs.KeptDevices.{boxes_in, devices_in, profile_devices}
 use Rattle.pos_counter.proofs.Beginning.{begins_sound, count_devices}
 use Rattle.pos_counter.proofs.counter.Counter.new.Goals as goal
 

@@ -2,7 +2,7 @@ use Rattle.std.proofs.Common.{◌≡◌, ◌∙◌, ap, map, sym, subst, true}
 use Rattle.std.specs.Prelude.{All, IfSome}
 use Rattle.pos_profile.specs.Registries.{Device as Registered, devices as registered}
 use Rattle.pos_counter.specs.Counters.{boxes_of}
-use Rattle.pos_counter.specs.Parts.{device_of}
+use Rattle.pos_counter.specs.KeptDevices.{device_of}
 use Rattle.pos_counter.proofs.Parking.{devices_stay, all_parked}
 use Rattle.pos_counter.proofs.counter.Counter.shutdown.Goals as goal
 

@@ -1,7 +1,8 @@
 use Rattle.std.proofs.Common.{subst, sym}
 use Rattle.pos_common.specs.Held.{Held}
 use Rattle.std.specs.Prelude.{List}
-use Rattle.pos_counter.specs.Parts.{ArePartsSound, boxes_in, devices_in}
+use Rattle.pos_counter.specs.Assembly.{ArePartsSound}
+use Rattle.pos_counter.specs.KeptDevices.{boxes_in, devices_in}
 use Rattle.pos_counter.proofs.desk.Desk.call.Goals as goal
 
 pub call-requires-clause-parts : goal.call-requires-clause-parts

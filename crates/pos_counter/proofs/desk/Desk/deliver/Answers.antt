@@ -1,6 +1,6 @@
 use Rattle.std.proofs.Common.{◌<◌, length, set, subst, arith}
 use Rattle.pos_counter.specs.Steps.{Step, Deliver, Delivered}
-use Rattle.pos_counter.specs.Parts.{over}
+use Rattle.pos_counter.specs.Assembly.{over}
 use Rattle.pos_counter.proofs.Lifts.{deliver_step}
 use Rattle.pos_counter.proofs.desk.Desk.deliver.Goals as goal
 

@@ -1,6 +1,6 @@
 use Rattle.std.proofs.Common.{◌∙◌, sym}
 use Rattle.pos_profile.specs.Registries.{devices as registered}
-use Rattle.pos_counter.specs.Parts.{boxes_in}
+use Rattle.pos_counter.specs.KeptDevices.{boxes_in}
 use Rattle.pos_counter.proofs.Places.{found_first, found_last}
 use Rattle.pos_counter.proofs.devices.Devices.find.Goals as goal
 

@@ -1,5 +1,5 @@
 use Rattle.std.proofs.Common.{sym}
-use Rattle.pos_counter.specs.Parts.{boxes_in, devices_in}
+use Rattle.pos_counter.specs.KeptDevices.{boxes_in, devices_in}
 use Rattle.pos_counter.proofs.Places.{found_there}
 use Rattle.pos_counter.proofs.devices.Devices.find_for.Goals as goal
 

@@ -1,0 +1,65 @@
+-- The devices that a counter keeps, and those that it hands over at its end.
+use Rattle.std.specs.Prelude.{◌≡◌, ℕ, true, List, [], ◌∷◌, Option, Some, None, IfSome, All, map, option_map, is_some, ◌++◌, Bool, bytes_eq, if◌then◌else◌}
+use Rattle.std.specs.List.{filter, find}
+use Rattle.pos_service.specs.Stations.{station_of}
+use Rattle.pos_counter.specs.Machine.{Device, Machine}
+use Rattle.pos_counter.specs.declared.devices.Devices.{Devices}
+use Rattle.pos_profile.specs.declared.entry.Entry.{Entry}
+use Rattle.pos_profile.specs.Categories.{is_totals}
+use Rattle.pos_profile.specs.Registries.{Device as Registered, IsRegistrySound, devices as registered, vacant_devices}
+use Rattle.pos_service.specs.declared.peripheral_box.HasState.{Ghosts as Boxes}
+use Rattle.pos_service.specs.declared.peripheral_box.PeripheralBox.{PeripheralBox}
+
+-- a device that may have a peripheral, and what stands at it
+abbrev pub device_of : Registered → Device
+device_of device = record {
+  name = device.name;
+  kind = Some device.kind;
+  station = option_map station_of device.peripheral;
+}
+
+-- the Hard Totals device of a name, which has no peripheral; none where there is no name
+abbrev pub totals_devices : Option (List ℕ) → List Device
+totals_devices None = []
+totals_devices (Some name) = record { name = name; kind = None; station = None } ∷ []
+
+-- the devices of a counter: those that may have a peripheral, in order, and the Hard Totals device
+abbrev pub devices_of : List Registered → Option (List ℕ) → List Device
+devices_of list totals = map device_of list ++ totals_devices totals
+
+-- the place of the Hard Totals device, behind so many others, where it has the name
+abbrev pub totals_place : ℕ → List ℕ → Option (List ℕ) → Option ℕ
+totals_place count name None = None
+totals_place count name (Some totals) = if bytes_eq name totals then Some count else None
+
+-- the name of the Hard Totals device of a profile
+abbrev pub totals_name : List Entry → Option (List ℕ)
+totals_name entries = option_map (λ entry. entry.name) (find (λ entry. is_totals entry.category) entries)
+
+-- the devices of a profile, each vacant
+abbrev pub profile_devices : List Entry → List Device
+profile_devices entries = devices_of (vacant_devices entries) (totals_name entries)
+
+-- the devices that a counter keeps
+abbrev pub devices_in : {X : Type 0} {O : X → Type 0} → Boxes (PeripheralBox X O) → Devices X O → List Device
+devices_in boxes devices = devices_of (registered boxes devices.registry) devices.totals
+
+-- What is true of the devices of every counter: their registry is sound.
+pub record AreDevicesSound {X : Type 0} {O : X → Type 0} (boxes : Boxes (PeripheralBox X O)) (devices : Devices X O)
+    : Type 0 where
+  pub registry : IsRegistrySound boxes devices.registry
+
+-- the boxes of devices that are sound
+abbrev pub boxes_in : {X : Type 0} {O : X → Type 0} {boxes : Boxes (PeripheralBox X O)} {devices : Devices X O}
+    → AreDevicesSound boxes devices → Boxes (PeripheralBox X O)
+boxes_in {boxes = boxes} sound = boxes
+
+-- the device may have a peripheral
+abbrev pub has_kind : Device → Bool
+has_kind device = is_some device.kind
+
+-- The devices of a machine that may have a peripheral are handed over, each once, in order, with what stands there,
+-- which is out of service.
+pub record HandsOver (machine : Machine) (handed : List Registered) : Type 0 where
+  pub devices : map device_of handed ≡ filter has_kind machine.devices
+  pub parked : All (λ device. IfSome device.peripheral (λ state. state.is_parked ≡ true)) handed
