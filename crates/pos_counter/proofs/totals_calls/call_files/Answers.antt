@@ -56,6 +56,14 @@ returns-in-Rename g c =
     subst (λ q. CallsFiles g.D.Disk view c.args.number q c.rename.result c.rename.new.self) (sym c.in-Rename.is)
     (change_calls g.D.Disk view c.rename.new.self c.args.number _ asked c.rename.result (λ bytes h since. g.met.D.Disk.only_now view.disk bytes h since) refl refl refl changes)
 
+pub returns-in-FindByIndex : goal.returns-in-FindByIndex
+returns-in-FindByIndex g c =
+    let view = c.args.totals.now in
+    let asked = call.FindByIndex c.in-FindByIndex.index in
+    let fits_index : SFits w128 c.in-FindByIndex.index = search rules in
+    subst (λ q. CallsFiles g.D.Disk view c.args.number q c.find_by_index.result view) (sym c.in-FindByIndex.is)
+    (question_calls g.D.Disk view c.args.number _ asked c.find_by_index.result (λ bytes h since. g.met.D.Disk.only_now view.disk bytes h since) refl refl (inl refl) (simp to_z-of_z at c.find_by_index.ensures))
+
 pub returns-in-Read : goal.returns-in-Read
 returns-in-Read g c =
     let view = c.args.totals.now in
