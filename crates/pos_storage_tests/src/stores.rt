@@ -35,8 +35,8 @@ fn full(alloc: Global, second: &[u8], at: usize) -> Result<MemDisk, AllocError> 
         (0, FORMATTED.as_slice()),
         (SECOND, second),
         (at, MADE.as_slice()),
-        (at + 8_217, WRITTEN.as_slice()),
-        (at + 16_364, DELETED.as_slice()),
+        (at.saturating_add(8_217), WRITTEN.as_slice()),
+        (at.saturating_add(16_364), DELETED.as_slice()),
     ];
     disk_of(alloc, 0, &runs)
 }
