@@ -199,7 +199,7 @@ told 'an input that can'"'"'t be read: status' 5 $?
 told 'an input that can'"'"'t be read: message' "pos_console: the script can't be read" "$(cat err)"
 
 # --- faults of the disk in a run: a file that takes no byte behind so many KiB
-# limited KIB ANSWERS: whether a script that makes a file of 2,000 bytes prints so over such a disk
+# limited KIB ANSWERS: whether a script that makes a file of 2,000 bytes and writes it prints so over such a disk
 limited() {
   rm -f small.disk
   "$program" format --disk small.disk
@@ -207,11 +207,14 @@ limited() {
   told "a disk that takes $1 KiB: status" 0 $?
   told "a disk that takes $1 KiB: output" "$(printf 'ok\nok\nok\n'"$2")" "$(cat out)"
 }
-printf 'new a HardTotals\nopen a t1\nset a DeviceEnabled true\ncall a create 41 2000 false\ncall a find 41\n' > script
-limited 32 'err 111\nerr 111' # the first write is refused
-limited 33 'err 111\nerr 111' # the second is cut short
-limited 48 'err 111\nerr 111' # the third is refused
-limited 49 'ok 1\nok 1 2000'
+{
+  printf 'new a HardTotals\nopen a t1\nset a DeviceEnabled true\ncall a create 41 2000 false\ncall a write 1 0 '
+  head -c 2000 /dev/zero | od -An -v -tx1 | tr -d ' \n'
+  printf '\ncall a find 41\n'
+} > script
+limited 16 'err 111\nerr 111\nerr 111' # the first record is refused
+limited 17 'ok 1\nerr 111\nerr 111'    # the second is cut short
+limited 19 'ok 1\nok\nok 1 2000'
 
 # --- syncs, where strace is there: between what has to settle and what follows, and before an answer is written
 # calls WORD ..: the calls of the program on the words that change a file: w where bytes are written, l where it is

@@ -66,6 +66,7 @@ carry_out <<< 'call a write 1 0 deadbeef' > said
 cp disk after
 torn 'a record' 16398 22 1
 
+rm disk
 # a new image in the other slot: a group of 8,192 bytes fits the empty log, one of 8,142 bytes behind it doesn't
 "$program" format --disk disk
 long() { printf 'call a write 1 0 %s' "$1"; head -c $(($2 - 4)) /dev/zero | od -An -v -tx1 | tr -d ' \n'; echo; }
