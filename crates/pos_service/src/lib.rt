@@ -41,7 +41,7 @@ pub use memory::NoMemory;
 pub use names::is_device_name;
 pub use order::{Order, Reply};
 pub use peripheral::Peripheral;
-pub use peripheral_box::{HasState, PeripheralBox};
+pub use peripheral_box::PeripheralBox;
 pub use plant::{DisplayCells, Plant, Receipt, Snapshot};
 pub use property::Property;
 pub use scan::Scan;

@@ -10,8 +10,9 @@ use crate::signs::Signs;
 
 /// What stands behind a device: a simulation, or the driver of real hardware.
 ///
-/// It may end only parked, once it is boxed: see `PeripheralBox`.
-pub trait Peripheral: Drop {
+/// What is asked of one that is out of service, or that doesn't fit its kind, it may answer and do as it likes. A box of
+/// one ends only parked: see `PeripheralBox`.
+pub trait Peripheral {
     /// Its kind, its plant, whether it is parked, and how often its line has failed.
     ghost state: { Self → PeripheralState };
 
@@ -28,15 +29,13 @@ pub trait Peripheral: Drop {
     /// Carries out an order whole, or says why it did nothing. It counts each failure of its line, and stays at the
     /// count's last value, 18,446,744,073,709,551,615. Want of memory changes nothing.
     fn ask(&mut self, order: &Order) -> Result<Reply, NoMemory>
-        requires unparked { (state self.old).is_parked ≡ false }
-        requires fits { order_fits (state self.old).kind order.now ≡ true }
-        ensures { Asked (state self.old) order.now result (state self.new) };
+        ensures { (state self.old).is_parked ≡ false → order_fits (state self.old).kind order.now ≡ true →
+            Asked (state self.old) order.now result (state self.new) };
 
     /// Takes what happens from outside. Want of memory changes nothing.
     fn feed(&mut self, input: &Input) -> Result<Taken, NoMemory>
-        requires unparked { (state self.old).is_parked ≡ false }
-        requires fits { input_fits (state self.old).kind input.now ≡ true }
-        ensures { Fed (state self.old) input.now result (state self.new) };
+        ensures { (state self.old).is_parked ≡ false → input_fits (state self.old).kind input.now ≡ true →
+            Fed (state self.old) input.now result (state self.new) };
 
     /// A copy of its plant.
     fn snapshot(&self) -> Result<Snapshot, NoMemory>

@@ -52,11 +52,13 @@ impl Peripheral for PlainDisplay {
     }
 
     fn ask(&mut self, order: &Order) -> Result<Reply, NoMemory>
-        requires unparked { (state_of self.old).is_parked ≡ false }
-        requires fits { order_fits (state_of self.old).kind order.now ≡ true }
-        ensures asked { Asked (state_of self.old) order.now result (state_of self.new) }
+        ensures asked { (state_of self.old).is_parked ≡ false → order_fits (state_of self.old).kind order.now ≡ true →
+            Asked (state_of self.old) order.now result (state_of self.new) }
         ensures takes_no_memory { IsOk result }
     {
+        if !order.fits(self.kind()) {
+            return Ok(Reply::LineFault);
+        }
         match order {
             Order::ShowText {
                 row,
@@ -85,8 +87,8 @@ impl Peripheral for PlainDisplay {
     }
 
     fn feed(&mut self, input: &Input) -> Result<Taken, NoMemory>
-        requires { (state_of self.old).is_parked ≡ false }
-        ensures fed { Fed (state_of self.old) input.now result (state_of self.new) }
+        ensures fed { (state_of self.old).is_parked ≡ false →
+            Fed (state_of self.old) input.now result (state_of self.new) }
         ensures takes_no_memory { IsOk result }
     {
         match input {

@@ -41,9 +41,8 @@ impl Peripheral for PlainDrawer {
     }
 
     fn ask(&mut self, order: &Order) -> Result<Reply, NoMemory>
-        requires unparked { (state_of self.old).is_parked ≡ false }
-        requires fits { order_fits (state_of self.old).kind order.now ≡ true }
-        ensures asked { Asked (state_of self.old) order.now result (state_of self.new) }
+        ensures asked { (state_of self.old).is_parked ≡ false → order_fits (state_of self.old).kind order.now ≡ true →
+            Asked (state_of self.old) order.now result (state_of self.new) }
         ensures takes_no_memory { IsOk result }
     {
         match order {
@@ -51,14 +50,13 @@ impl Peripheral for PlainDrawer {
                 self.is_open = true;
                 Ok(Reply::Done)
             }
-            _ => unreachable!(),
+            _ => Ok(Reply::LineFault),
         }
     }
 
     fn feed(&mut self, input: &Input) -> Result<Taken, NoMemory>
-        requires unparked { (state_of self.old).is_parked ≡ false }
-        requires fits { input_fits (state_of self.old).kind input.now ≡ true }
-        ensures fed { Fed (state_of self.old) input.now result (state_of self.new) }
+        ensures fed { (state_of self.old).is_parked ≡ false → input_fits (state_of self.old).kind input.now ≡ true →
+            Fed (state_of self.old) input.now result (state_of self.new) }
         ensures takes_no_memory { IsOk result }
     {
         match input {
@@ -66,7 +64,7 @@ impl Peripheral for PlainDrawer {
                 self.is_open = *is_open;
                 Ok(Taken::Quiet)
             }
-            _ => unreachable!(),
+            _ => Ok(Taken::Fault),
         }
     }
 

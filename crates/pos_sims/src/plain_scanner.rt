@@ -41,8 +41,8 @@ impl Peripheral for PlainScanner {
     }
 
     fn ask(&mut self, order: &Order) -> Result<Reply, NoMemory>
-        requires { (state_of self.old).is_parked ≡ false }
-        ensures asked { Asked (state_of self.old) order.now result (state_of self.new) }
+        ensures asked { (state_of self.old).is_parked ≡ false →
+            Asked (state_of self.old) order.now result (state_of self.new) }
         ensures takes_no_memory { IsOk result }
     {
         let _ = order;
@@ -51,9 +51,8 @@ impl Peripheral for PlainScanner {
     }
 
     fn feed(&mut self, input: &Input) -> Result<Taken, NoMemory>
-        requires unparked { (state_of self.old).is_parked ≡ false }
-        requires fits { input_fits (state_of self.old).kind input.now ≡ true }
-        ensures fed { Fed (state_of self.old) input.now result (state_of self.new) }
+        ensures fed { (state_of self.old).is_parked ≡ false → input_fits (state_of self.old).kind input.now ≡ true →
+            Fed (state_of self.old) input.now result (state_of self.new) }
         ensures takes_no_memory { IsOk result }
     {
         match input {
@@ -62,8 +61,7 @@ impl Peripheral for PlainScanner {
                 bytes: _,
                 label: _,
             } => Ok(Taken::Scan),
-            Input::ScanFault => Ok(Taken::Fault),
-            _ => unreachable!(),
+            _ => Ok(Taken::Fault),
         }
     }
 

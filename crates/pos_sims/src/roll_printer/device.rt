@@ -60,6 +60,9 @@ impl Peripheral for RollPrinter {
     }
 
     fn ask(&mut self, order: &Order) -> Result<Reply, NoMemory> {
+        if !order.fits(self.kind()) {
+            return Ok(Reply::LineFault);
+        }
         match order {
             Order::Print { bytes } => Ok(reply_of(self.roll.print(bytes.as_slice())?)),
             Order::Cut { percentage } => Ok(reply_of(self.roll.cut(*percentage)?)),
@@ -68,9 +71,8 @@ impl Peripheral for RollPrinter {
     }
 
     fn feed(&mut self, input: &Input) -> Result<Taken, NoMemory>
-        requires unparked { (state_of self.old).is_parked ≡ false }
-        requires fits { input_fits (state_of self.old).kind input.now ≡ true }
-        ensures fed { Fed (state_of self.old) input.now result (state_of self.new) }
+        ensures fed { (state_of self.old).is_parked ≡ false → input_fits (state_of self.old).kind input.now ≡ true →
+            Fed (state_of self.old) input.now result (state_of self.new) }
         ensures takes_no_memory { IsOk result }
     {
         match input {
@@ -82,7 +84,7 @@ impl Peripheral for RollPrinter {
                 self.roll.load(*lines);
                 Ok(Taken::Quiet)
             }
-            _ => unreachable!(),
+            _ => Ok(Taken::Fault),
         }
     }
 
