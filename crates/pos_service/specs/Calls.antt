@@ -1,12 +1,16 @@
--- The calls that every category has: the refusals of each in their order.
-use Rattle.std.specs.Prelude.{ℕ, Bool, true, false, not, List, [], ◌∷◌, Option, Some, None, is_some, is_none}
+-- What is known of each call beforehand, and the refusals of open and close.
+use Rattle.std.specs.Prelude.{ℕ, Bool, true, false, List, [], ◌∷◌, Option, Some, None, is_some, is_none}
 use Rattle.pos_service.specs.declared.category.Category.{Category}
 use Rattle.pos_service.specs.declared.category.Category.TheVariants as category
 use Rattle.pos_service.specs.declared.kind.Kind.{Kind}
 use Rattle.pos_service.specs.declared.kind.Kind.TheVariants as kind
 use Rattle.pos_service.specs.declared.call.Call.{Call}
 use Rattle.pos_service.specs.declared.call.Call.TheVariants as call
+use Rattle.pos_service.specs.declared.call.CallRow.{CallRow}
 use Rattle.pos_service.specs.declared.code.Code.TheVariants as code
+use Rattle.pos_service.specs.declared.needs.ClaimNeed.{ClaimNeed}
+use Rattle.pos_service.specs.declared.needs.ClaimNeed.TheVariants as claim_need
+use Rattle.pos_service.specs.declared.needs.Needs.{Needs}
 use Rattle.pos_service.specs.declared.finding.Finding.{Finding}
 use Rattle.pos_service.specs.declared.finding.Finding.TheVariants as finding
 use Rattle.pos_service.specs.Controls.{Control}
@@ -32,67 +36,79 @@ serves category.PosPrinter (Some k) = is_printer k
 serves category.HardTotals None = true
 serves category.HardTotals (Some k) = false
 
+-- what is known of a call that every category has
+abbrev pub common_row : CallRow
+common_row = record { category = None; claim = claim_need.Any; is_enabled = false; takes_memory = false }
+
+-- what is known of a category's call
+abbrev pub own_row : Category → ClaimNeed → Bool → Bool → CallRow
+own_row category claim is_enabled takes_memory =
+    record { category = Some category; claim = claim; is_enabled = is_enabled; takes_memory = takes_memory }
+
+-- What is known of each call beforehand: the category that has it (none where each has it), what it asks of the claim,
+-- whether the device has to be enabled, and whether it may want memory.
+abbrev pub row_of : Call → CallRow
+row_of (call.Open name) = common_row
+row_of call.Close = common_row
+row_of (call.Claim timeout) = common_row
+row_of call.Release = common_row
+row_of (call.Set p v) = common_row
+row_of (call.Get p) = common_row
+row_of call.OpenDrawer = own_row category.CashDrawer claim_need.NoOther true true
+row_of call.ClearInput = own_row category.Scanner claim_need.Own false false
+row_of call.ClearInputProperties = own_row category.Scanner claim_need.Own false false
+row_of (call.DisplayText text attribute) = own_row category.LineDisplay claim_need.Own true true
+row_of (call.DisplayTextAt row column text attribute) = own_row category.LineDisplay claim_need.Own true true
+row_of call.ClearText = own_row category.LineDisplay claim_need.Own true true
+row_of (call.ScrollText direction units) = own_row category.LineDisplay claim_need.Own true true
+row_of (call.PrintNormal station text) = own_row category.PosPrinter claim_need.Own true true
+row_of (call.PrintImmediate station text) = own_row category.PosPrinter claim_need.Own true true
+row_of (call.CutPaper percentage) = own_row category.PosPrinter claim_need.Own true true
+row_of call.ClearOutput = own_row category.PosPrinter claim_need.Own false false
+row_of (call.Create name size detection) = own_row category.HardTotals claim_need.NoOther true true
+row_of (call.Delete name) = own_row category.HardTotals claim_need.NoOther true true
+row_of (call.Find name) = own_row category.HardTotals claim_need.NoOther true false
+row_of (call.FindByIndex index) = own_row category.HardTotals claim_need.NoOther true true
+row_of (call.Read handle offset count) = own_row category.HardTotals claim_need.NoOther true true
+row_of (call.Write handle offset bytes) = own_row category.HardTotals claim_need.NoOther true true
+row_of (call.SetAll handle n) = own_row category.HardTotals claim_need.NoOther true true
+row_of (call.Rename handle name) = own_row category.HardTotals claim_need.NoOther true true
+row_of (call.ClaimFile handle timeout) = own_row category.HardTotals claim_need.Any true false
+row_of (call.ReleaseFile handle) = own_row category.HardTotals claim_need.Any true false
+row_of call.BeginTrans = own_row category.HardTotals claim_need.Any true false
+row_of call.CommitTrans = own_row category.HardTotals claim_need.NoOther true true
+row_of call.Rollback = own_row category.HardTotals claim_need.Any true false
+
 -- a call that every category has
 abbrev pub is_common : Call → Bool
-is_common (call.Open name) = true
-is_common call.Close = true
-is_common (call.Claim timeout) = true
-is_common call.Release = true
-is_common (call.Set p v) = true
-is_common (call.Get p) = true
-is_common asked = false
+is_common asked = is_none (row_of asked).category
+
+-- the category is this one
+abbrev pub is_category : Option Category → Category → Bool
+is_category None c = false
+is_category (Some category.CashDrawer) category.CashDrawer = true
+is_category (Some category.Scanner) category.Scanner = true
+is_category (Some category.LineDisplay) category.LineDisplay = true
+is_category (Some category.PosPrinter) category.PosPrinter = true
+is_category (Some category.HardTotals) category.HardTotals = true
+is_category (Some other) c = false
 
 -- the call is one of the category's own, besides those that every category has
 abbrev pub has_call : Category → Call → Bool
-has_call category.CashDrawer call.OpenDrawer = true
-has_call category.Scanner call.ClearInput = true
-has_call category.Scanner call.ClearInputProperties = true
-has_call category.LineDisplay (call.DisplayText text attribute) = true
-has_call category.LineDisplay (call.DisplayTextAt row column text attribute) = true
-has_call category.LineDisplay call.ClearText = true
-has_call category.LineDisplay (call.ScrollText direction units) = true
-has_call category.PosPrinter (call.PrintNormal station text) = true
-has_call category.PosPrinter (call.PrintImmediate station text) = true
-has_call category.PosPrinter (call.CutPaper percentage) = true
-has_call category.PosPrinter call.ClearOutput = true
-has_call category.HardTotals (call.Create name size detection) = true
-has_call category.HardTotals (call.Delete name) = true
-has_call category.HardTotals (call.Find name) = true
-has_call category.HardTotals (call.FindByIndex index) = true
-has_call category.HardTotals (call.Read handle offset count) = true
-has_call category.HardTotals (call.Write handle offset bytes) = true
-has_call category.HardTotals (call.SetAll handle n) = true
-has_call category.HardTotals (call.Rename handle name) = true
-has_call category.HardTotals (call.ClaimFile handle timeout) = true
-has_call category.HardTotals (call.ReleaseFile handle) = true
-has_call category.HardTotals call.BeginTrans = true
-has_call category.HardTotals call.CommitTrans = true
-has_call category.HardTotals call.Rollback = true
-has_call c asked = false
+has_call c asked = is_category (row_of asked).category c
+
+-- what a call of a category's own asks of a control before anything else
+abbrev pub needs_of : Category → Call → Needs
+needs_of c asked = record {
+  is_open = true;
+  is_there = has_call c asked;
+  claim = (row_of asked).claim;
+  is_enabled = (row_of asked).is_enabled;
+}
 
 -- the calls of a category's own that may want memory
 abbrev pub takes_memory : Call → Bool
-takes_memory call.OpenDrawer = true
-takes_memory (call.DisplayText text attribute) = true
-takes_memory (call.DisplayTextAt row column text attribute) = true
-takes_memory call.ClearText = true
-takes_memory (call.ScrollText direction units) = true
-takes_memory (call.PrintNormal station text) = true
-takes_memory (call.PrintImmediate station text) = true
-takes_memory (call.CutPaper percentage) = true
-takes_memory (call.Create name size detection) = true
-takes_memory (call.Delete name) = true
-takes_memory (call.FindByIndex index) = true
-takes_memory (call.Read handle offset count) = true
-takes_memory (call.Write handle offset bytes) = true
-takes_memory (call.SetAll handle n) = true
-takes_memory (call.Rename handle name) = true
-takes_memory call.CommitTrans = true
-takes_memory asked = false
-
--- a call of another category is illegal before all that a call of its own asks
-abbrev pub own_rows : Control → Call → List Row → List Row
-own_rows control asked rows = when (not (has_call control.category asked)) code.Illegal ∷ rows
+takes_memory asked = (row_of asked).takes_memory
 
 -- nothing of the name is there for the control's category
 abbrev pub is_not_there : Finding → Bool

@@ -2,6 +2,8 @@
 use Rattle.std.specs.Prelude.{ℕ}
 use Rattle.pos_service.specs.declared.code.Code.{Code}
 use Rattle.pos_service.specs.declared.code.Code.TheVariants as code
+use Rattle.pos_service.specs.declared.order.Reply.{Reply}
+use Rattle.pos_service.specs.declared.order.Reply.TheVariants as reply
 use Rattle.pos_service.specs.declared.event.Locus.{Locus}
 use Rattle.pos_service.specs.declared.event.Locus.TheVariants as locus
 
@@ -33,6 +35,20 @@ eptr_cover_open = 201
 -- E_EXTENDED EPTR_REC_EMPTY: the receipt's paper doesn't suffice (chapter POS Printer)
 abbrev pub eptr_rec_empty : ℕ
 eptr_rec_empty = 203
+
+-- the result code where a peripheral has said this to an order
+abbrev pub code_by : Reply → Code
+code_by reply.Done = code.Success
+code_by reply.CoverOpen = code.Extended
+code_by reply.PaperEnd = code.Extended
+code_by reply.LineFault = code.Failure
+
+-- the extended code with it: EPTR_COVER_OPEN and EPTR_REC_EMPTY with E_EXTENDED
+abbrev pub extended_by : Reply → ℕ
+extended_by reply.Done = 0
+extended_by reply.CoverOpen = eptr_cover_open
+extended_by reply.PaperEnd = eptr_rec_empty
+extended_by reply.LineFault = 0
 
 -- the number of an error's locus
 abbrev pub locus_number_of : Locus → ℕ

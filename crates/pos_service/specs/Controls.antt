@@ -11,7 +11,7 @@ use Rattle.pos_service.specs.declared.code.Code.{Code}
 use Rattle.pos_service.specs.declared.order.Order.{Order}
 use Rattle.pos_service.specs.declared.scan.Scan.{Scan}
 use Rattle.pos_service.specs.Displays.{default_cursor}
-use Rattle.pos_service.specs.Events.{EventList, Enqueued, Data, Error, Complete, no_events, event_of, scan_of, enqueued, all_enqueued, input_failed, output_cleared}
+use Rattle.pos_service.specs.Events.{EventList, Enqueued, Data, Error, Complete, no_events, event_of, scan_of, enqueued, all_enqueued, input_cleared, input_failed, output_cleared}
 use Rattle.pos_service.specs.Events.{deliverable as deliverable_in, delivered as delivered_in}
 use Rattle.pos_service.specs.Output.{Output, is_outstanding, no_output, with_request, request_done, request_failed, output_deleted, output_after}
 
@@ -164,6 +164,14 @@ output_failed code extended control = record control {
   writer = with_output (request_failed control.writer.output) control.writer;
   list = enqueued (Error code extended locus.Output) control.list;
 }
+
+-- clearInput: the control without DataEvents and ErrorEvents of input, and without an input error
+abbrev pub without_input : Control → Control
+without_input control = record control { list = input_cleared control.list }
+
+-- clearInputProperties: the control whose ScanData, ScanDataLabel and ScanDataType have their defaults
+abbrev pub without_scan : Control → Control
+without_scan control = record control { reader = record control.reader { shown = no_scan } }
 
 -- clearOutput: a control without requests, without ErrorEvents of output, and without an error of output.
 -- OutputCompleteEvents stay.

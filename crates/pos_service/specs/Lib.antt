@@ -2,12 +2,14 @@ pub mod Calls
 pub mod Claims
 pub mod Codes
 pub mod Controls
+pub mod Deeds
 pub mod DisplayCalls
 pub mod Displays
 pub mod DrawerCalls
 pub mod Events
 pub mod Kinds
 pub mod Names
+pub mod Needs
 pub mod Numbers
 pub mod Output
 pub mod Peripherals

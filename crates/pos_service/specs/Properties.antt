@@ -1,71 +1,97 @@
 -- The properties of every category: their refusals, their values, and what setting one does.
-use Rattle.std.specs.Prelude.{ℕ, nat_abs, Bool, true, false, not, ◌&&◌, pos, List, [], ◌∷◌, Option, Some, None, is_none}
+use Rattle.std.specs.Prelude.{ℕ, nat_abs, Bool, true, false, not, ◌&&◌, ◌||◌, if◌then◌else◌, pos, List, [], ◌∷◌, Option, Some, None, is_none}
 use Rattle.pos_service.specs.declared.category.Category.{Category}
 use Rattle.pos_service.specs.declared.category.Category.TheVariants as category
 use Rattle.pos_service.specs.declared.display_text.Cursor.{Cursor}
 use Rattle.pos_service.specs.declared.kind.Kind.{Kind}
 use Rattle.pos_service.specs.declared.property.Property.{Property}
 use Rattle.pos_service.specs.declared.property.Property.TheVariants as property
+use Rattle.pos_service.specs.declared.property.PropertyRow.{PropertyRow}
+use Rattle.pos_service.specs.declared.needs.ClaimNeed.{ClaimNeed}
+use Rattle.pos_service.specs.declared.needs.ClaimNeed.TheVariants as claim_need
+use Rattle.pos_service.specs.declared.needs.Needs.{Needs}
 use Rattle.pos_service.specs.declared.facts.Facts.{Facts}
 use Rattle.pos_service.specs.declared.facts.FileFacts.{FileFacts}
 use Rattle.pos_service.specs.declared.answer.Value.{Value}
 use Rattle.pos_service.specs.declared.answer.Value.TheVariants as value
 use Rattle.pos_service.specs.declared.code.Code.TheVariants as code
-use Rattle.pos_service.specs.Claims.{is_exclusive, is_foreign}
+use Rattle.pos_service.specs.Calls.{is_category}
+use Rattle.pos_service.specs.Claims.{is_exclusive}
 use Rattle.pos_service.specs.Controls.{Control, Reader, Writer, state_of}
 use Rattle.pos_service.specs.Events.{data_count}
 use Rattle.pos_service.specs.Kinds.{rows_of, columns_of, chars_of}
 use Rattle.pos_service.specs.Numbers.{is_index, is_up_to}
 use Rattle.pos_service.specs.Receipts.{is_empty, is_near_end}
+use Rattle.pos_service.specs.Needs.{table}
 use Rattle.pos_service.specs.Refusals.{Row, when}
 
--- the category has the property
-abbrev pub has_property : Category → Property → Bool
-has_property c property.State = true
-has_property c property.Claimed = true
-has_property c property.DeviceEnabled = true
-has_property c property.FreezeEvents = true
-has_property category.CashDrawer property.CapStatus = true
-has_property category.CashDrawer property.DrawerOpened = true
-has_property category.Scanner property.DataEventEnabled = true
-has_property category.Scanner property.AutoDisable = true
-has_property category.Scanner property.DataCount = true
-has_property category.Scanner property.DecodeData = true
-has_property category.Scanner property.ScanData = true
-has_property category.Scanner property.ScanDataLabel = true
-has_property category.Scanner property.ScanDataType = true
-has_property category.LineDisplay property.Rows = true
-has_property category.LineDisplay property.Columns = true
-has_property category.LineDisplay property.CursorRow = true
-has_property category.LineDisplay property.CursorColumn = true
-has_property category.LineDisplay property.CursorUpdate = true
-has_property category.PosPrinter property.AsyncMode = true
-has_property category.PosPrinter property.OutputId = true
-has_property category.PosPrinter property.RecLineChars = true
-has_property category.PosPrinter property.CoverOpen = true
-has_property category.PosPrinter property.RecEmpty = true
-has_property category.PosPrinter property.RecNearEnd = true
-has_property category.HardTotals property.TotalsSize = true
-has_property category.HardTotals property.FreeData = true
-has_property category.HardTotals property.NumberOfFiles = true
-has_property category.HardTotals property.TransactionInProgress = true
-has_property category.HardTotals property.CapTransactions = true
-has_property category.HardTotals property.CapSingleFile = true
-has_property category.HardTotals property.CapErrorDetection = true
-has_property c p = false
+-- the row of a property of an open control
+abbrev pub plain : Option Category → PropertyRow
+plain category = record {
+  category = category;
+  is_open = true;
+  claim = claim_need.Any;
+  is_enabled = false;
+  is_of_files = false;
+  is_of_bytes = false;
+  is_settable = false;
+}
 
--- the property may be set to some values
-abbrev pub is_settable : Property → Bool
-is_settable property.DeviceEnabled = true
-is_settable property.FreezeEvents = true
-is_settable property.DataEventEnabled = true
-is_settable property.AutoDisable = true
-is_settable property.DecodeData = true
-is_settable property.CursorRow = true
-is_settable property.CursorColumn = true
-is_settable property.CursorUpdate = true
-is_settable property.AsyncMode = true
-is_settable p = false
+-- that of one that can be set
+abbrev pub settable : Option Category → PropertyRow
+settable category = record (plain category) { is_settable = true }
+
+-- that of one of an enabled device
+abbrev pub of_device : Category → ClaimNeed → PropertyRow
+of_device category claim = record (plain (Some category)) { claim = claim; is_enabled = true }
+
+-- that of one of totals that are ready
+abbrev pub of_files : PropertyRow
+of_files = record (of_device category.HardTotals claim_need.Any) { is_of_files = true }
+
+-- that of one whose value is a copy of bytes
+abbrev pub of_bytes : PropertyRow
+of_bytes = record (plain (Some category.Scanner)) { is_of_bytes = true }
+
+-- What is known of each property beforehand: the category whose controls have it (none where those of each do); whether
+-- it can be read of an open control alone, by whose claim, of an enabled device alone, of totals alone that are ready;
+-- whether its value is a copy of bytes; and whether it can be set.
+abbrev pub row_of : Property → PropertyRow
+row_of property.State = record (plain None) { is_open = false }
+row_of property.Claimed = plain None
+row_of property.DeviceEnabled = settable None
+row_of property.FreezeEvents = settable None
+row_of property.DataEventEnabled = settable (Some category.Scanner)
+row_of property.AutoDisable = settable (Some category.Scanner)
+row_of property.DataCount = plain (Some category.Scanner)
+row_of property.DecodeData = settable (Some category.Scanner)
+row_of property.ScanData = of_bytes
+row_of property.ScanDataLabel = of_bytes
+row_of property.ScanDataType = plain (Some category.Scanner)
+row_of property.CapStatus = plain (Some category.CashDrawer)
+row_of property.DrawerOpened = of_device category.CashDrawer claim_need.Any
+row_of property.Rows = plain (Some category.LineDisplay)
+row_of property.Columns = plain (Some category.LineDisplay)
+row_of property.CursorRow = settable (Some category.LineDisplay)
+row_of property.CursorColumn = settable (Some category.LineDisplay)
+row_of property.CursorUpdate = settable (Some category.LineDisplay)
+row_of property.AsyncMode = settable (Some category.PosPrinter)
+row_of property.OutputId = plain (Some category.PosPrinter)
+row_of property.RecLineChars = of_device category.PosPrinter claim_need.Own
+row_of property.CoverOpen = of_device category.PosPrinter claim_need.Own
+row_of property.RecEmpty = of_device category.PosPrinter claim_need.Own
+row_of property.RecNearEnd = of_device category.PosPrinter claim_need.Own
+row_of property.TotalsSize = plain (Some category.HardTotals)
+row_of property.FreeData = of_files
+row_of property.NumberOfFiles = of_files
+row_of property.TransactionInProgress = plain (Some category.HardTotals)
+row_of property.CapTransactions = plain (Some category.HardTotals)
+row_of property.CapSingleFile = plain (Some category.HardTotals)
+row_of property.CapErrorDetection = plain (Some category.HardTotals)
+
+-- the controls of a category have what the category's controls have, or those of each
+abbrev pub is_in : Option Category → Category → Bool
+is_in its c = is_none its || is_category its c
 
 -- The property may be set to this value, by its type, and by its range at a device of this kind: CursorRow is one of
 -- the display's rows, CursorColumn one of its columns or the place right of them.
@@ -81,20 +107,24 @@ takes at property.CursorUpdate (value.Truth is_true) = true
 takes at property.AsyncMode (value.Truth is_true) = true
 takes at p v = false
 
--- the property may be set by the control alone that holds its device
-abbrev pub needs_claim : Category → Property → Bool
-needs_claim category property.DeviceEnabled = is_exclusive category
-needs_claim category p = false
+-- whose claim setting the property asks: DeviceEnabled of an exclusive-use device is set by the control alone that holds it
+abbrev pub claim_to_set : Category → Property → ClaimNeed
+claim_to_set c property.DeviceEnabled = if is_exclusive c then claim_need.Own else claim_need.Any
+claim_to_set c p = claim_need.Any
 
--- A property is set by the control with a number, whose device has this holder and is of this kind: a property of
--- another category can't be set either.
+-- what setting it asks of a control of a category before anything else: a property of another category can't be set either
+abbrev pub needs_to_set : Category → Property → Needs
+needs_to_set c p = record {
+  is_open = true;
+  is_there = is_in (row_of p).category c && (row_of p).is_settable;
+  claim = claim_to_set c p;
+  is_enabled = false;
+}
+
+-- A property is set by the control with a number, whose device has this holder and is of this kind.
 abbrev pub set_rows : ℕ → Option ℕ → Option Kind → Control → Property → Value → List Row
 set_rows number holder at control p v =
-    when (is_none control.device) code.Closed
-    ∷ when (not (has_property control.category p && is_settable p)) code.Illegal
-    ∷ when (needs_claim control.category p && is_foreign number holder) code.Claimed
-    ∷ when (needs_claim control.category p && is_none holder) code.NotClaimed
-    ∷ when (not (takes at p v)) code.Illegal ∷ []
+    table number holder control (needs_to_set control.category p) (when (not (takes at p v)) code.Illegal ∷ [])
 
 -- DeviceEnabled, once the property is set
 abbrev pub enabled_after : Bool → Property → Value → Bool
@@ -135,50 +165,24 @@ after_set control p v = record control {
   writer = writer_after control.writer p v;
 }
 
--- the property can be read of an open control alone
-abbrev pub needs_open : Property → Bool
-needs_open property.State = false
-needs_open p = true
-
--- the property can be read by the control alone that holds its device
-abbrev pub needs_holder : Property → Bool
-needs_holder property.RecLineChars = true
-needs_holder property.CoverOpen = true
-needs_holder property.RecEmpty = true
-needs_holder property.RecNearEnd = true
-needs_holder p = false
-
--- the property can be read of an enabled device alone
-abbrev pub needs_enabled : Property → Bool
-needs_enabled property.DrawerOpened = true
-needs_enabled property.RecLineChars = true
-needs_enabled property.CoverOpen = true
-needs_enabled property.RecEmpty = true
-needs_enabled property.RecNearEnd = true
-needs_enabled property.FreeData = true
-needs_enabled property.NumberOfFiles = true
-needs_enabled p = false
-
--- the property can be read of totals alone that are ready
-abbrev pub needs_files : Property → Bool
-needs_files property.FreeData = true
-needs_files property.NumberOfFiles = true
-needs_files p = false
-
 -- the value of the property is a copy of bytes, for which memory may be wanted
 abbrev pub is_of_bytes : Property → Bool
-is_of_bytes property.ScanData = true
-is_of_bytes property.ScanDataLabel = true
-is_of_bytes p = false
+is_of_bytes p = (row_of p).is_of_bytes
 
-abbrev pub get_rows : Control → Facts → Property → List Row
-get_rows control facts p =
-    when (needs_open p && is_none control.device) code.Closed
-    ∷ when (not (has_property control.category p)) code.Illegal
-    ∷ when (needs_holder p && facts.is_foreign) code.Claimed
-    ∷ when (needs_holder p && not facts.is_claimed) code.NotClaimed
-    ∷ when (needs_enabled p && not control.enabled) code.Disabled
-    ∷ when (needs_files p && is_none facts.files) code.Failure ∷ []
+-- what reading it asks of a control of a category before anything else
+abbrev pub needs_of : Category → Property → Needs
+needs_of c p = record {
+  is_open = (row_of p).is_open;
+  is_there = is_in (row_of p).category c;
+  claim = (row_of p).claim;
+  is_enabled = (row_of p).is_enabled;
+}
+
+-- A property is read by the control with a number, whose device has this holder.
+abbrev pub get_rows : ℕ → Option ℕ → Control → Facts → Property → List Row
+get_rows number holder control facts p =
+    table number holder control (needs_of control.category p)
+    (when ((row_of p).is_of_files && is_none facts.files) code.Failure ∷ [])
 
 -- what is told of files that are known
 abbrev pub told_of_files : Option FileFacts → (FileFacts → ℕ) → Value

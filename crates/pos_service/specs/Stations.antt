@@ -1,7 +1,5 @@
 -- What stands at a device, and what a category's calls and inputs do there to the list of all controls.
-use Rattle.std.specs.Prelude.{◌≡◌, ℕ, true, false, List, Option, Some, None, Result, MatchOption, MatchResult, IfSome, IsTrue, is_some, slice_get}
-use Rattle.pos_service.specs.declared.answer.Answer.{Answer}
-use Rattle.pos_service.specs.declared.call.Call.{Call}
+use Rattle.std.specs.Prelude.{◌≡◌, ℕ, true, false, List, Option, Some, None, Result, MatchOption, MatchResult, IsTrue, is_some, slice_get}
 use Rattle.pos_service.specs.declared.category.Category.{Category}
 use Rattle.pos_service.specs.declared.input.Input.{Input}
 use Rattle.pos_service.specs.declared.input.Input.TheVariants as input
@@ -12,11 +10,9 @@ use Rattle.pos_service.specs.declared.memory.NoMemory.{NoMemory}
 use Rattle.pos_service.specs.declared.plant.Plant.{Plant}
 use Rattle.pos_service.specs.declared.signs.PaperLevel.TheVariants as paper
 use Rattle.pos_service.specs.declared.signs.Signs.{Signs}
-use Rattle.pos_service.specs.Calls.{own_rows, takes_memory}
 use Rattle.pos_service.specs.Controls.{Control, heard, read, failed, all_listening}
 use Rattle.pos_service.specs.Events.{Enqueued}
 use Rattle.pos_service.specs.Peripherals.{PeripheralState, Takes, input_fits, signs_of}
-use Rattle.pos_service.specs.Refusals.{Row, Decided, first_refusal}
 use Rattle.pos_service.specs.Statuses.{status_events}
 
 -- what stands at a device: what it is, what it is physically, and how often its line has failed
@@ -48,22 +44,6 @@ pub record SameStation (old : List Control) (before : Station) (new : List Contr
 -- what something does to all controls and a station
 abbrev pub Effect : Type 1
 Effect = List Control → Station → List Control → Station → Type 0
-
--- A call at a station is answered by its table, and then by what it does. Want of memory comes only from a call that
--- takes some, behind the table, and changes nothing.
-abbrev pub CalledAt : Call → List Row → (Answer → Effect) → Result Answer NoMemory → Effect
-CalledAt asked rows Does outcome old before new after = MatchResult outcome
-    (λ result. Decided rows result (SameStation old before new after) (Does result old before new after))
-    (λ want. IsTrue (takes_memory asked) × (first_refusal rows ≡ None) × SameStation old before new after)
-
--- A call on the control with a number, which is open, at the station of its device: by a category's table, and by what
--- the call of that control does there.
-abbrev pub CalledBy :
-    (Control → Call → List Row) → (Call → ℕ → ℕ → Answer → Effect) → ℕ → Call → Result Answer NoMemory → Effect
-CalledBy rows Does number asked outcome old before new after =
-    MatchOption (slice_get old number) ⊥ (λ control. IfSome control.device (λ place.
-    CalledAt asked (own_rows control asked (rows control asked)) (Does asked number place)
-    outcome old before new after))
 
 -- A peripheral is in service, and of the kind that it was.
 pub record StaysInService (old new : PeripheralState) : Type 0 where

@@ -1,5 +1,10 @@
+ghost use Rattle.std.specs.Prelude.{◌≡◌};
+ghost use Rattle.pos_service.specs.Calls.{own_row, row_of, needs_of};
+
 use crate::answer::Value;
 use crate::bytes::Bytes;
+use crate::category::Category;
+use crate::needs::{ClaimNeed, Needs};
 use crate::property::Property;
 
 /// A call of an application on one of its controls.
@@ -70,4 +75,92 @@ pub enum Call {
     CommitTrans,
     /// `rollback`.
     Rollback,
+}
+
+/// What is known of a call beforehand.
+#[derive(Clone, Copy, PartialEq, Eq)]
+pub struct CallRow {
+    /// The category that has it; none where each has it, which then says by itself what it asks.
+    pub category: Option<Category>,
+    /// What it asks of the claim of the device.
+    pub claim: ClaimNeed,
+    /// Whether the device has to be enabled.
+    pub is_enabled: bool,
+    /// Whether it may want memory.
+    pub takes_memory: bool,
+}
+
+/// The row of a call of a category's own.
+fn own_row(
+    category: Category,
+    claim: ClaimNeed,
+    is_enabled: bool,
+    takes_memory: bool,
+) -> CallRow
+    ensures { result ≡ own_row category claim is_enabled takes_memory }
+{
+    CallRow {
+        category: Some(category),
+        claim,
+        is_enabled,
+        takes_memory,
+    }
+}
+
+impl Call {
+    /// What is known of it beforehand.
+    pub fn row(&self) -> CallRow
+        ensures { result ≡ row_of self.now }
+    {
+        match self {
+            Call::Open(_)
+            | Call::Close
+            | Call::Claim(_)
+            | Call::Release
+            | Call::Set(_, _)
+            | Call::Get(_) => CallRow {
+                category: None,
+                claim: ClaimNeed::Any,
+                is_enabled: false,
+                takes_memory: false,
+            },
+            Call::OpenDrawer => own_row(Category::CashDrawer, ClaimNeed::NoOther, true, true),
+            Call::ClearInput | Call::ClearInputProperties => {
+                own_row(Category::Scanner, ClaimNeed::Own, false, false)
+            }
+            Call::DisplayText(_, _)
+            | Call::DisplayTextAt(_, _, _, _)
+            | Call::ClearText
+            | Call::ScrollText(_, _) => own_row(Category::LineDisplay, ClaimNeed::Own, true, true),
+            Call::PrintNormal(_, _) | Call::PrintImmediate(_, _) | Call::CutPaper(_) => {
+                own_row(Category::PosPrinter, ClaimNeed::Own, true, true)
+            }
+            Call::ClearOutput => own_row(Category::PosPrinter, ClaimNeed::Own, false, false),
+            Call::Create(_, _, _)
+            | Call::Delete(_)
+            | Call::FindByIndex(_)
+            | Call::Read(_, _, _)
+            | Call::Write(_, _, _)
+            | Call::SetAll(_, _)
+            | Call::Rename(_, _)
+            | Call::CommitTrans => own_row(Category::HardTotals, ClaimNeed::NoOther, true, true),
+            Call::Find(_) => own_row(Category::HardTotals, ClaimNeed::NoOther, true, false),
+            Call::ClaimFile(_, _) | Call::ReleaseFile(_) | Call::BeginTrans | Call::Rollback => {
+                own_row(Category::HardTotals, ClaimNeed::Any, true, false)
+            }
+        }
+    }
+
+    /// What it asks of a control of a category before anything else, where it isn't one that every category has.
+    pub fn needs(&self, category: Category) -> Needs
+        ensures { result ≡ needs_of category self.now }
+    {
+        let row = self.row();
+        Needs {
+            is_open: true,
+            is_there: row.category == Some(category),
+            claim: row.claim,
+            is_enabled: row.is_enabled,
+        }
+    }
 }

@@ -6,8 +6,6 @@ use crate::signs::Signs;
 pub struct Facts {
     /// Whether the control holds its device by a claim.
     pub is_claimed: bool,
-    /// Whether another control holds it.
-    pub is_foreign: bool,
     /// Whether the control is in a transaction of the totals.
     pub in_transaction: bool,
     /// What the device's peripheral is, where it has one.

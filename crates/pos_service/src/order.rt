@@ -1,9 +1,11 @@
 ghost use Rattle.std.specs.Prelude.{◌≡◌, ◌&&◌, Some, nat_le};
+ghost use Rattle.pos_service.specs.Codes.{code_by, extended_by};
 ghost use Rattle.pos_service.specs.Displays.{is_cursor_place, is_display_text, most_units};
 ghost use Rattle.pos_service.specs.Kinds.{columns_of, rows_of};
 ghost use Rattle.pos_service.specs.Peripherals.{order_fits, place_at};
 
 use crate::bytes::Bytes;
+use crate::code::{Code, EPTR_COVER_OPEN, EPTR_REC_EMPTY};
 use crate::display_text::{Attribute, Direction, is_text_of_display};
 use crate::kind::{Kind, columns_of, rows_of};
 use crate::receipt_text::is_printable;
@@ -87,4 +89,28 @@ pub enum Reply {
     PaperEnd,
     /// The line to the peripheral failed, and nothing was done.
     LineFault,
+}
+
+impl Reply {
+    /// The result code that it means: E_EXTENDED for an open cover and too little paper, E_FAILURE for a line that failed.
+    pub fn code(self) -> Code
+        ensures { result ≡ code_by self }
+    {
+        match self {
+            Reply::Done => Code::Success,
+            Reply::CoverOpen | Reply::PaperEnd => Code::Extended,
+            Reply::LineFault => Code::Failure,
+        }
+    }
+
+    /// The extended code with it: EPTR_COVER_OPEN or EPTR_REC_EMPTY with E_EXTENDED, else 0.
+    pub fn extended(self) -> u32
+        ensures { result ≡ extended_by self }
+    {
+        match self {
+            Reply::Done | Reply::LineFault => 0,
+            Reply::CoverOpen => EPTR_COVER_OPEN,
+            Reply::PaperEnd => EPTR_REC_EMPTY,
+        }
+    }
 }

@@ -1,5 +1,8 @@
 ghost use Rattle.std.specs.Prelude.{◌≡◌};
-ghost use Rattle.pos_service.specs.Properties.{is_settable, needs_open, needs_holder, needs_enabled};
+ghost use Rattle.pos_service.specs.Properties.{row_of, plain, settable, of_device, is_in, needs_of, needs_to_set};
+
+use crate::category::Category;
+use crate::needs::{ClaimNeed, Needs};
 
 /// A property of a control (common chapter, and chapters Cash Drawer, Scanner, Line Display, POS Printer and Hard
 /// Totals).
@@ -69,55 +72,142 @@ pub enum Property {
     CapErrorDetection,
 }
 
-impl Property {
-    /// Whether it can be set at all.
-    pub fn is_settable(self) -> bool
-        ensures { result ≡ is_settable self }
-    {
-        matches!(
-            self,
-            Property::DeviceEnabled
-                | Property::FreezeEvents
-                | Property::DataEventEnabled
-                | Property::AutoDisable
-                | Property::DecodeData
-                | Property::CursorRow
-                | Property::CursorColumn
-                | Property::CursorUpdate
-                | Property::AsyncMode
-        )
-    }
-
+/// What is known of a property beforehand.
+#[derive(Clone, Copy, PartialEq, Eq)]
+pub struct PropertyRow {
+    /// The category whose controls have it; none where those of each have it.
+    pub category: Option<Category>,
     /// Whether it can be read of an open control alone.
-    pub fn needs_open(self) -> bool
-        ensures { result ≡ needs_open self }
-    {
-        !matches!(self, Property::State)
-    }
-
-    /// Whether it can be read by the control alone that holds its device.
-    pub fn needs_holder(self) -> bool
-        ensures { result ≡ needs_holder self }
-    {
-        matches!(
-            self,
-            Property::RecLineChars | Property::CoverOpen | Property::RecEmpty | Property::RecNearEnd
-        )
-    }
-
+    pub is_open: bool,
+    /// What reading it asks of the claim of the device.
+    pub claim: ClaimNeed,
     /// Whether it can be read of an enabled device alone.
-    pub fn needs_enabled(self) -> bool
-        ensures { result ≡ needs_enabled self }
+    pub is_enabled: bool,
+    /// Whether it can be read of totals alone that are ready.
+    pub is_of_files: bool,
+    /// Whether its value is a copy of bytes, for which memory may be wanted.
+    pub is_of_bytes: bool,
+    /// Whether it can be set at all.
+    pub is_settable: bool,
+}
+
+/// The row of a property of an open control.
+fn plain(category: Option<Category>) -> PropertyRow
+    ensures { result ≡ plain category }
+{
+    PropertyRow {
+        category,
+        is_open: true,
+        claim: ClaimNeed::Any,
+        is_enabled: false,
+        is_of_files: false,
+        is_of_bytes: false,
+        is_settable: false,
+    }
+}
+
+/// The row of a property that can be set.
+fn settable(category: Option<Category>) -> PropertyRow
+    ensures { result ≡ settable category }
+{
+    PropertyRow {
+        is_settable: true,
+        ..plain(category)
+    }
+}
+
+/// The row of a property of an enabled device.
+fn of_device(category: Category, claim: ClaimNeed) -> PropertyRow
+    ensures { result ≡ of_device category claim }
+{
+    PropertyRow {
+        claim,
+        is_enabled: true,
+        ..plain(Some(category))
+    }
+}
+
+impl Property {
+    /// What is known of it beforehand.
+    pub fn row(self) -> PropertyRow
+        ensures { result ≡ row_of self }
     {
-        matches!(
-            self,
-            Property::DrawerOpened
-                | Property::RecLineChars
-                | Property::CoverOpen
-                | Property::RecEmpty
-                | Property::RecNearEnd
-                | Property::FreeData
-                | Property::NumberOfFiles
-        )
+        match self {
+            Property::State => PropertyRow {
+                is_open: false,
+                ..plain(None)
+            },
+            Property::Claimed => plain(None),
+            Property::DeviceEnabled | Property::FreezeEvents => settable(None),
+            Property::DataEventEnabled | Property::AutoDisable | Property::DecodeData => {
+                settable(Some(Category::Scanner))
+            }
+            Property::DataCount | Property::ScanDataType => plain(Some(Category::Scanner)),
+            Property::ScanData | Property::ScanDataLabel => PropertyRow {
+                is_of_bytes: true,
+                ..plain(Some(Category::Scanner))
+            },
+            Property::CapStatus => plain(Some(Category::CashDrawer)),
+            Property::DrawerOpened => of_device(Category::CashDrawer, ClaimNeed::Any),
+            Property::Rows | Property::Columns => plain(Some(Category::LineDisplay)),
+            Property::CursorRow | Property::CursorColumn | Property::CursorUpdate => {
+                settable(Some(Category::LineDisplay))
+            }
+            Property::AsyncMode => settable(Some(Category::PosPrinter)),
+            Property::OutputId => plain(Some(Category::PosPrinter)),
+            Property::RecLineChars
+            | Property::CoverOpen
+            | Property::RecEmpty
+            | Property::RecNearEnd => of_device(Category::PosPrinter, ClaimNeed::Own),
+            Property::FreeData | Property::NumberOfFiles => PropertyRow {
+                is_of_files: true,
+                ..of_device(Category::HardTotals, ClaimNeed::Any)
+            },
+            Property::TotalsSize
+            | Property::TransactionInProgress
+            | Property::CapTransactions
+            | Property::CapSingleFile
+            | Property::CapErrorDetection => plain(Some(Category::HardTotals)),
+        }
+    }
+
+    /// What reading it asks of a control of a category before anything else.
+    pub fn needs(self, category: Category) -> Needs
+        ensures { result ≡ needs_of category self }
+    {
+        let row = self.row();
+        Needs {
+            is_open: row.is_open,
+            is_there: row.is_in(category),
+            claim: row.claim,
+            is_enabled: row.is_enabled,
+        }
+    }
+
+    /// What setting it asks of a control of a category before anything else: DeviceEnabled of an exclusive-use device
+    /// that the control holds it.
+    pub fn needs_to_set(self, category: Category) -> Needs
+        ensures { result ≡ needs_to_set category self }
+    {
+        let row = self.row();
+        let is_held = self == Property::DeviceEnabled && category.is_exclusive();
+        Needs {
+            is_open: true,
+            is_there: row.is_in(category) && row.is_settable,
+            claim: if is_held { ClaimNeed::Own } else { ClaimNeed::Any },
+            is_enabled: false,
+        }
+    }
+}
+
+impl PropertyRow {
+    /// Whether the controls of a category have it.
+    fn is_in(self, category: Category) -> bool
+        ensures { result ≡ is_in self.category category }
+    {
+        match self.category {
+            Some(its) => its == category,
+            None => true,
+        }
     }
 }
