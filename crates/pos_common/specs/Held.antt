@@ -4,6 +4,8 @@ use Rattle.pos_service.specs.declared.answer.Answer.{Answer}
 use Rattle.pos_service.specs.declared.answer.Answer.TheVariants as answer
 use Rattle.pos_service.specs.declared.answer.Value.{Value}
 use Rattle.pos_service.specs.declared.answer.Value.TheVariants as value
+use Rattle.pos_service.specs.declared.input.Input.{Input}
+use Rattle.pos_service.specs.declared.input.Input.TheVariants as input
 use Rattle.pos_service.specs.declared.memory.NoMemory.{NoMemory}
 use Rattle.pos_service.specs.declared.property.Property.{Property}
 use Rattle.pos_service.specs.declared.scan.Scan.{Scan}
@@ -44,6 +46,12 @@ HasRoom place count held = IsTrue (listens place held.control) → count ≤ hel
 pub record AreCopies (scan : Scan) (place : ℕ) (controls : List Control) (copies : List Scan) : Type 0 where
   pub enough : count_by (listens place) controls ≤ length copies
   pub each : All (λ copy. copy ≡ scan) copies
+
+-- there are such copies of what is scanned; another input needs none
+abbrev pub HasCopies : Input → ℕ → List Control → List Scan → Type 0
+HasCopies (input.Scan number bytes label) place controls copies =
+    AreCopies (record { kind = number; bytes = bytes; label = label }) place controls copies
+HasCopies other place controls copies = ⊤
 
 -- A control has read one of the copies of a scan, where it has the device at a place open and enabled; the others are
 -- left.

@@ -1,5 +1,6 @@
-ghost use Rattle.std.specs.Prelude.{◌≡◌, Some, IsTrue, is_some};
-ghost use Rattle.pos_service.specs.Controls.{new_control, with_place};
+ghost use Rattle.std.specs.Prelude.{◌≡◌};
+ghost use Rattle.pos_service.specs.Controls.{new_control};
+ghost use Rattle.pos_service.specs.Deeds.{changed};
 
 mod calls;
 mod events;
@@ -8,10 +9,10 @@ mod properties;
 
 use crate::reader::Reader;
 use crate::writer::Writer;
-pub use events::{FAULT_EVENTS, SCAN_EVENTS, SIGN_EVENTS, WORK_EVENTS};
+pub use events::{INPUT_EVENTS, SIGN_EVENTS, WORK_EVENTS};
 use pos_events::EventQueue;
-use pos_service::Category;
-use pos_service::display_text::{Cursor, Place};
+use pos_service::display_text::Cursor;
+use pos_service::{Category, Change};
 use std::alloc::Global;
 use std::marker::Model;
 
@@ -87,14 +88,6 @@ impl Control {
         self.device
     }
 
-    /// The place in the profile of the device of an open control.
-    pub fn place(&self) -> usize
-        requires { IsTrue (is_some self.now.control.device) }
-        ensures { self.now.control.device ≡ Some result }
-    {
-        self.device.unwrap()
-    }
-
     /// CursorRow, CursorColumn and CursorUpdate (chapter Line Display).
     pub fn cursor(&self) -> Cursor
         ensures { result ≡ self.now.control.cursor }
@@ -102,10 +95,16 @@ impl Control {
         self.cursor
     }
 
-    /// Has CursorRow and CursorColumn at another place from now on (chapter Line Display).
-    pub fn move_cursor(&mut self, place: Place)
-        ensures { self.new ≡ record self.old { control = with_place place self.old.control } }
+    /// Changes as a call has it once that is done.
+    pub(crate) fn change(&mut self, change: Change)
+        ensures { self.new.control ≡ changed change self.old.control }
     {
-        self.cursor.place = place;
+        match change {
+            Change::Nothing => {}
+            Change::Cursor(place) => self.cursor.place = place,
+            Change::Input => self.clear_input(),
+            Change::InputProperties => self.clear_input_properties(),
+            Change::Output => self.clear_output(),
+        }
     }
 }

@@ -1,37 +1,12 @@
-ghost use Rattle.std.specs.Prelude.{◌≡◌, ◌<◌, [], ◌∷◌, ℕ, ◌+◌, None, Some, All, MatchOption, MatchResult, OnOk, OnErr, IfOk, length, slice_get};
+ghost use Rattle.std.specs.Prelude.{◌≡◌, [], ◌∷◌, ℕ, ◌+◌, All, OnOk, OnErr, IfOk};
 ghost use Rattle.pos_service.specs.declared.scan.Scan.{Scan};
-ghost use Rattle.pos_service.specs.Claims.{holder_at};
 ghost use Rattle.pos_service.specs.Controls.{all_listening, heard, read, failed};
-ghost use Rattle.pos_service.specs.Refusals.{first_refusal};
 ghost use Rattle.pos_service.specs.Statuses.{status_events};
 ghost use Rattle.pos_common.specs.Held.{HasRoom, AreCopies, ReadsCopy, controls_of, sign_events, scan_events, fault_events};
-ghost use Rattle.pos_common.specs.Needs.{need_rows};
 
-use crate::claims::Claims;
 use crate::control::Control;
-use crate::need::Need;
-use pos_service::{Answer, Bytes, Code, NoMemory, Scan, Signs};
+use pos_service::{Bytes, NoMemory, Scan, Signs};
 use std::alloc::Global;
-
-/// Whether the control with a number is as a call asks it to be. The claims are those of all devices.
-///
-/// Refused as `Control::check` says.
-pub fn check_caller(
-    controls: &[Control],
-    caller: usize,
-    claims: &Claims,
-    need: Need,
-) -> Result<(), Code>
-    requires { caller < length controls.now }
-    ensures { MatchOption (slice_get (controls_of controls.now) caller) ⊥ (λ control.
-        let rows = need_rows control caller (holder_at claims.now control.device) need in
-        MatchResult result
-        (λ _. first_refusal rows ≡ None)
-        (λ code. first_refusal rows ≡ Some (Answer.Refused code 0))) }
-{
-    let control = &controls[caller];
-    control.check(caller, claims.holder(control.device()), need)
-}
 
 /// Makes room for so many events in each control that has the device at a place open and enabled. Want of memory
 /// changes nothing that the machine sees.
@@ -62,7 +37,7 @@ pub fn hear_all(controls: &mut [Control], place: usize, old: Signs, new: Signs)
 
 /// Copies of a scan, by its type, all that was read, and the label: one for each control that has the device at a place
 /// open and enabled.
-pub fn copy_for_all(
+pub(crate) fn copy_for_all(
     alloc: Global,
     controls: &[Control],
     place: usize,
@@ -98,7 +73,7 @@ fn copy_of(alloc: Global, kind: u32, bytes: &Bytes, label: &Bytes) -> Result<Sca
 /// A scan has come to each control that has the device at a place open and enabled, and to no other: it gets one of
 /// the copies in a DataEvent, and is disabled under AutoDisable; in the input error state the scan is ignored (common
 /// chapter, data events).
-pub fn read_all(controls: &mut [Control], place: usize, copies: Vec<Scan>)
+pub(crate) fn read_all(controls: &mut [Control], place: usize, copies: Vec<Scan>)
     requires { All (HasRoom place scan_events) controls.old }
     ensures { (scan : Scan) → AreCopies scan place (controls_of controls.old) copies.items →
         controls_of controls.new ≡ all_listening place (read scan) (controls_of controls.old) }
@@ -125,7 +100,7 @@ fn read_copy(control: &mut Control, place: usize, copies: &mut Vec<Scan>)
 
 /// Input has failed at each control that has the device at a place open and enabled, and at no other: the input error
 /// state stands from now on, with its ErrorEvents (common chapter, error handling).
-pub fn fail_all(controls: &mut [Control], place: usize)
+pub(crate) fn fail_all(controls: &mut [Control], place: usize)
     requires { All (HasRoom place fault_events) controls.old }
     ensures { controls_of controls.new ≡ all_listening place failed (controls_of controls.old) }
 {

@@ -4,12 +4,14 @@
 mod claims;
 mod control;
 mod controls;
-mod need;
+mod deeds;
+mod inputs;
 mod reader;
 mod status;
 mod writer;
 
 pub use claims::Claims;
-pub use control::{Control, FAULT_EVENTS, SCAN_EVENTS, SIGN_EVENTS, WORK_EVENTS};
-pub use controls::{check_caller, copy_for_all, fail_all, hear_all, read_all, room_all};
-pub use need::{ClaimNeed, Need};
+pub use control::{Control, WORK_EVENTS};
+pub use controls::{hear_all, room_all};
+pub use deeds::carry_out;
+pub use inputs::take_input;

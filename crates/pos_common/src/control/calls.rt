@@ -1,16 +1,15 @@
-ghost use Rattle.std.specs.Prelude.{◌≡◌, ⊤, MatchResult, None, Some};
+ghost use Rattle.std.specs.Prelude.{◌≡◌, ⊤, Some};
 ghost use Rattle.pos_service.specs.Calls.{place_found, open_rows, close_rows};
 ghost use Rattle.pos_service.specs.Claims.{is_own, is_foreign, claim_rows, release_rows, after_release};
 ghost use Rattle.pos_service.specs.Controls.{opened, closed, stopped};
-ghost use Rattle.pos_service.specs.Refusals.{Decided, first_refusal};
+ghost use Rattle.pos_service.specs.Refusals.{Decided};
+ghost use Rattle.pos_common.specs.Checks.{Checks};
 ghost use Rattle.pos_common.specs.Held.{TurnsInto};
-ghost use Rattle.pos_common.specs.Needs.{need_rows};
 
 use super::Control;
-use crate::need::{ClaimNeed, Need};
 use pos_service::claims::{is_foreign, is_own, is_timeout};
 use pos_service::display_text::Cursor;
-use pos_service::{Answer, Code, Finding, Value};
+use pos_service::{Answer, ClaimNeed, Code, Finding, Needs, Value};
 
 impl Control {
     /// `open`: it is for the device that was found from now on (common chapter).
@@ -113,23 +112,28 @@ impl Control {
         Answer::Done(Value::Empty)
     }
 
-    /// Whether it is as a call of its category asks an open control to be.
+    /// Whether it is as a call or a property asks it to be, by its number and the number of the control that holds its
+    /// device, if any (common chapter).
     ///
-    /// Refused with E_CLAIMED where the call needs that no other control than this one, which has the number, holds the
-    /// device, and one does; with E_NOTCLAIMED where it needs that this one holds the device, and nobody does; then
-    /// with E_DISABLED where it needs the device enabled and it isn't.
-    pub fn check(&self, number: usize, holder: Option<usize>, need: Need) -> Result<(), Code>
-        ensures { MatchResult result
-            (λ _. first_refusal (need_rows self.now.control number holder need) ≡ None)
-            (λ code. first_refusal (need_rows self.now.control number holder need) ≡ Some (Answer.Refused code 0)) }
+    /// Refused with E_CLOSED where it has to be open and isn't; with E_ILLEGAL where its category doesn't have what is
+    /// asked; with E_CLAIMED where no other control may hold the device, and one does; with E_NOTCLAIMED where it has to
+    /// hold the device itself, and nobody does; then with E_DISABLED where the device has to be enabled and isn't.
+    pub fn check(&self, number: usize, holder: Option<usize>, needs: Needs) -> Result<(), Code>
+        ensures { Checks number holder self.now.control needs result }
     {
-        if need.claim != ClaimNeed::Any && is_foreign(number, holder) {
+        if needs.is_open && self.device.is_none() {
+            return Err(Code::Closed);
+        }
+        if !needs.is_there {
+            return Err(Code::Illegal);
+        }
+        if needs.claim != ClaimNeed::Any && is_foreign(number, holder) {
             return Err(Code::Claimed);
         }
-        if need.claim == ClaimNeed::Own && holder.is_none() {
+        if needs.claim == ClaimNeed::Own && holder.is_none() {
             return Err(Code::NotClaimed);
         }
-        if need.is_enabled && !self.is_enabled {
+        if needs.is_enabled && !self.is_enabled {
             return Err(Code::Disabled);
         }
         Ok(())

@@ -1,6 +1,5 @@
 ghost use Rattle.std.specs.Prelude.{◌≡◌, ◌≤◌, ◌+◌, OnOk, OnErr};
-ghost use Rattle.pos_service.specs.Controls.{listens, if_listening, heard, read, failed, is_held_back, deliverable, delivered};
-ghost use Rattle.pos_service.specs.ScannerCalls.{without_input, without_scan};
+ghost use Rattle.pos_service.specs.Controls.{listens, if_listening, heard, read, failed, is_held_back, deliverable, delivered, without_input, without_scan};
 ghost use Rattle.pos_service.specs.Statuses.{status_events, changed_status};
 ghost use Rattle.pos_common.specs.Held.{HasRoom, sign_events, scan_events, fault_events};
 
@@ -11,11 +10,9 @@ use pos_service::{ErrorReply, Event, NoMemory, Scan, Signs};
 /// The most status events that one change of a device's signs has: drawer, cover, paper.
 pub const SIGN_EVENTS: usize = 3;
 
-/// The most events that a scan has: a DataEvent.
-pub const SCAN_EVENTS: usize = 1;
-
-/// The most events that a failed scan has: ErrorEvents with EL_INPUT_DATA and with EL_INPUT.
-pub const FAULT_EVENTS: usize = 2;
+/// The most events that an input has: those of a change of signs; a scan has one, a failed scan two (ErrorEvents with
+/// EL_INPUT_DATA and with EL_INPUT).
+pub const INPUT_EVENTS: usize = 3;
 
 /// The most events that a request of output has which is worked on: those of a change of signs, and one that it is
 /// done, or has failed.
@@ -98,7 +95,7 @@ impl Control {
 
     /// `clearInput`: the DataEvents and the ErrorEvents of input are deleted, and the input error state ends (common
     /// chapter).
-    pub fn clear_input(&mut self)
+    pub(crate) fn clear_input(&mut self)
         ensures { self.new.control ≡ without_input self.old.control }
     {
         self.events.clear_input();
@@ -106,7 +103,7 @@ impl Control {
 
     /// `clearInputProperties`: ScanData, ScanDataLabel and ScanDataType have their defaults again (common chapter,
     /// chapter Scanner).
-    pub fn clear_input_properties(&mut self)
+    pub(crate) fn clear_input_properties(&mut self)
         ensures { self.new.control ≡ without_scan self.old.control }
     {
         self.reader.clear();

@@ -2,7 +2,8 @@ ghost use Rattle.std.specs.Prelude.{◌≡◌, ◌≤◌, ◌==◌, ◌∷◌, [
 ghost use Rattle.pos_service.specs.Controls.{completed, output_failed, queued, without_output};
 ghost use Rattle.pos_service.specs.Output.{is_outstanding, request_to_do};
 ghost use Rattle.pos_service.specs.Peripherals.{PrintersTake};
-ghost use Rattle.pos_service.specs.PrinterCalls.{first_request, id_rows};
+ghost use Rattle.pos_service.specs.Deeds.{id_rows};
+ghost use Rattle.pos_service.specs.PrinterCalls.{first_request};
 ghost use Rattle.pos_common.specs.Held.{TurnsInto};
 
 use super::Control;
@@ -80,7 +81,7 @@ impl Control {
 
     /// `clearOutput`: all requests and the ErrorEvents of output are deleted, and the output error state ends.
     /// OutputCompleteEvents stay (common chapter).
-    pub fn clear_output(&mut self)
+    pub(crate) fn clear_output(&mut self)
         ensures { self.new.control ≡ without_output self.old.control }
     {
         self.writer.clear();

@@ -1,22 +1,15 @@
 ghost use Rattle.std.specs.Prelude.{◌≡◌, ◌&&◌, ◌∷◌, [], ⊤, true, false, not, is_none};
 ghost use Rattle.pos_service.specs.Controls.{state_of};
-ghost use Rattle.pos_service.specs.Properties.{needs_files, is_of_bytes, takes, is_settable, set_rows, after_set, get_rows, property_of};
+ghost use Rattle.pos_service.specs.Properties.{row_of, is_of_bytes, takes, set_rows, after_set, get_rows, property_of};
 ghost use Rattle.pos_service.specs.Kinds.{rows_of, columns_of};
 ghost use Rattle.pos_service.specs.Numbers.{is_index, is_up_to};
 ghost use Rattle.pos_service.specs.Refusals.{Decided, when};
 ghost use Rattle.pos_common.specs.Held.{TurnsInto, Gets};
 
 use super::Control;
-use crate::need::{ClaimNeed, Need};
 use pos_service::numbers::{to_count, to_index};
 use pos_service::{
     Answer, Bytes, Code, Facts, Kind, NoMemory, Property, Value, chars_of, columns_of, rows_of,
-};
-
-/// What setting DeviceEnabled asks of the control of an exclusive-use device.
-const HELD: Need = Need {
-    claim: ClaimNeed::Own,
-    is_enabled: false,
 };
 
 impl Control {
@@ -38,17 +31,20 @@ impl Control {
         ensures { TurnsInto (set_rows number holder kind self.old.control property value.now) result self.old self.new
             (after_set self.old.control property value.now) }
     {
-        if self.device.is_none() {
-            return Answer::Refused(Code::Closed, 0);
+        match self.check(number, holder, property.needs_to_set(self.category)) {
+            Ok(()) => self.set_value(kind, property, value),
+            Err(code) => Answer::Refused(code, 0),
         }
-        if !self.category.has_property(property) || !property.is_settable() {
-            return Answer::Refused(Code::Illegal, 0);
-        }
-        if property == Property::DeviceEnabled && self.category.is_exclusive() {
-            if let Err(code) = self.check(number, holder, HELD) {
-                return Answer::Refused(code, 0);
-            }
-        }
+    }
+
+    /// Sets a property, by what the device's peripheral is.
+    ///
+    /// Refused with E_ILLEGAL for a value of another type or out of range.
+    fn set_value(&mut self, kind: Option<Kind>, property: Property, value: &Value) -> Answer
+        requires { (row_of property).is_settable ≡ true }
+        ensures { TurnsInto (when (not (takes kind property value.now)) Code.Illegal ∷ []) result
+            self.old self.new (after_set self.old.control property value.now) }
+    {
         match value {
             Value::Truth(is_true) => {
                 if matches!(property, Property::CursorRow | Property::CursorColumn) {
@@ -116,32 +112,37 @@ impl Control {
         }
     }
 
-    /// A property, by what is known of the control's device (common chapter, chapters Cash Drawer, Scanner, Line
+    /// A property, by the control's number, the number of the control that holds its device, if any, and what is known of
+    /// the device (common chapter, chapters Cash Drawer, Scanner, Line
     /// Display, POS Printer and Hard Totals). Bytes are copied, for which memory may be wanted.
     ///
     /// Refused with E_CLOSED where the control is closed, but for State; with E_ILLEGAL where its category doesn't
     /// have the property; with E_CLAIMED where the property is one for the control that holds the device, and another
     /// one does, E_NOTCLAIMED where nobody does; with E_DISABLED where it is one of an enabled device and the device
     /// is disabled; with E_FAILURE where the property is one of the files and the totals are off.
-    pub fn get(&self, property: Property, facts: &Facts) -> Result<Answer, NoMemory>
-        ensures { Gets (get_rows self.now.control facts.now property) property
+    pub fn get(
+        &self,
+        number: usize,
+        holder: Option<usize>,
+        property: Property,
+        facts: &Facts,
+    ) -> Result<Answer, NoMemory>
+        ensures { Gets (get_rows number holder self.now.control facts.now property) property
             (property_of self.now.control facts.now property) result }
     {
-        if property.needs_open() && self.device.is_none() {
-            return Ok(Answer::Refused(Code::Closed, 0));
+        match self.check(number, holder, property.needs(self.category)) {
+            Ok(()) => self.tell_property(property, facts),
+            Err(code) => Ok(Answer::Refused(code, 0)),
         }
-        if !self.category.has_property(property) {
-            return Ok(Answer::Refused(Code::Illegal, 0));
-        }
-        if property.needs_holder() && facts.is_foreign {
-            return Ok(Answer::Refused(Code::Claimed, 0));
-        }
-        if property.needs_holder() && !facts.is_claimed {
-            return Ok(Answer::Refused(Code::NotClaimed, 0));
-        }
-        if property.needs_enabled() && !self.is_enabled {
-            return Ok(Answer::Refused(Code::Disabled, 0));
-        }
+    }
+
+    /// The value of a property, by what is known of the control's device. Bytes are copied, for which memory may be wanted.
+    ///
+    /// Refused with E_FAILURE where it is one of the files and the totals are off.
+    fn tell_property(&self, property: Property, facts: &Facts) -> Result<Answer, NoMemory>
+        ensures { Gets (when ((row_of property).is_of_files && is_none facts.now.files) Code.Failure ∷ []) property
+            (property_of self.now.control facts.now property) result }
+    {
         match property {
             Property::ScanData => Ok(done_with(self.reader.copy_of_bytes()?)),
             Property::ScanDataLabel => Ok(done_with(self.reader.copy_of_label()?)),
@@ -170,7 +171,7 @@ impl Control {
     /// Refused with E_FAILURE where it is one of the files and the totals are off.
     fn value_of(&self, property: Property, facts: &Facts) -> Answer
         requires { is_of_bytes property ≡ false }
-        ensures { Decided (when (needs_files property && is_none facts.now.files) Code.Failure ∷ []) result ⊤
+        ensures { Decided (when ((row_of property).is_of_files && is_none facts.now.files) Code.Failure ∷ []) result ⊤
             (result ≡ Answer.Done (property_of self.now.control facts.now property)) }
     {
         match property {

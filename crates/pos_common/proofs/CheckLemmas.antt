@@ -1,0 +1,59 @@
+-- What the check of a control decides of a call's table.
+use Rattle.std.proofs.Common.{◌≡◌, ◌∙◌, ℕ, Bool, true, false, List, [], ◌∷◌, Ok, Err, refl, sym}
+use Rattle.std.specs.Prelude.{Option, Some, None, Result, not, ◌&&◌, is_none}
+use Rattle.pos_service.specs.declared.answer.Answer.{Answer}
+use Rattle.pos_service.specs.declared.answer.Answer.TheVariants as answer
+use Rattle.pos_service.specs.declared.code.Code.{Code}
+use Rattle.pos_service.specs.declared.code.Code.TheVariants as code
+use Rattle.pos_service.specs.declared.answer.Value.{Value}
+use Rattle.pos_service.specs.declared.memory.NoMemory.{NoMemory}
+use Rattle.pos_service.specs.declared.needs.Needs.{Needs}
+use Rattle.pos_service.specs.declared.property.Property.{Property}
+use Rattle.pos_service.specs.Controls.{Control}
+use Rattle.pos_service.specs.Claims.{is_foreign}
+use Rattle.pos_service.specs.Needs.{needs_holder, needs_no_other, table}
+use Rattle.pos_service.specs.Refusals.{Row, Decided, first_refusal, when}
+use Rattle.pos_common.specs.Checks.{Checks}
+use Rattle.pos_common.specs.Held.{Gets}
+
+-- a table that refuses
+pub refused : (rows : List Row) (refusal : Answer) (Same Done : Type 0) → first_refusal rows ≡ Some refusal → Same → Decided rows refusal Same Done
+refused rows refusal Same Done is same = record { outcome = rw is (refl, same) }
+
+-- a table that decides as its rest does
+pub decided_by_rest : (rows rest : List Row) (result : Answer) (Same Done : Type 0) → first_refusal rows ≡ first_refusal rest → Decided rest result Same Done → Decided rows result Same Done
+decided_by_rest rows rest result Same Done is decided = record { outcome = rw is decided.outcome }
+
+-- a property is told so
+pub gets_by_rest : (rows rest : List Row) (p : Property) (v : Value) (outcome : Result Answer NoMemory) → first_refusal rows ≡ first_refusal rest → Gets rest p v outcome → Gets rows p v outcome
+gets_by_rest rows rest p v (Ok result) is gets = decided_by_rest rows rest result _ _ is gets
+gets_by_rest rows rest p v (Err want) is gets = (gets.0, is ∙ gets.1)
+
+-- the check refuses
+pub check_refuses : (number : ℕ) (holder : Option ℕ) (control : Control) (needs asked : Needs) (code : Code) (rest : List Row) (Same Done : Type 0) → needs ≡ asked → Checks number holder control needs (Err code) → Same → Decided (table number holder control asked rest) (answer.Refused code 0) Same Done
+check_refuses number holder control needs asked code rest Same Done is checks same =
+    refused (table number holder control asked rest) (answer.Refused code 0) Same Done (rw is at (checks rest)) same
+
+-- it refuses nothing
+pub check_lets : (number : ℕ) (holder : Option ℕ) (control : Control) (needs asked : Needs) (rest : List Row) → needs ≡ asked → Checks number holder control needs (Ok tt) → first_refusal (table number holder control asked rest) ≡ first_refusal rest
+check_lets number holder control needs asked rest is checks = rw is at (checks rest)
+
+lets_there : (closed is_there : Bool) (rows : List Row) → first_refusal (when closed code.Closed ∷ when (not is_there) code.Illegal ∷ rows) ≡ None → is_there ≡ true
+lets_there true is_there rows none = absurd cc
+lets_there false true rows none = refl
+lets_there false false rows none = absurd cc
+
+-- what a table asks behind the category
+abbrev claim_rows : ℕ → Option ℕ → Control → Needs → List Row
+claim_rows number holder control needs =
+    when (needs_no_other needs.claim && is_foreign number holder) code.Claimed
+    ∷ when (needs_holder needs.claim && is_none holder) code.NotClaimed
+    ∷ when (needs.is_enabled && not control.enabled) code.Disabled ∷ []
+
+second : (a b : Bool) → (a && b) ≡ true → b ≡ true
+second true b is = is
+second false b is = absurd cc
+
+-- what is asked of a category of which two things are, has the second
+pub asks_second : (number : ℕ) (holder : Option ℕ) (control : Control) (needs : Needs) (a b : Bool) → needs.is_there ≡ (a && b) → Checks number holder control needs (Ok tt) → b ≡ true
+asks_second number holder control needs a b is checks = second a b (sym is ∙ lets_there (needs.is_open && is_none control.device) needs.is_there (claim_rows number holder control needs) (checks []))

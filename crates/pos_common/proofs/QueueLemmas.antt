@@ -1,0 +1,34 @@
+-- A request that is queued, as the machine sees it.
+use Rattle.std.proofs.Common.{◌≡◌, ◌∙◌, ℕ, ◌<◌, List, get_or, set, length, arith, ap, refl, Ok, Err}
+use Rattle.std.specs.Prelude.{Option, Some, None, Result, MatchOption, MatchResult, slice_get}
+use Rattle.std.proofs.lemmas.List.{length-map}
+use Rattle.std.proofs.lemmas.Option.{slice_get-get_or}
+use Rattle.pos_service.specs.declared.answer.Answer.{Answer}
+use Rattle.pos_service.specs.declared.memory.NoMemory.{NoMemory}
+use Rattle.pos_service.specs.declared.order.Order.{Order}
+use Rattle.pos_service.specs.Controls.{queued}
+use Rattle.pos_service.specs.Deeds.{id_rows, QueuesOrder}
+use Rattle.pos_service.specs.Refusals.{first_refusal}
+use Rattle.pos_service.specs.Stations.{Station, SameStation}
+use Rattle.pos_common.specs.Held.{Held, controls_of, TurnsInto}
+use Rattle.pos_common.proofs.ChangeLemmas.{changed_at}
+use Rattle.pos_common.proofs.HeldLemmas.{control_at, same_control}
+
+weaker : {A : Type 0} (o : Option A) (P R : Type 0) (Q S : A → Type 0) → (P → R) → ((x : A) → Q x → S x) → MatchOption o P Q → MatchOption o R S
+weaker None P R Q S f g h = f h
+weaker (Some x) P R Q S f g h = g x h
+
+-- what a held control says of a request is what the machine's control does
+pub says_at : (given : Order) (hs : List Held) (i : ℕ) (d g : Held) (outcome : Result Answer NoMemory) (at : Station) → i < length hs
+    → MatchResult outcome (λ result. TurnsInto (id_rows (get_or hs i d).control) result (get_or hs i d) g (queued given (get_or hs i d).control)) (λ want. g ≡ get_or hs i d)
+    → MatchResult outcome (λ result. QueuesOrder given i result (controls_of hs) at (controls_of (set hs i g)) at) (λ want. SameStation (controls_of hs) at (controls_of (set hs i g)) at)
+says_at given hs i d g (Ok result) at lt turns =
+    let within : i < length (controls_of hs) = omega (arith, length-map hs (λ (x : Held). x.control)) in
+    rw (slice_get-get_or (controls_of hs) i d.control within, ← control_at hs i d d.control lt)
+    (record {
+      outcome = weaker (first_refusal (id_rows (get_or hs i d).control)) _ _ _ _
+          (λ done. record { done = done.0; controls = changed_at (queued given) hs i d g lt done.1; station = refl })
+          (λ refusal same. (same.0, record { controls = same_control hs i d g lt (ap (λ (h : Held). h.control) same.1); station = refl }))
+          turns.outcome;
+    })
+says_at given hs i d g (Err want) at lt same = record { controls = same_control hs i d g lt (ap (λ (h : Held). h.control) same); station = refl }

@@ -1,0 +1,60 @@
+//! What happens at a device from outside.
+ghost use Rattle.std.specs.Prelude.{◌≡◌, false, true, IfOk};
+ghost use Rattle.pos_service.specs.Peripherals.{input_fits};
+ghost use Rattle.pos_service.specs.Stations.{StaysInService, TakenAt, station_of};
+ghost use Rattle.pos_common.specs.Held.{HasCopies, controls_of};
+
+use crate::control::{Control, INPUT_EVENTS};
+use crate::controls::{copy_for_all, fail_all, hear_all, read_all, room_all};
+use pos_service::{Input, NoMemory, Peripheral, Scan, Taken};
+use std::alloc::Global;
+
+/// Hands an input that fits to the peripheral of the device at a place. Each control that has the device open and enabled
+/// hears the statuses that have changed, as a drawer or a cover is moved, or paper is loaded. Of a scan it gets a
+/// DataEvent with a copy of its own, and is disabled under AutoDisable; of a failed scan it gets ErrorEvents. In the
+/// input error state both are ignored (common chapter, data events and error handling).
+///
+/// All copies, and the room for all events, are made before the peripheral is told. Want of memory changes nothing.
+pub fn take_input<P: Peripheral>(
+    alloc: Global,
+    controls: &mut [Control],
+    place: usize,
+    peripheral: &mut P,
+    input: &Input,
+) -> Result<(), NoMemory>
+    requires unparked { (P.Peripheral.state peripheral.old).is_parked ≡ false }
+    requires fits { input_fits (P.Peripheral.state peripheral.old).kind input.now ≡ true }
+    ensures taken { let state = P.Peripheral.state in
+        TakenAt input.now place result (controls_of controls.old) (station_of (state peripheral.old))
+        (controls_of controls.new) (station_of (state peripheral.new)) }
+    ensures in_service { let state = P.Peripheral.state in
+        StaysInService (state peripheral.old) (state peripheral.new) }
+{
+    room_all(controls, place, INPUT_EVENTS)?;
+    let copies = copies_of(alloc, controls, place, input)?;
+    let old = peripheral.signs();
+    match peripheral.feed(input)? {
+        Taken::Quiet => hear_all(controls, place, old, peripheral.signs()),
+        Taken::Scan => read_all(controls, place, copies),
+        Taken::Fault => fail_all(controls, place),
+    }
+    Ok(())
+}
+
+/// Copies of what is scanned, one for each control that has the device at a place open and enabled; none of another
+/// input.
+fn copies_of(
+    alloc: Global,
+    controls: &[Control],
+    place: usize,
+    input: &Input,
+) -> Result<Vec<Scan>, NoMemory>
+    ensures { IfOk result (λ copies. HasCopies input.now place (controls_of controls.now) copies.items) }
+{
+    match input {
+        Input::Scan { kind, bytes, label } => {
+            copy_for_all(alloc, controls, place, *kind, bytes, label)
+        }
+        _ => Ok(Vec::new(alloc)),
+    }
+}
