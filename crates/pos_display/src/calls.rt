@@ -1,133 +1,123 @@
-ghost use Rattle.std.specs.Prelude.{◌≡◌, ◌<◌, true, false, Some, length, slice_set, MatchOption, slice_get};
+ghost use Rattle.std.specs.Prelude.{◌≡◌, ◌≤◌, true, Some, Ok};
+ghost use Rattle.std.specs.Option.{option_map};
 ghost use Rattle.pos_service.specs.declared.category.Category.TheVariants as category;
-ghost use Rattle.pos_service.specs.Calls.{own_rows};
-ghost use Rattle.pos_service.specs.Controls.{with_place};
-ghost use Rattle.pos_service.specs.DisplayCalls.{display_rows, DisplayDoes, HasCursor};
-ghost use Rattle.pos_service.specs.Kinds.{is_display};
-ghost use Rattle.pos_service.specs.Peripherals.{IsInRange, order_fits};
-ghost use Rattle.pos_service.specs.Stations.{station_of, IsOpen, CalledBy, StaysInService};
-ghost use Rattle.pos_common.specs.Held.{controls_of};
-ghost use Rattle.pos_display.specs.Plans.{Allows, Carries};
+ghost use Rattle.pos_service.specs.Calls.{has_call};
+ghost use Rattle.pos_service.specs.Deeds.{DeedFits, Plans};
+ghost use Rattle.pos_service.specs.DisplayCalls.{display_deed, display_rows, left_by, scroll_rows, scrolls, shows, text_rows};
+ghost use Rattle.pos_service.specs.Displays.{attribute_of, direction_of, is_cursor_place};
+ghost use Rattle.pos_service.specs.Kinds.{is_display, rows_of, columns_of};
 
-use crate::plans::{Plan, plan_call};
-use pos_common::{ClaimNeed, Claims, Control, Need, check_caller};
-use pos_service::display_text::Place;
-use pos_service::{
-    Answer, Call, Category, Code, HasState, Kind, NoMemory, PeripheralBox, Reply, Value,
+use pos_service::display_text::{
+    Attribute, Cursor, Direction, ORIGIN, Place, is_text_of_display, place_after,
 };
+use pos_service::numbers::{to_count, to_index};
+use pos_service::{Bytes, Call, Change, Code, Deed, Kind, NoMemory, Order, columns_of, rows_of};
 use std::alloc::Global;
 
-/// What each call asks of its control: that it holds the display, and is enabled.
-const READY: Need = Need {
-    claim: ClaimNeed::Own,
-    is_enabled: true,
-};
-
-/// A call on a display's control that is open and whose cursor is at a place of the display. The claims are those of
-/// all devices, the peripheral is that of the caller's device. Each call gives one order, once its arguments are found
-/// good and its text, if any, is copied; only when that is done, the caller's cursor moves.
+/// What a call that displays have comes to, at a display of this kind, for a control with this cursor. Each call gives one
+/// order, once its arguments are found good and its text, if any, is copied; only when that is done, the cursor moves.
 ///
 /// `displayText` shows a text from the cursor on and leaves the cursor at its end, where CursorUpdate is true;
 /// `displayTextAt` has the cursor at a row and a column first; `clearText` blanks the display and has the cursor at the
 /// first place; `scrollText` moves what is shown, and keeps the cursor (chapter Line Display).
 ///
-/// Refused with E_ILLEGAL for a call that displays don't have of their own, then with E_CLAIMED where another control
-/// holds the display, E_NOTCLAIMED where nobody does, E_DISABLED where the caller is disabled, E_ILLEGAL for an
-/// argument out of range, E_FAILURE where the line to the display fails. Neither a refusal nor want of memory changes
-/// anything.
-pub fn call(
+/// Refused with E_ILLEGAL for an argument out of range.
+pub fn plan(
     alloc: Global,
-    controls: &mut [Control],
-    caller: usize,
-    claims: &Claims,
-    display: &mut PeripheralBox,
+    kind: Kind,
+    cursor: Cursor,
     call: &Call,
-) -> Result<Answer, NoMemory>
-    requires open { IsOpen category.LineDisplay (controls_of controls.old) caller }
-    requires unparked { (⟦<PeripheralBox as HasState>⟧.state display.old).is_parked ≡ false }
-    requires display { is_display (⟦<PeripheralBox as HasState>⟧.state display.old).kind ≡ true }
-    requires cursor { let state = ⟦<PeripheralBox as HasState>⟧.state in
-        HasCursor (state display.old).kind (controls_of controls.old) caller }
-    ensures called { let state = ⟦<PeripheralBox as HasState>⟧.state in
-        CalledBy (display_rows claims.now caller (Some (state display.old).kind)) DisplayDoes caller call.now result
-        (controls_of controls.old) (station_of (state display.old))
-        (controls_of controls.new) (station_of (state display.new)) }
-    ensures cursor { let state = ⟦<PeripheralBox as HasState>⟧.state in
-        HasCursor (state display.old).kind (controls_of controls.new) caller }
-    ensures in_service { let state = ⟦<PeripheralBox as HasState>⟧.state in
-        StaysInService (state display.old) (state display.new) }
+) -> Result<Result<Deed, Code>, NoMemory>
+    requires display { is_display kind ≡ true }
+    requires rows { 1 ≤ rows_of (Some kind) }
+    requires columns { 1 ≤ columns_of (Some kind) }
+    requires cursor { is_cursor_place (rows_of (Some kind)) (columns_of (Some kind)) cursor.place ≡ true }
+    requires own { has_call category.LineDisplay call.now ≡ true }
+    ensures { Plans (display_rows (Some kind) call.now) (display_deed (Some kind) cursor call.now) (DeedFits kind)
+        call.now result }
 {
-    match allowed_plan(alloc, controls, caller, claims, display.kind(), call)? {
-        Ok(plan) => carry_out(controls, caller, display, plan),
-        Err(code) => Ok(Answer::Refused(code, 0)),
+    match call {
+        Call::DisplayText(text, attribute) => {
+            plan_text(alloc, kind, cursor, cursor.place, text, *attribute)
+        }
+        Call::DisplayTextAt(row, column, text, attribute) => {
+            let Some(row) = to_index(*row, rows_of(Some(kind))) else {
+                return Ok(Err(Code::Illegal));
+            };
+            let Some(column) = to_count(*column, columns_of(Some(kind))) else {
+                return Ok(Err(Code::Illegal));
+            };
+            plan_text(alloc, kind, cursor, Place { row, column }, text, *attribute)
+        }
+        Call::ClearText => Ok(Ok(Deed::Gives(
+            Order::ClearText,
+            Change::Cursor(ORIGIN),
+        ))),
+        Call::ScrollText(direction, units) => Ok(plan_scroll(kind, *direction, *units)),
+        _ => unreachable!(),
     }
 }
 
-/// The plan of a call of the control with a number, at a display of this kind. It changes nothing.
-///
-/// Refused as `call` says, before the display is asked.
-fn allowed_plan(
+/// A text with the number of its attribute is to be shown from a place on.
+fn plan_text(
     alloc: Global,
-    controls: &[Control],
-    caller: usize,
-    claims: &Claims,
     kind: Kind,
-    call: &Call,
-) -> Result<Result<Plan, Code>, NoMemory>
-    requires open { IsOpen category.LineDisplay (controls_of controls.now) caller }
+    cursor: Cursor,
+    start: Place,
+    text: &Bytes,
+    attribute: i128,
+) -> Result<Result<Deed, Code>, NoMemory>
     requires display { is_display kind ≡ true }
-    requires in_range { IsInRange kind }
-    requires cursor { HasCursor kind (controls_of controls.now) caller }
-    ensures { MatchOption (slice_get (controls_of controls.now) caller) ⊥ (λ control.
-        Allows kind control call.now (own_rows control call.now
-        (display_rows claims.now caller (Some kind) control call.now)) result) }
+    requires columns { 1 ≤ columns_of (Some kind) }
+    requires start { is_cursor_place (rows_of (Some kind)) (columns_of (Some kind)) start ≡ true }
+    ensures { Plans (text_rows text.now attribute)
+        (option_map (shows (Some kind) cursor start text.now) (attribute_of attribute)) (DeedFits kind)
+        (Call.DisplayText text.now attribute) result }
 {
-    if !Category::LineDisplay.has_call(call) {
+    if !is_text_of_display(text.as_slice()) {
         return Ok(Err(Code::Illegal));
     }
-    if let Err(code) = check_caller(controls, caller, claims, READY) {
-        return Ok(Err(code));
-    }
-    match plan_call(alloc, kind, controls[caller].cursor(), call)? {
-        Some(plan) => Ok(Ok(plan)),
-        None => Ok(Err(Code::Illegal)),
-    }
+    let Some(attribute) = Attribute::from_number(attribute) else {
+        return Ok(Err(Code::Illegal));
+    };
+    let bytes = Bytes::from_slice(alloc, text.as_slice())?;
+    let place = left_by(kind, cursor, start, text.as_slice());
+    let order = Order::ShowText {
+        row: start.row,
+        column: start.column,
+        attribute,
+        bytes,
+    };
+    Ok(Ok(Deed::Gives(order, Change::Cursor(place))))
 }
 
-/// Gives the display the order of a plan, and has the caller's cursor where the plan says once that is done.
-///
-/// Refused with E_FAILURE where the line to the display fails. Neither that nor want of memory changes anything.
-fn carry_out(
-    controls: &mut [Control],
-    caller: usize,
-    display: &mut PeripheralBox,
-    plan: Plan,
-) -> Result<Answer, NoMemory>
-    requires number { caller < length controls.old }
-    requires unparked { (⟦<PeripheralBox as HasState>⟧.state display.old).is_parked ≡ false }
-    requires display { is_display (⟦<PeripheralBox as HasState>⟧.state display.old).kind ≡ true }
-    requires fits { order_fits (⟦<PeripheralBox as HasState>⟧.state display.old).kind plan.order ≡ true }
-    ensures ordered { let state = ⟦<PeripheralBox as HasState>⟧.state in
-        Carries plan caller result (controls_of controls.old) (station_of (state display.old))
-        (controls_of controls.new) (station_of (state display.new)) }
-    ensures in_service { let state = ⟦<PeripheralBox as HasState>⟧.state in
-        StaysInService (state display.old) (state display.new) }
+/// Where a text from a place on leaves the cursor.
+fn left_by(kind: Kind, cursor: Cursor, start: Place, bytes: &[u8]) -> Place
+    requires columns { 1 ≤ columns_of (Some kind) }
+    requires start { is_cursor_place (rows_of (Some kind)) (columns_of (Some kind)) start ≡ true }
+    ensures { result ≡ left_by (Some kind) cursor start bytes.now }
 {
-    match display.ask(&plan.order)? {
-        Reply::Done => {
-            move_cursor(controls, caller, plan.place);
-            Ok(Answer::Done(Value::Empty))
-        }
-        Reply::LineFault => Ok(Answer::Refused(Code::Failure, 0)),
-        Reply::CoverOpen | Reply::PaperEnd => unreachable!(),
+    if !cursor.update {
+        return start;
     }
+    place_after(rows_of(Some(kind)), columns_of(Some(kind)), start, bytes)
 }
 
-/// The cursor of the control with a number is at another place from now on.
-fn move_cursor(controls: &mut [Control], caller: usize, place: Place)
-    requires { caller < length controls.old }
-    ensures { MatchOption (slice_get (controls_of controls.old) caller) ⊥ (λ control.
-        controls_of controls.new ≡ slice_set (controls_of controls.old) caller (with_place place control)) }
+/// What is shown is to move in the direction of a number, by so many units.
+fn plan_scroll(kind: Kind, direction: i128, units: i128) -> Result<Deed, Code>
+    requires display { is_display kind ≡ true }
+    ensures { Plans (scroll_rows (Some kind) direction units) (option_map (scrolls units) (direction_of direction))
+        (DeedFits kind) (Call.ScrollText direction units) (Ok result) }
 {
-    controls[caller].move_cursor(place);
+    let Some(direction) = Direction::from_number(direction) else {
+        return Err(Code::Illegal);
+    };
+    let most = direction.most_units(rows_of(Some(kind)), columns_of(Some(kind)));
+    let Some(units) = to_count(units, most) else {
+        return Err(Code::Illegal);
+    };
+    Ok(Deed::Gives(
+        Order::Scroll { direction, units },
+        Change::Nothing,
+    ))
 }

@@ -2,6 +2,5 @@
 #![tactic(auto)]
 
 mod calls;
-mod plans;
 
-pub use calls::call;
+pub use calls::plan;

@@ -1,101 +1,21 @@
-ghost use Rattle.std.specs.Prelude.{◌≡◌, false, MatchResult};
+ghost use Rattle.std.specs.Prelude.{◌≡◌, true, Some};
 ghost use Rattle.pos_service.specs.declared.category.Category.TheVariants as category;
-ghost use Rattle.pos_service.specs.declared.kind.Kind.TheVariants as kind;
-ghost use Rattle.pos_service.specs.DrawerCalls.{drawer_rows, DrawerDoes, DrawerOpens};
-ghost use Rattle.pos_service.specs.Stations.{station_of, IsOpen, CalledBy, SameStation, StaysInService};
-ghost use Rattle.pos_common.specs.Held.{controls_of};
+ghost use Rattle.pos_service.specs.declared.kind.Kind.{Kind};
+ghost use Rattle.pos_service.specs.Calls.{has_call};
+ghost use Rattle.pos_service.specs.Deeds.{DeedFits};
+ghost use Rattle.pos_service.specs.DrawerCalls.{drawer_deed};
+ghost use Rattle.pos_service.specs.Kinds.{is_drawer};
 
-use pos_common::{ClaimNeed, Claims, Control, Need, SIGN_EVENTS, check_caller, hear_all, room_all};
-use pos_service::{Answer, Call, Code, HasState, NoMemory, Order, PeripheralBox, Reply, Value};
+use pos_service::{Call, Change, Deed, Order};
 
-/// What `openDrawer` asks of its control: that no other holds the drawer, and that it is enabled.
-const READY: Need = Need {
-    claim: ClaimNeed::NoOther,
-    is_enabled: true,
-};
-
-/// A call on a drawer's control that is open. The claims are those of all devices, the peripheral is that of the
-/// caller's device.
-///
-/// Refused with E_ILLEGAL for a call that drawers don't have of their own, then as the call says. Want of memory
-/// changes nothing.
-pub fn call(
-    controls: &mut [Control],
-    caller: usize,
-    claims: &Claims,
-    drawer: &mut PeripheralBox,
-    call: &Call,
-) -> Result<Answer, NoMemory>
-    requires open { IsOpen category.CashDrawer (controls_of controls.old) caller }
-    requires unparked { (⟦<PeripheralBox as HasState>⟧.state drawer.old).is_parked ≡ false }
-    requires drawer { (⟦<PeripheralBox as HasState>⟧.state drawer.old).kind ≡ kind.Drawer }
-    ensures called { let state = ⟦<PeripheralBox as HasState>⟧.state in
-        CalledBy (drawer_rows claims.now caller) DrawerDoes caller call.now result
-        (controls_of controls.old) (station_of (state drawer.old))
-        (controls_of controls.new) (station_of (state drawer.new)) }
-    ensures in_service { let state = ⟦<PeripheralBox as HasState>⟧.state in
-        StaysInService (state drawer.old) (state drawer.new) }
+/// What a call that drawers have comes to: with `openDrawer` the drawer opens.
+pub fn plan(call: &Call) -> Deed
+    requires { has_call category.CashDrawer call.now ≡ true }
+    ensures deed { drawer_deed call.now ≡ Some result }
+    ensures fits { (is : Kind) → is_drawer is ≡ true → DeedFits is result }
 {
     match call {
-        Call::OpenDrawer => open_drawer(controls, caller, claims, drawer),
-        _ => Ok(Answer::Refused(Code::Illegal, 0)),
-    }
-}
-
-/// `openDrawer`: the drawer opens.
-///
-/// Refused with E_CLAIMED where another control holds the drawer, E_DISABLED where the caller is disabled, E_FAILURE
-/// where the line to the drawer fails.
-fn open_drawer(
-    controls: &mut [Control],
-    caller: usize,
-    claims: &Claims,
-    drawer: &mut PeripheralBox,
-) -> Result<Answer, NoMemory>
-    requires open { IsOpen category.CashDrawer (controls_of controls.old) caller }
-    requires unparked { (⟦<PeripheralBox as HasState>⟧.state drawer.old).is_parked ≡ false }
-    requires drawer { (⟦<PeripheralBox as HasState>⟧.state drawer.old).kind ≡ kind.Drawer }
-    ensures called { let state = ⟦<PeripheralBox as HasState>⟧.state in
-        CalledBy (drawer_rows claims.now caller) DrawerDoes caller Call.OpenDrawer result
-        (controls_of controls.old) (station_of (state drawer.old))
-        (controls_of controls.new) (station_of (state drawer.new)) }
-    ensures in_service { let state = ⟦<PeripheralBox as HasState>⟧.state in
-        StaysInService (state drawer.old) (state drawer.new) }
-{
-    if let Err(code) = check_caller(controls, caller, claims, READY) {
-        return Ok(Answer::Refused(code, 0));
-    }
-    let place = controls[caller].place();
-    open_at(controls, place, drawer)
-}
-
-/// Opens the drawer at a place, by one order, once there is room for what the controls will hear. Each control that has
-/// it open and enabled hears of it where it was closed. Want of memory changes nothing.
-///
-/// Refused with E_FAILURE where the line to the drawer fails.
-fn open_at(
-    controls: &mut [Control],
-    place: usize,
-    drawer: &mut PeripheralBox,
-) -> Result<Answer, NoMemory>
-    requires unparked { (⟦<PeripheralBox as HasState>⟧.state drawer.old).is_parked ≡ false }
-    requires drawer { (⟦<PeripheralBox as HasState>⟧.state drawer.old).kind ≡ kind.Drawer }
-    ensures opens { let state = ⟦<PeripheralBox as HasState>⟧.state in MatchResult result
-        (λ answer. DrawerOpens place answer (controls_of controls.old) (station_of (state drawer.old))
-        (controls_of controls.new) (station_of (state drawer.new)))
-        (λ _. SameStation (controls_of controls.old) (station_of (state drawer.old))
-        (controls_of controls.new) (station_of (state drawer.new))) }
-    ensures in_service { let state = ⟦<PeripheralBox as HasState>⟧.state in
-        StaysInService (state drawer.old) (state drawer.new) }
-{
-    room_all(controls, place, SIGN_EVENTS)?;
-    let old = drawer.signs();
-    match drawer.ask(&Order::OpenDrawer)? {
-        Reply::Done => {
-            hear_all(controls, place, old, drawer.signs());
-            Ok(Answer::Done(Value::Empty))
-        }
-        Reply::LineFault => Ok(Answer::Refused(Code::Failure, 0)),
-        Reply::CoverOpen | Reply::PaperEnd => unreachable!(),
+        Call::OpenDrawer => Deed::Gives(Order::OpenDrawer, Change::Nothing),
+        _ => unreachable!(),
     }
 }

@@ -1,8 +1,6 @@
-//! The calls of a cash drawer, and what its inputs do (chapter Cash Drawer).
+//! The calls of a cash drawer (chapter Cash Drawer).
 #![tactic(auto)]
 
 mod calls;
-mod inputs;
 
-pub use calls::call;
-pub use inputs::take_input;
+pub use calls::plan;

@@ -2,11 +2,12 @@
 use Rattle.std.proofs.Common.{◌≡◌, ◌∙◌, List, Ok, ap, refl}
 use Rattle.std.specs.Prelude.{ℕ}
 use Rattle.pos_service.specs.declared.order.Order.{Order}
+use Rattle.pos_service.specs.declared.order.Reply.{Reply}
 use Rattle.pos_service.specs.declared.order.Reply.TheVariants as reply
 use Rattle.pos_service.specs.declared.signs.Signs.{Signs}
 use Rattle.pos_service.specs.Controls.{Control, heard, all_listening}
+use Rattle.pos_service.specs.Deeds.{Ordered}
 use Rattle.pos_service.specs.Peripherals.{PeripheralState, Asked, signs_of}
-use Rattle.pos_service.specs.PrinterCalls.{Ordered}
 use Rattle.pos_service.specs.Stations.{SameStation, station_of}
 use Rattle.pos_service.specs.Statuses.{status_events}
 use Rattle.pos_printer.proofs.ReplyLemmas.{same_covered, same_ended}
@@ -37,23 +38,30 @@ ordered_done given place s t old new asked heard = record {
 }
 
 -- its cover is open
-pub ordered_covered : (given : Order) (place : ℕ) (s t : PeripheralState) (old : List Control) → Asked s given (Ok reply.CoverOpen) t → Ordered given place reply.CoverOpen old (station_of s) old (station_of t)
+ordered_covered : (given : Order) (place : ℕ) (s t : PeripheralState) (old : List Control) → Asked s given (Ok reply.CoverOpen) t → Ordered given place reply.CoverOpen old (station_of s) old (station_of t)
 ordered_covered given place s t old asked = record {
   plant = asked.answer.0;
   same = same_station s t old asked.kind (same_covered s.kind given s.plant t.plant asked.answer.0) asked.answer.1;
 }
 
 -- its paper doesn't suffice
-pub ordered_ended : (given : Order) (place : ℕ) (s t : PeripheralState) (old : List Control) → Asked s given (Ok reply.PaperEnd) t → Ordered given place reply.PaperEnd old (station_of s) old (station_of t)
+ordered_ended : (given : Order) (place : ℕ) (s t : PeripheralState) (old : List Control) → Asked s given (Ok reply.PaperEnd) t → Ordered given place reply.PaperEnd old (station_of s) old (station_of t)
 ordered_ended given place s t old asked = record {
   plant = asked.answer.0;
   same = same_station s t old asked.kind (same_ended s.kind given s.plant t.plant asked.answer.0) asked.answer.1;
 }
 
 -- its line has failed
-pub ordered_failed : (given : Order) (place : ℕ) (s t : PeripheralState) (old : List Control) → Asked s given (Ok reply.LineFault) t → Ordered given place reply.LineFault old (station_of s) old (station_of t)
+ordered_failed : (given : Order) (place : ℕ) (s t : PeripheralState) (old : List Control) → Asked s given (Ok reply.LineFault) t → Ordered given place reply.LineFault old (station_of s) old (station_of t)
 ordered_failed given place s t old asked = record {
   failures = asked.answer.1;
   station = rw (asked.kind, asked.answer.0) refl;
   controls = refl;
 }
+
+-- it has not done it
+pub ordered_undone : (said : Reply) → (said ≡ reply.Done → ⊥) → (given : Order) (place : ℕ) (s t : PeripheralState) (old : List Control) → Asked s given (Ok said) t → Ordered given place said old (station_of s) old (station_of t)
+ordered_undone reply.Done undone given place s t old asked = absurd (undone refl)
+ordered_undone reply.CoverOpen undone given place s t old asked = ordered_covered given place s t old asked
+ordered_undone reply.PaperEnd undone given place s t old asked = ordered_ended given place s t old asked
+ordered_undone reply.LineFault undone given place s t old asked = ordered_failed given place s t old asked

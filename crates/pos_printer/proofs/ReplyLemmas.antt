@@ -1,4 +1,4 @@
--- What a printer that does nothing leaves, and how it takes its inputs.
+-- What a printer that does nothing leaves.
 use Rattle.std.proofs.Common.{◌≡◌, true, List, ap, refl}
 use Rattle.std.proofs.lemmas.Bool.{false≢true}
 use Rattle.pos_service.specs.declared.input.Input.{Input}
@@ -38,18 +38,3 @@ pub same_ended : (is : Kind) (given : Order) (p q : Plant) → Performs is given
 same_ended is (order.Print bytes) p q h = ended (pieces bytes) p q h
 same_ended is (order.Cut percentage) p q h = ended (cut_pieces percentage) p q h
 same_ended is given p q h = absurd h
-
--- a printer takes its inputs quietly
-pub quiet : (is : Kind) (i : Input) (p q : Plant) (t : Taken) → is_printer is ≡ true → input_fits is i ≡ true → Takes is i p t q → t ≡ taken.Quiet
-quiet kind.Drawer i p q t is_one fits h = absurd (false≢true is_one)
-quiet kind.Scanner i p q t is_one fits h = absurd (false≢true is_one)
-quiet (kind.Display rows columns) i p q t is_one fits h = absurd (false≢true is_one)
-quiet (kind.Printer chars near) (input.DrawerMoved b) p q t is_one fits h = absurd (false≢true fits)
-quiet (kind.Printer chars near) (input.Scan number bytes label) p q t is_one fits h = absurd (false≢true fits)
-quiet (kind.Printer chars near) input.ScanFault p q t is_one fits h = absurd (false≢true fits)
-quiet (kind.Printer chars near) (input.CoverMoved b) (plant.Printer a) q taken.Quiet is_one fits h = refl
-quiet (kind.Printer chars near) (input.CoverMoved b) (plant.Display a) q taken.Quiet is_one fits h = refl
-quiet (kind.Printer chars near) (input.CoverMoved b) p q t is_one fits h = absurd h
-quiet (kind.Printer chars near) (input.PaperLoaded n) (plant.Printer a) q taken.Quiet is_one fits h = refl
-quiet (kind.Printer chars near) (input.PaperLoaded n) (plant.Display a) q taken.Quiet is_one fits h = refl
-quiet (kind.Printer chars near) (input.PaperLoaded n) p q t is_one fits h = absurd h

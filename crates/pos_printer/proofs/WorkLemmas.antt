@@ -10,20 +10,22 @@ use Rattle.pos_service.specs.declared.order.Order.{Order}
 use Rattle.pos_service.specs.declared.signs.Signs.{Signs}
 use Rattle.pos_service.specs.declared.worked.Worked.{Worked}
 use Rattle.pos_service.specs.declared.worked.Worked.TheVariants as worked
-use Rattle.pos_service.specs.Controls.{Control, all_listening, completed, heard, if_listening, listens}
+use Rattle.pos_service.specs.Codes.{code_by, extended_by}
+use Rattle.pos_service.specs.Controls.{Control, all_listening, completed, heard, if_listening, listens, output_failed}
 use Rattle.pos_service.specs.declared.order.Reply.{Reply}
 use Rattle.pos_service.specs.declared.order.Reply.TheVariants as reply
+use Rattle.pos_service.specs.Deeds.{Ordered}
 use Rattle.pos_service.specs.Events.{Enqueued}
 use Rattle.pos_service.specs.Kinds.{is_printer}
 use Rattle.pos_service.specs.Output.{request_to_do}
 use Rattle.pos_service.specs.Peripherals.{Asked, PeripheralState, signs_of}
-use Rattle.pos_service.specs.PrinterCalls.{after_work, first_request, due_request, worked_by, Ordered, WorksAt, WorksOn}
+use Rattle.pos_service.specs.PrinterCalls.{after_work, first_request, due_request, worked_by, WorksAt, WorksOn}
 use Rattle.pos_service.specs.Stations.{Station, SameStation, station_of}
 use Rattle.pos_service.specs.Statuses.{status_events}
 use Rattle.pos_common.specs.Held.{Held, HasRoom, controls_of, work_events}
 use Rattle.pos_common.proofs.HeldLemmas.{control_at}
 use Rattle.pos_printer.specs.Requests.{HasRequest}
-use Rattle.pos_printer.proofs.OrderLemmas.{heard_of, ordered_done}
+use Rattle.pos_printer.proofs.OrderLemmas.{heard_of, ordered_done, ordered_undone}
 
 -- there is a request to do
 pub works : (at : Option ℕ) (holder place : ℕ) (outcome : Result Worked NoMemory) (old new : List Control) (before after : Station) (request : ℕ × Order) → at ≡ Some holder → is_printer before.kind ≡ true → option_and_then (first_request place) (slice_get old holder) ≡ Some request → MatchResult outcome (λ result. WorksOn (due_request holder request) place result old before new after) (λ want. SameStation old before new after) → WorksAt at place outcome old before new after
@@ -154,10 +156,18 @@ does at holder place result old mid new hs d s t a b is printer found same asked
     works at holder place (Ok result) old new (station_of s) (station_of t) f.0 is printer (first_is place holder f.0 old f.1)
     (works_on holder place reply.Done result old mid new (station_of s) (station_of t) f.0 (ordered_done f.0.1 place s t old mid given heard_all) worked.1 worked.0)
 
+-- what is said of a request that the printer doesn't do, and what becomes of its control
+undone_said : (said : Reply) → (said ≡ reply.Done → ⊥) → (id holder : ℕ) (result : Worked) (old new : List Control) → result ≡ worked.Failed (code_by said) (extended_by said) → MatchOption (slice_get old holder) ⊥ (λ control. new ≡ slice_set old holder (output_failed (code_by said) (extended_by said) control)) → (result ≡ worked_by id said) × MatchOption (slice_get old holder) ⊥ (λ control. new ≡ slice_set old holder (after_work id said control))
+undone_said reply.Done undone id holder result old new answer changed = absurd (undone refl)
+undone_said reply.CoverOpen undone id holder result old new answer changed = (answer, changed)
+undone_said reply.PaperEnd undone id holder result old new answer changed = (answer, changed)
+undone_said reply.LineFault undone id holder result old new answer changed = (answer, changed)
+
 -- work on a request that the printer doesn't do
-pub fails : (at : Option ℕ) (holder place : ℕ) (said : Reply) (result : Worked) (old new : List Control) (hs : List Held) (d : Held) (s t : PeripheralState) → at ≡ Some holder → is_printer s.kind ≡ true → is_some (option_and_then (first_request place) (slice_get old holder)) ≡ true → controls_of hs ≡ old → MatchOption (first_request place (get_or hs holder d).control) ⊥ (λ r. Asked s r.1 (Ok said) t) → ((given : Order) → Asked s given (Ok said) t → Ordered given place said old (station_of s) old (station_of t)) → ((id : ℕ) → MatchOption (slice_get old holder) ⊥ (λ control. new ≡ slice_set old holder (after_work id said control))) → ((id : ℕ) → result ≡ worked_by id said) → WorksAt at place (Ok result) old (station_of s) new (station_of t)
-fails at holder place said result old new hs d s t is printer found same asked ordered changed answered =
+pub fails : (at : Option ℕ) (holder place : ℕ) (said : Reply) (result : Worked) (old new : List Control) (hs : List Held) (d : Held) (s t : PeripheralState) → (said ≡ reply.Done → ⊥) → at ≡ Some holder → is_printer s.kind ≡ true → is_some (option_and_then (first_request place) (slice_get old holder)) ≡ true → controls_of hs ≡ old → MatchOption (first_request place (get_or hs holder d).control) ⊥ (λ r. Asked s r.1 (Ok said) t) → result ≡ worked.Failed (code_by said) (extended_by said) → MatchOption (slice_get (controls_of hs) holder) ⊥ (λ control. new ≡ slice_set (controls_of hs) holder (output_failed (code_by said) (extended_by said) control)) → WorksAt at place (Ok result) old (station_of s) new (station_of t)
+fails at holder place said result old new hs d s t undone is printer found same asked answer changed =
     let f = first_found place holder old found in
     let given = first_asked place holder f.0 hs d (Ok said) s t (subst (IsFirst place holder f.0) (sym same) f.1) asked in
+    let told = undone_said said undone f.0.0 holder result old new answer (rw same at changed) in
     works at holder place (Ok result) old new (station_of s) (station_of t) f.0 is printer (first_is place holder f.0 old f.1)
-    (works_on holder place said result old old new (station_of s) (station_of t) f.0 (ordered f.0.1 given) (changed f.0.0) (answered f.0.0))
+    (works_on holder place said result old old new (station_of s) (station_of t) f.0 (ordered_undone said undone f.0.1 place s t old given) told.1 told.0)

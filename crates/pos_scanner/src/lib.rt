@@ -1,8 +1,6 @@
-//! The calls of a scanner, and what its inputs do (chapter Scanner).
+//! The calls of a scanner (chapter Scanner, and common chapter).
 #![tactic(auto)]
 
 mod calls;
-mod inputs;
 
-pub use calls::call;
-pub use inputs::take_input;
+pub use calls::plan;

@@ -126,11 +126,17 @@ DeedFits is (deed.Gives given what) = order_fits is given ≡ true
 DeedFits is (deed.Changes what) = ⊤
 DeedFits is (deed.Queues given) = PrintersTake given
 
--- A call of a category's own that its control may make: it is refused by its arguments, or comes to this deed, which a
--- peripheral of this kind takes. Memory is wanted only by a call that may want some, behind the arguments.
-abbrev pub Plans : List Row → Option Deed → Kind → Call → Result (Result Deed Code) NoMemory → Type 0
-Plans rows comes_to at asked outcome = MatchResult outcome
+-- Every printer takes the order of a deed, now or later.
+abbrev pub PrintersDo : Deed → Type 0
+PrintersDo (deed.Gives given what) = PrintersTake given
+PrintersDo (deed.Changes what) = ⊤
+PrintersDo (deed.Queues given) = PrintersTake given
+
+-- A call of a category's own that its control may make: it is refused by its arguments, or comes to this deed, which
+-- fits. Memory is wanted only by a call that may want some, behind the arguments.
+abbrev pub Plans : List Row → Option Deed → (Deed → Type 0) → Call → Result (Result Deed Code) NoMemory → Type 0
+Plans rows comes_to Fits asked outcome = MatchResult outcome
     (λ found. MatchResult found
-    (λ deed. (first_refusal rows ≡ None) × (comes_to ≡ Some deed) × DeedFits at deed)
+    (λ deed. (first_refusal rows ≡ None) × (comes_to ≡ Some deed) × Fits deed)
     (λ code. first_refusal rows ≡ Some (answer.Refused code 0)))
     (λ want. IsTrue (takes_memory asked) × (first_refusal rows ≡ None))

@@ -31,6 +31,12 @@ abbrev pub are_units : Option Kind → Option Direction → ℤ → Bool
 are_units at None units = false
 are_units at (Some direction) units = is_up_to (most_units (rows_of at) (columns_of at) direction) units
 
+-- a direction and units in it, in this order
+abbrev pub scroll_rows : Option Kind → ℤ → ℤ → List Row
+scroll_rows at direction units =
+    when (is_none (direction_of direction)) code.Illegal
+    ∷ when (not (are_units at (direction_of direction) units)) code.Illegal ∷ []
+
 -- the arguments of each call, in order, by what stands at the device
 abbrev pub display_rows : Option Kind → Call → List Row
 display_rows at (call.DisplayText text attribute) = text_rows text attribute
@@ -38,9 +44,7 @@ display_rows at (call.DisplayTextAt row column text attribute) =
     when (not (is_index (rows_of at) row)) code.Illegal
     ∷ when (not (is_up_to (columns_of at) column)) code.Illegal
     ∷ text_rows text attribute
-display_rows at (call.ScrollText direction units) =
-    when (is_none (direction_of direction)) code.Illegal
-    ∷ when (not (are_units at (direction_of direction) units)) code.Illegal ∷ []
+display_rows at (call.ScrollText direction units) = scroll_rows at direction units
 display_rows at asked = []
 
 -- where a text from this place on leaves the cursor: at its last place, with CursorUpdate true, and else where it began
@@ -52,6 +56,10 @@ abbrev pub shows : Option Kind → Cursor → Place → List ℕ → Attribute �
 shows at cursor start text style =
     deed.Gives (order.ShowText start.row start.column style text) (change.Cursor (left_by at cursor start text))
 
+-- what is shown moves so many units in a direction
+abbrev pub scrolls : ℤ → Direction → Deed
+scrolls units direction = deed.Gives (order.Scroll direction (nat_abs units)) change.Nothing
+
 -- What each call comes to at a device of this kind, by the control's cursor: a text is shown, and leaves the cursor at
 -- its end or beginning; clearText leaves it at the first place, scrollText where it was.
 abbrev pub display_deed : Option Kind → Cursor → Call → Option Deed
@@ -60,8 +68,7 @@ display_deed at cursor (call.DisplayText text attribute) =
 display_deed at cursor (call.DisplayTextAt row column text attribute) =
     option_map (shows at cursor (place_at (nat_abs row) (nat_abs column)) text) (attribute_of attribute)
 display_deed at cursor call.ClearText = Some (deed.Gives order.ClearText (change.Cursor origin))
-display_deed at cursor (call.ScrollText direction units) =
-    option_map (λ way. deed.Gives (order.Scroll way (nat_abs units)) change.Nothing) (direction_of direction)
+display_deed at cursor (call.ScrollText direction units) = option_map (scrolls units) (direction_of direction)
 display_deed at cursor asked = None
 
 -- The cursor of the control with a number is at a place of the display that stands at its device.

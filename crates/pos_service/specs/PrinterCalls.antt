@@ -35,6 +35,12 @@ is_receipt (negsuc n) = false
 abbrev pub is_busy : Control → Bool
 is_busy control = not control.writer.is_async && is_outstanding control.writer.output
 
+-- a station and a text, in this order
+abbrev pub text_rows : ℤ → List ℕ → List Row
+text_rows station text =
+    when (not (is_receipt station)) code.Illegal
+    ∷ when (not (is_printable_text text)) code.Illegal ∷ []
+
 -- the arguments of each call, in order, and but for printImmediate that a synchronous request doesn't come before others
 -- that are queued
 abbrev pub printer_rows : Control → Call → List Row
@@ -42,9 +48,7 @@ printer_rows control (call.PrintNormal station text) =
     when (not (is_receipt station)) code.Illegal
     ∷ when (not (is_printable_text text)) code.Illegal
     ∷ when (is_busy control) code.Busy ∷ []
-printer_rows control (call.PrintImmediate station text) =
-    when (not (is_receipt station)) code.Illegal
-    ∷ when (not (is_printable_text text)) code.Illegal ∷ []
+printer_rows control (call.PrintImmediate station text) = text_rows station text
 printer_rows control (call.CutPaper percentage) =
     when (not (is_up_to 100 percentage)) code.Illegal
     ∷ when (is_busy control) code.Busy ∷ []
@@ -54,10 +58,14 @@ printer_rows control asked = []
 abbrev pub request_of : Control → Order → Deed
 request_of control given = if control.writer.is_async then deed.Queues given else deed.Gives given change.Nothing
 
+-- a text is printed at once
+abbrev pub immediately : List ℕ → Deed
+immediately text = deed.Gives (order.Print text) change.Nothing
+
 -- what each call of a control comes to
 abbrev pub printer_deed : Control → Call → Option Deed
 printer_deed control (call.PrintNormal station text) = Some (request_of control (order.Print text))
-printer_deed control (call.PrintImmediate station text) = Some (deed.Gives (order.Print text) change.Nothing)
+printer_deed control (call.PrintImmediate station text) = Some (immediately text)
 printer_deed control (call.CutPaper percentage) = Some (request_of control (order.Cut (nat_abs percentage)))
 printer_deed control call.ClearOutput = Some (deed.Changes change.Output)
 printer_deed control asked = None

@@ -1,7 +1,5 @@
 use Rattle.std.proofs.Common.{◌∙◌, arith, subst, sym}
-use Rattle.pos_service.specs.declared.order.Reply.TheVariants as reply
 use Rattle.pos_common.specs.Held.{controls_of}
-use Rattle.pos_printer.proofs.OrderLemmas.{ordered_covered, ordered_ended}
 use Rattle.pos_printer.proofs.WorkLemmas.{IsFirst, does, fails, first_found, first_heard, has_request, room_for_first}
 use Rattle.pos_printer.proofs.working.work.Goals as goal
 
@@ -18,29 +16,14 @@ pub fail-requires-clause-request : goal.fail-requires-clause-request
 fail-requires-clause-request g c =
     room_for_first c.args.place c.in-Some.holder _ c.room_all.new.controls (sym c.has_work.ensures.work ∙ c.if-not-has_work.false) c.room_all.ensures.same c.in_ok-room_all.ensures.room
 
-pub fail-requires-in-PaperEnd-clause-request : goal.fail-requires-in-PaperEnd-clause-request
-fail-requires-in-PaperEnd-clause-request g c =
-    room_for_first c.args.place c.in-Some.holder _ c.room_all.new.controls (sym c.has_work.ensures.work ∙ c.if-not-has_work.false) c.room_all.ensures.same c.in_ok-room_all.ensures.room
-
-pub fail-requires-in-LineFault-clause-request : goal.fail-requires-in-LineFault-clause-request
-fail-requires-in-LineFault-clause-request g c =
-    room_for_first c.args.place c.in-Some.holder _ c.room_all.new.controls (sym c.has_work.ensures.work ∙ c.if-not-has_work.false) c.room_all.ensures.same c.in_ok-room_all.ensures.room
-
 pub returns-in-Done-clause-worked : goal.returns-in-Done-clause-worked
 returns-in-Done-clause-worked g c =
-    let asked = rw (c.in_ok-ask_for.was, c.in-Done.is) at c.ask_for.ensures in
+    let asked = rw (c.in_ok-said.was, c.in-Done.is) at c.ask_for.ensures in
     does _ c.in-Some.holder c.args.place c.complete.result (controls_of c.args.controls.now) _ _ c.room_all.new.controls _ _ _ _ _ (sym c.holder.ensures ∙ c.in-Some.is) c.requires.printer (sym c.has_work.ensures.work ∙ c.if-not-has_work.false) c.room_all.ensures.same asked c.signs-old.ensures c.signs.ensures c.hear_all.ensures.heard c.complete.ensures
 
-pub returns-in-CoverOpen-clause-worked : goal.returns-in-CoverOpen-clause-worked
-returns-in-CoverOpen-clause-worked g c =
-    let asked = rw (c.in_ok-ask_for.was, c.in-CoverOpen.is) at c.ask_for.ensures in
-    let old = controls_of c.args.controls.now in
-    fails _ c.in-Some.holder c.args.place reply.CoverOpen c.fail.result old _ c.room_all.new.controls _ _ _ (sym c.holder.ensures ∙ c.in-Some.is) c.requires.printer (sym c.has_work.ensures.work ∙ c.if-not-has_work.false) c.room_all.ensures.same asked
-    (λ given told. ordered_covered given c.args.place _ _ old told) (λ id. rw c.room_all.ensures.same at c.fail.ensures.failed) (λ id. c.fail.ensures.said)
-
-pub returns-in-PaperEnd-clause-worked : goal.returns-in-PaperEnd-clause-worked
-returns-in-PaperEnd-clause-worked g c =
-    let asked = rw (c.in_ok-ask_for.was, c.in-PaperEnd.is) at c.ask_for.ensures in
-    let old = controls_of c.args.controls.now in
-    fails _ c.in-Some.holder c.args.place reply.PaperEnd c.fail-in-PaperEnd.result old _ c.room_all.new.controls _ _ _ (sym c.holder.ensures ∙ c.in-Some.is) c.requires.printer (sym c.has_work.ensures.work ∙ c.if-not-has_work.false) c.room_all.ensures.same asked
-    (λ given told. ordered_ended given c.args.place _ _ old told) (λ id. rw c.room_all.ensures.same at c.fail-in-PaperEnd.ensures.failed) (λ id. c.fail-in-PaperEnd.ensures.said)
+pub returns-in_default-2-clause-worked : goal.returns-in_default-2-clause-worked
+returns-in_default-2-clause-worked g c =
+    let asked = rw c.in_ok-said.was at c.ask_for.ensures in
+    let answer = rw (c.code.ensures, c.extended.ensures) at c.fail.ensures.said in
+    let changed = rw (c.code.ensures, c.extended.ensures) at c.fail.ensures.failed in
+    fails _ c.in-Some.holder c.args.place c.in_ok-said.said c.fail.result (controls_of c.args.controls.now) _ c.room_all.new.controls _ _ _ c.in_default-2.not-Done (sym c.holder.ensures ∙ c.in-Some.is) c.requires.printer (sym c.has_work.ensures.work ∙ c.if-not-has_work.false) c.room_all.ensures.same asked answer changed

@@ -1,3 +1,0 @@
-pub mod AskLemmas
-pub mod CallLemmas
-pub mod ReplyLemmas

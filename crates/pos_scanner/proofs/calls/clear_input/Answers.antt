@@ -1,6 +1,0 @@
-use Rattle.pos_service.specs.ScannerCalls.{without_input}
-use Rattle.pos_common.proofs.ChangeLemmas.{changed_at}
-use Rattle.pos_scanner.proofs.calls.clear_input.Goals as goal
-
-pub returns : goal.returns
-returns c = changed_at without_input c.args.controls.now c.args.caller c.index-controls-caller.result _ c.requires c.clear_input.ensures
