@@ -12,9 +12,7 @@ ghost use Rattle.pos_display.specs.Plans.{Allows, Carries};
 use crate::plans::{Plan, plan_call};
 use pos_common::{ClaimNeed, Claims, Control, Need, check_caller};
 use pos_service::display_text::Place;
-use pos_service::{
-    Answer, Call, Category, Code, HasState, Kind, NoMemory, PeripheralBox, Reply, Value,
-};
+use pos_service::{Answer, Call, Category, Code, Kind, NoMemory, Peripheral, Reply, Value};
 use std::alloc::Global;
 
 /// What each call asks of its control: that it holds the display, and is enabled.
@@ -35,26 +33,26 @@ const READY: Need = Need {
 /// holds the display, E_NOTCLAIMED where nobody does, E_DISABLED where the caller is disabled, E_ILLEGAL for an
 /// argument out of range, E_FAILURE where the line to the display fails. Neither a refusal nor want of memory changes
 /// anything.
-pub fn call(
+pub fn call<P: Peripheral>(
     alloc: Global,
     controls: &mut [Control],
     caller: usize,
     claims: &Claims,
-    display: &mut PeripheralBox,
+    display: &mut P,
     call: &Call,
 ) -> Result<Answer, NoMemory>
     requires open { IsOpen category.LineDisplay (controls_of controls.old) caller }
-    requires unparked { (⟦<PeripheralBox as HasState>⟧.state display.old).is_parked ≡ false }
-    requires display { is_display (⟦<PeripheralBox as HasState>⟧.state display.old).kind ≡ true }
-    requires cursor { let state = ⟦<PeripheralBox as HasState>⟧.state in
+    requires unparked { (P.Peripheral.state display.old).is_parked ≡ false }
+    requires display { is_display (P.Peripheral.state display.old).kind ≡ true }
+    requires cursor { let state = P.Peripheral.state in
         HasCursor (state display.old).kind (controls_of controls.old) caller }
-    ensures called { let state = ⟦<PeripheralBox as HasState>⟧.state in
+    ensures called { let state = P.Peripheral.state in
         CalledBy (display_rows claims.now caller (Some (state display.old).kind)) DisplayDoes caller call.now result
         (controls_of controls.old) (station_of (state display.old))
         (controls_of controls.new) (station_of (state display.new)) }
-    ensures cursor { let state = ⟦<PeripheralBox as HasState>⟧.state in
+    ensures cursor { let state = P.Peripheral.state in
         HasCursor (state display.old).kind (controls_of controls.new) caller }
-    ensures in_service { let state = ⟦<PeripheralBox as HasState>⟧.state in
+    ensures in_service { let state = P.Peripheral.state in
         StaysInService (state display.old) (state display.new) }
 {
     match allowed_plan(alloc, controls, caller, claims, display.kind(), call)? {
@@ -97,20 +95,20 @@ fn allowed_plan(
 /// Gives the display the order of a plan, and has the caller's cursor where the plan says once that is done.
 ///
 /// Refused with E_FAILURE where the line to the display fails. Neither that nor want of memory changes anything.
-fn carry_out(
+fn carry_out<P: Peripheral>(
     controls: &mut [Control],
     caller: usize,
-    display: &mut PeripheralBox,
+    display: &mut P,
     plan: Plan,
 ) -> Result<Answer, NoMemory>
     requires number { caller < length controls.old }
-    requires unparked { (⟦<PeripheralBox as HasState>⟧.state display.old).is_parked ≡ false }
-    requires display { is_display (⟦<PeripheralBox as HasState>⟧.state display.old).kind ≡ true }
-    requires fits { order_fits (⟦<PeripheralBox as HasState>⟧.state display.old).kind plan.order ≡ true }
-    ensures ordered { let state = ⟦<PeripheralBox as HasState>⟧.state in
+    requires unparked { (P.Peripheral.state display.old).is_parked ≡ false }
+    requires display { is_display (P.Peripheral.state display.old).kind ≡ true }
+    requires fits { order_fits (P.Peripheral.state display.old).kind plan.order ≡ true }
+    ensures ordered { let state = P.Peripheral.state in
         Carries plan caller result (controls_of controls.old) (station_of (state display.old))
         (controls_of controls.new) (station_of (state display.new)) }
-    ensures in_service { let state = ⟦<PeripheralBox as HasState>⟧.state in
+    ensures in_service { let state = P.Peripheral.state in
         StaysInService (state display.old) (state display.new) }
 {
     match display.ask(&plan.order)? {

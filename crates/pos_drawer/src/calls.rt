@@ -6,7 +6,7 @@ ghost use Rattle.pos_service.specs.Stations.{station_of, IsOpen, CalledBy, SameS
 ghost use Rattle.pos_common.specs.Held.{controls_of};
 
 use pos_common::{ClaimNeed, Claims, Control, Need, SIGN_EVENTS, check_caller, hear_all, room_all};
-use pos_service::{Answer, Call, Code, HasState, NoMemory, Order, PeripheralBox, Reply, Value};
+use pos_service::{Answer, Call, Code, NoMemory, Order, Peripheral, Reply, Value};
 
 /// What `openDrawer` asks of its control: that no other holds the drawer, and that it is enabled.
 const READY: Need = Need {
@@ -19,21 +19,21 @@ const READY: Need = Need {
 ///
 /// Refused with E_ILLEGAL for a call that drawers don't have of their own, then as the call says. Want of memory
 /// changes nothing.
-pub fn call(
+pub fn call<P: Peripheral>(
     controls: &mut [Control],
     caller: usize,
     claims: &Claims,
-    drawer: &mut PeripheralBox,
+    drawer: &mut P,
     call: &Call,
 ) -> Result<Answer, NoMemory>
     requires open { IsOpen category.CashDrawer (controls_of controls.old) caller }
-    requires unparked { (⟦<PeripheralBox as HasState>⟧.state drawer.old).is_parked ≡ false }
-    requires drawer { (⟦<PeripheralBox as HasState>⟧.state drawer.old).kind ≡ kind.Drawer }
-    ensures called { let state = ⟦<PeripheralBox as HasState>⟧.state in
+    requires unparked { (P.Peripheral.state drawer.old).is_parked ≡ false }
+    requires drawer { (P.Peripheral.state drawer.old).kind ≡ kind.Drawer }
+    ensures called { let state = P.Peripheral.state in
         CalledBy (drawer_rows claims.now caller) DrawerDoes caller call.now result
         (controls_of controls.old) (station_of (state drawer.old))
         (controls_of controls.new) (station_of (state drawer.new)) }
-    ensures in_service { let state = ⟦<PeripheralBox as HasState>⟧.state in
+    ensures in_service { let state = P.Peripheral.state in
         StaysInService (state drawer.old) (state drawer.new) }
 {
     match call {
@@ -46,20 +46,20 @@ pub fn call(
 ///
 /// Refused with E_CLAIMED where another control holds the drawer, E_DISABLED where the caller is disabled, E_FAILURE
 /// where the line to the drawer fails.
-fn open_drawer(
+fn open_drawer<P: Peripheral>(
     controls: &mut [Control],
     caller: usize,
     claims: &Claims,
-    drawer: &mut PeripheralBox,
+    drawer: &mut P,
 ) -> Result<Answer, NoMemory>
     requires open { IsOpen category.CashDrawer (controls_of controls.old) caller }
-    requires unparked { (⟦<PeripheralBox as HasState>⟧.state drawer.old).is_parked ≡ false }
-    requires drawer { (⟦<PeripheralBox as HasState>⟧.state drawer.old).kind ≡ kind.Drawer }
-    ensures called { let state = ⟦<PeripheralBox as HasState>⟧.state in
+    requires unparked { (P.Peripheral.state drawer.old).is_parked ≡ false }
+    requires drawer { (P.Peripheral.state drawer.old).kind ≡ kind.Drawer }
+    ensures called { let state = P.Peripheral.state in
         CalledBy (drawer_rows claims.now caller) DrawerDoes caller Call.OpenDrawer result
         (controls_of controls.old) (station_of (state drawer.old))
         (controls_of controls.new) (station_of (state drawer.new)) }
-    ensures in_service { let state = ⟦<PeripheralBox as HasState>⟧.state in
+    ensures in_service { let state = P.Peripheral.state in
         StaysInService (state drawer.old) (state drawer.new) }
 {
     if let Err(code) = check_caller(controls, caller, claims, READY) {
@@ -73,19 +73,19 @@ fn open_drawer(
 /// it open and enabled hears of it where it was closed. Want of memory changes nothing.
 ///
 /// Refused with E_FAILURE where the line to the drawer fails.
-fn open_at(
+fn open_at<P: Peripheral>(
     controls: &mut [Control],
     place: usize,
-    drawer: &mut PeripheralBox,
+    drawer: &mut P,
 ) -> Result<Answer, NoMemory>
-    requires unparked { (⟦<PeripheralBox as HasState>⟧.state drawer.old).is_parked ≡ false }
-    requires drawer { (⟦<PeripheralBox as HasState>⟧.state drawer.old).kind ≡ kind.Drawer }
-    ensures opens { let state = ⟦<PeripheralBox as HasState>⟧.state in MatchResult result
+    requires unparked { (P.Peripheral.state drawer.old).is_parked ≡ false }
+    requires drawer { (P.Peripheral.state drawer.old).kind ≡ kind.Drawer }
+    ensures opens { let state = P.Peripheral.state in MatchResult result
         (λ answer. DrawerOpens place answer (controls_of controls.old) (station_of (state drawer.old))
         (controls_of controls.new) (station_of (state drawer.new)))
         (λ _. SameStation (controls_of controls.old) (station_of (state drawer.old))
         (controls_of controls.new) (station_of (state drawer.new))) }
-    ensures in_service { let state = ⟦<PeripheralBox as HasState>⟧.state in
+    ensures in_service { let state = P.Peripheral.state in
         StaysInService (state drawer.old) (state drawer.new) }
 {
     room_all(controls, place, SIGN_EVENTS)?;

@@ -10,7 +10,7 @@ use crate::requests::{do_at_once, request};
 use pos_common::{ClaimNeed, Claims, Control, Need};
 use pos_service::numbers::{to_count, to_natural};
 use pos_service::receipt_text::is_printable;
-use pos_service::{Answer, Bytes, Call, Code, HasState, NoMemory, Order, PeripheralBox, Value};
+use pos_service::{Answer, Bytes, Call, Code, NoMemory, Order, Peripheral, Value};
 use std::alloc::Global;
 
 /// What each request asks of its control: that it holds the printer, and is enabled.
@@ -35,22 +35,22 @@ const HELD: Need = Need {
 /// Refused with E_ILLEGAL for a call that printers don't have of their own, then with E_CLAIMED where another control
 /// holds the printer, E_NOTCLAIMED where nobody does, and then as each call says. Neither a refusal nor want of memory
 /// changes anything.
-pub fn call(
+pub fn call<P: Peripheral>(
     alloc: Global,
     controls: &mut [Control],
     caller: usize,
     claims: &Claims,
-    printer: &mut PeripheralBox,
+    printer: &mut P,
     call: &Call,
 ) -> Result<Answer, NoMemory>
     requires open { IsOpen category.PosPrinter (controls_of controls.old) caller }
-    requires unparked { (⟦<PeripheralBox as HasState>⟧.state printer.old).is_parked ≡ false }
-    requires printer { is_printer (⟦<PeripheralBox as HasState>⟧.state printer.old).kind ≡ true }
-    ensures called { let state = ⟦<PeripheralBox as HasState>⟧.state in
+    requires unparked { (P.Peripheral.state printer.old).is_parked ≡ false }
+    requires printer { is_printer (P.Peripheral.state printer.old).kind ≡ true }
+    ensures called { let state = P.Peripheral.state in
         CalledBy (printer_rows claims.now caller) PrinterDoes caller call.now result
         (controls_of controls.old) (station_of (state printer.old))
         (controls_of controls.new) (station_of (state printer.new)) }
-    ensures in_service { let state = ⟦<PeripheralBox as HasState>⟧.state in
+    ensures in_service { let state = P.Peripheral.state in
         StaysInService (state printer.old) (state printer.new) }
 {
     match call {
@@ -70,23 +70,23 @@ pub fn call(
 ///
 /// Refused with E_CLAIMED, E_NOTCLAIMED, E_DISABLED, E_ILLEGAL for another station than the receipt's or a text that
 /// printers don't take, E_BUSY for a synchronous one while requests are queued, and then as `request` says.
-fn print_normal(
+fn print_normal<P: Peripheral>(
     alloc: Global,
     controls: &mut [Control],
     caller: usize,
     claims: &Claims,
-    printer: &mut PeripheralBox,
+    printer: &mut P,
     station: i128,
     text: &Bytes,
 ) -> Result<Answer, NoMemory>
     requires open { IsOpen category.PosPrinter (controls_of controls.old) caller }
-    requires unparked { (⟦<PeripheralBox as HasState>⟧.state printer.old).is_parked ≡ false }
-    requires printer { is_printer (⟦<PeripheralBox as HasState>⟧.state printer.old).kind ≡ true }
-    ensures called { let state = ⟦<PeripheralBox as HasState>⟧.state in
+    requires unparked { (P.Peripheral.state printer.old).is_parked ≡ false }
+    requires printer { is_printer (P.Peripheral.state printer.old).kind ≡ true }
+    ensures called { let state = P.Peripheral.state in
         CalledBy (printer_rows claims.now caller) PrinterDoes caller (Call.PrintNormal station text.now) result
         (controls_of controls.old) (station_of (state printer.old))
         (controls_of controls.new) (station_of (state printer.new)) }
-    ensures in_service { let state = ⟦<PeripheralBox as HasState>⟧.state in
+    ensures in_service { let state = P.Peripheral.state in
         StaysInService (state printer.old) (state printer.new) }
 {
     let control = &controls[caller];
@@ -112,23 +112,23 @@ fn print_normal(
 ///
 /// Refused with E_CLAIMED, E_NOTCLAIMED, E_DISABLED, E_ILLEGAL for another station than the receipt's or a text that
 /// printers don't take, and then as `do_at_once` says.
-fn print_immediate(
+fn print_immediate<P: Peripheral>(
     alloc: Global,
     controls: &mut [Control],
     caller: usize,
     claims: &Claims,
-    printer: &mut PeripheralBox,
+    printer: &mut P,
     station: i128,
     text: &Bytes,
 ) -> Result<Answer, NoMemory>
     requires open { IsOpen category.PosPrinter (controls_of controls.old) caller }
-    requires unparked { (⟦<PeripheralBox as HasState>⟧.state printer.old).is_parked ≡ false }
-    requires printer { is_printer (⟦<PeripheralBox as HasState>⟧.state printer.old).kind ≡ true }
-    ensures called { let state = ⟦<PeripheralBox as HasState>⟧.state in
+    requires unparked { (P.Peripheral.state printer.old).is_parked ≡ false }
+    requires printer { is_printer (P.Peripheral.state printer.old).kind ≡ true }
+    ensures called { let state = P.Peripheral.state in
         CalledBy (printer_rows claims.now caller) PrinterDoes caller (Call.PrintImmediate station text.now) result
         (controls_of controls.old) (station_of (state printer.old))
         (controls_of controls.new) (station_of (state printer.new)) }
-    ensures in_service { let state = ⟦<PeripheralBox as HasState>⟧.state in
+    ensures in_service { let state = P.Peripheral.state in
         StaysInService (state printer.old) (state printer.new) }
 {
     let control = &controls[caller];
@@ -150,21 +150,21 @@ fn print_immediate(
 ///
 /// Refused with E_CLAIMED, E_NOTCLAIMED, E_DISABLED, E_ILLEGAL for a number that isn't 0 to 100, E_BUSY for a
 /// synchronous one while requests are queued, and then as `request` says.
-fn cut_paper(
+fn cut_paper<P: Peripheral>(
     controls: &mut [Control],
     caller: usize,
     claims: &Claims,
-    printer: &mut PeripheralBox,
+    printer: &mut P,
     percentage: i128,
 ) -> Result<Answer, NoMemory>
     requires open { IsOpen category.PosPrinter (controls_of controls.old) caller }
-    requires unparked { (⟦<PeripheralBox as HasState>⟧.state printer.old).is_parked ≡ false }
-    requires printer { is_printer (⟦<PeripheralBox as HasState>⟧.state printer.old).kind ≡ true }
-    ensures called { let state = ⟦<PeripheralBox as HasState>⟧.state in
+    requires unparked { (P.Peripheral.state printer.old).is_parked ≡ false }
+    requires printer { is_printer (P.Peripheral.state printer.old).kind ≡ true }
+    ensures called { let state = P.Peripheral.state in
         CalledBy (printer_rows claims.now caller) PrinterDoes caller (Call.CutPaper percentage) result
         (controls_of controls.old) (station_of (state printer.old))
         (controls_of controls.new) (station_of (state printer.new)) }
-    ensures in_service { let state = ⟦<PeripheralBox as HasState>⟧.state in
+    ensures in_service { let state = P.Peripheral.state in
         StaysInService (state printer.old) (state printer.new) }
 {
     let control = &controls[caller];
@@ -188,19 +188,19 @@ fn cut_paper(
 /// OutputCompleteEvents stay.
 ///
 /// Refused with E_CLAIMED, E_NOTCLAIMED.
-fn clear_output(
+fn clear_output<P: Peripheral>(
     controls: &mut [Control],
     caller: usize,
     claims: &Claims,
-    printer: &mut PeripheralBox,
+    printer: &mut P,
 ) -> Result<Answer, NoMemory>
     requires open { IsOpen category.PosPrinter (controls_of controls.old) caller }
-    requires unparked { (⟦<PeripheralBox as HasState>⟧.state printer.old).is_parked ≡ false }
-    ensures called { let state = ⟦<PeripheralBox as HasState>⟧.state in
+    requires unparked { (P.Peripheral.state printer.old).is_parked ≡ false }
+    ensures called { let state = P.Peripheral.state in
         CalledBy (printer_rows claims.now caller) PrinterDoes caller Call.ClearOutput result
         (controls_of controls.old) (station_of (state printer.old))
         (controls_of controls.new) (station_of (state printer.new)) }
-    ensures in_service { let state = ⟦<PeripheralBox as HasState>⟧.state in
+    ensures in_service { let state = P.Peripheral.state in
         StaysInService (state printer.old) (state printer.new) }
 {
     let _ = printer;

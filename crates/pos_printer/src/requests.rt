@@ -9,32 +9,31 @@ ghost use Rattle.pos_common.specs.Held.{controls_of};
 
 use pos_common::{Control, SIGN_EVENTS, hear_all, room_all};
 use pos_service::{
-    Answer, Code, EPTR_COVER_OPEN, EPTR_REC_EMPTY, HasState, NoMemory, Order, PeripheralBox, Reply,
-    Value,
+    Answer, Code, EPTR_COVER_OPEN, EPTR_REC_EMPTY, NoMemory, Order, Peripheral, Reply, Value,
 };
 
 /// A request of the control with a number: with AsyncMode true it is queued, else it is done at once. Want of memory
 /// changes nothing.
 ///
 /// Refused with E_FAILURE where it is to be queued and no OutputID is left; else as one that is done at once.
-pub(crate) fn request(
+pub(crate) fn request<P: Peripheral>(
     controls: &mut [Control],
     caller: usize,
-    printer: &mut PeripheralBox,
+    printer: &mut P,
     order: Order,
 ) -> Result<Answer, NoMemory>
     requires open { IsOpen category.PosPrinter (controls_of controls.old) caller }
-    requires unparked { (⟦<PeripheralBox as HasState>⟧.state printer.old).is_parked ≡ false }
-    requires printer { is_printer (⟦<PeripheralBox as HasState>⟧.state printer.old).kind ≡ true }
+    requires unparked { (P.Peripheral.state printer.old).is_parked ≡ false }
+    requires printer { is_printer (P.Peripheral.state printer.old).kind ≡ true }
     requires fits { PrintersTake order }
-    ensures requested { let state = ⟦<PeripheralBox as HasState>⟧.state in
+    ensures requested { let state = P.Peripheral.state in
         IfSome (slice_get (controls_of controls.old) caller) (λ control. IfSome control.device (λ place.
         MatchResult result
         (λ answer. Requests order caller place answer (controls_of controls.old) (station_of (state printer.old))
         (controls_of controls.new) (station_of (state printer.new)))
         (λ _. SameStation (controls_of controls.old) (station_of (state printer.old))
         (controls_of controls.new) (station_of (state printer.new))))) }
-    ensures in_service { let state = ⟦<PeripheralBox as HasState>⟧.state in
+    ensures in_service { let state = P.Peripheral.state in
         StaysInService (state printer.old) (state printer.new) }
 {
     if controls[caller].is_async() {
@@ -46,24 +45,24 @@ pub(crate) fn request(
 /// A request of the control with a number is done at once. Want of memory changes nothing.
 ///
 /// Refused as `give` says.
-pub(crate) fn do_at_once(
+pub(crate) fn do_at_once<P: Peripheral>(
     controls: &mut [Control],
     caller: usize,
-    printer: &mut PeripheralBox,
+    printer: &mut P,
     order: &Order,
 ) -> Result<Answer, NoMemory>
     requires open { IsOpen category.PosPrinter (controls_of controls.old) caller }
-    requires unparked { (⟦<PeripheralBox as HasState>⟧.state printer.old).is_parked ≡ false }
-    requires printer { is_printer (⟦<PeripheralBox as HasState>⟧.state printer.old).kind ≡ true }
+    requires unparked { (P.Peripheral.state printer.old).is_parked ≡ false }
+    requires printer { is_printer (P.Peripheral.state printer.old).kind ≡ true }
     requires fits { PrintersTake order.now }
-    ensures done { let state = ⟦<PeripheralBox as HasState>⟧.state in
+    ensures done { let state = P.Peripheral.state in
         IfSome (slice_get (controls_of controls.old) caller) (λ control. IfSome control.device (λ place.
         MatchResult result
         (λ answer. DoesAtOnce order.now place answer (controls_of controls.old) (station_of (state printer.old))
         (controls_of controls.new) (station_of (state printer.new)))
         (λ _. SameStation (controls_of controls.old) (station_of (state printer.old))
         (controls_of controls.new) (station_of (state printer.new))))) }
-    ensures in_service { let state = ⟦<PeripheralBox as HasState>⟧.state in
+    ensures in_service { let state = P.Peripheral.state in
         StaysInService (state printer.old) (state printer.new) }
 {
     let place = controls[caller].place();
@@ -89,20 +88,20 @@ fn queue(controls: &mut [Control], caller: usize, order: Order) -> Result<Answer
 ///
 /// Refused with E_EXTENDED: EPTR_COVER_OPEN where the cover is open, else EPTR_REC_EMPTY where no line of paper is
 /// left, or fewer than the request needs; with E_FAILURE where the line to the printer fails.
-fn give(
+fn give<P: Peripheral>(
     controls: &mut [Control],
     place: usize,
-    printer: &mut PeripheralBox,
+    printer: &mut P,
     order: &Order,
 ) -> Result<Answer, NoMemory>
-    requires unparked { (⟦<PeripheralBox as HasState>⟧.state printer.old).is_parked ≡ false }
-    requires fits { order_fits (⟦<PeripheralBox as HasState>⟧.state printer.old).kind order.now ≡ true }
-    ensures done { let state = ⟦<PeripheralBox as HasState>⟧.state in MatchResult result
+    requires unparked { (P.Peripheral.state printer.old).is_parked ≡ false }
+    requires fits { order_fits (P.Peripheral.state printer.old).kind order.now ≡ true }
+    ensures done { let state = P.Peripheral.state in MatchResult result
         (λ answer. DoesAtOnce order.now place answer (controls_of controls.old) (station_of (state printer.old))
         (controls_of controls.new) (station_of (state printer.new)))
         (λ _. SameStation (controls_of controls.old) (station_of (state printer.old))
         (controls_of controls.new) (station_of (state printer.new))) }
-    ensures in_service { let state = ⟦<PeripheralBox as HasState>⟧.state in
+    ensures in_service { let state = P.Peripheral.state in
         StaysInService (state printer.old) (state printer.new) }
 {
     room_all(controls, place, SIGN_EVENTS)?;

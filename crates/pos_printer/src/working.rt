@@ -11,9 +11,7 @@ ghost use Rattle.pos_common.specs.Held.{controls_of};
 ghost use Rattle.pos_printer.specs.Requests.{HasRequest};
 
 use pos_common::{Claims, Control, WORK_EVENTS, hear_all, room_all};
-use pos_service::{
-    Code, EPTR_COVER_OPEN, EPTR_REC_EMPTY, HasState, NoMemory, PeripheralBox, Reply, Worked,
-};
+use pos_service::{Code, EPTR_COVER_OPEN, EPTR_REC_EMPTY, NoMemory, Peripheral, Reply, Worked};
 
 /// Works on the first request of the control that holds the printer at a place. There is nothing to do where nobody
 /// holds it, where the holder is disabled, where it has no request, and while its first one has failed (common
@@ -24,19 +22,19 @@ use pos_service::{
 /// Where the printer doesn't do it, the request stays the first, the output error state stands, and an ErrorEvent with
 /// EL_OUTPUT is enqueued: with E_EXTENDED EPTR_COVER_OPEN where the cover is open, else EPTR_REC_EMPTY where the paper
 /// doesn't suffice; with E_FAILURE where the line fails. Want of memory changes nothing.
-pub fn work(
+pub fn work<P: Peripheral>(
     controls: &mut [Control],
     place: usize,
     claims: &Claims,
-    printer: &mut PeripheralBox,
+    printer: &mut P,
 ) -> Result<Worked, NoMemory>
-    requires unparked { (⟦<PeripheralBox as HasState>⟧.state printer.old).is_parked ≡ false }
-    requires printer { is_printer (⟦<PeripheralBox as HasState>⟧.state printer.old).kind ≡ true }
-    ensures worked { let state = ⟦<PeripheralBox as HasState>⟧.state in
+    requires unparked { (P.Peripheral.state printer.old).is_parked ≡ false }
+    requires printer { is_printer (P.Peripheral.state printer.old).kind ≡ true }
+    ensures worked { let state = P.Peripheral.state in
         WorksAt (holder_at claims.now (Some place)) place result
         (controls_of controls.old) (station_of (state printer.old))
         (controls_of controls.new) (station_of (state printer.new)) }
-    ensures in_service { let state = ⟦<PeripheralBox as HasState>⟧.state in
+    ensures in_service { let state = P.Peripheral.state in
         StaysInService (state printer.old) (state printer.new) }
 {
     let Some(holder) = claims.holder(Some(place)) else {
@@ -72,11 +70,15 @@ fn has_work(controls: &[Control], holder: usize, place: usize) -> bool
 
 /// Gives the printer at a place the order of the request that a control has to be done now. Want of memory changes
 /// nothing.
-fn ask_for(control: &Control, place: usize, printer: &mut PeripheralBox) -> Result<Reply, NoMemory>
-    requires unparked { (⟦<PeripheralBox as HasState>⟧.state printer.old).is_parked ≡ false }
-    requires printer { is_printer (⟦<PeripheralBox as HasState>⟧.state printer.old).kind ≡ true }
+fn ask_for<P: Peripheral>(
+    control: &Control,
+    place: usize,
+    printer: &mut P,
+) -> Result<Reply, NoMemory>
+    requires unparked { (P.Peripheral.state printer.old).is_parked ≡ false }
+    requires printer { is_printer (P.Peripheral.state printer.old).kind ≡ true }
     requires request { IsSome (first_request place control.now.control) }
-    ensures { let state = ⟦<PeripheralBox as HasState>⟧.state in
+    ensures { let state = P.Peripheral.state in
         MatchOption (first_request place control.now.control) ⊥ (λ request.
         Asked (state printer.old) request.1 result (state printer.new)) }
 {

@@ -6,7 +6,7 @@ ghost use Rattle.pos_service.specs.Stations.{station_of, IsOpen, CalledBy, Stays
 ghost use Rattle.pos_common.specs.Held.{controls_of};
 
 use pos_common::{ClaimNeed, Claims, Control, Need, check_caller};
-use pos_service::{Answer, Call, Code, HasState, NoMemory, PeripheralBox, Value};
+use pos_service::{Answer, Call, Code, NoMemory, Peripheral, Value};
 
 /// What each call asks of its control: that it holds the scanner.
 const HELD: Need = Need {
@@ -23,21 +23,21 @@ const HELD: Need = Need {
 ///
 /// Refused with E_ILLEGAL for a call that scanners don't have of their own, then with E_CLAIMED where another control
 /// holds the scanner, E_NOTCLAIMED where nobody does.
-pub fn call(
+pub fn call<P: Peripheral>(
     controls: &mut [Control],
     caller: usize,
     claims: &Claims,
-    scanner: &mut PeripheralBox,
+    scanner: &mut P,
     call: &Call,
 ) -> Result<Answer, NoMemory>
     requires open { IsOpen category.Scanner (controls_of controls.old) caller }
-    requires unparked { (⟦<PeripheralBox as HasState>⟧.state scanner.old).is_parked ≡ false }
-    requires scanner { (⟦<PeripheralBox as HasState>⟧.state scanner.old).kind ≡ kind.Scanner }
-    ensures called { let state = ⟦<PeripheralBox as HasState>⟧.state in
+    requires unparked { (P.Peripheral.state scanner.old).is_parked ≡ false }
+    requires scanner { (P.Peripheral.state scanner.old).kind ≡ kind.Scanner }
+    ensures called { let state = P.Peripheral.state in
         CalledBy (scanner_rows claims.now caller) ScannerDoes caller call.now result
         (controls_of controls.old) (station_of (state scanner.old))
         (controls_of controls.new) (station_of (state scanner.new)) }
-    ensures in_service { let state = ⟦<PeripheralBox as HasState>⟧.state in
+    ensures in_service { let state = P.Peripheral.state in
         StaysInService (state scanner.old) (state scanner.new) }
 {
     match call {

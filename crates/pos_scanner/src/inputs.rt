@@ -6,7 +6,7 @@ ghost use Rattle.pos_service.specs.Stations.{station_of, StaysInService, TakenAt
 ghost use Rattle.pos_common.specs.Held.{controls_of};
 
 use pos_common::{Control, FAULT_EVENTS, SCAN_EVENTS, copy_for_all, fail_all, read_all, room_all};
-use pos_service::{Bytes, HasState, Input, Kind, NoMemory, PeripheralBox, Taken};
+use pos_service::{Bytes, Input, Kind, NoMemory, Peripheral, Taken};
 use std::alloc::Global;
 
 /// Hands an input to the scanner at a place. Of a scan each control that has the scanner open and enabled gets a
@@ -14,20 +14,20 @@ use std::alloc::Global;
 /// input error state both are ignored (common chapter, data events and error handling).
 ///
 /// All copies, and the room for all events, are made before the scanner is told. Want of memory changes nothing.
-pub fn take_input(
+pub fn take_input<P: Peripheral>(
     alloc: Global,
     controls: &mut [Control],
     place: usize,
-    scanner: &mut PeripheralBox,
+    scanner: &mut P,
     input: &Input,
 ) -> Result<(), NoMemory>
-    requires unparked { (⟦<PeripheralBox as HasState>⟧.state scanner.old).is_parked ≡ false }
-    requires scanner { (⟦<PeripheralBox as HasState>⟧.state scanner.old).kind ≡ kind.Scanner }
-    requires fits { input_fits (⟦<PeripheralBox as HasState>⟧.state scanner.old).kind input.now ≡ true }
-    ensures taken { let state = ⟦<PeripheralBox as HasState>⟧.state in
+    requires unparked { (P.Peripheral.state scanner.old).is_parked ≡ false }
+    requires scanner { (P.Peripheral.state scanner.old).kind ≡ kind.Scanner }
+    requires fits { input_fits (P.Peripheral.state scanner.old).kind input.now ≡ true }
+    ensures taken { let state = P.Peripheral.state in
         TakenAt input.now place result (controls_of controls.old) (station_of (state scanner.old))
         (controls_of controls.new) (station_of (state scanner.new)) }
-    ensures in_service { let state = ⟦<PeripheralBox as HasState>⟧.state in
+    ensures in_service { let state = P.Peripheral.state in
         StaysInService (state scanner.old) (state scanner.new) }
 {
     let device = scanner.kind();
