@@ -9,8 +9,7 @@ use Rattle.std.proofs.lemmas.List.Edits.{map_over_more}
 use Rattle.std.proofs.lemmas.List.Elements.{filter_map-append, recursion_from_All}
 use Rattle.std.proofs.lemmas.Option.{slice_get-map, slice_get_past, slice_get_read}
 use Rattle.pos_service.specs.declared.kind.Kind.{Kind}
-use Rattle.pos_service.specs.declared.peripheral_box.PeripheralBox.{PeripheralBox}
-use Rattle.pos_service.specs.declared.peripheral_box.HasState.{Ghosts}
+use Rattle.pos_service.specs.declared.peripheral.Peripheral.{Ghosts}
 use Rattle.pos_service.specs.Peripherals.{IsInRange, PeripheralState}
 use Rattle.pos_profile.specs.declared.entry.Entry.{Entry}
 use Rattle.pos_profile.specs.declared.planning.Planned.{Planned}
@@ -41,23 +40,23 @@ planned_takes entries place entry kind within at some =
     planned_more entries place entry within at ∙ ap (λ (ps : List Planned). planned_of (take place entries) ++ ps) plans
 
 -- the device at the place of a slot
-pub device_at : {X : Type 0} {O : X → Type 0} (boxes : Ghosts (PeripheralBox X O)) (slots : List (Slot X O)) (place : ℕ) (slot : Slot X O) → place < length slots → slot ≡ get_or slots place slot → slice_get (devices_of boxes slots) place ≡ Some (device_of boxes slot)
-device_at boxes slots place slot within at =
-    slice_get-map (λ s. device_of boxes s) slots place ∙ ap (λ o. option_map (λ s. device_of boxes s) o) (slice_get_read slots (length slots) place slot refl within at)
+pub device_at : {P : Type 0} (peripherals : Ghosts P) (slots : List (Slot P)) (place : ℕ) (slot : Slot P) → place < length slots → slot ≡ get_or slots place slot → slice_get (devices_of peripherals slots) place ≡ Some (device_of peripherals slot)
+device_at peripherals slots place slot within at =
+    slice_get-map (λ s. device_of peripherals s) slots place ∙ ap (λ o. option_map (λ s. device_of peripherals s) o) (slice_get_read slots (length slots) place slot refl within at)
 
-pub devices_count : {X : Type 0} {O : X → Type 0} (boxes : Ghosts (PeripheralBox X O)) (slots : List (Slot X O)) → length (devices_of boxes slots) ≡ length slots
-devices_count boxes slots = length-map slots (λ s. device_of boxes s)
+pub devices_count : {P : Type 0} (peripherals : Ghosts P) (slots : List (Slot P)) → length (devices_of peripherals slots) ≡ length slots
+devices_count peripherals slots = length-map slots (λ s. device_of peripherals s)
 
 pub names_count : (list : List Device) → length (names_of list) ≡ length list
 names_count list = length-map list (λ (d : Device). d.name)
 
 -- another peripheral, or none, is put into a slot
-pub devices_set : {X : Type 0} {O : X → Type 0} (boxes : Ghosts (PeripheralBox X O)) (slots : List (Slot X O)) (place : ℕ) (slot other : Slot X O) (x : Option (PeripheralBox X O)) → slot ≡ get_or slots place other → devices_of boxes (set slots place (record slot { peripheral = x })) ≡ with_peripheral (devices_of boxes slots) place (option_map boxes.state x)
-devices_set boxes [] place slot other x at = refl
-devices_set boxes (first ∷ slots) zero slot other x at =
-    ap (λ (s : Slot _ _). (record (device_of boxes s) { peripheral = option_map boxes.state x } ∷ devices_of boxes slots)) at
-devices_set boxes (first ∷ slots) (suc place) slot other x at =
-    ap (λ (ds : List Device). (device_of boxes first ∷ ds)) (devices_set boxes slots place slot other x at)
+pub devices_set : {P : Type 0} (peripherals : Ghosts P) (slots : List (Slot P)) (place : ℕ) (slot other : Slot P) (x : Option P) → slot ≡ get_or slots place other → devices_of peripherals (set slots place (record slot { peripheral = x })) ≡ with_peripheral (devices_of peripherals slots) place (option_map peripherals.state x)
+devices_set peripherals [] place slot other x at = refl
+devices_set peripherals (first ∷ slots) zero slot other x at =
+    ap (λ (s : Slot _). (record (device_of peripherals s) { peripheral = option_map peripherals.state x } ∷ devices_of peripherals slots)) at
+devices_set peripherals (first ∷ slots) (suc place) slot other x at =
+    ap (λ (ds : List Device). (device_of peripherals first ∷ ds)) (devices_set peripherals slots place slot other x at)
 
 -- past the end there is nothing to change
 pub with_past : (list : List Device) (place : ℕ) (x : Option PeripheralState) → length list ≤ place → with_peripheral list place x ≡ list
@@ -91,12 +90,12 @@ kinds_with (device ∷ list) zero x all = all
 kinds_with (device ∷ list) (suc place) x all = (all.0, kinds_with list place x all.1)
 
 -- a registry stays sound, where the peripheral of a place is changed for a right one
-pub sound_with : {X : Type 0} {O : X → Type 0} (boxes : Ghosts (PeripheralBox X O)) (old new : Registry X O) (place : ℕ) (x : Option PeripheralState) → IsRegistrySound boxes old → new.places ≡ old.places → devices boxes new ≡ with_peripheral (devices boxes old) place x
-    → ((device : Device) → slice_get (devices boxes old) place ≡ Some device → IsServed (record device { peripheral = x })) → IsRegistrySound boxes new
-sound_with boxes old new place x sound places is here = record {
-  index = λ name. ap (λ p. found_in p name) places ∙ sound.index name ∙ ap (λ (ns : List (List ℕ)). place_of ns name) (sym (ap names_of is ∙ names_with (devices boxes old) place x));
-  kinds = subst (AllByRecursion HasKindInRange) (sym is) (kinds_with (devices boxes old) place x sound.kinds);
-  served = subst (AllByRecursion IsServed) (sym is) (served_with (devices boxes old) place x sound.served here);
+pub sound_with : {P : Type 0} (peripherals : Ghosts P) (old new : Registry P) (place : ℕ) (x : Option PeripheralState) → IsRegistrySound peripherals old → new.places ≡ old.places → devices peripherals new ≡ with_peripheral (devices peripherals old) place x
+    → ((device : Device) → slice_get (devices peripherals old) place ≡ Some device → IsServed (record device { peripheral = x })) → IsRegistrySound peripherals new
+sound_with peripherals old new place x sound places is here = record {
+  index = λ name. ap (λ p. found_in p name) places ∙ sound.index name ∙ ap (λ (ns : List (List ℕ)). place_of ns name) (sym (ap names_of is ∙ names_with (devices peripherals old) place x));
+  kinds = subst (AllByRecursion HasKindInRange) (sym is) (kinds_with (devices peripherals old) place x sound.kinds);
+  served = subst (AllByRecursion IsServed) (sym is) (served_with (devices peripherals old) place x sound.served here);
 }
 
 -- what may serve a place is of the kind of its device
@@ -138,19 +137,19 @@ kinds_planned : (entries : List Entry) → AllByRecursion (IsSoundEntry role.Dev
 kinds_planned [] sound = tt
 kinds_planned (entry ∷ entries) sound = kinds_more entry.name (kind_of entry) (planned_of entries) sound.0.kind (kinds_planned entries sound.1)
 
-pub sound_planned : {X : Type 0} {O : X → Type 0} (boxes : Ghosts (PeripheralBox X O)) (registry : Registry X O) (entries : List Entry) (plan : List Planned) → All (IsSoundEntry role.Device) entries → plan ≡ planned_of entries → devices boxes registry ≡ map vacant plan → IsIndexOf registry.places (map (λ (p : Planned). p.name) plan) → IsRegistrySound boxes registry
-sound_planned boxes registry entries plan sound planned is index = record {
+pub sound_planned : {P : Type 0} (peripherals : Ghosts P) (registry : Registry P) (entries : List Entry) (plan : List Planned) → All (IsSoundEntry role.Device) entries → plan ≡ planned_of entries → devices peripherals registry ≡ map vacant plan → IsIndexOf registry.places (map (λ (p : Planned). p.name) plan) → IsRegistrySound peripherals registry
+sound_planned peripherals registry entries plan sound planned is index = record {
   index = λ name. index name ∙ ap (λ (ns : List (List ℕ)). place_of ns name) (sym (ap names_of is ∙ names_vacant plan));
   kinds = subst (AllByRecursion HasKindInRange) (sym (is ∙ ap (map vacant) planned)) (kinds_planned entries (recursion_from_All (IsSoundEntry role.Device) entries sound));
   served = subst (AllByRecursion IsServed) (sym is) (served_vacant plan);
 }
 
 -- one more device is out of service
-pub parked_more : {X : Type 0} {O : X → Type 0} (boxes : Ghosts (PeripheralBox X O)) (slots : List (Slot X O)) (olds : List Device) (place : ℕ) (old new : Slot X O) → place < length olds → length slots ≡ length olds → devices_of boxes slots ≡ map parked (take place olds) ++ drop place olds → old ≡ get_or slots place old
-    → device_of boxes new ≡ parked (device_of boxes old) → devices_of boxes (set slots place new) ≡ map parked (take (place + 1) olds) ++ drop (place + 1) olds
-parked_more boxes slots olds place old new within same front at parks =
-    map-set (λ s. device_of boxes s) slots place new ∙ ap (set (devices_of boxes slots) place) parks
-    ∙ map_over_more parked olds (devices_of boxes slots) place (device_of boxes old) within front (ap (λ s. device_of boxes s) at ∙ sym (get_or-map (λ s. device_of boxes s) slots place old (device_of boxes old) (omega (arith, within, same))))
+pub parked_more : {P : Type 0} (peripherals : Ghosts P) (slots : List (Slot P)) (olds : List Device) (place : ℕ) (old new : Slot P) → place < length olds → length slots ≡ length olds → devices_of peripherals slots ≡ map parked (take place olds) ++ drop place olds → old ≡ get_or slots place old
+    → device_of peripherals new ≡ parked (device_of peripherals old) → devices_of peripherals (set slots place new) ≡ map parked (take (place + 1) olds) ++ drop (place + 1) olds
+parked_more peripherals slots olds place old new within same front at parks =
+    map-set (λ s. device_of peripherals s) slots place new ∙ ap (set (devices_of peripherals slots) place) parks
+    ∙ map_over_more parked olds (devices_of peripherals slots) place (device_of peripherals old) within front (ap (λ s. device_of peripherals s) at ∙ sym (get_or-map (λ s. device_of peripherals s) slots place old (device_of peripherals old) (omega (arith, within, same))))
 
 -- once the place is behind the last, all are out of service
 pub parked_whole : (list olds : List Device) (place : ℕ) → length olds ≤ place → list ≡ map parked (take place olds) ++ drop place olds → list ≡ map parked olds

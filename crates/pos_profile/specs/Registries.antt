@@ -3,8 +3,7 @@ use Rattle.std.specs.Prelude.{◌≡◌, ℕ, zero, suc, Bool, true, false, List
 use Rattle.std.specs.List.{AllByRecursion, filter_map}
 use Rattle.std.specs.Option.{option_map}
 use Rattle.pos_service.specs.declared.kind.Kind.{Kind}
-use Rattle.pos_service.specs.declared.peripheral_box.PeripheralBox.{PeripheralBox}
-use Rattle.pos_service.specs.declared.peripheral_box.HasState.{Ghosts}
+use Rattle.pos_service.specs.declared.peripheral.Peripheral.{Ghosts}
 use Rattle.pos_service.specs.Peripherals.{IsInRange, PeripheralState}
 use Rattle.pos_profile.specs.declared.entry.Entry.{Entry}
 use Rattle.pos_profile.specs.declared.planning.Planned.{Planned}
@@ -24,17 +23,17 @@ pub record Device : Type 0 where
   pub peripheral : Option PeripheralState
 
 -- the device of a slot
-abbrev pub device_of : {X : Type 0} {O : X → Type 0} → Ghosts (PeripheralBox X O) → Slot X O → Device
-device_of boxes slot =
-    record { name = slot.name; kind = slot.kind; peripheral = option_map boxes.state slot.peripheral }
+abbrev pub device_of : {P : Type 0} → Ghosts P → Slot P → Device
+device_of peripherals slot =
+    record { name = slot.name; kind = slot.kind; peripheral = option_map peripherals.state slot.peripheral }
 
 -- the devices of slots, in order
-abbrev pub devices_of : {X : Type 0} {O : X → Type 0} → Ghosts (PeripheralBox X O) → List (Slot X O) → List Device
-devices_of boxes slots = map (λ slot. device_of boxes slot) slots
+abbrev pub devices_of : {P : Type 0} → Ghosts P → List (Slot P) → List Device
+devices_of peripherals slots = map (λ slot. device_of peripherals slot) slots
 
 -- the devices of a registry, in order
-abbrev pub devices : {X : Type 0} {O : X → Type 0} → Ghosts (PeripheralBox X O) → Registry X O → List Device
-devices boxes registry = devices_of boxes registry.slots.items
+abbrev pub devices : {P : Type 0} → Ghosts P → Registry P → List Device
+devices peripherals registry = devices_of peripherals registry.slots.items
 
 -- the names of devices
 abbrev pub names_of : List Device → List (List ℕ)
@@ -88,11 +87,11 @@ HasKindInRange device = IsInRange device.kind
 
 -- What is true of every registry: each name is found at its first place, each kind is in range, each peripheral is in
 -- service and of its device's kind.
-pub record IsRegistrySound {X : Type 0} {O : X → Type 0} (boxes : Ghosts (PeripheralBox X O)) (registry : Registry X O)
+pub record IsRegistrySound {P : Type 0} (peripherals : Ghosts P) (registry : Registry P)
     : Type 0 where
-  pub index : IsIndexOf registry.places (names_of (devices boxes registry))
-  pub kinds : AllByRecursion HasKindInRange (devices boxes registry)
-  pub served : AllByRecursion IsServed (devices boxes registry)
+  pub index : IsIndexOf registry.places (names_of (devices peripherals registry))
+  pub kinds : AllByRecursion HasKindInRange (devices peripherals registry)
+  pub served : AllByRecursion IsServed (devices peripherals registry)
 
 -- a place is vacant, and a peripheral of this state may serve it
 pub record MayServe (devices : List Device) (place : ℕ) (state : PeripheralState) : Type 0 where

@@ -9,16 +9,16 @@ use crate::planning::{Planned, plan};
 use crate::profile::Profile;
 use crate::registry_fault::{AttachFault, DetachFault};
 use crate::slot::Slot;
-use pos_service::{HasState, Kind, NoMemory, PeripheralBox};
+use pos_service::{Kind, NoMemory, Peripheral};
 use std::alloc::Global;
 
 /// The devices of a profile that have a peripheral, in its order, each with what serves it. It is ended by
 /// `into_entries` alone.
 ///
 /// Hard Totals have no peripheral, and so no place here.
-pub struct Registry {
+pub struct Registry<P> {
     places: Places,
-    slots: Vec<Slot>,
+    slots: Vec<Slot<P>>,
 }
 
 /// Whether kinds are the same.
@@ -30,10 +30,10 @@ fn is_same(one: Kind, other: Kind) -> bool
 }
 
 /// Puts the devices that are planned into an empty list with room for them, each vacant.
-fn fill(mut slots: Vec<Slot>, plan: Vec<Planned>) -> Vec<Slot>
+fn fill<P: Peripheral>(mut slots: Vec<Slot<P>>, plan: Vec<Planned>) -> Vec<Slot<P>>
     requires empty { slots.items ≡ [] }
     requires room { length plan.items ≤ vec_capacity slots }
-    ensures { devices_of ⟦<PeripheralBox as HasState>⟧ result.items ≡ map vacant plan.items }
+    ensures { devices_of P.Peripheral result.items ≡ map vacant plan.items }
 {
     for planned in plan {
         let Planned { name, kind } = planned;
@@ -56,14 +56,14 @@ fn prepare(alloc: Global, profile: &Profile) -> Result<(Vec<Planned>, Places), N
     Ok((plan, places))
 }
 
-impl Registry {
+impl<P: Peripheral> Registry<P> {
     /// The registry of a profile's devices, each vacant. An empty list becomes its list of devices; want of memory ends
     /// that list.
-    pub fn new(alloc: Global, profile: &Profile, mut slots: Vec<Slot>) -> Result<Self, NoMemory>
+    pub fn new(alloc: Global, profile: &Profile, mut slots: Vec<Slot<P>>) -> Result<Self, NoMemory>
         requires empty { slots.items ≡ [] }
         ensures vacant { IfOk result (λ registry.
-            devices ⟦<PeripheralBox as HasState>⟧ registry ≡ vacant_devices profile.now.devices) }
-        ensures sound { IfOk result (λ registry. IsRegistrySound ⟦<PeripheralBox as HasState>⟧ registry) }
+            devices P.Peripheral registry ≡ vacant_devices profile.now.devices) }
+        ensures sound { IfOk result (λ registry. IsRegistrySound P.Peripheral registry) }
     {
         is_profile(profile);
         let Ok((plan, places)) = prepare(alloc, profile) else {
@@ -82,22 +82,22 @@ impl Registry {
 
     /// The place of the first device with a name.
     pub fn find(&self, name: &[u8]) -> Option<usize>
-        requires { IsRegistrySound ⟦<PeripheralBox as HasState>⟧ self.now }
-        ensures { result ≡ place_of (names_of (devices ⟦<PeripheralBox as HasState>⟧ self.now)) name.now }
+        requires { IsRegistrySound P.Peripheral self.now }
+        ensures { result ≡ place_of (names_of (devices P.Peripheral self.now)) name.now }
     {
         self.places.find(name)
     }
 
     /// How many devices have a place.
     pub fn count(&self) -> usize
-        ensures { result ≡ length (devices ⟦<PeripheralBox as HasState>⟧ self.now) }
+        ensures { result ≡ length (devices P.Peripheral self.now) }
     {
         self.slots.len()
     }
 
     /// What the peripheral of the device at a place has to be; None at no place.
     pub fn kind(&self, place: usize) -> Option<Kind>
-        ensures { result ≡ kind_at (devices ⟦<PeripheralBox as HasState>⟧ self.now) place }
+        ensures { result ≡ kind_at (devices P.Peripheral self.now) place }
     {
         match self.slots.get(place) {
             Some(slot) => Some(slot.kind),
@@ -106,9 +106,9 @@ impl Registry {
     }
 
     /// What serves the device at a place; None where it is vacant, or no place.
-    pub fn peripheral(&self, place: usize) -> Option<&PeripheralBox>
-        ensures { let boxes = ⟦<PeripheralBox as HasState>⟧ in
-            option_map (λ found. boxes.state found.now) result ≡ standing_at (devices boxes self.now) place }
+    pub fn peripheral(&self, place: usize) -> Option<&P>
+        ensures { option_map (λ found. P.Peripheral.state found.now) result
+            ≡ standing_at (devices P.Peripheral self.now) place }
     {
         match self.slots.get(place) {
             Some(slot) => slot.peripheral.as_ref(),
@@ -117,13 +117,11 @@ impl Registry {
     }
 
     /// Hands out what serves the device at a place, which is vacant then; None where it is vacant, or no place.
-    pub fn take(&mut self, place: usize) -> Option<PeripheralBox>
-        requires sound { IsRegistrySound ⟦<PeripheralBox as HasState>⟧ self.old }
-        ensures taken { let boxes = ⟦<PeripheralBox as HasState>⟧ in
-            option_map boxes.state result ≡ standing_at (devices boxes self.old) place }
-        ensures vacated { let boxes = ⟦<PeripheralBox as HasState>⟧ in
-            devices boxes self.new ≡ with_peripheral (devices boxes self.old) place None }
-        ensures sound { IsRegistrySound ⟦<PeripheralBox as HasState>⟧ self.new }
+    pub fn take(&mut self, place: usize) -> Option<P>
+        requires sound { IsRegistrySound P.Peripheral self.old }
+        ensures taken { option_map P.Peripheral.state result ≡ standing_at (devices P.Peripheral self.old) place }
+        ensures vacated { devices P.Peripheral self.new ≡ with_peripheral (devices P.Peripheral self.old) place None }
+        ensures sound { IsRegistrySound P.Peripheral self.new }
     {
         if place >= self.slots.len() {
             return None;
@@ -132,14 +130,13 @@ impl Registry {
     }
 
     /// Has a peripheral serve the device at a vacant place.
-    pub fn put(&mut self, place: usize, peripheral: PeripheralBox)
-        requires sound { IsRegistrySound ⟦<PeripheralBox as HasState>⟧ self.old }
-        requires may_serve { let boxes = ⟦<PeripheralBox as HasState>⟧ in
-            MayServe (devices boxes self.old) place (boxes.state peripheral) }
-        requires unparked { (⟦<PeripheralBox as HasState>⟧.state peripheral).is_parked ≡ false }
-        ensures served { let boxes = ⟦<PeripheralBox as HasState>⟧ in
-            devices boxes self.new ≡ with_peripheral (devices boxes self.old) place (Some (boxes.state peripheral)) }
-        ensures sound { IsRegistrySound ⟦<PeripheralBox as HasState>⟧ self.new }
+    pub fn put(&mut self, place: usize, peripheral: P)
+        requires sound { IsRegistrySound P.Peripheral self.old }
+        requires may_serve { MayServe (devices P.Peripheral self.old) place (P.Peripheral.state peripheral) }
+        requires unparked { (P.Peripheral.state peripheral).is_parked ≡ false }
+        ensures served { devices P.Peripheral self.new
+            ≡ with_peripheral (devices P.Peripheral self.old) place (Some (P.Peripheral.state peripheral)) }
+        ensures sound { IsRegistrySound P.Peripheral self.new }
     {
         match self.slots[place].peripheral.replace(peripheral) {
             None => {}
@@ -151,17 +148,13 @@ impl Registry {
     ///
     /// Refused with Unknown where no device here has the name, else with InUse where the device has its peripheral,
     /// else with KindDiffers. A refusal hands the peripheral back. It takes no memory.
-    pub fn attach(
-        &mut self,
-        name: &[u8],
-        peripheral: PeripheralBox,
-    ) -> Result<(), (AttachFault, PeripheralBox)>
-        requires sound { IsRegistrySound ⟦<PeripheralBox as HasState>⟧ self.old }
-        requires unparked { (⟦<PeripheralBox as HasState>⟧.state peripheral).is_parked ≡ false }
-        ensures attaches { let boxes = ⟦<PeripheralBox as HasState>⟧ in
-            Attaches (devices boxes self.old) name.now (boxes.state peripheral) result (devices boxes self.new) }
+    pub fn attach(&mut self, name: &[u8], peripheral: P) -> Result<(), (AttachFault, P)>
+        requires sound { IsRegistrySound P.Peripheral self.old }
+        requires unparked { (P.Peripheral.state peripheral).is_parked ≡ false }
+        ensures attaches { Attaches (devices P.Peripheral self.old) name.now (P.Peripheral.state peripheral) result
+            (devices P.Peripheral self.new) }
         ensures handed_back { IfErr result (λ refusal. refusal.1 ≡ peripheral) }
-        ensures sound { IsRegistrySound ⟦<PeripheralBox as HasState>⟧ self.new }
+        ensures sound { IsRegistrySound P.Peripheral self.new }
     {
         let Some(place) = self.find(name) else {
             return Err((AttachFault::Unknown, peripheral));
@@ -182,11 +175,11 @@ impl Registry {
     ///
     /// Refused with Unknown where no device here has the name, else with Vacant where the device has no peripheral,
     /// else with InUse where a control has it open. It takes no memory.
-    pub fn detach(&mut self, name: &[u8], is_open: bool) -> Result<PeripheralBox, DetachFault>
-        requires sound { IsRegistrySound ⟦<PeripheralBox as HasState>⟧ self.old }
-        ensures detaches { let boxes = ⟦<PeripheralBox as HasState>⟧ in
-            Detaches boxes.state (devices boxes self.old) name.now is_open result (devices boxes self.new) }
-        ensures sound { IsRegistrySound ⟦<PeripheralBox as HasState>⟧ self.new }
+    pub fn detach(&mut self, name: &[u8], is_open: bool) -> Result<P, DetachFault>
+        requires sound { IsRegistrySound P.Peripheral self.old }
+        ensures detaches { Detaches P.Peripheral.state (devices P.Peripheral self.old) name.now is_open result
+            (devices P.Peripheral self.new) }
+        ensures sound { IsRegistrySound P.Peripheral self.new }
     {
         let Some(place) = self.find(name) else {
             return Err(DetachFault::Unknown);
@@ -208,10 +201,9 @@ impl Registry {
 
     /// Ends the registry: its devices in the profile's order, each once, with their peripherals, which are taken out of
     /// service and else as they were. It takes no memory.
-    pub fn into_entries(self) -> Vec<Slot>
+    pub fn into_entries(self) -> Vec<Slot<P>>
         requires { Unit {0} }
-        ensures { let boxes = ⟦<PeripheralBox as HasState>⟧ in
-            devices_of boxes result.items ≡ map parked (devices boxes self) }
+        ensures { devices_of P.Peripheral result.items ≡ map parked (devices P.Peripheral self) }
     {
         let Registry {
             places: _,

@@ -1,24 +1,23 @@
 ghost use Rattle.std.specs.Prelude.{◌≡◌};
 ghost use Rattle.pos_profile.specs.Registries.{device_of, parked};
 
-use pos_service::{Bytes, HasState, Kind, PeripheralBox};
+use pos_service::{Bytes, Kind, Peripheral};
 
 /// A device of a registry, and the peripheral that serves it.
-pub struct Slot {
+pub struct Slot<P> {
     /// The name by which controls open the device.
     pub name: Bytes,
     /// What its peripheral has to be.
     pub kind: Kind,
     /// Its peripheral, or none where the device is vacant.
-    pub peripheral: Option<PeripheralBox>,
+    pub peripheral: Option<P>,
 }
 
-impl Slot {
+impl<P: Peripheral> Slot<P> {
     /// Takes the device's peripheral out of service, if it has one.
     pub(crate) fn park(&mut self)
         requires { Unit {0} }
-        ensures { let boxes = ⟦<PeripheralBox as HasState>⟧ in
-            device_of boxes self.new ≡ parked (device_of boxes self.old) }
+        ensures { device_of P.Peripheral self.new ≡ parked (device_of P.Peripheral self.old) }
     {
         if let Some(peripheral) = &mut self.peripheral {
             peripheral.park();

@@ -23,7 +23,7 @@ facts_same a b kind signs size files claimed foreign transacting =
 
 pub returns : goal.returns
 returns g c = λ left.
-    let boxes : Ghosts _ = record { state = λ b. (goal.Peripheral-dyn g (b.device.vtable, b.device.value)).state b.device.value } in
+    let boxes : Ghosts _ = record { state = λ b. g.P.Peripheral.state b } in
     let ds = devices_in boxes c.args.devices.now in
     let n = c.args.number in
     let one = c.args.control.now.control in

@@ -11,7 +11,7 @@ use Rattle.pos_counter.proofs.properties.get.Goals as goal
 
 pub returns : goal.returns
 returns g c = λ left.
-    let boxes : Ghosts _ = record { state = λ b. (goal.Peripheral-dyn g (b.device.vtable, b.device.value)).state b.device.value } in
+    let boxes : Ghosts _ = record { state = λ b. g.P.Peripheral.state b } in
     let hs = c.args.controls.now in
     let n = c.args.number in
     let p = c.args.property in

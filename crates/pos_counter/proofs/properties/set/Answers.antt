@@ -18,7 +18,7 @@ use Rattle.pos_counter.proofs.properties.set.Goals as goal
 
 pub returns : goal.returns
 returns g c = λ sound.
-    let boxes : Ghosts _ = record { state = λ b. (goal.Peripheral-dyn g (b.device.vtable, b.device.value)).state b.device.value } in
+    let boxes : Ghosts _ = record { state = λ b. g.P.Peripheral.state b } in
     let hs = c.args.controls.now in
     let ds = devices_in boxes c.args.devices.now in
     let n = c.args.number in

@@ -7,7 +7,7 @@ use Rattle.pos_counter.proofs.properties.set_recovered.Goals as goal
 
 pub returns-in-Ok : goal.returns-in-Ok
 returns-in-Ok g c = λ sound.
-    let boxes : Ghosts _ = record { state = λ b. (goal.Peripheral-dyn g (b.device.vtable, b.device.value)).state b.device.value } in
+    let boxes : Ghosts _ = record { state = λ b. g.P.Peripheral.state b } in
     let hs = c.args.controls.now in
     let n = c.args.number in
     let cl = c.args.claims.now in
@@ -19,7 +19,7 @@ returns-in-Ok g c = λ sound.
 
 pub returns-in-Ok-code : goal.returns-in-Ok-code
 returns-in-Ok-code g c = λ sound.
-    let boxes : Ghosts _ = record { state = λ b. (goal.Peripheral-dyn g (b.device.vtable, b.device.value)).state b.device.value } in
+    let boxes : Ghosts _ = record { state = λ b. g.P.Peripheral.state b } in
     let hs = c.args.controls.now in
     let n = c.args.number in
     let cl = c.args.claims.now in

@@ -1,14 +1,12 @@
 use Rattle.std.proofs.Common.{◌≡◌, ◌+◌, ◌≤◌, ◌++◌, map, length, vec_len, vec_capacity}
 use Rattle.std.specs.Vec.Iter.{into_iter_items}
-use Rattle.pos_service.specs.declared.peripheral_box.HasState.{Ghosts}
 use Rattle.pos_profile.specs.Registries.{devices_of, vacant}
 use Rattle.pos_profile.proofs.registry.fill.Given as goal
 
 -- the devices so far, and those that are left, are the plan, and there is room for those that are left
 abbrev pub invariant-loop-planned : goal.invariant-loop-planned
 invariant-loop-planned g l =
-    let boxes : Ghosts _ = record { state = λ b. (goal.Peripheral-dyn g (b.device.vtable, b.device.value)).state b.device.value } in
     record {
-      so_far : devices_of boxes l.slots.items ++ map vacant (into_iter_items l.planned-iterator) ≡ map vacant l.fn.plan.items;
+      so_far : devices_of g.P.Peripheral l.slots.items ++ map vacant (into_iter_items l.planned-iterator) ≡ map vacant l.fn.plan.items;
       room : vec_len l.slots + length (into_iter_items l.planned-iterator) ≤ vec_capacity l.slots;
     }

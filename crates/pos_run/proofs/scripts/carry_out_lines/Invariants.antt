@@ -10,7 +10,7 @@ use Rattle.pos_run.proofs.scripts.carry_out_lines.Given as goal
 
 abbrev pub invariant-loop-rest : goal.invariant-loop-rest
 invariant-loop-rest g l =
-    let boxes : Ghosts _ = record { state = λ b. (goal.Peripheral-dyn g (b.device.vtable, b.device.value)).state b.device.value } in
+    let boxes : Ghosts _ = record { state = λ b. g.P.Peripheral.state b } in
     IsCounterSound boxes l.counter × AreSparesSound boxes l.spares × (done : List (List ℕ)) × (text : List ℕ) × (lines_of l.input ≡ done ++ lines_of l.rest)
     × Transcript (IsRun g.D.Disk boxes) l.fn.counter (spares_in boxes l.fn.spares) done text (session_of boxes l.names l.spares) l.counter
     × Appends (g.W.Write.contents l.initial.writer) (g.W.Write.contents l.writer) text

@@ -8,7 +8,7 @@ use Rattle.pos_counter.proofs.counter.Counter.perform.Given as goal
 -- the requests before the place are a run, and there is room for the responses to the others
 abbrev pub invariant-loop-request : goal.invariant-loop-request
 invariant-loop-request g l =
-    let boxes : Ghosts _ = record { state = λ b. (goal.Peripheral-dyn g (b.device.vtable, b.device.value)).state b.device.value } in
+    let boxes : Ghosts _ = record { state = λ b. g.P.Peripheral.state b } in
     record {
       run : IsRun g.D.Disk boxes l.fn.self (steps_of (take l.request-index l.requests) l.responses.items) l.self;
       whole : length l.responses.items ≡ l.request-index;

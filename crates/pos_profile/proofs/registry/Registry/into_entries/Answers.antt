@@ -1,26 +1,23 @@
 use Rattle.std.proofs.Common.{◌≡◌, ◌<◌, ◌≤◌, ◌∙◌, length, sym, arith}
 use Rattle.std.proofs.lemmas.List.{length-set}
-use Rattle.pos_service.specs.declared.peripheral_box.HasState.{Ghosts}
 use Rattle.pos_profile.specs.Registries.{devices, devices_of}
 use Rattle.pos_profile.proofs.RegistryLemmas.{devices_count, parked_more, parked_whole}
 use Rattle.pos_profile.proofs.registry.Registry.into_entries.Goals as goal
 
 pub loop-place-preserved : goal.loop-place-preserved
 loop-place-preserved g c =
-    let boxes : Ghosts _ = record { state = λ b. (goal.Peripheral-dyn g (b.device.vtable, b.device.value)).state b.device.value } in
     let slots = c.loop-place.slots.items in
-    let olds = devices boxes c.args.self in
-    let count = devices_count boxes c.args.self.slots.items in
+    let olds = devices g.P.Peripheral c.args.self in
+    let count = devices_count g.P.Peripheral c.args.self.slots.items in
     let whole : length slots ≡ length olds = c.loop-place.invariant.whole ∙ sym count in
     let within : c.loop-place.place < length olds = omega (arith, count, c.args.self.slots.ok.0) in
     record {
-      front = parked_more boxes slots olds c.loop-place.place c.index_mut.result.now c.park.new.self within whole c.loop-place.invariant.front c.index_mut.ensures.value c.park.ensures;
+      front = parked_more g.P.Peripheral slots olds c.loop-place.place c.index_mut.result.now c.park.new.self within whole c.loop-place.invariant.front c.index_mut.ensures.value c.park.ensures;
       whole = length-set slots c.loop-place.place c.park.new.self ∙ c.loop-place.invariant.whole;
     }
 
 pub returns : goal.returns
 returns g c =
-    let boxes : Ghosts _ = record { state = λ b. (goal.Peripheral-dyn g (b.device.vtable, b.device.value)).state b.device.value } in
-    let olds = devices boxes c.args.self in
-    let all : length olds ≤ c.loop-place.place = omega (arith, devices_count boxes c.args.self.slots.items, c.args.self.slots.ok.0) in
-    parked_whole (devices_of boxes c.loop-place.slots.items) olds c.loop-place.place all c.loop-place.invariant.front
+    let olds = devices g.P.Peripheral c.args.self in
+    let all : length olds ≤ c.loop-place.place = omega (arith, devices_count g.P.Peripheral c.args.self.slots.items, c.args.self.slots.ok.0) in
+    parked_whole (devices_of g.P.Peripheral c.loop-place.slots.items) olds c.loop-place.place all c.loop-place.invariant.front

@@ -1,14 +1,12 @@
 use Rattle.std.proofs.Common.{◌≡◌, ◌++◌, map, take, drop, length}
-use Rattle.pos_service.specs.declared.peripheral_box.HasState.{Ghosts}
 use Rattle.pos_profile.specs.Registries.{devices, devices_of, parked}
 use Rattle.pos_profile.proofs.registry.Registry.into_entries.Given as goal
 
 -- the devices before the place are out of service, and the others as they were
 abbrev pub invariant-loop-place : goal.invariant-loop-place
 invariant-loop-place g l =
-    let boxes : Ghosts _ = record { state = λ b. (goal.Peripheral-dyn g (b.device.vtable, b.device.value)).state b.device.value } in
-    let before = devices boxes l.fn.self in
+    let before = devices g.P.Peripheral l.fn.self in
     record {
-      front : devices_of boxes l.slots.items ≡ map parked (take l.place before) ++ drop l.place before;
+      front : devices_of g.P.Peripheral l.slots.items ≡ map parked (take l.place before) ++ drop l.place before;
       whole : length l.slots.items ≡ length l.fn.self.slots.items;
     }

@@ -6,7 +6,7 @@ use Rattle.pos_run.proofs.spares.Spares.put.Goals as goal
 
 pub unreachable-requires : goal.unreachable-requires
 unreachable-requires g c =
-    let boxes : Ghosts _ = record { state = λ b. (goal.Peripheral-dyn g (b.device.vtable, b.device.value)).state b.device.value } in
+    let boxes : Ghosts _ = record { state = λ b. g.P.Peripheral.state b } in
     let list = c.args.self.now.boxes.items in
     let place = c.args.number - 1 in
     let is : c.args.number ≡ suc place = omega (arith, c.requires.empty.1) in
@@ -14,7 +14,7 @@ unreachable-requires g c =
 
 pub returns-clause-spares : goal.returns-clause-spares
 returns-clause-spares g c =
-    let boxes : Ghosts _ = record { state = λ b. (goal.Peripheral-dyn g (b.device.vtable, b.device.value)).state b.device.value } in
+    let boxes : Ghosts _ = record { state = λ b. g.P.Peripheral.state b } in
     let list = c.args.self.now.boxes.items in
     let place = c.args.number - 1 in
     let is : c.args.number ≡ suc place = omega (arith, c.requires.empty.1) in
@@ -22,6 +22,6 @@ returns-clause-spares g c =
 
 pub returns-clause-sound : goal.returns-clause-sound
 returns-clause-sound g c =
-    let boxes : Ghosts _ = record { state = λ b. (goal.Peripheral-dyn g (b.device.vtable, b.device.value)).state b.device.value } in
+    let boxes : Ghosts _ = record { state = λ b. g.P.Peripheral.state b } in
     let list = c.args.self.now.boxes.items in
     rw c.replace.ensures.after (record { in_service = service_set boxes list (c.args.number - 1) (Some c.args.peripheral) c.requires.sound.in_service c.requires.unparked })

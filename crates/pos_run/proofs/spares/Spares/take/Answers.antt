@@ -7,7 +7,7 @@ use Rattle.pos_run.proofs.spares.Spares.take.Goals as goal
 
 pub returns-clause-taken : goal.returns-clause-taken
 returns-clause-taken g c =
-    let boxes : Ghosts _ = record { state = λ b. (goal.Peripheral-dyn g (b.device.vtable, b.device.value)).state b.device.value } in
+    let boxes : Ghosts _ = record { state = λ b. g.P.Peripheral.state b } in
     let list = c.args.self.now.boxes.items in
     let place = c.args.number - 1 in
     let spare = c.index_mut.result.now in
@@ -18,7 +18,7 @@ returns-clause-taken g c =
 
 pub returns-clause-left : goal.returns-clause-left
 returns-clause-left g c =
-    let boxes : Ghosts _ = record { state = λ b. (goal.Peripheral-dyn g (b.device.vtable, b.device.value)).state b.device.value } in
+    let boxes : Ghosts _ = record { state = λ b. g.P.Peripheral.state b } in
     let list = c.args.self.now.boxes.items in
     let place = c.args.number - 1 in
     let is : c.args.number ≡ suc place = omega arith in
@@ -26,7 +26,7 @@ returns-clause-left g c =
 
 pub returns-clause-in_service : goal.returns-clause-in_service
 returns-clause-in_service g c =
-    let boxes : Ghosts _ = record { state = λ b. (goal.Peripheral-dyn g (b.device.vtable, b.device.value)).state b.device.value } in
+    let boxes : Ghosts _ = record { state = λ b. g.P.Peripheral.state b } in
     let list = c.args.self.now.boxes.items in
     let place = c.args.number - 1 in
     let spare = c.index_mut.result.now in
@@ -35,6 +35,6 @@ returns-clause-in_service g c =
 
 pub returns-clause-sound : goal.returns-clause-sound
 returns-clause-sound g c =
-    let boxes : Ghosts _ = record { state = λ b. (goal.Peripheral-dyn g (b.device.vtable, b.device.value)).state b.device.value } in
+    let boxes : Ghosts _ = record { state = λ b. g.P.Peripheral.state b } in
     let list = c.args.self.now.boxes.items in
     rw c.take.ensures.after (record { in_service = service_set boxes list (c.args.number - 1) None c.requires.sound.in_service tt })
