@@ -57,3 +57,16 @@ second false b is = absurd cc
 -- what is asked of a category of which two things are, has the second
 pub asks_second : (number : ℕ) (holder : Option ℕ) (control : Control) (needs : Needs) (a b : Bool) → needs.is_there ≡ (a && b) → Checks number holder control needs (Ok tt) → b ≡ true
 asks_second number holder control needs a b is checks = second a b (sym is ∙ lets_there (needs.is_open && is_none control.device) needs.is_there (claim_rows number holder control needs) (checks []))
+
+-- what a control is that its check lets through: open, where it has to be
+pub lets_open : (number : ℕ) (holder : Option ℕ) (control : Control) (needs : Needs) → needs.is_open ≡ true → first_refusal (table number holder control needs []) ≡ None → is_none control.device ≡ false
+lets_open number holder control needs is none = by needs.is_open (is_none control.device) is none
+  where
+    by : (asked closed : Bool) → asked ≡ true → first_refusal (when (asked && closed) code.Closed ∷ when (not needs.is_there) code.Illegal ∷ claim_rows number holder control needs) ≡ None → closed ≡ false
+    by true true is none = absurd cc
+    by true false is none = refl
+    by false closed is none = absurd cc
+
+-- one of a category that has what is asked
+pub lets_own : (number : ℕ) (holder : Option ℕ) (control : Control) (needs : Needs) → first_refusal (table number holder control needs []) ≡ None → needs.is_there ≡ true
+lets_own number holder control needs none = lets_there (needs.is_open && is_none control.device) needs.is_there (claim_rows number holder control needs) none

@@ -11,10 +11,9 @@ use Rattle.pos_service.specs.declared.answer.Answer.TheVariants as answer
 use Rattle.pos_service.specs.declared.answer.Value.{Value}
 use Rattle.pos_service.specs.declared.answer.Value.TheVariants as value
 use Rattle.pos_service.specs.declared.call.Call.{Call}
-use Rattle.pos_service.specs.declared.category.Category.TheVariants as category
 use Rattle.pos_service.specs.declared.code.Code.TheVariants as code
 use Rattle.pos_service.specs.declared.memory.NoMemory.{NoMemory}
-use Rattle.pos_service.specs.Calls.{has_call, takes_memory}
+use Rattle.pos_service.specs.Calls.{takes_memory}
 use Rattle.pos_totals.specs.HardTotals.{File, Mode, Off, Ready, Totals, Change, layout_1}
 use Rattle.pos_totals.specs.TotalsQuestions.{Question, refusals_of_question, MayTell}
 use Rattle.pos_totals.specs.TotalsChanges.{refusals_of_change, number_rows, given_by, Done, DoesChange, RunsOut}
@@ -41,20 +40,16 @@ use Rattle.pos_counter.proofs.Serving.{OnlyNow, kept_disk, same_view}
 -- ---- what is answered to a call of the totals' own
 
 -- a call is answered by its table and by what it does
-called_ok : (n : ℕ) (fc : FileCall) (asked : Call) (old new : TotalsPart) (result : Answer) → file_call asked ≡ fc → has_call category.HardTotals asked ≡ true
+called_ok : (n : ℕ) (fc : FileCall) (asked : Call) (old new : TotalsPart) (result : Answer) → file_call asked ≡ fc
     → Decided (file_rows old.totals n fc) result (new ≡ old) (TotalsDo fc old n result new) → FilesCalled n asked old (Ok result) new
-called_ok n fc asked old new result is has d =
-    subst (λ c. Decided (when (not (has_call category.HardTotals asked)) code.Illegal ∷ file_rows old.totals n c) result (new ≡ old) (TotalsDo c old n result new)) (sym is)
-    (subst (λ b. Decided (when (not b) code.Illegal ∷ file_rows old.totals n fc) result (new ≡ old) (TotalsDo fc old n result new)) (sym has)
-    (record { outcome = d.outcome }))
+called_ok n fc asked old new result is d =
+    subst (λ c. Decided (file_rows old.totals n c) result (new ≡ old) (TotalsDo c old n result new)) (sym is) d
 
 -- it finds no memory
-called_err : (n : ℕ) (fc : FileCall) (asked : Call) (part : TotalsPart) (want : NoMemory) → file_call asked ≡ fc → has_call category.HardTotals asked ≡ true → takes_memory asked ≡ true
+called_err : (n : ℕ) (fc : FileCall) (asked : Call) (part : TotalsPart) (want : NoMemory) → file_call asked ≡ fc → takes_memory asked ≡ true
     → first_refusal (file_rows part.totals n fc) ≡ None → FilesCalled n asked part (Err want) part
-called_err n fc asked part want is has takes none =
-    subst (λ c. IsTrue (takes_memory asked) × (first_refusal (when (not (has_call category.HardTotals asked)) code.Illegal ∷ file_rows part.totals n c) ≡ None) × (part ≡ part)) (sym is)
-    (subst (λ b. IsTrue (takes_memory asked) × (first_refusal (when (not b) code.Illegal ∷ file_rows part.totals n fc) ≡ None) × (part ≡ part)) (sym has)
-    (takes, none, refl))
+called_err n fc asked part want is takes none =
+    subst (λ c. IsTrue (takes_memory asked) × (first_refusal (file_rows part.totals n c) ≡ None) × (part ≡ part)) (sym is) (takes, none, refl)
 
 -- ---- what a crash leaves
 
@@ -174,7 +169,7 @@ module _ {D : Type 0} (bound : Ghosts D) (old new : TotalsView D) (only : OnlyNo
 
 -- ---- a change
 
-module _ {D : Type 0} (bound : Ghosts D) (old new : TotalsView D) (only : OnlyNow bound old.disk) (n : ℕ) (change : Change) (asked : Call) (is : file_call asked ≡ Makes change) (has : has_call category.HardTotals asked ≡ true) (takes : takes_memory asked ≡ true) (left : List Standing) (leaves : Leaves bound old left) where
+module _ {D : Type 0} (bound : Ghosts D) (old new : TotalsView D) (only : OnlyNow bound old.disk) (n : ℕ) (change : Change) (asked : Call) (is : file_call asked ≡ Makes change) (takes : takes_memory asked ≡ true) (left : List Standing) (leaves : Leaves bound old left) where
   abbrev part : TotalsPart
   part = part_of bound old left
 
@@ -199,7 +194,7 @@ module _ {D : Type 0} (bound : Ghosts D) (old new : TotalsView D) (only : OnlyNo
       let after = part_of bound view left in
       subst (λ v. FilesStepped bound left old n asked (Ok result) v) (sym (same_view old new totals (puts.untouched refl) done.1))
       (beside bound old totals left n asked (Ok result) only leaves refl
-      (called_ok n (Makes change) asked part after result is has (record {
+      (called_ok n (Makes change) asked part after result is (record {
         outcome = match_at_none (first_refusal rows) _ _ none (record {
           does = match_at_some (transaction_of old.totals n) buffer _ _ transacting (done.0, refl);
           group = subst (λ b. IsOneGroup old.totals (put_at_once b change)) (sym (ap is_some transacting)) puts.group;
@@ -217,7 +212,7 @@ module _ {D : Type 0} (bound : Ghosts D) (old new : TotalsView D) (only : OnlyNo
   answered_refused result refusal none free puts refused s same does =
       let undone = puts.unchanged (not_done result refusal refused s) in
       change_rests (Ok result) (rested bound old new only left leaves undone same)
-      (called_ok n (Makes change) asked part part result is has (record {
+      (called_ok n (Makes change) asked part part result is (record {
         outcome = match_at_none (first_refusal rows) _ _ none (record {
           does = match_at_none (transaction_of old.totals n) _ _ free does;
           group = subst (λ b. IsOneGroup old.totals (put_at_once b change)) (sym (ap is_some free)) puts.group;
@@ -240,7 +235,7 @@ module _ {D : Type 0} (bound : Ghosts D) (old new : TotalsView D) (only : OnlyNo
       off_refuses false e = cc
   change_moves result none free puts numbers done (Ready files q) ready =
       moved bound old new only left leaves files q ready change [] (Ok result) puts n asked
-      (λ after at. called_ok n (Makes change) asked part (part_of bound new after) result is has (record {
+      (λ after at. called_ok n (Makes change) asked part (part_of bound new after) result is (record {
         outcome = match_at_none (first_refusal rows) _ _ none (record {
           does = match_at_none (transaction_of old.totals n) _ _ free (record { outcome = match_at_none (first_refusal (number_rows old.totals change)) _ _ numbers (inr (caused bound old new only left leaves old.totals (change ∷ []) result (given_by old.totals.next change) done)) });
           group = subst (λ b. IsOneGroup old.totals (put_at_once b change)) (sym (ap is_some free)) puts.group;
@@ -278,10 +273,10 @@ module _ {D : Type 0} (bound : Ghosts D) (old new : TotalsView D) (only : OnlyNo
       let y = subst (λ o. MatchOption o (DoesChange (HasFailed bound old.disk new.disk) old.totals n change result new.totals) (λ refusal. (result ≡ refusal) × (new.totals ≡ old.totals))) e changes.answer.outcome in
       let untouched = changes.disk.untouched (ap (λ (o : Option Answer). cond (is_none o && not (in_transaction old.totals n)) (change ∷ []) []) e) in
       change_rests (Ok result) (same_view old new old.totals untouched y.1)
-      (called_ok n (Makes change) asked part part result is has (record { outcome = match_at_some (first_refusal rows) refusal _ _ e (y.0, refl) }))
+      (called_ok n (Makes change) asked part part result is (record { outcome = match_at_some (first_refusal rows) refusal _ _ e (y.0, refl) }))
   by_table (Err want) changes (Some refusal) e = let bad = sym e ∙ changes.answer.0 in cc
   by_table (Err want) changes None e =
-      change_rests (Err want) (rested bound old new only left leaves (changes.disk.unchanged (λ h. h)) changes.answer.1) (called_err n (Makes change) asked part want is has takes e)
+      change_rests (Err want) (rested bound old new only left leaves (changes.disk.unchanged (λ h. h)) changes.answer.1) (called_err n (Makes change) asked part want is takes e)
   by_table (Ok result) changes None e =
       let puts = subst (λ g. PutsGroup bound old g (Ok result) new) (ap (λ (o : Option Answer). cond (is_none o && not (in_transaction old.totals n)) (change ∷ []) []) e) changes.disk in
       let does = subst (λ o. MatchOption o (DoesChange (HasFailed bound old.disk new.disk) old.totals n change result new.totals) (λ refusal. (result ≡ refusal) × (new.totals ≡ old.totals))) e changes.answer.outcome in
@@ -310,9 +305,9 @@ same_disk old new (inl turns) = inl turns
 same_disk {D = D} old new (inr same) = inr (ap (λ (v : TotalsView D). v.disk) same)
 
 -- a call that asks for a change
-pub change_calls : {D : Type 0} (bound : Ghosts D) (view new : TotalsView D) (n : ℕ) (change : Change) (asked : Call) (outcome : Result Answer NoMemory) → OnlyNow bound view.disk → file_call asked ≡ Makes change → has_call category.HardTotals asked ≡ true → takes_memory asked ≡ true → Changes bound view n change outcome new → CallsFiles bound view n asked outcome new
-change_calls bound view new n change asked outcome only is has takes changes = record {
-  steps = λ left leaves. change_steps bound view new only n change asked is has takes left leaves outcome changes;
+pub change_calls : {D : Type 0} (bound : Ghosts D) (view new : TotalsView D) (n : ℕ) (change : Change) (asked : Call) (outcome : Result Answer NoMemory) → OnlyNow bound view.disk → file_call asked ≡ Makes change → takes_memory asked ≡ true → Changes bound view n change outcome new → CallsFiles bound view n asked outcome new
+change_calls bound view new n change asked outcome only is takes changes = record {
+  steps = λ left leaves. change_steps bound view new only n change asked is takes left leaves outcome changes;
   untouched = λ spares. changes.disk.untouched (no_change (first_refusal (refusals_of_change layout_1 view.totals n change)) (in_transaction view.totals n) change (subst (λ fc. SparesFiles view.totals n fc) is spares));
   unchanged = λ undone. same_disk view new (changes.disk.unchanged undone);
   kept = changes.disk.kept;
@@ -320,7 +315,7 @@ change_calls bound view new n change asked outcome only is has takes changes = r
 
 -- ---- a commit
 
-module _ {D : Type 0} (bound : Ghosts D) (old new : TotalsView D) (only : OnlyNow bound old.disk) (n : ℕ) (asked : Call) (is : file_call asked ≡ Commits) (has : has_call category.HardTotals asked ≡ true) (takes : takes_memory asked ≡ true) (left : List Standing) (leaves : Leaves bound old left) where
+module _ {D : Type 0} (bound : Ghosts D) (old new : TotalsView D) (only : OnlyNow bound old.disk) (n : ℕ) (asked : Call) (is : file_call asked ≡ Commits) (takes : takes_memory asked ≡ true) (left : List Standing) (leaves : Leaves bound old left) where
   abbrev commit_part : TotalsPart
   commit_part = part_of bound old left
 
@@ -343,7 +338,7 @@ module _ {D : Type 0} (bound : Ghosts D) (old new : TotalsView D) (only : OnlyNo
       → after ≡ left_after commit_part changes new.totals.mode → FailsTurningOff commit_part (part_of bound new after) → (bound.state old.disk).failures ≤ (bound.state new.disk).failures
       → FilesCalled n asked commit_part (Ok result) (part_of bound new after)
   answers_commit result changes after none same group does at counts later =
-      called_ok n Commits asked commit_part (part_of bound new after) result is has (record {
+      called_ok n Commits asked commit_part (part_of bound new after) result is (record {
         outcome = match_at_none (first_refusal commit_table) _ _ none (record {
           does = subst (λ cs. DoesCommit (Rises (bound.state old.disk).failures (bound.state new.disk).failures) old.totals ended cs result new.totals) (sym same) does;
           group = subst (λ cs. IsOneGroup old.totals cs) (sym same) group;
@@ -370,7 +365,7 @@ module _ {D : Type 0} (bound : Ghosts D) (old new : TotalsView D) (only : OnlyNo
       let at = same_view old new ended (puts.untouched refl) does.1 in
       subst (λ v. FilesStepped bound left old n asked (Ok result) v) (sym at)
       (beside bound old ended left n asked (Ok result) only leaves refl
-      (called_ok n Commits asked commit_part (part_of bound view left) result is has (record {
+      (called_ok n Commits asked commit_part (part_of bound view left) result is (record {
         outcome = match_at_none (first_refusal commit_table) _ _ none (record {
           does = subst (λ cs. DoesCommit (Rises (bound.state old.disk).failures (bound.state old.disk).failures) old.totals ended cs result ended) (sym same) (does.0, refl);
           group = subst (λ cs. IsOneGroup old.totals cs) (sym same) puts.group;
@@ -400,10 +395,10 @@ module _ {D : Type 0} (bound : Ghosts D) (old new : TotalsView D) (only : OnlyNo
       let y = subst (λ o. MatchOption o (DoesCommit (HasFailed bound old.disk new.disk) old.totals ended buffered_changes result new.totals) (λ refusal. (result ≡ refusal) × (new.totals ≡ old.totals))) e commits.answer.outcome in
       let untouched = commits.disk.untouched (ap (λ (o : Option Answer). cond (is_none o) buffered_changes []) e) in
       commit_rests (Ok result) (same_view old new old.totals untouched y.1)
-      (called_ok n Commits asked commit_part commit_part result is has (record { outcome = match_at_some (first_refusal commit_table) refusal _ _ e (y.0, refl) }))
+      (called_ok n Commits asked commit_part commit_part result is (record { outcome = match_at_some (first_refusal commit_table) refusal _ _ e (y.0, refl) }))
   by_commit_table (Err want) commits (Some refusal) e = let bad = sym e ∙ commits.answer.0 in cc
   by_commit_table (Err want) commits None e =
-      commit_rests (Err want) (rested bound old new only left leaves (commits.disk.unchanged (λ h. h)) commits.answer.1) (called_err n Commits asked commit_part want is has takes e)
+      commit_rests (Err want) (rested bound old new only left leaves (commits.disk.unchanged (λ h. h)) commits.answer.1) (called_err n Commits asked commit_part want is takes e)
   by_commit_table (Ok result) commits None e =
       let puts = subst (λ g. PutsGroup bound old g (Ok result) new) (ap (λ (o : Option Answer). cond (is_none o) buffered_changes []) e) commits.disk in
       let does = subst (λ o. MatchOption o (DoesCommit (HasFailed bound old.disk new.disk) old.totals ended buffered_changes result new.totals) (λ refusal. (result ≡ refusal) × (new.totals ≡ old.totals))) e commits.answer.outcome in
@@ -414,9 +409,9 @@ module _ {D : Type 0} (bound : Ghosts D) (old new : TotalsView D) (only : OnlyNo
   commit_steps outcome commits = by_commit_table outcome commits (first_refusal commit_table) refl
 
 -- a call that commits
-pub commit_calls : {D : Type 0} (bound : Ghosts D) (view new : TotalsView D) (n : ℕ) (asked : Call) (outcome : Result Answer NoMemory) → OnlyNow bound view.disk → file_call asked ≡ Commits → has_call category.HardTotals asked ≡ true → takes_memory asked ≡ true → CommitsBuffer bound view n outcome new → CallsFiles bound view n asked outcome new
-commit_calls bound view new n asked outcome only is has takes commits = record {
-  steps = λ left leaves. commit_steps bound view new only n asked is has takes left leaves outcome commits;
+pub commit_calls : {D : Type 0} (bound : Ghosts D) (view new : TotalsView D) (n : ℕ) (asked : Call) (outcome : Result Answer NoMemory) → OnlyNow bound view.disk → file_call asked ≡ Commits → takes_memory asked ≡ true → CommitsBuffer bound view n outcome new → CallsFiles bound view n asked outcome new
+commit_calls bound view new n asked outcome only is takes commits = record {
+  steps = λ left leaves. commit_steps bound view new only n asked is takes left leaves outcome commits;
   untouched = λ spares. commits.disk.untouched (no_group (first_refusal (refusals_of_commit view.totals n)) (changes_in (transaction_of view.totals n)) (subst (λ fc. SparesFiles view.totals n fc) is spares));
   unchanged = λ undone. same_disk view new (commits.disk.unchanged undone);
   kept = commits.disk.kept;
@@ -432,8 +427,8 @@ arranged_settled old n BeginTrans left = refl
 arranged_settled old n Rollback left = refl
 
 -- a call that makes an arrangement
-pub arrangement_calls : {D : Type 0} (bound : Ghosts D) (view new : TotalsView D) (n : ℕ) (arrangement : Arrangement) (asked : Call) (result : Answer) → OnlyNow bound view.disk → file_call asked ≡ ArrangesCall arrangement → has_call category.HardTotals asked ≡ true → Arranged view n arrangement result new → CallsFiles bound view n asked (Ok result) new
-arrangement_calls {D = D} bound view new n arrangement asked result only is has arranged = record {
+pub arrangement_calls : {D : Type 0} (bound : Ghosts D) (view new : TotalsView D) (n : ℕ) (arrangement : Arrangement) (asked : Call) (result : Answer) → OnlyNow bound view.disk → file_call asked ≡ ArrangesCall arrangement → Arranged view n arrangement result new → CallsFiles bound view n asked (Ok result) new
+arrangement_calls {D = D} bound view new n arrangement asked result only is arranged = record {
   steps = λ left leaves. by_table left leaves (first_refusal rows) refl;
   untouched = λ spares. arranged.disk;
   unchanged = λ undone. inr arranged.disk;
@@ -449,20 +444,20 @@ arrangement_calls {D = D} bound view new n arrangement asked result only is has 
         let part = part_of bound view left in
         subst (λ v. FilesStepped bound left view n asked (Ok result) v) (sym (same_view view new view.totals arranged.disk y.1))
         (rests bound view left n asked (Ok result) only leaves
-        (called_ok n (ArrangesCall arrangement) asked part part result is has (record { outcome = match_at_some (first_refusal rows) refusal _ _ e (y.0, refl) })))
+        (called_ok n (ArrangesCall arrangement) asked part part result is (record { outcome = match_at_some (first_refusal rows) refusal _ _ e (y.0, refl) })))
     by_table left leaves None e =
         let y = subst (λ o. MatchOption o ((result ≡ answer.Done value.Empty) × (new.totals ≡ after_arrangement view.totals n arrangement)) (λ refusal. (result ≡ refusal) × (new.totals ≡ view.totals))) e arranged.answer.outcome in
         let totals = after_arrangement view.totals n arrangement in
         let after : TotalsView D = record { disk = view.disk; totals = totals } in
         subst (λ v. FilesStepped bound left view n asked (Ok result) v) (sym (same_view view new totals arranged.disk y.1))
         (beside bound view totals left n asked (Ok result) only leaves (arranged_settled view.totals n arrangement left)
-        (called_ok n (ArrangesCall arrangement) asked (part_of bound view left) (part_of bound after left) result is has (record { outcome = match_at_none (first_refusal rows) _ _ e (y.0, refl) })))
+        (called_ok n (ArrangesCall arrangement) asked (part_of bound view left) (part_of bound after left) result is (record { outcome = match_at_none (first_refusal rows) _ _ e (y.0, refl) })))
 
 -- ---- a question
 
 -- a call that asks about the files
-pub question_calls : {D : Type 0} (bound : Ghosts D) (view : TotalsView D) (n : ℕ) (question : Question) (asked : Call) (outcome : Result Answer NoMemory) → OnlyNow bound view.disk → file_call asked ≡ Asks question → has_call category.HardTotals asked ≡ true → (takes_memory asked ≡ true) ⊎ ((a : Answer) × (outcome ≡ Ok a)) → MayTell view.totals n question outcome → CallsFiles bound view n asked outcome view
-question_calls bound view n question asked outcome only is has takes tells = record {
+pub question_calls : {D : Type 0} (bound : Ghosts D) (view : TotalsView D) (n : ℕ) (question : Question) (asked : Call) (outcome : Result Answer NoMemory) → OnlyNow bound view.disk → file_call asked ≡ Asks question → (takes_memory asked ≡ true) ⊎ ((a : Answer) × (outcome ≡ Ok a)) → MayTell view.totals n question outcome → CallsFiles bound view n asked outcome view
+question_calls bound view n question asked outcome only is takes tells = record {
   steps = λ left leaves. rests bound view left n asked outcome only leaves (told left outcome takes tells);
   untouched = λ spares. refl;
   unchanged = λ undone. inr refl;
@@ -472,10 +467,10 @@ question_calls bound view n question asked outcome only is has takes tells = rec
     told : (left : List Standing) (o : Result Answer NoMemory) → (takes_memory asked ≡ true) ⊎ ((a : Answer) × (o ≡ Ok a)) → MayTell view.totals n question o → FilesCalled n asked (part_of bound view left) o (part_of bound view left)
     told left (Ok result) takes h =
         let part = part_of bound view left in
-        called_ok n (Asks question) asked part part result is has (record {
+        called_ok n (Asks question) asked part part result is (record {
           outcome = match_weaker (first_refusal (refusals_of_question view.totals n question)) _ _ _ _ (λ y. (y, refl)) (λ refusal y. (y.0, refl)) h.outcome;
         })
-    told left (Err want) (inl takes) h = called_err n (Asks question) asked (part_of bound view left) want is has takes h
+    told left (Err want) (inl takes) h = called_err n (Asks question) asked (part_of bound view left) want is takes h
     told left (Err want) (inr fine) h =
         let bad : Err want ≡ Ok fine.0 = fine.1 in
         let none : ⊥ = cc in

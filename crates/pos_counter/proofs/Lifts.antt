@@ -11,7 +11,7 @@ use Rattle.pos_service.specs.Properties.{get_rows, property_of}
 use Rattle.pos_service.specs.declared.event.Event.{Event}
 use Rattle.pos_service.specs.declared.event.ErrorReply.{ErrorReply}
 use Rattle.pos_service.specs.Controls.{Control, deliverable, delivered}
-use Rattle.pos_counter.specs.Machine.{Device, Machine, Shared, with_control}
+use Rattle.pos_counter.specs.Machine.{Device, Machine, Shared, holder_of, with_control}
 use Rattle.pos_service.specs.Refusals.{Row, Decided, first_refusal}
 use Rattle.pos_counter.specs.Responses.{answered}
 use Rattle.pos_counter.specs.Steps.{Step, CallOf, Deliver, Delivered, facts_of}
@@ -68,8 +68,8 @@ deliver_step hs ds shared n reply event g h lt is first rest =
     (first, over_same _ _ ds shared (map-set (λ (k : Held). k.control) hs n g ∙ ap (set (controls_of hs) n) rest))
 
 -- a property that is told, or for which there is no memory, is a step
-pub get_step : (m : Machine) (n : ℕ) (c : Control) (p : Property) (r : Result Answer NoMemory) → slice_get m.controls n ≡ Some c → Gets (get_rows c (facts_of m n c) p) p (property_of c (facts_of m n c) p) r → Step m (CallOf n (call.Get p)) (answered r) m
+pub get_step : (m : Machine) (n : ℕ) (c : Control) (p : Property) (r : Result Answer NoMemory) → slice_get m.controls n ≡ Some c → Gets (get_rows n (holder_of m c) c (facts_of m n c) p) p (property_of c (facts_of m n c) p) r → Step m (CallOf n (call.Get p)) (answered r) m
 get_step m n c p (Ok result) at d = match_at_some _ c _ _ at (record {
-  outcome = match_weaker (first_refusal (get_rows c (facts_of m n c) p)) _ _ _ _ (λ y. (y, refl)) (λ refusal y. (y.0, refl)) d.outcome;
+  outcome = match_weaker (first_refusal (get_rows n (holder_of m c) c (facts_of m n c) p)) _ _ _ _ (λ y. (y, refl)) (λ refusal y. (y.0, refl)) d.outcome;
 })
 get_step m n c p (Err want) at h = match_at_some _ c _ _ at (h.0, h.1, refl)

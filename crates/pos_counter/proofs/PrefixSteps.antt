@@ -1,7 +1,7 @@
 -- What each step of the machine does to the totals' files.
 use Rattle.std.proofs.Common.{◌≡◌, ◌∙◌, ◌⊎◌, ◌+◌, ℕ, Bool, true, false, not, List, [], ◌∷◌, Option, Some, cond, inl, inr, refl, sym, ap, subst}
 use Rattle.std.specs.Bool.{MatchBool}
-use Rattle.std.specs.Prelude.{⊤, slice_get, is_some, Ok, None}
+use Rattle.std.specs.Prelude.{⊤, MatchOption, slice_get, is_some, Ok, None}
 use Rattle.std.proofs.lemmas.Bool.{and_parts}
 use Rattle.std.proofs.lemmas.Option.{same_Some}
 use Rattle.pos_dir.specs.Changes.{outcome_of_all}
@@ -18,7 +18,10 @@ use Rattle.pos_service.specs.declared.code.Code.TheVariants as code
 use Rattle.pos_service.specs.declared.property.Property.{Property}
 use Rattle.pos_service.specs.Claims.{after_release}
 use Rattle.pos_service.specs.Controls.{Control, closed}
-use Rattle.pos_service.specs.DisplayCalls.{DisplayDoes}
+use Rattle.pos_service.specs.declared.deed.Deed.{Deed}
+use Rattle.pos_service.specs.declared.display_text.Cursor.{Cursor}
+use Rattle.pos_service.specs.declared.kind.Kind.{Kind}
+use Rattle.pos_service.specs.DisplayCalls.{display_deed}
 use Rattle.pos_totals.specs.HardTotals.{File, Totals, Mode, Off, Ready, Change, IsAmong, sequences_after, files_of, is_ready, with_files, with_transaction, changes_in, in_transaction, transaction_of, after_disk_fault}
 use Rattle.pos_totals.specs.TotalsChanges.{Done, DoesTogether, mode_after, files_after_all, number_rows, given_by, RunsOut}
 use Rattle.pos_totals.specs.TotalsCommits.{DoesCommit}
@@ -38,7 +41,7 @@ use Rattle.pos_totals.specs.Recoveries.{numbered}
 use Rattle.pos_totals.specs.Views.{plain, stored}
 use Rattle.pos_counter.specs.DiskUse.{IsUndone}
 use Rattle.pos_counter.specs.History.{NothingDone, changes_asked, event_between, event_of}
-use Rattle.pos_counter.specs.Machine.{Machine, with_control}
+use Rattle.pos_counter.specs.Machine.{Machine, kind_of, with_control}
 use Rattle.pos_counter.specs.Steps.{Request, NewControl, CallOf, InputTo, WorkOn, Deliver, Snapshot, Attach, Detach, Response, Made, Full, Answered, TakenIn, NoDevice, WrongInput, Worked, Delivered, Shown, Attached, NotAttached, Detached, NotDetached, OutOfMemory, OnStation, Step, Called, Does, CategoryDoes, Sets, SetsByRecovery, refusals, claimed, dropped, released}
 use Rattle.pos_counter.specs.Totals.{TotalsPart, ChangesTotals, CommitsTotals, TotalsDo, Recovered, asks_recovery, in_doubt, left_after, put_at_once, recovers, settled}
 use Rattle.pos_counter.proofs.FileCalls.{kept_left, plain_claimed}
@@ -281,12 +284,12 @@ station_same : (old new : Machine) (at : Option ℕ) (Does : ℕ → Effect) →
 station_same old new at Does o = ap (λ (m : Machine). m.totals) o.machine
 
 -- a display's call is none of the totals'
-display_asks : (own : Call) (result : Answer) (number place : ℕ) (old : List Control) (before : Station) (new : List Control) (after : Station) → DisplayDoes own number place result old before new after → file_call own ≡ Nothing
-display_asks (call.DisplayText text attribute) result number place old before new after h = refl
-display_asks (call.DisplayTextAt row column text attribute) result number place old before new after h = refl
-display_asks call.ClearText result number place old before new after h = refl
-display_asks (call.ScrollText direction units) result number place old before new after h = refl
-display_asks own result number place old before new after h = absurd (elim (match_cases (slice_get old number) _ _ h) [ inl x ↦ x.1 | inr x ↦ x.2 ])
+display_asks : (at : Option Kind) (cursor : Cursor) (own : Call) (R : Deed → Type 0) → MatchOption (display_deed at cursor own) ⊥ R → file_call own ≡ Nothing
+display_asks at cursor (call.DisplayText text attribute) R h = refl
+display_asks at cursor (call.DisplayTextAt row column text attribute) R h = refl
+display_asks at cursor call.ClearText R h = refl
+display_asks at cursor (call.ScrollText direction units) R h = refl
+display_asks at cursor own R h = absurd h
 
 category_told : (k : Category) (old new : Machine) (n : ℕ) (c : Control) (own : Call) (result : Answer) → old.totals.left ≡ settled old.totals.totals.mode old.totals.left → CategoryDoes k old n c own result new → Told (changes_asked old.totals.totals n (file_call own)) old.totals (Answered result) new.totals
 category_told category.CashDrawer old new n c call.OpenDrawer result is h = rest_unasked old.totals new.totals (Answered result) (station_same old new c.device _ h)
@@ -295,7 +298,7 @@ category_told category.Scanner old new n c call.ClearInput result is h = rest_un
 category_told category.Scanner old new n c call.ClearInputProperties result is h = rest_unasked old.totals new.totals (Answered result) (station_same old new c.device _ h)
 category_told category.Scanner old new n c own result is h = absurd h.does
 category_told category.LineDisplay old new n c own result is h =
-    subst (λ asked. Told (changes_asked old.totals.totals n asked) old.totals (Answered result) new.totals) (sym (display_asks own result n h.place old.controls h.before h.controls h.after h.does))
+    subst (λ asked. Told (changes_asked old.totals.totals n asked) old.totals (Answered result) new.totals) (sym (display_asks (kind_of old c) c.cursor own _ h.does))
     (rest_unasked old.totals new.totals (Answered result) (station_same old new c.device _ h))
 category_told category.PosPrinter old new n c (call.PrintNormal station text) result is h = rest_unasked old.totals new.totals (Answered result) (station_same old new c.device _ h)
 category_told category.PosPrinter old new n c (call.PrintImmediate station text) result is h = rest_unasked old.totals new.totals (Answered result) (station_same old new c.device _ h)

@@ -18,10 +18,11 @@ use Rattle.pos_service.specs.declared.code.Code.TheVariants as code
 use Rattle.pos_service.specs.declared.kind.Kind.{Kind}
 use Rattle.pos_service.specs.declared.property.Property.{Property}
 use Rattle.pos_service.specs.declared.property.Property.TheVariants as property
-use Rattle.pos_service.specs.Properties.{set_rows, after_set, has_property, takes}
+use Rattle.pos_service.specs.Needs.{needs_holder, needs_no_other}
+use Rattle.pos_service.specs.Properties.{set_rows, after_set, needs_to_set, takes}
 use Rattle.pos_service.specs.Controls.{Control}
 use Rattle.pos_totals.specs.HardTotals.{Mode, Off, Ready, Totals, is_ready}
-use Rattle.pos_service.specs.Claims.{is_exclusive, is_foreign}
+use Rattle.pos_service.specs.Claims.{is_foreign}
 use Rattle.pos_service.specs.Refusals.{Row, first_refusal, when}
 use Rattle.pos_common.specs.Held.{Held, TurnsInto, controls_of}
 use Rattle.pos_store.specs.Standing.{Standing, LeavesOneOf, StandsForOneOf}
@@ -80,7 +81,13 @@ enabling_unrefused n holder at c p v e =
       where
         Rows : Option ℕ → Category → List Row
         Rows o k =
-            when (is_none o) code.Closed ∷ when (not (has_property k property.DeviceEnabled && true)) code.Illegal ∷ when (is_exclusive k && is_foreign n holder) code.Claimed ∷ when (is_exclusive k && is_none holder) code.NotClaimed ∷ when false code.Illegal ∷ []
+            let needs = needs_to_set k property.DeviceEnabled in
+            when (is_none o) code.Closed
+            ∷ when (not needs.is_there) code.Illegal
+            ∷ when (needs_no_other needs.claim && is_foreign n holder) code.Claimed
+            ∷ when (needs_holder needs.claim && is_none holder) code.NotClaimed
+            ∷ when false code.Disabled
+            ∷ when false code.Illegal ∷ []
 
         by_parts : (o : Option ℕ) (k : Category) → is_some o ≡ true → k ≡ category.HardTotals → first_refusal (Rows o k) ≡ None
         by_parts None k d is = cc

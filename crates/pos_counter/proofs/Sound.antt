@@ -1,10 +1,10 @@
 -- Every step keeps the machine sound.
 use Rattle.std.proofs.Common.{◌≡◌, ℕ, ◌∷◌, inl, inr, zero, suc, List, [], Option, Some, None, Bool, true, false, cond, set, ap, sym, ◌∙◌, subst, refl, arith}
 use Rattle.std.specs.Bool.{MatchBool}
-use Rattle.std.specs.Prelude.{MatchOption, MatchResult, IfSome, IsTrue, All, Result, Ok, Err, ◌++◌, ◌||◌, slice_get, slice_set, is_some, is_none}
+use Rattle.std.specs.Prelude.{MatchOption, MatchResult, IfSome, IsTrue, All, Result, Ok, Err, ◌++◌, ◌||◌, slice_get, slice_set, is_some, is_none, option_map}
 use Rattle.std.proofs.lemmas.Bool.{eq-eqb, false≢true}
 use Rattle.std.proofs.lemmas.List.Elements.{All-cons, All-nil, All-push, All-set, All-weaker, All-map, All-get_or}
-use Rattle.std.proofs.lemmas.Option.{slice_get_within, get_or_from_slice_get}
+use Rattle.std.proofs.lemmas.Option.{slice_get_within, get_or_from_slice_get, slice_get-map, MatchOption-at_some}
 use Rattle.pos_service.specs.declared.category.Category.{Category}
 use Rattle.pos_service.specs.declared.category.Category.TheVariants as category
 use Rattle.pos_service.specs.declared.answer.Answer.{Answer}
@@ -27,24 +27,27 @@ use Rattle.pos_service.specs.declared.worked.Worked.{Worked as WorkResult}
 use Rattle.pos_service.specs.declared.property.Property.{Property}
 use Rattle.pos_service.specs.declared.call.Call.{Call}
 use Rattle.pos_service.specs.declared.call.Call.TheVariants as call
+use Rattle.pos_service.specs.declared.deed.Change.{Change}
+use Rattle.pos_service.specs.declared.deed.Change.TheVariants as change
+use Rattle.pos_service.specs.declared.deed.Deed.{Deed}
+use Rattle.pos_service.specs.declared.deed.Deed.TheVariants as deed
 use Rattle.pos_service.specs.Controls.{Control, new_control, closed, stopped, delivered, heard, queued, read, without_output, listens, if_listening, all_listening, with_place as moved}
 use Rattle.pos_service.specs.Events.{EventList, Enqueued}
 use Rattle.pos_service.specs.Refusals.{Row, Decided, first_refusal}
 use Rattle.pos_service.specs.Calls.{serves, place_found, close_rows}
 use Rattle.pos_service.specs.Properties.{takes, after_set, cursor_after, get_rows}
-use Rattle.pos_service.specs.DisplayCalls.{DisplayDoes, OrdersDisplay, argument_rows, display_order, place_after_call}
+use Rattle.pos_service.specs.Deeds.{CarriedOut, ChangesOne, Does as CarriesOut, Follows, LineFailed, Ordered, Queued, changed, id_rows}
 use Rattle.pos_service.specs.Displays.{origin}
-use Rattle.pos_service.specs.Peripherals.{IsInRange}
-use Rattle.pos_service.specs.PrinterCalls.{DoesAtOnce, DoesLater, Ordered, Printed, PrinterDoes, Queued, DueRequest, Requests, WorksAt, WorksOn, after_work, id_rows, due_request_at}
+use Rattle.pos_service.specs.Peripherals.{IsInRange, signs_of}
+use Rattle.pos_service.specs.PrinterCalls.{DueRequest, WorksAt, WorksOn, after_work, due_request_at}
 use Rattle.pos_service.specs.Claims.{after_release, holder_at, is_exclusive}
-use Rattle.pos_service.specs.ScannerCalls.{ChangesItself, ScannerDoes, without_input, without_scan}
 use Rattle.pos_service.specs.Stations.{Station, Effect, SameStation, TakesIn, reaction}
-use Rattle.pos_service.specs.DrawerCalls.{DrawerOpens, DrawerDoes, LineFailed}
+use Rattle.pos_service.specs.Statuses.{status_events}
 use Rattle.pos_totals.specs.HardTotals.{with_control as with_place}
 use Rattle.pos_counter.specs.Machine.{Device, Machine, device_at, kind_in, kind_of, place_of, found_at, with_control, with_totals}
-use Rattle.pos_counter.specs.Steps.{Request, NewControl, CallOf, InputTo, WorkOn, Deliver, Snapshot, Attach, Detach, Response, Made, Full, Answered, TakenIn, NoDevice, WrongInput, Worked, Delivered, Shown, Attached, NotAttached, Detached, NotDetached, OutOfMemory, IsAttached, IsDetached, has_open, is_open_at, is_place, OnStation, Step, Called, Sets, SetsByRecovery, CategoryDoes, DeviceDoes, category_rows, claimed, released, dropped, facts_of, refusals, IsSound, IsPlaceOn, HasItsKind, HasItsDevice}
+use Rattle.pos_counter.specs.Steps.{Request, NewControl, CallOf, InputTo, WorkOn, Deliver, Snapshot, Attach, Detach, Response, Made, Full, Answered, TakenIn, NoDevice, WrongInput, Worked, Delivered, Shown, Attached, NotAttached, Detached, NotDetached, OutOfMemory, IsAttached, IsDetached, has_open, is_open_at, is_place, OnStation, Step, Called, Sets, SetsByRecovery, CategoryDoes, DeviceDoes, category_rows, device_deed, device_rows, claimed, released, dropped, facts_of, refusals, IsSound, IsPlaceOn, HasItsKind, HasItsDevice}
 use Rattle.pos_counter.specs.Totals.{TotalsPart, recovers}
-use Rattle.pos_counter.proofs.Cursors.{NoneApplies, none_applies, place_called, place_opened, place_set, unless_not}
+use Rattle.pos_counter.proofs.Cursors.{DeedStaysOn, NoneApplies, StaysOn, deed_called, none_applies, place_opened, place_set, unless_not}
 use Rattle.pos_counter.proofs.Lifts.{match_at_some, match_cases}
 
 -- the device is there, and serves a control of the category whose cursor is at a place
@@ -210,62 +213,18 @@ failed_keeps ds old before new after h = record {
   seats = λ all. subst (All (HasItsDevice ds)) (sym h.controls) all;
 }
 
-opens_keeps : (ds : List Device) (r : Answer) (place : ℕ) (old : List Control) (before : Station) (new : List Control) (after : Station) → DrawerOpens place r old before new after → Keeps ds before old after new
-opens_keeps ds r place old before new after (inl h) = record {
-  kind = ap (λ (s : Station). s.kind) h.1.station;
-  seats = λ all. subst (All (HasItsDevice ds)) (sym h.1.events) (all_listening_keep ds place _ old (heard_keeps _) all);
-}
-opens_keeps ds r place old before new after (inr h) = failed_keeps ds old before new after h.1
-
 takes_keeps : (ds : List Device) (i : Input) (place : ℕ) (old : List Control) (before : Station) (new : List Control) (after : Station) → TakesIn i place old before new after → Keeps ds before old after new
 takes_keeps ds i place old before new after h = record {
   kind = ap (λ (s : Station). s.kind) h.station;
   seats = λ all. subst (All (HasItsDevice ds)) (sym h.controls) (all_listening_keep ds place _ old (reaction_keeps i h.taken _) all);
 }
 
-drawer_keeps : (ds : List Device) (asked : Call) (r : Answer) (number place : ℕ) (old : List Control) (before : Station) (new : List Control) (after : Station) → DrawerDoes asked number place r old before new after → Keeps ds before old after new
-drawer_keeps ds call.OpenDrawer r number place old before new after h = opens_keeps ds r place old before new after h
-drawer_keeps ds asked r number place old before new after h = absurd h
-
 -- a control that changes keeps its device
-one_keeps : (ds : List Device) (change : Control → Control) (number : ℕ) (old new : List Control) → KeepsDevice change → MatchOption (slice_get old number) ⊥ (λ control. new ≡ slice_set old number (change control)) → All (HasItsDevice ds) old → All (HasItsDevice ds) new
+one_keeps : (ds : List Device) (change : Control → Control) (number : ℕ) (old new : List Control) → KeepsDevice change → ChangesOne change number old new → All (HasItsDevice ds) old → All (HasItsDevice ds) new
 one_keeps ds change number old new keeps h all = elim (match_cases (slice_get old number) _ _ h) [
   | inl x ↦ absurd x.1
   | inr x ↦ subst (All (HasItsDevice ds)) (sym x.2) (All-set (HasItsDevice ds) old number (change x.0) (changed_seat ds change x.0 keeps (seat_of ds old number x.0 x.1 all)) all)
 ]
-
--- a control that changes itself keeps its device
-itself_keeps : (ds : List Device) (change : Control → Control) (number : ℕ) (r : Answer) (old : List Control) (before : Station) (new : List Control) (after : Station) → KeepsDevice change → ChangesItself change number r old before new after → Keeps ds before old after new
-itself_keeps ds change number r old before new after keeps h = record {
-  kind = ap (λ (s : Station). s.kind) h.station;
-  seats = one_keeps ds change number old new keeps h.controls;
-}
-
-scanner_keeps : (ds : List Device) (asked : Call) (r : Answer) (number place : ℕ) (old : List Control) (before : Station) (new : List Control) (after : Station) → ScannerDoes asked number place r old before new after → Keeps ds before old after new
-scanner_keeps ds call.ClearInput r number place old before new after h = itself_keeps ds without_input number r old before new after (record { category = λ c. refl; device = λ c. refl; cursor = λ c. refl }) h
-scanner_keeps ds call.ClearInputProperties r number place old before new after h = itself_keeps ds without_scan number r old before new after (record { category = λ c. refl; device = λ c. refl; cursor = λ c. refl }) h
-scanner_keeps ds asked r number place old before new after h = absurd h
-
--- a display's call whose arguments are allowed leaves the cursor of its control at a place of the display
-display_keeps : (ds : List Device) (asked : Call) (r : Answer) (number place : ℕ) (c : Control) (old : List Control) (before : Station) (new : List Control) (after : Station) → slice_get old number ≡ Some c → StandsAt ds c.device before → NoneApplies (argument_rows (kind_in (device_at ds c.device)) asked) → DisplayDoes asked number place r old before new after → Keeps ds before old after new
-display_keeps ds asked r number place c old before new after e stands allowed h =
-    let Ordered : Control → Type 0 = λ control. MatchOption (display_order control.cursor asked) ⊥ (λ given. OrdersDisplay given (place_after_call (Some before.kind) control.cursor asked) number control r old before new after) in
-    elim (match_cases (display_order c.cursor asked) _ _ (subst (λ (o : Option Control). MatchOption o ⊥ Ordered) e h)) [ inl x ↦ absurd x.1 | inr x ↦ by x.0 x.2 ]
-  where
-    now : Place
-    now = place_after_call (Some before.kind) c.cursor asked
-
-    moves : IsPlaceOn (kind_in (device_at ds c.device)) c.cursor.place → IsPlaceOn (kind_in (device_at ds c.device)) now
-    moves =
-        subst (λ (k : Option Kind). IsPlaceOn k c.cursor.place → IsPlaceOn k now) (sym stands.kind)
-        (place_called before.kind c.cursor asked stands.range (subst (λ (k : Option Kind). NoneApplies (argument_rows k asked)) stands.kind allowed))
-
-    by : (given : Order) → OrdersDisplay given now number c r old before new after → Keeps ds before old after new
-    by given (inl g) = record {
-      kind = ap (λ (s : Station). s.kind) g.1.station;
-      seats = λ all. subst (All (HasItsDevice ds)) (sym g.1.controls) (All-set (HasItsDevice ds) old number (moved now c) (moved_seat ds c.category c.cursor.place now c.device moves (seat_of ds old number c e all)) all);
-    }
-    by given (inr g) = failed_keeps ds old before new after g.1
 
 -- where nothing has changed
 same_keeps : (ds : List Device) (old : List Control) (before : Station) (new : List Control) (after : Station) → SameStation old before new after → Keeps ds before old after new
@@ -274,42 +233,73 @@ same_keeps ds old before new after h = record {
   seats = λ all. subst (All (HasItsDevice ds)) (sym h.controls) all;
 }
 
-printed_keeps : (ds : List Device) (given : Order) (place : ℕ) (old : List Control) (before : Station) (new : List Control) (after : Station) → Printed given place old before new after → Keeps ds before old after new
-printed_keeps ds given place old before new after h = record {
+carried_keeps : (ds : List Device) (given : Order) (place : ℕ) (old : List Control) (before : Station) (new : List Control) (after : Station) → CarriedOut given place old before new after → Keeps ds before old after new
+carried_keeps ds given place old before new after h = record {
   kind = ap (λ (s : Station). s.kind) h.station;
   seats = λ all. subst (All (HasItsDevice ds)) (sym h.controls) (all_listening_keep ds place _ old (heard_keeps _) all);
 }
 
--- whatever a printer says to an order
+-- whatever a peripheral says to an order
 ordered_keeps : (ds : List Device) (given : Order) (place : ℕ) (told : Reply) (old : List Control) (before : Station) (new : List Control) (after : Station) → Ordered given place told old before new after → Keeps ds before old after new
-ordered_keeps ds given place reply.Done old before new after h = printed_keeps ds given place old before new after h
+ordered_keeps ds given place reply.Done old before new after h = carried_keeps ds given place old before new after h
 ordered_keeps ds given place reply.CoverOpen old before new after h = same_keeps ds old before new after h.same
 ordered_keeps ds given place reply.PaperEnd old before new after h = same_keeps ds old before new after h.same
 ordered_keeps ds given place reply.LineFault old before new after h = failed_keeps ds old before new after h
 
-queued_keeps : (ds : List Device) (given : Order) (number : ℕ) (c : Control) (r : Answer) (old : List Control) (before : Station) (new : List Control) (after : Station) → slice_get old number ≡ Some c → Queued given number c r old before new after → Keeps ds before old after new
-queued_keeps ds given number c r old before new after e h = record {
-  kind = ap (λ (s : Station). s.kind) h.station;
-  seats = one_keeps ds (queued given) number old new (record { category = λ c. refl; device = λ c. refl; cursor = λ c. refl }) (match_at_some (slice_get old number) c ⊥ _ e h.controls);
-}
+-- a control that a call changes so has its device
+change_seat : (ds : List Device) (what : Change) (c : Control) → StaysOn (kind_in (device_at ds c.device)) c.cursor.place what → HasItsDevice ds c → HasItsDevice ds (changed what c)
+change_seat ds change.Nothing c stays h = h
+change_seat ds (change.Cursor place) c stays h = moved_seat ds c.category c.cursor.place place c.device stays h
+change_seat ds change.Input c stays h = same_seat ds c (changed change.Input c) refl refl refl h
+change_seat ds change.InputProperties c stays h = same_seat ds c (changed change.InputProperties c) refl refl refl h
+change_seat ds change.Output c stays h = same_seat ds c (changed change.Output c) refl refl refl h
 
--- a request is queued, or done at once
-requests_keep : (ds : List Device) (given : Order) (r : Answer) (number place : ℕ) (old : List Control) (before : Station) (new : List Control) (after : Station) → Requests given number place r old before new after → Keeps ds before old after new
-requests_keep ds given r number place old before new after h = elim (match_cases (slice_get old number) _ _ h) [ inl x ↦ absurd x.1 | inr x ↦ by x.0 x.1 x.0.writer.is_async x.2 ]
+-- a control that has heard is where it was
+heard_there : (place number : ℕ) (events : List Enqueued) (c : Control) (old : List Control) → slice_get old number ≡ Some c → (g : Control) × (slice_get (all_listening place (heard events) old) number ≡ Some g) × (g.category ≡ c.category) × (g.device ≡ c.device) × (g.cursor ≡ c.cursor)
+heard_there place number events c old at = (
+  if_listening place (heard events) c,
+  slice_get-map (if_listening place (heard events)) old number ∙ ap (option_map (if_listening place (heard events))) at,
+  kept (listens place c),
+)
   where
-    by : (c : Control) → slice_get old number ≡ Some c → (b : Bool) → MatchBool b (DoesLater given number c r old before new after) (DoesAtOnce given place r old before new after) → Keeps ds before old after new
-    by c e true h = elim (match_cases (first_refusal (id_rows c)) _ _ h.outcome) [
-      | inl x ↦ queued_keeps ds given number c r old before new after e x.1
+    kept : (b : Bool) → let g : Control = cond b (heard events c) c in (g.category ≡ c.category) × (g.device ≡ c.device) × (g.cursor ≡ c.cursor)
+    kept true = (refl, refl, refl)
+    kept false = (refl, refl, refl)
+
+-- the control with a number, whose cursor a call leaves at a place of its device, keeps that
+changes_keep : (ds : List Device) (what : Change) (number : ℕ) (c : Control) (old new : List Control) → slice_get old number ≡ Some c → StaysOn (kind_in (device_at ds c.device)) c.cursor.place what → ChangesOne (changed what) number old new → All (HasItsDevice ds) old → All (HasItsDevice ds) new
+changes_keep ds what number c old new at stays h all =
+    let same : new ≡ slice_set old number (changed what c) = MatchOption-at_some ⊥ (λ control. new ≡ slice_set old number (changed what control)) c at h in
+    subst (All (HasItsDevice ds)) (sym same) (All-set (HasItsDevice ds) old number (changed what c) (change_seat ds what c stays (seat_of ds old number c at all)) all)
+
+-- what a call comes to keeps each control's device
+deed_keeps : (ds : List Device) (d : Deed) (r : Answer) (number place : ℕ) (c : Control) (old : List Control) (before : Station) (new : List Control) (after : Station) → slice_get old number ≡ Some c → DeedStaysOn (kind_in (device_at ds c.device)) c.cursor.place d → CarriesOut d number place r old before new after → Keeps ds before old after new
+deed_keeps ds (deed.Gives given what) r number place c old before new after at stays h =
+    let told = ordered_keeps ds given place h.said old before h.heard after h.ordered in
+    record { kind = told.kind; seats = λ all. by h.said h.ordered h.follows (told.seats all) }
+  where
+    by : (said : Reply) → Ordered given place said old before h.heard after → Follows said what number h.heard new → All (HasItsDevice ds) h.heard → All (HasItsDevice ds) new
+    by reply.Done ordered follows all =
+        let there = heard_there place number (status_events (signs_of before.kind before.plant) (signs_of after.kind after.plant)) c old at in
+        let now = ap (λ (cs : List Control). slice_get cs number) ordered.controls ∙ there.1 in
+        changes_keep ds what number there.0 h.heard new now
+        (subst (λ (o : Option ℕ). StaysOn (kind_in (device_at ds o)) there.0.cursor.place what) (sym there.2.1) (subst (λ (u : Cursor). StaysOn (kind_in (device_at ds c.device)) u.place what) (sym there.2.2) stays))
+        follows all
+    by reply.CoverOpen ordered same all = subst (All (HasItsDevice ds)) (sym same) all
+    by reply.PaperEnd ordered same all = subst (All (HasItsDevice ds)) (sym same) all
+    by reply.LineFault ordered same all = subst (All (HasItsDevice ds)) (sym same) all
+deed_keeps ds (deed.Changes what) r number place c old before new after at stays h = record {
+  kind = ap (λ (s : Station). s.kind) h.station;
+  seats = changes_keep ds what number c old new at stays h.controls;
+}
+deed_keeps ds (deed.Queues given) r number place c old before new after at stays h =
+    elim (match_cases (first_refusal (id_rows c)) _ _ (MatchOption-at_some ⊥ (λ control. Decided (id_rows control) r (SameStation old before new after) (Queued given number r old before new after)) c at h).outcome) [
+      | inl x ↦ record {
+          kind = ap (λ (s : Station). s.kind) x.1.station;
+          seats = one_keeps ds (queued given) number old new (record { category = λ c. refl; device = λ c. refl; cursor = λ c. refl }) x.1.controls;
+        }
       | inr x ↦ same_keeps ds old before new after x.2.1
     ]
-    by c e false h = ordered_keeps ds given place h.said old before new after h.ordered
-
-printer_keeps : (ds : List Device) (asked : Call) (r : Answer) (number place : ℕ) (old : List Control) (before : Station) (new : List Control) (after : Station) → PrinterDoes asked number place r old before new after → Keeps ds before old after new
-printer_keeps ds (call.PrintNormal station text) r number place old before new after h = requests_keep ds (order.Print text) r number place old before new after h
-printer_keeps ds (call.PrintImmediate station text) r number place old before new after h = ordered_keeps ds (order.Print text) place h.said old before new after h.ordered
-printer_keeps ds (call.CutPaper percentage) r number place old before new after h = requests_keep ds _ r number place old before new after h
-printer_keeps ds call.ClearOutput r number place old before new after h = itself_keeps ds without_output number r old before new after (record { category = λ c. refl; device = λ c. refl; cursor = λ c. refl }) h
-printer_keeps ds asked r number place old before new after h = absurd h
 
 -- the control that is told what has come of its request
 work_keeps : (id : ℕ) (told : Reply) → KeepsDevice (after_work id told)
@@ -333,12 +323,17 @@ works_keep ds holder place outcome old before new after h = elim (match_cases (d
     by work (Ok r) h = worked_keeps ds work place r old before new after h
     by work (Err want) h = same_keeps ds old before new after h
 
-device_keeps : (k : Category) (m : Machine) (asked : Call) (r : Answer) (n place : ℕ) (c : Control) (before : Station) (new : List Control) (after : Station) → slice_get m.controls n ≡ Some c → NoneApplies (category_rows k m n c asked) → StandsAt m.devices c.device before → DeviceDoes k asked n place r m.controls before new after → Keeps m.devices before m.controls after new
-device_keeps category.CashDrawer m asked r n place c before new after e allowed stands h = drawer_keeps m.devices asked r n place m.controls before new after h
-device_keeps category.Scanner m asked r n place c before new after e allowed stands h = scanner_keeps m.devices asked r n place m.controls before new after h
-device_keeps category.LineDisplay m asked r n place c before new after e allowed stands h = display_keeps m.devices asked r n place c m.controls before new after e stands allowed.1.1.1 h
-device_keeps category.PosPrinter m asked r n place c before new after e allowed stands h = printer_keeps m.devices asked r n place m.controls before new after h
-device_keeps category.HardTotals m asked r n place c before new after e allowed stands h = absurd h
+device_keeps : (k : Category) (m : Machine) (asked : Call) (r : Answer) (n place : ℕ) (c : Control) (before : Station) (new : List Control) (after : Station) → slice_get m.controls n ≡ Some c → NoneApplies (device_rows k (kind_of m c) c asked) → StandsAt m.devices c.device before → DeviceDoes k (kind_of m c) n c asked r place m.controls before new after → Keeps m.devices before m.controls after new
+device_keeps k m asked r n place c before new after at allowed stands h =
+    elim (match_cases (device_deed k (kind_of m c) c asked) _ _ h) [
+      | inl x ↦ absurd x.1
+      | inr x ↦ deed_keeps m.devices x.0 r n place c m.controls before new after at (stays x.0 x.1) x.2
+    ]
+  where
+    stays : (d : Deed) → device_deed k (kind_of m c) c asked ≡ Some d → DeedStaysOn (kind_of m c) c.cursor.place d
+    stays d is =
+        subst (λ at. DeedStaysOn at c.cursor.place d) (sym stands.kind)
+        (deed_called k before.kind c asked d stands.range (subst (λ at. NoneApplies (device_rows k at c asked)) stands.kind allowed) (subst (λ at. device_deed k at c asked ≡ Some d) stands.kind is))
 
 -- totals that have changed leave all else as it was
 other_totals : (m m' : Machine) → m' ≡ record m { totals = m'.totals } → IsSound m → IsSound m'

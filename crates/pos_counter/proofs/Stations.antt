@@ -2,29 +2,27 @@
 use Rattle.std.proofs.Common.{◌≡◌, ℕ, ◌<◌, ◌≤◌, inl, inr, [], ◌∷◌, zero, suc, List, Option, Some, None, Result, Ok, Err, Bool, true, false, get_or, set, map, length, ap, sym, ◌∙◌, subst, refl, arith}
 use Rattle.std.specs.Prelude.{slice_get, option_map, is_some, is_none, ◌||◌, IfSome, IsSome, IsTrue, MatchOption}
 use Rattle.std.proofs.lemmas.List.{length-set}
+use Rattle.std.proofs.lemmas.Option.{MatchOption-at_some}
 use Rattle.pos_service.specs.declared.answer.Answer.{Answer}
-use Rattle.pos_service.specs.declared.answer.Answer.TheVariants as answer
 use Rattle.pos_service.specs.declared.call.Call.{Call}
 use Rattle.pos_service.specs.declared.call.Call.TheVariants as call
 use Rattle.pos_service.specs.declared.category.Category.{Category}
 use Rattle.pos_service.specs.declared.category.Category.TheVariants as category
-use Rattle.pos_service.specs.declared.code.Code.TheVariants as code
 use Rattle.pos_service.specs.declared.input.Input.{Input}
 use Rattle.pos_service.specs.declared.kind.Kind.{Kind}
 use Rattle.pos_service.specs.declared.memory.NoMemory.{NoMemory}
 use Rattle.pos_service.specs.declared.worked.Worked.TheVariants as worked
-use Rattle.pos_service.specs.Calls.{serves, is_common, own_rows, takes_memory as own_takes_memory}
+use Rattle.pos_service.specs.Calls.{serves, has_call, is_common, needs_of, takes_memory as own_takes_memory}
 use Rattle.pos_service.specs.Claims.{holder_at}
 use Rattle.pos_service.specs.Controls.{Control}
-use Rattle.pos_service.specs.DisplayCalls.{HasCursor}
-use Rattle.pos_service.specs.Kinds.{is_display}
+use Rattle.pos_service.specs.Needs.{table}
 use Rattle.pos_service.specs.PrinterCalls.{WorksAt, due_request_at}
-use Rattle.pos_service.specs.Refusals.{Row, first_refusal, when}
-use Rattle.pos_service.specs.Stations.{Station, Effect, CalledAt, IsOpen, SameStation}
+use Rattle.pos_service.specs.Refusals.{Row, first_refusal}
+use Rattle.pos_service.specs.Stations.{Station, Effect, SameStation}
 use Rattle.pos_common.specs.Held.{Held, controls_of}
-use Rattle.pos_counter.specs.Machine.{Device, Machine, Shared, station_in, station_named, device_at, kind_in, kind_of, place_of}
+use Rattle.pos_counter.specs.Machine.{Device, Machine, Shared, station_in, station_named, device_at, holder_of, kind_in, kind_of, place_of}
 use Rattle.pos_counter.specs.Assembly.{over}
-use Rattle.pos_counter.specs.AtDevices.{CallsAt, IsDoneAt, MayBeCalled}
+use Rattle.pos_counter.specs.AtDevices.{CallsAt, CallsFor, IsDoneAt, MayBeCalled}
 use Rattle.pos_counter.specs.Responses.{answered}
 use Rattle.pos_counter.specs.Steps.{OnStation, Step, CallOf, Answered, Does, DeviceDoes, CategoryDoes, category_rows, device_rows, refusals, takes_memory, FindsFit, FindsWork, IsPlaceOn, IsSound}
 use Rattle.pos_counter.specs.Totals.{is_totals}
@@ -73,8 +71,8 @@ unchanged hs gs ds es shared place d before after at is changed same =
     ∙ ap (λ xs. over hs xs shared) (changed ∙ same_device ds place d before after at is same.station)
 
 -- an open control's device has a peripheral, where its category serves no device without one, and may be called
-pub served_there : (hs : List Held) (ds : List Device) (shared : Shared) (n : ℕ) (c : Control) (place : ℕ) → IsSound (over hs ds shared) → slice_get (controls_of hs) n ≡ Some c → c.device ≡ Some place → serves c.category None ≡ false → MayBeCalled ds place c.category (controls_of hs) n
-served_there hs ds shared n c place sound at is peripheral =
+pub served_there : (hs : List Held) (ds : List Device) (shared : Shared) (n : ℕ) (c : Control) (place : ℕ) (asked : Call) → IsSound (over hs ds shared) → slice_get (controls_of hs) n ≡ Some c → c.device ≡ Some place → serves c.category None ≡ false → has_call c.category asked ≡ true → MayBeCalled ds place asked (controls_of hs) n
+served_there hs ds shared n c place asked sound at is peripheral has =
     let seat = subst (λ (o : Option ℕ). IfSome o (λ k. Served c.category c.cursor.place (slice_get ds k))) is (seated (over hs ds shared) n c sound at) in
     elim (match_cases (slice_get ds place) _ _ seat) [
       | inl x ↦ absurd x.1
@@ -86,15 +84,14 @@ served_there hs ds shared n c place sound at is peripheral =
     stands (Some k) None served attached = cc
     stands (Some k) (Some s) served attached = refl
 
-    cursor : (o : Option Kind) → IsPlaceOn o c.cursor.place → IfSome o (λ kind. is_display kind ≡ true → HasCursor kind (controls_of hs) n)
-    cursor None h = tt
-    cursor (Some k) h = λ display. match_at_some _ c _ _ at (h display)
-
-    by : (d : Device) → slice_get ds place ≡ Some d → serves c.category d.kind ≡ true → IsTrue (is_none d.kind || is_some d.station) → IsPlaceOn d.kind c.cursor.place → MayBeCalled ds place c.category (controls_of hs) n
+    by : (d : Device) → slice_get ds place ≡ Some d → serves c.category d.kind ≡ true → IsTrue (is_none d.kind || is_some d.station) → IsPlaceOn d.kind c.cursor.place → MayBeCalled ds place asked (controls_of hs) n
     by d there served attached on = record {
       attached = subst (λ (o : Option Device). IsSome (station_in o)) (sym there) (stands d.kind d.station served attached);
-      served = subst (λ (o : Option Device). serves c.category (kind_in o) ≡ true) (sym there) served;
-      cursor = subst (λ (o : Option Device). IfSome (kind_in o) (λ kind. is_display kind ≡ true → HasCursor kind (controls_of hs) n)) (sym there) (cursor d.kind on);
+      may = match_at_some _ c _ _ at (record {
+        own = has;
+        served = subst (λ (o : Option Device). serves c.category (kind_in o) ≡ true) (sym there) served;
+        cursor = subst (λ (o : Option Device). IsPlaceOn (kind_in o) c.cursor.place) (sym there) on;
+      });
     }
 
 -- a name finds a device whose peripheral has an input, or hasn't
@@ -123,7 +120,7 @@ want_finds_work hs gs ds es shared name place want finds done =
     )
 
 -- what a call of a category's own is answered first, and what it does
-own_refusals : (m : Machine) (n : ℕ) (c : Control) (asked : Call) → is_common asked ≡ false → refusals m n c asked ≡ when (is_none c.device) code.Closed ∷ own_rows c asked (category_rows c.category m n c asked)
+pub own_refusals : (m : Machine) (n : ℕ) (c : Control) (asked : Call) → is_common asked ≡ false → refusals m n c asked ≡ table n (holder_of m c) c (needs_of c.category asked) (category_rows c.category m n c asked)
 own_refusals m n c (call.Open name) own = cc
 own_refusals m n c call.Close own = cc
 own_refusals m n c (call.Claim timeout) own = cc
@@ -150,51 +147,34 @@ own_takes m c (call.Set p v) own h = cc
 own_takes m c (call.Get p) own h = cc
 own_takes m c asked own h = h
 
--- a call that is the first that is asked of an open control
-pub is_open_there : (cs : List Control) (n : ℕ) (c : Control) (k : Category) (place : ℕ) → slice_get cs n ≡ Some c → c.category ≡ k → c.device ≡ Some place → IsOpen k cs n
-is_open_there cs n c k place at is device = match_at_some _ c _ _ at (is, ap is_some device)
+-- what the check of the control with a number decides of a call of its category's own
+abbrev pub IsLet : Machine → ℕ → Control → Call → Type 0
+IsLet m n c asked = (rest : List Row) → first_refusal (table n (holder_of m c) c (needs_of c.category asked) rest) ≡ first_refusal rest
 
--- a call of a category's own on a closed control is refused
-pub closed_step : (m : Machine) (n : ℕ) (c : Control) (asked : Call) → is_common asked ≡ false → slice_get m.controls n ≡ Some c → c.device ≡ None → Step m (CallOf n asked) (Answered (answer.Refused code.Closed 0)) m
-closed_step m n c asked own at closed =
-    match_at_some _ c _ _ at (record {
-      outcome = match_at_some (first_refusal (refusals m n c asked)) (answer.Refused code.Closed 0) _ _
-          (ap first_refusal (own_refusals m n c asked own) ∙ ap (λ (o : Option ℕ). first_refusal (when (is_none o) code.Closed ∷ own_rows c asked (category_rows c.category m n c asked))) closed)
-          (refl, refl);
-    })
+-- a call that is refused is a step
+pub refused_step : (m : Machine) (n : ℕ) (c : Control) (asked : Call) (refusal : Answer) → slice_get m.controls n ≡ Some c → first_refusal (refusals m n c asked) ≡ Some refusal → Step m (CallOf n asked) (Answered refusal) m
+refused_step m n c asked refusal at refused =
+    match_at_some _ c _ _ at (record { outcome = match_at_some (first_refusal (refusals m n c asked)) refusal _ _ refused (refl, refl) })
 
--- what is said of an open control and its device's place
-called_there : (o : Option Control) (c : Control) (place : ℕ) (Q : Control → ℕ → Type 0) → o ≡ Some c → c.device ≡ Some place → MatchOption o ⊥ (λ control. IfSome control.device (Q control)) → Q c place
-called_there o c place Q at device h =
-    subst (λ (d : Option ℕ). IfSome d (Q c)) device (subst (λ (u : Option Control). MatchOption u ⊥ (λ control. IfSome control.device (Q control))) at h)
-
--- the refusals of a call of a category's own on an open control
-pub open_refusals : (m : Machine) (n : ℕ) (c : Control) (k : Category) (asked : Call) → is_common asked ≡ false → c.category ≡ k → IsTrue (is_some c.device) → first_refusal (refusals m n c asked) ≡ first_refusal (own_rows c asked (category_rows k m n c asked))
-open_refusals m n c k asked own is device =
-    ap first_refusal (own_refusals m n c asked own)
-    ∙ ap (λ j. first_refusal (when (is_none c.device) code.Closed ∷ own_rows c asked (category_rows j m n c asked))) is
-    ∙ ap (λ b. first_refusal (when b code.Closed ∷ own_rows c asked (category_rows k m n c asked))) (is_there c.device device)
-  where
-    is_there : (o : Option ℕ) → IsTrue (is_some o) → is_none o ≡ false
-    is_there None h = cc
-    is_there (Some i) h = refl
+-- behind the check the rest of the table decides
+pub let_refusals : (m : Machine) (n : ℕ) (c : Control) (asked : Call) → is_common asked ≡ false → IsLet m n c asked → first_refusal (refusals m n c asked) ≡ first_refusal (category_rows c.category m n c asked)
+let_refusals m n c asked own lets = ap first_refusal (own_refusals m n c asked own) ∙ lets (category_rows c.category m n c asked)
 
 -- what the categories with a peripheral ask and do
-rows_at_device : (k : Category) (m : Machine) (n : ℕ) (c : Control) (asked : Call) → is_totals k ≡ false → category_rows k m n c asked ≡ device_rows k m.claims n (kind_of m c) c asked
+rows_at_device : (k : Category) (m : Machine) (n : ℕ) (c : Control) (asked : Call) → is_totals k ≡ false → category_rows k m n c asked ≡ device_rows k (kind_of m c) c asked
 rows_at_device category.HardTotals m n c asked is = cc
 rows_at_device k m n c asked is = refl
 
-does_at_device : (k : Category) (m m' : Machine) (n : ℕ) (c : Control) (asked : Call) (r : Answer) → is_totals k ≡ false → OnStation m c.device (λ place. DeviceDoes k asked n place r) m' → CategoryDoes k m n c asked r m'
+does_at_device : (k : Category) (m m' : Machine) (n : ℕ) (c : Control) (asked : Call) (r : Answer) → is_totals k ≡ false → OnStation m c.device (DeviceDoes k (kind_of m c) n c asked r) m' → CategoryDoes k m n c asked r m'
 does_at_device category.HardTotals m m' n c asked r is h = cc
 does_at_device k m m' n c asked r is h = h
 
--- a call of a category's own on an open control, at its device's station, is a step
+-- a call of a category's own that its control may make, at its device's station, is a step
 pub device_step : (hs gs : List Held) (ds es : List Device) (shared : Shared) (n place : ℕ) (c : Control) (asked : Call) (r : Result Answer NoMemory)
-    → is_common asked ≡ false → slice_get (controls_of hs) n ≡ Some c → is_totals c.category ≡ false → c.device ≡ Some place
-    → IsDoneAt ds place (CallsAt c.category shared.claims n asked r) hs gs es → Step (over hs ds shared) (CallOf n asked) (answered r) (over gs es shared)
-device_step hs gs ds es shared n place c asked r own at is device done =
-    let Q : Control → ℕ → Type 0 = λ control place. CalledAt asked (own_rows control asked (device_rows c.category shared.claims n (Some done.before.kind) control asked)) (DeviceDoes c.category asked n place) r (controls_of hs) done.before (controls_of gs) done.after in
-    by_outcome r (called_there _ c place Q at device done.does)
+    → is_common asked ≡ false → slice_get (controls_of hs) n ≡ Some c → is_totals c.category ≡ false → c.device ≡ Some place → IsLet (over hs ds shared) n c asked
+    → IsDoneAt ds place (CallsAt n asked place r) hs gs es → Step (over hs ds shared) (CallOf n asked) (answered r) (over gs es shared)
+device_step hs gs ds es shared n place c asked r own at is device lets done =
+    by_outcome r (MatchOption-at_some ⊥ (λ control. CallsFor n asked place r control (controls_of hs) done.before (controls_of gs) done.after) c at done.does)
   where
     m : Machine
     m = over hs ds shared
@@ -203,30 +183,33 @@ device_step hs gs ds es shared n place c asked r own at is device done =
     m' = over gs es shared
 
     rows : List Row
-    rows = own_rows c asked (device_rows c.category shared.claims n (Some done.before.kind) c asked)
+    rows = device_rows c.category (Some done.before.kind) c asked
+
+    kind : kind_of m c ≡ Some done.before.kind
+    kind = ap (λ o. kind_in (device_at m.devices o)) device ∙ ap kind_in done.is_device ∙ done.kind
 
     unrefused : first_refusal (refusals m n c asked) ≡ first_refusal rows
     unrefused =
-        open_refusals m n c c.category asked own refl (ap is_some device)
-        ∙ ap (λ table. first_refusal (own_rows c asked table)) (rows_at_device c.category m n c asked is)
-        ∙ ap (λ at. first_refusal (own_rows c asked (device_rows c.category shared.claims n at c asked))) (ap (λ o. kind_in (device_at m.devices o)) device ∙ ap kind_in done.is_device ∙ done.kind)
+        let_refusals m n c asked own lets
+        ∙ ap first_refusal (rows_at_device c.category m n c asked is)
+        ∙ ap (λ at. first_refusal (device_rows c.category at c asked)) kind
 
     same : SameStation (controls_of hs) done.before (controls_of gs) done.after → m' ≡ m
     same s = unchanged hs gs ds es shared place done.device done.before done.after done.is_device done.is_attached done.changed s
 
-    at_station : (result : Answer) → DeviceDoes c.category asked n place result (controls_of hs) done.before (controls_of gs) done.after → OnStation m c.device (λ k. DeviceDoes c.category asked n k result) m'
-    at_station result does = on_station hs gs ds es shared place c.device (λ k. DeviceDoes c.category asked n k result) device (record {
+    at_station : (result : Answer) → DeviceDoes c.category (Some done.before.kind) n c asked result place (controls_of hs) done.before (controls_of gs) done.after → OnStation m c.device (DeviceDoes c.category (kind_of m c) n c asked result) m'
+    at_station result does = on_station hs gs ds es shared place c.device (DeviceDoes c.category (kind_of m c) n c asked result) device (record {
       device = done.device;
       before = done.before;
       after = done.after;
       is_device = done.is_device;
       is_attached = done.is_attached;
       kind = done.kind;
-      does = does;
+      does = subst (λ at. DeviceDoes c.category at n c asked result place (controls_of hs) done.before (controls_of gs) done.after) (sym kind) does;
       changed = done.changed;
     })
 
-    by_outcome : (o : Result Answer NoMemory) → CalledAt asked rows (DeviceDoes c.category asked n place) o (controls_of hs) done.before (controls_of gs) done.after → Step m (CallOf n asked) (answered o) m'
+    by_outcome : (o : Result Answer NoMemory) → CallsFor n asked place o c (controls_of hs) done.before (controls_of gs) done.after → Step m (CallOf n asked) (answered o) m'
     by_outcome (Ok result) h =
         match_at_some _ c _ _ at (record {
           outcome = match_by _ _ _ _ unrefused (

@@ -16,6 +16,7 @@ use Rattle.pos_service.specs.declared.answer.Answer.{Answer}
 use Rattle.pos_service.specs.declared.answer.Answer.TheVariants as answer
 use Rattle.pos_service.specs.declared.answer.Value.TheVariants as value
 use Rattle.pos_service.specs.declared.code.Code.TheVariants as code
+use Rattle.pos_service.specs.declared.deed.Deed.{Deed}
 use Rattle.pos_service.specs.declared.worked.Worked.{Worked as WorkResult}
 use Rattle.pos_service.specs.Displays.{is_cursor_place}
 use Rattle.pos_service.specs.Kinds.{is_display, rows_of, columns_of}
@@ -24,13 +25,15 @@ use Rattle.pos_service.specs.Controls.{Control, new_control, opened, closed, del
 use Rattle.pos_service.specs.Claims.{is_own, is_foreign, holder_at, claimed_by, released_by, claim_rows, release_rows, after_release}
 use Rattle.pos_service.specs.Refusals.{Row, Decided, first_refusal, when}
 use Rattle.pos_service.specs.Calls.{takes_memory as own_takes_memory}
-use Rattle.pos_service.specs.Calls.{serves, own_rows, place_found, open_rows, close_rows}
+use Rattle.pos_service.specs.Calls.{serves, needs_of, place_found, open_rows, close_rows}
 use Rattle.pos_service.specs.Properties.{set_rows, after_set, get_rows, is_of_bytes, property_of}
 use Rattle.pos_service.specs.Stations.{Station, Effect, TakesIn, signs_in}
-use Rattle.pos_service.specs.DisplayCalls.{display_rows, DisplayDoes}
-use Rattle.pos_service.specs.DrawerCalls.{drawer_rows, DrawerDoes}
-use Rattle.pos_service.specs.PrinterCalls.{printer_rows, due_request_at, PrinterDoes, WorksAt}
-use Rattle.pos_service.specs.ScannerCalls.{scanner_rows, ScannerDoes}
+use Rattle.pos_service.specs.Deeds.{Does as CarriesOut}
+use Rattle.pos_service.specs.DisplayCalls.{display_rows, display_deed}
+use Rattle.pos_service.specs.DrawerCalls.{drawer_deed}
+use Rattle.pos_service.specs.Needs.{table}
+use Rattle.pos_service.specs.PrinterCalls.{printer_rows, printer_deed, due_request_at, WorksAt}
+use Rattle.pos_service.specs.ScannerCalls.{scanner_deed}
 use Rattle.pos_service.specs.declared.property.Property.{Property}
 use Rattle.pos_service.specs.declared.answer.Value.{Value}
 use Rattle.pos_service.specs.declared.facts.Facts.{Facts}
@@ -40,7 +43,7 @@ use Rattle.pos_profile.specs.declared.registry_fault.DetachFault.{DetachFault}
 use Rattle.pos_profile.specs.declared.registry_fault.DetachFault.TheVariants as detach
 use Rattle.pos_totals.specs.HardTotals.{layout_1, in_transaction, with_control as with_place}
 use Rattle.pos_totals.specs.TotalsClaims.{is_area_taken, without_control}
-use Rattle.pos_totals.specs.TotalsCalls.{file_call, totals_rows}
+use Rattle.pos_totals.specs.TotalsCalls.{file_call, file_rows}
 use Rattle.pos_counter.specs.Totals.{TotalsDo, Recovered, Recovers, recovers, file_facts}
 use Rattle.pos_counter.specs.Machine.{Device, Machine, place_of, device_at, station_in, station_named, kind_named, found_under, holder_of, kind_of, with_control, with_station, with_standing, with_totals}
 
@@ -81,7 +84,6 @@ facts_of machine number control = record {
   totals_size = layout_1.bytes;
   files = file_facts machine.totals.totals.mode;
   is_claimed = is_own number (holder_of machine control);
-  is_foreign = is_foreign number (holder_of machine control);
   in_transaction = in_transaction machine.totals.totals number;
 }
 
@@ -112,38 +114,37 @@ takes_memory machine control (call.Set property v) = recovers machine.totals con
 takes_memory machine control (call.Get property) = is_of_bytes property
 takes_memory machine control own = own_takes_memory own
 
--- what each call at a device with a peripheral asks, in order, by who holds each device and by what the control's is
-abbrev pub device_rows : Category → List (Option ℕ) → ℕ → Option Kind → Control → Call → List Row
-device_rows category.CashDrawer claims number at control own = drawer_rows claims number control own
-device_rows category.Scanner claims number at control own = scanner_rows claims number control own
-device_rows category.LineDisplay claims number at control own = display_rows claims number at control own
-device_rows category.PosPrinter claims number at control own = printer_rows claims number control own
-device_rows category.HardTotals claims number at control own = []
+-- what each call at a device of a kind asks behind the check of its control, in order
+abbrev pub device_rows : Category → Option Kind → Control → Call → List Row
+device_rows category.LineDisplay at control own = display_rows at own
+device_rows category.PosPrinter at control own = printer_rows control own
+device_rows c at control own = []
 
--- what it does at the device's station, where nothing refuses it
-abbrev pub DeviceDoes : Category → Call → ℕ → ℕ → Answer → Effect
-DeviceDoes category.CashDrawer own number place result old before new after =
-    DrawerDoes own number place result old before new after
-DeviceDoes category.Scanner own number place result old before new after =
-    ScannerDoes own number place result old before new after
-DeviceDoes category.LineDisplay own number place result old before new after =
-    DisplayDoes own number place result old before new after
-DeviceDoes category.PosPrinter own number place result old before new after =
-    PrinterDoes own number place result old before new after
-DeviceDoes category.HardTotals own number place result old before new after = ⊥
+-- what it comes to there
+abbrev pub device_deed : Category → Option Kind → Control → Call → Option Deed
+device_deed category.CashDrawer at control own = drawer_deed own
+device_deed category.Scanner at control own = scanner_deed own
+device_deed category.LineDisplay at control own = display_deed at control.cursor own
+device_deed category.PosPrinter at control own = printer_deed control own
+device_deed category.HardTotals at control own = None
 
--- what each call of a category's own asks, in order
+-- what it does at the station of the device, where nothing refuses it
+abbrev pub DeviceDoes : Category → Option Kind → ℕ → Control → Call → Answer → ℕ → Effect
+DeviceDoes c at number control own result place old before new after =
+    MatchOption (device_deed c at control own) ⊥ (λ deed. CarriesOut deed number place result old before new after)
+
+-- what each call of a category's own asks behind the check of its control, in order
 abbrev pub category_rows : Category → Machine → ℕ → Control → Call → List Row
-category_rows category.HardTotals machine number control own = totals_rows machine.totals.totals number control own
-category_rows c machine number control own =
-    device_rows c machine.claims number (kind_of machine control) control own
+category_rows category.HardTotals machine number control own =
+    file_rows machine.totals.totals number (file_call own)
+category_rows c machine number control own = device_rows c (kind_of machine control) control own
 
 -- what each call of a category's own does, where nothing refuses it: with the totals, or at its device's station
 abbrev pub CategoryDoes : Category → Machine → ℕ → Control → Call → Answer → Machine → Type 0
 CategoryDoes category.HardTotals old number control own result new =
     TotalsDo (file_call own) old.totals number result new.totals × (new ≡ record old { totals = new.totals })
 CategoryDoes c old number control own result new =
-    OnStation old control.device (λ place. DeviceDoes c own number place result) new
+    OnStation old control.device (DeviceDoes c (kind_of old control) number control own result) new
 
 -- another control keeps a device of a category from the control with a number
 abbrev pub is_taken : Category → Machine → ℕ → Option ℕ → Bool
@@ -181,10 +182,11 @@ refusals machine number control call.Release =
     release_rows control (is_own number (holder_of machine control))
 refusals machine number control (call.Set property v) =
     set_rows number (holder_of machine control) (kind_of machine control) control property v
-refusals machine number control (call.Get property) = get_rows control (facts_of machine number control) property
+refusals machine number control (call.Get property) =
+    get_rows number (holder_of machine control) control (facts_of machine number control) property
 refusals machine number control own =
-    when (is_none control.device) code.Closed
-    ∷ own_rows control own (category_rows control.category machine number control own)
+    table number (holder_of machine control) control (needs_of control.category own)
+    (category_rows control.category machine number control own)
 
 -- a property is set, and nothing else changes
 abbrev pub Sets : Machine → ℕ → Control → Property → Value → Answer → Machine → Type 0

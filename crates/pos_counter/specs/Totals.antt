@@ -102,9 +102,7 @@ TotalsDo Nothing old number result new = ⊥
 -- comes only from a call that takes some, and changes nothing.
 abbrev pub FilesCalled : ℕ → Call → TotalsPart → Result Answer NoMemory → TotalsPart → Type 0
 FilesCalled number asked old outcome new =
-    let rows =
-    when (not (has_call category.HardTotals asked)) code.Illegal ∷ file_rows old.totals number (file_call asked) in
-    MatchResult outcome
+    let rows = file_rows old.totals number (file_call asked) in MatchResult outcome
     (λ result. Decided rows result (new ≡ old) (TotalsDo (file_call asked) old number result new))
     (λ want. IsTrue (takes_memory asked) × (first_refusal rows ≡ None) × (new ≡ old))
 

@@ -1,27 +1,28 @@
 //! The calls of an application, and what happens at devices.
-ghost use Rattle.std.specs.Prelude.{◌≡◌, ◌<◌, false, true, List, Some, length};
-ghost use Rattle.pos_service.specs.Calls.{is_common, serves};
-ghost use Rattle.pos_service.specs.DisplayCalls.{HasCursor};
-ghost use Rattle.pos_service.specs.Kinds.{is_display};
-ghost use Rattle.pos_service.specs.Peripherals.{input_fits};
-ghost use Rattle.pos_service.specs.Stations.{station_of, CalledBy, IsOpen, StaysInService, TakenAt};
+ghost use Rattle.std.specs.Prelude.{◌≡◌, ◌<◌, false, List, MatchOption, Some, length, slice_get};
+ghost use Rattle.pos_service.specs.Calls.{is_common};
+ghost use Rattle.pos_service.specs.Deeds.{DeedFits, Plans};
+ghost use Rattle.pos_service.specs.Peripherals.{IsInRange};
+ghost use Rattle.pos_service.specs.Stations.{station_of, StaysInService, TakenAt};
 ghost use Rattle.pos_common.specs.Held.{Held, controls_of};
 ghost use Rattle.pos_counter.specs.KeptDevices.{AreDevicesSound, devices_in};
 ghost use Rattle.pos_counter.specs.Assembly.{ArePartsSound, over};
-ghost use Rattle.pos_counter.specs.AtDevices.{CallsAt, FitsAt, IsDoneAt, MayBeCalled};
+ghost use Rattle.pos_counter.specs.AtDevices.{CallsAt, FitsAt, IsDoneAt, MayBeCalled, MayCall};
 ghost use Rattle.pos_counter.specs.Serving.{Serves, ServesBeside};
 ghost use Rattle.pos_counter.specs.Responses.{answered, taken_in, shown};
-ghost use Rattle.pos_counter.specs.Steps.{Step, CallOf, InputTo, Snapshot as SnapshotOf, DeviceDoes, device_rows};
+ghost use Rattle.pos_counter.specs.Steps.{Step, CallOf, InputTo, Snapshot as SnapshotOf, device_deed, device_rows};
 ghost use Rattle.pos_counter.specs.Machine.{Shared};
 
 use crate::control_calls::{claim, close, open, release};
 use crate::devices::Devices;
 use crate::faults::{InputFault, SnapshotFault};
-use crate::properties::{get, set};
-use crate::totals_calls::{call_totals, is_totals};
-use pos_common::{Claims, Control};
+use crate::properties::{find_holder, get, set};
+use crate::totals_calls::{call_files, is_totals};
+use pos_common::{Claims, Control, carry_out, take_input};
 use pos_disk::Disk;
-use pos_service::{Answer, Call, Category, Code, Input, Kind, NoMemory, Peripheral, Snapshot};
+use pos_service::{
+    Answer, Call, Category, Code, Deed, Input, Kind, NoMemory, Peripheral, Snapshot,
+};
 use pos_totals::Totals;
 use std::alloc::Global;
 
@@ -59,7 +60,7 @@ pub(crate) fn call<D: Disk, P: Peripheral>(
     }
 }
 
-/// A call of a category's own, which the crate of the control's category answers.
+/// A call of a category's own: its control is checked, and then the totals or what serves the control's device answer it.
 fn call_category<D: Disk, P: Peripheral>(
     alloc: Global,
     controls: &mut [Control],
@@ -74,91 +75,92 @@ fn call_category<D: Disk, P: Peripheral>(
     requires parts { ArePartsSound controls.old (devices_in P.Peripheral devices.old) }
     requires sound { AreDevicesSound P.Peripheral devices.old }
     ensures serves { Serves D.Disk controls.old claims.now (devices_in P.Peripheral devices.old) totals.old
-        (CallOf number call.now) (answered result) controls.new claims.now (devices_in P.Peripheral devices.new)
-        totals.new }
+        (CallOf number call.now) (answered result)
+        controls.new claims.now (devices_in P.Peripheral devices.new) totals.new }
     ensures sound { AreDevicesSound P.Peripheral devices.new }
 {
-    let Some(place) = controls[number].device() else {
-        return Ok(Answer::Refused(Code::Closed, 0));
-    };
-    if is_totals(&controls[number]) {
-        return call_totals(controls, claims, totals, number, call);
+    let control = &controls[number];
+    let holder = find_holder(control, claims, totals.area());
+    if let Err(code) = control.check(number, holder, call.needs(control.category())) {
+        return Ok(Answer::Refused(code, 0));
     }
-    let category = controls[number].category();
-    call_there(
-        alloc, controls, number, category, place, claims, devices, call,
-    )
+    if is_totals(control) {
+        return call_files(totals, number, call);
+    }
+    let Some(place) = control.device() else {
+        unreachable!();
+    };
+    call_there(alloc, controls, number, place, devices, call)
 }
 
-/// A call of a category's own on an open control of the device at a place, which is handed to what serves it.
+/// A call of the control with a number, which may make it, on its device at a place, which is handed to what serves it.
 fn call_there<P: Peripheral>(
     alloc: Global,
     controls: &mut [Control],
     number: usize,
-    category: Category,
     place: usize,
-    claims: &Claims,
     devices: &mut Devices<P>,
     call: &Call,
 ) -> Result<Answer, NoMemory>
-    requires open { IsOpen category (controls_of controls.old) number }
+    requires in_range { number < length controls.old }
     requires sound { AreDevicesSound P.Peripheral devices.old }
     requires may { let devices = devices_in P.Peripheral devices.old in
-        MayBeCalled devices place category (controls_of controls.old) number }
-    ensures done { IsDoneAt (devices_in P.Peripheral devices.old) place
-        (CallsAt category claims.now number call.now result)
+        MayBeCalled devices place call.now (controls_of controls.old) number }
+    ensures done { IsDoneAt (devices_in P.Peripheral devices.old) place (CallsAt number call.now place result)
         controls.old controls.new (devices_in P.Peripheral devices.new) }
     ensures sound { AreDevicesSound P.Peripheral devices.new }
 {
     let Some(mut peripheral) = devices.registry.take(place) else {
         unreachable!();
     };
-    let answer = call_device(
-        alloc,
-        controls,
-        number,
-        category,
-        claims,
-        &mut peripheral,
-        call,
-    );
+    let answer = call_device(alloc, controls, number, place, &mut peripheral, call);
     devices.registry.put(place, peripheral);
     answer
 }
 
-/// A call of a category's own on an open control of a device with a peripheral, which is the device's. Where that is a
-/// display, the control's cursor is at one of its places.
+/// A call of the control with a number, which may make it, on its device at a place, where this peripheral stands.
 fn call_device<P: Peripheral>(
     alloc: Global,
     controls: &mut [Control],
     number: usize,
-    category: Category,
-    claims: &Claims,
+    place: usize,
     peripheral: &mut P,
     call: &Call,
 ) -> Result<Answer, NoMemory>
-    requires open { IsOpen category (controls_of controls.old) number }
+    requires in_range { number < length controls.old }
     requires unparked { (P.Peripheral.state peripheral.old).is_parked ≡ false }
-    requires served { serves category (Some (P.Peripheral.state peripheral.old).kind) ≡ true }
-    requires cursor { let kind = (P.Peripheral.state peripheral.old).kind in
-        is_display kind ≡ true → HasCursor kind (controls_of controls.old) number }
-    ensures called { let state = P.Peripheral.state in
-        CalledBy (device_rows category claims.now number (Some (state peripheral.old).kind)) (DeviceDoes category)
-        number call.now result
+    requires may { let kind = (P.Peripheral.state peripheral.old).kind in
+        MatchOption (slice_get (controls_of controls.old) number) ⊥ (MayCall (Some kind) call.now) }
+    ensures called { let state = P.Peripheral.state in CallsAt number call.now place result
         (controls_of controls.old) (station_of (state peripheral.old))
         (controls_of controls.new) (station_of (state peripheral.new)) }
     ensures in_service { let state = P.Peripheral.state in
         StaysInService (state peripheral.old) (state peripheral.new) }
 {
-    match category {
-        Category::CashDrawer => pos_drawer::call(controls, number, claims, peripheral, call),
-        Category::Scanner => pos_scanner::call(controls, number, claims, peripheral, call),
-        Category::LineDisplay => {
-            pos_display::call(alloc, controls, number, claims, peripheral, call)
-        }
-        Category::PosPrinter => {
-            pos_printer::call(alloc, controls, number, claims, peripheral, call)
-        }
+    match plan(alloc, &controls[number], peripheral.kind(), call)? {
+        Ok(deed) => carry_out(controls, number, place, peripheral, deed),
+        Err(code) => Ok(Answer::Refused(code, 0)),
+    }
+}
+
+/// What a call of a control, which may make it, comes to at a device of this kind.
+fn plan(
+    alloc: Global,
+    control: &Control,
+    kind: Kind,
+    call: &Call,
+) -> Result<Result<Deed, Code>, NoMemory>
+    requires in_range { IsInRange kind }
+    requires may { MayCall (Some kind) call.now control.now.control }
+    ensures { let one = control.now.control in
+        Plans (device_rows one.category (Some kind) one call.now) (device_deed one.category (Some kind) one call.now)
+        (DeedFits kind) call.now result }
+{
+    match control.category() {
+        Category::CashDrawer => Ok(Ok(pos_drawer::plan(call))),
+        Category::Scanner => Ok(Ok(pos_scanner::plan(call))),
+        Category::LineDisplay => pos_display::plan(alloc, kind, control.cursor(), call),
+        Category::PosPrinter => pos_printer::plan(alloc, control, call),
         Category::HardTotals => unreachable!(),
     }
 }
@@ -213,30 +215,6 @@ fn input_there<P: Peripheral>(
     let taken = take_input(alloc, controls, place, &mut peripheral, input);
     devices.registry.put(place, peripheral);
     taken
-}
-
-/// Hands an input that fits to the peripheral of the device at a place. Want of memory changes nothing.
-fn take_input<P: Peripheral>(
-    alloc: Global,
-    controls: &mut [Control],
-    place: usize,
-    peripheral: &mut P,
-    input: &Input,
-) -> Result<(), NoMemory>
-    requires unparked { (P.Peripheral.state peripheral.old).is_parked ≡ false }
-    requires fits { input_fits (P.Peripheral.state peripheral.old).kind input.now ≡ true }
-    ensures taken { let state = P.Peripheral.state in
-        TakenAt input.now place result (controls_of controls.old) (station_of (state peripheral.old))
-        (controls_of controls.new) (station_of (state peripheral.new)) }
-    ensures in_service { let state = P.Peripheral.state in
-        StaysInService (state peripheral.old) (state peripheral.new) }
-{
-    match peripheral.kind() {
-        Kind::Drawer => pos_drawer::take_input(controls, place, peripheral, input),
-        Kind::Scanner => pos_scanner::take_input(alloc, controls, place, peripheral, input),
-        Kind::Display { .. } => unreachable!(),
-        Kind::Printer { .. } => pos_printer::take_input(controls, place, peripheral, input),
-    }
 }
 
 /// What the first device with a name is physically.

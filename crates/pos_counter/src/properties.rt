@@ -6,7 +6,8 @@ ghost use Rattle.pos_counter.specs.Assembly.{ArePartsSound, machine_with};
 ghost use Rattle.pos_counter.specs.Serving.{Serves};
 ghost use Rattle.pos_counter.specs.KeptDevices.{devices_in};
 ghost use Rattle.pos_counter.specs.Leaving.{part_of};
-ghost use Rattle.pos_counter.specs.Machine.{holder_in};
+ghost use Rattle.pos_service.specs.Claims.{is_own};
+ghost use Rattle.pos_counter.specs.Machine.{holder_in, holder_of};
 ghost use Rattle.pos_counter.specs.Responses.{answered};
 ghost use Rattle.pos_counter.specs.Steps.{Step, CallOf, facts_of};
 ghost use Rattle.pos_counter.specs.Serving.{IsRecovering};
@@ -16,7 +17,7 @@ use crate::devices::Devices;
 use crate::totals_calls::is_totals;
 use pos_common::{Claims, Control};
 use pos_disk::Disk;
-use pos_service::claims::{is_foreign, is_own};
+use pos_service::claims::is_own;
 use pos_service::{Answer, Facts, FileFacts, NoMemory, Peripheral, Property, Value};
 use pos_totals::Totals;
 
@@ -36,28 +37,28 @@ pub(crate) fn get<D: Disk, P: Peripheral>(
         Step machine (CallOf number (call.Get property)) (answered result) machine }
 {
     let control = &controls[number];
-    let facts = find_facts(control, claims, devices, totals, number);
-    control.get(property, &facts)
+    let holder = find_holder(control, claims, totals.area());
+    let facts = find_facts(control, is_own(number, holder), devices, totals, number);
+    control.get(number, holder, property, &facts)
 }
 
-/// What is known of the control with a number and of its device.
+/// What is known of the control with a number and of its device, by whether it holds that.
 fn find_facts<D: Disk, P: Peripheral>(
     control: &Control,
-    claims: &Claims,
+    is_claimed: bool,
     devices: &Devices<P>,
     totals: &Totals<D>,
     number: usize,
 ) -> Facts
-    ensures { (left : List Standing) →
+    ensures { (claims : List (Option ℕ)) (left : List Standing) →
+        let control = control.now.control in
         let devices = devices_in P.Peripheral devices.now in
-        let machine = machine_with [] claims.now devices (part_of D.Disk totals.now left) in
-        result ≡ facts_of machine number control.now.control }
+        let machine = machine_with [] claims devices (part_of D.Disk totals.now left) in
+        is_claimed ≡ is_own number (holder_of machine control) → result ≡ facts_of machine number control }
 {
     let device = control.device();
-    let holder = find_holder(control, claims, totals.area());
     Facts {
-        is_claimed: is_own(number, holder),
-        is_foreign: is_foreign(number, holder),
+        is_claimed,
         in_transaction: totals.in_transaction(number),
         kind: devices.kind_at(device),
         signs: devices.signs_at(device),
@@ -67,7 +68,7 @@ fn find_facts<D: Disk, P: Peripheral>(
 }
 
 /// The control that holds a control's device, by who holds the area.
-fn find_holder(control: &Control, claims: &Claims, area: Option<usize>) -> Option<usize>
+pub(crate) fn find_holder(control: &Control, claims: &Claims, area: Option<usize>) -> Option<usize>
     ensures { result ≡ holder_in control.now.control.category claims.now area control.now.control.device }
 {
     if is_totals(control) {

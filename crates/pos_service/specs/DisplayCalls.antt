@@ -70,9 +70,3 @@ display_deed at cursor (call.DisplayTextAt row column text attribute) =
 display_deed at cursor call.ClearText = Some (deed.Gives order.ClearText (change.Cursor origin))
 display_deed at cursor (call.ScrollText direction units) = option_map (scrolls units) (direction_of direction)
 display_deed at cursor asked = None
-
--- The cursor of the control with a number is at a place of the display that stands at its device.
-abbrev pub HasCursor : Kind → List Control → ℕ → Type 0
-HasCursor at controls number =
-    MatchOption (slice_get controls number) ⊥ (λ control.
-    is_cursor_place (rows_of (Some at)) (columns_of (Some at)) control.cursor.place ≡ true)

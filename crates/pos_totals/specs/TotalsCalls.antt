@@ -40,14 +40,6 @@ file_call call.CommitTrans = Commits
 file_call call.Rollback = Arranges Rollback
 file_call asked = Nothing
 
--- the call asks that no other control has claimed the area
-abbrev pub asks_area : FileCall → Bool
-asks_area (Asks question) = true
-asks_area (Makes change) = true
-asks_area (Arranges arrangement) = false
-asks_area Commits = true
-asks_area Nothing = false
-
 -- what the totals refuse to the control with a number
 abbrev pub file_rows : Totals → ℕ → FileCall → List Row
 file_rows totals number (Asks question) = refusals_of_question totals number question
@@ -55,11 +47,3 @@ file_rows totals number (Makes change) = refusals_of_change layout_1 totals numb
 file_rows totals number (Arranges arrangement) = refusals_of_arrangement totals number arrangement
 file_rows totals number Commits = refusals_of_commit totals number
 file_rows totals number Nothing = []
-
--- what each call asks of its own, in order: the area not claimed by another, the device enabled, and then what the
--- totals ask
-abbrev pub totals_rows : Totals → ℕ → Control → Call → List Row
-totals_rows totals number control asked =
-    when (asks_area (file_call asked) && is_foreign number totals.area) code.Claimed
-    ∷ when (not control.enabled) code.Disabled
-    ∷ file_rows totals number (file_call asked)

@@ -1,6 +1,5 @@
 use Rattle.std.proofs.Common.{◌≡◌, ◌∙◌, [], ap}
 use Rattle.pos_service.specs.declared.facts.Facts.{Facts}
-use Rattle.pos_service.specs.Claims.{is_own, is_foreign}
 use Rattle.pos_service.specs.Stations.{signs_in}
 use Rattle.pos_service.specs.declared.peripheral.Peripheral.{Ghosts}
 use Rattle.pos_counter.specs.Machine.{device_at, holder_in, kind_in, station_in}
@@ -11,27 +10,21 @@ use Rattle.pos_counter.specs.Steps.{facts_of}
 use Rattle.pos_counter.proofs.properties.find_facts.Goals as goal
 
 -- facts are the same where each of them is
-facts_same : (a b : Facts) → a.kind ≡ b.kind → a.signs ≡ b.signs → a.totals_size ≡ b.totals_size → a.files ≡ b.files → a.is_claimed ≡ b.is_claimed → a.is_foreign ≡ b.is_foreign → a.in_transaction ≡ b.in_transaction → a ≡ b
-facts_same a b kind signs size files claimed foreign transacting =
-    ap (λ x. let f : Facts = record { kind = x; signs = a.signs; totals_size = a.totals_size; files = a.files; is_claimed = a.is_claimed; is_foreign = a.is_foreign; in_transaction = a.in_transaction } in f) kind
-    ∙ ap (λ x. let f : Facts = record { kind = b.kind; signs = x; totals_size = a.totals_size; files = a.files; is_claimed = a.is_claimed; is_foreign = a.is_foreign; in_transaction = a.in_transaction } in f) signs
-    ∙ ap (λ x. let f : Facts = record { kind = b.kind; signs = b.signs; totals_size = x; files = a.files; is_claimed = a.is_claimed; is_foreign = a.is_foreign; in_transaction = a.in_transaction } in f) size
-    ∙ ap (λ x. let f : Facts = record { kind = b.kind; signs = b.signs; totals_size = b.totals_size; files = x; is_claimed = a.is_claimed; is_foreign = a.is_foreign; in_transaction = a.in_transaction } in f) files
-    ∙ ap (λ x. let f : Facts = record { kind = b.kind; signs = b.signs; totals_size = b.totals_size; files = b.files; is_claimed = x; is_foreign = a.is_foreign; in_transaction = a.in_transaction } in f) claimed
-    ∙ ap (λ x. let f : Facts = record { kind = b.kind; signs = b.signs; totals_size = b.totals_size; files = b.files; is_claimed = b.is_claimed; is_foreign = x; in_transaction = a.in_transaction } in f) foreign
-    ∙ ap (λ x. let f : Facts = record { kind = b.kind; signs = b.signs; totals_size = b.totals_size; files = b.files; is_claimed = b.is_claimed; is_foreign = b.is_foreign; in_transaction = x } in f) transacting
+facts_same : (a b : Facts) → a.kind ≡ b.kind → a.signs ≡ b.signs → a.totals_size ≡ b.totals_size → a.files ≡ b.files → a.is_claimed ≡ b.is_claimed → a.in_transaction ≡ b.in_transaction → a ≡ b
+facts_same a b kind signs size files claimed transacting =
+    ap (λ x. let f : Facts = record { kind = x; signs = a.signs; totals_size = a.totals_size; files = a.files; is_claimed = a.is_claimed; in_transaction = a.in_transaction } in f) kind
+    ∙ ap (λ x. let f : Facts = record { kind = b.kind; signs = x; totals_size = a.totals_size; files = a.files; is_claimed = a.is_claimed; in_transaction = a.in_transaction } in f) signs
+    ∙ ap (λ x. let f : Facts = record { kind = b.kind; signs = b.signs; totals_size = x; files = a.files; is_claimed = a.is_claimed; in_transaction = a.in_transaction } in f) size
+    ∙ ap (λ x. let f : Facts = record { kind = b.kind; signs = b.signs; totals_size = b.totals_size; files = x; is_claimed = a.is_claimed; in_transaction = a.in_transaction } in f) files
+    ∙ ap (λ x. let f : Facts = record { kind = b.kind; signs = b.signs; totals_size = b.totals_size; files = b.files; is_claimed = x; in_transaction = a.in_transaction } in f) claimed
+    ∙ ap (λ x. let f : Facts = record { kind = b.kind; signs = b.signs; totals_size = b.totals_size; files = b.files; is_claimed = b.is_claimed; in_transaction = x } in f) transacting
 
 pub returns : goal.returns
-returns g c = λ left.
+returns g c = λ claims left claimed.
     let ds = devices_in g.P.Peripheral c.args.devices.now in
-    let n = c.args.number in
-    let one = c.args.control.now.control in
-    let cl = c.args.claims.now in
-    let holder = c.find_holder-holder.ensures ∙ ap (λ area. holder_in one.category cl area one.device) c.area.ensures in
-    facts_same _ (facts_of (machine_with [] cl ds (part_of g.D.Disk c.args.totals.now left)) n one)
+    facts_same _ (facts_of (machine_with [] claims ds (part_of g.D.Disk c.args.totals.now left)) c.args.number c.args.control.now.control)
     (c.kind_at.ensures ∙ ap (λ o. kind_in (device_at ds o)) c.device-device.ensures)
     (c.signs_at.ensures ∙ ap (λ o. signs_in (station_in (device_at ds o))) c.device-device.ensures)
     c.size.ensures c.find_file_facts.ensures
-    (c.is_own.ensures ∙ ap (is_own n) holder)
-    (c.is_foreign.ensures ∙ ap (is_foreign n) holder)
+    claimed
     c.in_transaction.ensures

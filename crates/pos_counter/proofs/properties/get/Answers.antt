@@ -5,7 +5,8 @@ use Rattle.pos_service.specs.declared.peripheral.Peripheral.{Ghosts}
 use Rattle.pos_counter.specs.KeptDevices.{devices_in}
 use Rattle.pos_counter.specs.Assembly.{machine_with}
 use Rattle.pos_counter.specs.Leaving.{part_of}
-use Rattle.pos_counter.specs.Steps.{facts_of}
+use Rattle.pos_service.specs.Claims.{is_own}
+use Rattle.pos_counter.specs.Machine.{holder_in, holder_of}
 use Rattle.pos_counter.proofs.Lifts.{control_at, get_step}
 use Rattle.pos_counter.proofs.properties.get.Goals as goal
 
@@ -17,5 +18,7 @@ returns g c = λ left.
     let held = c.index-controls-number.result in
     let at = control_at hs n held c.requires.in_range ∙ ap (λ (h : Held). Some h.control) (sym c.index-controls-number.is) in
     let m = machine_with hs c.args.claims.now (devices_in g.P.Peripheral c.args.devices.now) (part_of g.D.Disk c.args.totals.now left) in
-    let facts : c.find_facts-facts.result ≡ facts_of m n held.control = c.find_facts-facts.ensures left in
-    get_step m n held.control p c.get.result at (subst (λ f. Gets (get_rows held.control f p) p (property_of held.control f p) c.get.result) facts c.get.ensures)
+    let holder : c.find_holder-holder.result ≡ holder_of m held.control = c.find_holder-holder.ensures ∙ ap (λ area. holder_in held.control.category c.args.claims.now area held.control.device) c.area.ensures in
+    let facts = c.find_facts-facts.ensures c.args.claims.now left (c.is_own.ensures ∙ ap (is_own n) holder) in
+    let gets = subst (λ o. Gets (get_rows n o held.control c.find_facts-facts.result p) p (property_of held.control c.find_facts-facts.result p) c.get.result) holder c.get.ensures in
+    get_step m n held.control p c.get.result at (subst (λ f. Gets (get_rows n (holder_of m held.control) held.control f p) p (property_of held.control f p) c.get.result) facts gets)

@@ -17,7 +17,7 @@ returns-in-Create g c =
     let fits_size : SFits w128 c.in-Create.size = search rules in
     let changes = subst (λ bytes. Changes g.D.Disk view c.args.number (Create bytes c.in-Create.size) c.create.result c.create.new.self) c.as_slice.ensures (simp to_z-of_z at c.create.ensures) in
     subst (λ q. CallsFiles g.D.Disk view c.args.number q c.create.result c.create.new.self) (sym c.in-Create.is)
-    (change_calls g.D.Disk view c.create.new.self c.args.number _ asked c.create.result (λ bytes h since. g.met.D.Disk.only_now view.disk bytes h since) refl refl refl changes)
+    (change_calls g.D.Disk view c.create.new.self c.args.number _ asked c.create.result (λ bytes h since. g.met.D.Disk.only_now view.disk bytes h since) refl refl changes)
 
 pub returns-in-Delete : goal.returns-in-Delete
 returns-in-Delete g c =
@@ -25,7 +25,7 @@ returns-in-Delete g c =
     let asked = call.Delete c.in-Delete.name in
     let changes = subst (λ bytes. Changes g.D.Disk view c.args.number (Delete bytes) c.delete.result c.delete.new.self) c.as_slice-in-Delete.ensures c.delete.ensures in
     subst (λ q. CallsFiles g.D.Disk view c.args.number q c.delete.result c.delete.new.self) (sym c.in-Delete.is)
-    (change_calls g.D.Disk view c.delete.new.self c.args.number _ asked c.delete.result (λ bytes h since. g.met.D.Disk.only_now view.disk bytes h since) refl refl refl changes)
+    (change_calls g.D.Disk view c.delete.new.self c.args.number _ asked c.delete.result (λ bytes h since. g.met.D.Disk.only_now view.disk bytes h since) refl refl changes)
 
 pub returns-in-Write : goal.returns-in-Write
 returns-in-Write g c =
@@ -35,7 +35,7 @@ returns-in-Write g c =
     let fits_offset : SFits w128 c.in-Write.offset = search rules in
     let changes = subst (λ bytes. Changes g.D.Disk view c.args.number (Write c.in-Write.handle c.in-Write.offset bytes) c.write.result c.write.new.self) c.as_slice-in-Write.ensures (simp to_z-of_z at c.write.ensures) in
     subst (λ q. CallsFiles g.D.Disk view c.args.number q c.write.result c.write.new.self) (sym c.in-Write.is)
-    (change_calls g.D.Disk view c.write.new.self c.args.number _ asked c.write.result (λ bytes h since. g.met.D.Disk.only_now view.disk bytes h since) refl refl refl changes)
+    (change_calls g.D.Disk view c.write.new.self c.args.number _ asked c.write.result (λ bytes h since. g.met.D.Disk.only_now view.disk bytes h since) refl refl changes)
 
 pub returns-in-SetAll : goal.returns-in-SetAll
 returns-in-SetAll g c =
@@ -45,7 +45,7 @@ returns-in-SetAll g c =
     let fits_value : SFits w128 c.in-SetAll.value = search rules in
     let changes = (simp to_z-of_z at c.set_all.ensures) in
     subst (λ q. CallsFiles g.D.Disk view c.args.number q c.set_all.result c.set_all.new.self) (sym c.in-SetAll.is)
-    (change_calls g.D.Disk view c.set_all.new.self c.args.number _ asked c.set_all.result (λ bytes h since. g.met.D.Disk.only_now view.disk bytes h since) refl refl refl changes)
+    (change_calls g.D.Disk view c.set_all.new.self c.args.number _ asked c.set_all.result (λ bytes h since. g.met.D.Disk.only_now view.disk bytes h since) refl refl changes)
 
 pub returns-in-Rename : goal.returns-in-Rename
 returns-in-Rename g c =
@@ -54,7 +54,7 @@ returns-in-Rename g c =
     let fits_handle : SFits w128 c.in-Rename.handle = search rules in
     let changes = subst (λ bytes. Changes g.D.Disk view c.args.number (Rename c.in-Rename.handle bytes) c.rename.result c.rename.new.self) c.as_slice-in-Rename.ensures (simp to_z-of_z at c.rename.ensures) in
     subst (λ q. CallsFiles g.D.Disk view c.args.number q c.rename.result c.rename.new.self) (sym c.in-Rename.is)
-    (change_calls g.D.Disk view c.rename.new.self c.args.number _ asked c.rename.result (λ bytes h since. g.met.D.Disk.only_now view.disk bytes h since) refl refl refl changes)
+    (change_calls g.D.Disk view c.rename.new.self c.args.number _ asked c.rename.result (λ bytes h since. g.met.D.Disk.only_now view.disk bytes h since) refl refl changes)
 
 pub returns-in-FindByIndex : goal.returns-in-FindByIndex
 returns-in-FindByIndex g c =
@@ -107,4 +107,4 @@ pub returns-in-CommitTrans : goal.returns-in-CommitTrans
 returns-in-CommitTrans g c =
     let view = c.args.totals.now in
     subst (λ q. CallsFiles g.D.Disk view c.args.number q c.commit_trans.result c.commit_trans.new.self) (sym c.in-CommitTrans.is)
-    (commit_calls g.D.Disk view c.commit_trans.new.self c.args.number call.CommitTrans c.commit_trans.result (λ bytes h since. g.met.D.Disk.only_now view.disk bytes h since) refl refl refl c.commit_trans.ensures)
+    (commit_calls g.D.Disk view c.commit_trans.new.self c.args.number call.CommitTrans c.commit_trans.result (λ bytes h since. g.met.D.Disk.only_now view.disk bytes h since) refl refl c.commit_trans.ensures)
