@@ -5,8 +5,7 @@ use Rattle.pos_counter.specs.Steps as machine
 use Rattle.pos_disk.specs.State.{MayLeave}
 use Rattle.pos_disk.specs.declared.device.Disk.{Ghosts as DiskGhosts}
 use Rattle.pos_disk.proofs.Moments.{started, followed_by, weaker}
-use Rattle.pos_service.specs.declared.peripheral_box.PeripheralBox.{PeripheralBox}
-use Rattle.pos_service.specs.declared.peripheral_box.HasState.{Ghosts}
+use Rattle.pos_service.specs.declared.peripheral.Peripheral.{Ghosts}
 use Rattle.pos_store.specs.Standing.{Standing, StandsForOneOf}
 use Rattle.pos_disk.specs.Keeps.{KeepsDisk}
 use Rattle.pos_totals.specs.Views.{TotalsView}
@@ -54,30 +53,30 @@ left_beside : (a b c : Machine) (s : machine.Request × machine.Response) (more 
 left_beside a b c s more step run bytes (inl h) = inl h
 left_beside a b c s more step run bytes (inr h) = inr (left_first b c more run bytes h)
 
-module _ {D X : Type 0} {O : X → Type 0} (bound : DiskGhosts D) (boxes : Ghosts (PeripheralBox X O)) where
+module _ {D P : Type 0} (bound : DiskGhosts D) (peripherals : Ghosts P) where
   -- a step in which the totals have no part is a step for all that the disk may leave
-  pub beside_is_step : (old new : Counter D X O) (q : machine.Request) (r : machine.Response) → ((bytes : List ℕ) → bound.honest old.totals.disk → (bound.state old.totals.disk).left_since (bound.state old.totals.disk).moment bytes → MayLeave (bound.state old.totals.disk) bytes) → IsStepBeside boxes old q r new → IsStep bound boxes old q r new
+  pub beside_is_step : (old new : Counter D P) (q : machine.Request) (r : machine.Response) → ((bytes : List ℕ) → bound.honest old.totals.disk → (bound.state old.totals.disk).left_since (bound.state old.totals.disk).moment bytes → MayLeave (bound.state old.totals.disk) bytes) → IsStepBeside peripherals old q r new → IsStep bound peripherals old q r new
   beside_is_step old new q r only beside = record {
-    steps = λ left leaves. subst (λ (v : TotalsView D). Stepped bound left (machine_of_counter boxes old) old.totals q r (machine_of_counter boxes new) v) (sym beside.totals)
-        (rests_stepped bound old.totals (machine_of_counter boxes old) (machine_of_counter boxes new) q r left only leaves (beside.step (part_of bound old.totals left)));
+    steps = λ left leaves. subst (λ (v : TotalsView D). Stepped bound left (machine_of_counter peripherals old) old.totals q r (machine_of_counter peripherals new) v) (sym beside.totals)
+        (rests_stepped bound old.totals (machine_of_counter peripherals old) (machine_of_counter peripherals new) q r left only leaves (beside.step (part_of bound old.totals left)));
     untouched = λ left spares. ap (λ (v : TotalsView D). v.disk) beside.totals;
     unchanged = λ undone was is. ap (λ (v : TotalsView D). v.disk) beside.totals;
     kept = subst (λ (v : TotalsView D). KeepsDisk bound old.totals.disk v.disk) (sym beside.totals) (kept_disk bound old.totals.disk);
   }
 
   -- the same by another name of the request and of the response
-  pub beside_step_as : (old new : Counter D X O) (q : machine.Request) (r : machine.Response) (asked : machine.Request) (answered : machine.Response) → ((bytes : List ℕ) → bound.honest old.totals.disk → (bound.state old.totals.disk).left_since (bound.state old.totals.disk).moment bytes → MayLeave (bound.state old.totals.disk) bytes) → asked ≡ q → answered ≡ r → IsStepBeside boxes old q r new → IsStep bound boxes old asked answered new
+  pub beside_step_as : (old new : Counter D P) (q : machine.Request) (r : machine.Response) (asked : machine.Request) (answered : machine.Response) → ((bytes : List ℕ) → bound.honest old.totals.disk → (bound.state old.totals.disk).left_since (bound.state old.totals.disk).moment bytes → MayLeave (bound.state old.totals.disk) bytes) → asked ≡ q → answered ≡ r → IsStepBeside peripherals old q r new → IsStep bound peripherals old asked answered new
   beside_step_as old new q r asked answered only is gives beside =
-      subst (λ s. IsStep bound boxes old asked s new) (sym gives) (subst (λ p. IsStep bound boxes old p r new) (sym is) (beside_is_step old new q r only beside))
+      subst (λ s. IsStep bound peripherals old asked s new) (sym gives) (subst (λ p. IsStep bound peripherals old p r new) (sym is) (beside_is_step old new q r only beside))
 
   -- a new control is a step for all that the disk may leave
-  pub control_is_step : (old new : Counter D X O) (k : Category) (outcome : Result ℕ ControlFault) → ((bytes : List ℕ) → bound.honest old.totals.disk → (bound.state old.totals.disk).left_since (bound.state old.totals.disk).moment bytes → MayLeave (bound.state old.totals.disk) bytes)
-      → MakesControl old.desk old.totals k outcome new.desk new.totals → ((part : TotalsPart) → machine_of_counter boxes new part ≡ machine_with new.desk old.claims (devices_in boxes old.devices) part) → IsStep bound boxes old (machine.NewControl k) (made outcome) new
+  pub control_is_step : (old new : Counter D P) (k : Category) (outcome : Result ℕ ControlFault) → ((bytes : List ℕ) → bound.honest old.totals.disk → (bound.state old.totals.disk).left_since (bound.state old.totals.disk).moment bytes → MayLeave (bound.state old.totals.disk) bytes)
+      → MakesControl old.desk old.totals k outcome new.desk new.totals → ((part : TotalsPart) → machine_of_counter peripherals new part ≡ machine_with new.desk old.claims (devices_in peripherals old.devices) part) → IsStep bound peripherals old (machine.NewControl k) (made outcome) new
   control_is_step old new k outcome only makes same = record {
-    steps = λ left leaves. subst (λ (v : TotalsView D). Stepped bound left (machine_of_counter boxes old) old.totals (machine.NewControl k) (made outcome) (machine_of_counter boxes new) v) (sym (same_view old.totals new.totals new.totals.totals makes.disk refl))
-        (arranges_stepped bound old.totals new.totals.totals (machine_of_counter boxes old) (machine_of_counter boxes new) (machine.NewControl k) (made outcome) left only (ap (λ mode. settled mode left) makes.mode) leaves
-        (subst (λ m. Step (machine_of_counter boxes old (part_of bound old.totals left)) (machine.NewControl k) (made outcome) m) (sym (same (now left)))
-        (makes.step (devices_in boxes old.devices) old.claims left (bound.state old.totals.disk).failures)));
+    steps = λ left leaves. subst (λ (v : TotalsView D). Stepped bound left (machine_of_counter peripherals old) old.totals (machine.NewControl k) (made outcome) (machine_of_counter peripherals new) v) (sym (same_view old.totals new.totals new.totals.totals makes.disk refl))
+        (arranges_stepped bound old.totals new.totals.totals (machine_of_counter peripherals old) (machine_of_counter peripherals new) (machine.NewControl k) (made outcome) left only (ap (λ mode. settled mode left) makes.mode) leaves
+        (subst (λ m. Step (machine_of_counter peripherals old (part_of bound old.totals left)) (machine.NewControl k) (made outcome) m) (sym (same (now left)))
+        (makes.step (devices_in peripherals old.devices) old.claims left (bound.state old.totals.disk).failures)));
     untouched = λ left spares. makes.disk;
     unchanged = λ undone was is. makes.disk;
     kept = subst (λ (d : D). KeepsDisk bound old.totals.disk d) (sym makes.disk) (kept_disk bound old.totals.disk);
@@ -87,39 +86,39 @@ module _ {D X : Type 0} {O : X → Type 0} (bound : DiskGhosts D) (boxes : Ghost
       now left = record { totals = new.totals.totals; left = left; failures = (bound.state old.totals.disk).failures }
 
   -- a step by another name of the request and of the response
-  pub step_as : (old new : Counter D X O) (q : machine.Request) (r : machine.Response) (asked : machine.Request) (answered : machine.Response) → asked ≡ q → answered ≡ r → IsStep bound boxes old q r new → IsStep bound boxes old asked answered new
-  step_as old new q r asked answered is gives step = subst (λ s. IsStep bound boxes old asked s new) (sym gives) (subst (λ p. IsStep bound boxes old p r new) (sym is) step)
+  pub step_as : (old new : Counter D P) (q : machine.Request) (r : machine.Response) (asked : machine.Request) (answered : machine.Response) → asked ≡ q → answered ≡ r → IsStep bound peripherals old q r new → IsStep bound peripherals old asked answered new
+  step_as old new q r asked answered is gives step = subst (λ s. IsStep bound peripherals old asked s new) (sym gives) (subst (λ p. IsStep bound peripherals old p r new) (sym is) step)
 
   -- a run with one step more
-  pub runs_more : (a b c : Counter D X O) (steps : List (machine.Request × machine.Response)) (q : machine.Request) (r : machine.Response) → IsRun bound boxes a steps b → IsStep bound boxes b q r c → IsRun bound boxes a (steps ++ (q, r) ∷ []) c
-  runs_more a b c [] q r run next = (c, subst (λ m. IsStep bound boxes m q r c) run next, refl)
+  pub runs_more : (a b c : Counter D P) (steps : List (machine.Request × machine.Response)) (q : machine.Request) (r : machine.Response) → IsRun bound peripherals a steps b → IsStep bound peripherals b q r c → IsRun bound peripherals a (steps ++ (q, r) ∷ []) c
+  runs_more a b c [] q r run next = (c, subst (λ m. IsStep bound peripherals m q r c) run next, refl)
   runs_more a b c (s ∷ steps) q r run next = (run.0, run.1, runs_more run.0 b c steps q r run.2 next)
 
   -- a step is a run
-  pub one_step : (a b : Counter D X O) (q : machine.Request) (r : machine.Response) → IsStep bound boxes a q r b → IsRun bound boxes a ((q, r) ∷ []) b
+  pub one_step : (a b : Counter D P) (q : machine.Request) (r : machine.Response) → IsStep bound peripherals a q r b → IsRun bound peripherals a ((q, r) ∷ []) b
   one_step a b q r next = (b, next, refl)
 
   -- one run after another is a run
-  pub runs_join : (a b c : Counter D X O) (steps more : List (machine.Request × machine.Response)) → IsRun bound boxes a steps b → IsRun bound boxes b more c → IsRun bound boxes a (steps ++ more) c
-  runs_join a b c [] more first second = subst (λ m. IsRun bound boxes m more c) first second
+  pub runs_join : (a b c : Counter D P) (steps more : List (machine.Request × machine.Response)) → IsRun bound peripherals a steps b → IsRun bound peripherals b more c → IsRun bound peripherals a (steps ++ more) c
+  runs_join a b c [] more first second = subst (λ m. IsRun bound peripherals m more c) first second
   runs_join a b c (s ∷ steps) more first second = (first.0, first.1, runs_join first.0 b c steps more first.2 second)
 
   -- the machine's run, and what the disk may leave after it
-  abbrev pub MachineRuns : List Standing → Counter D X O → List (machine.Request × machine.Response) → Counter D X O → Type 0
+  abbrev pub MachineRuns : List Standing → Counter D P → List (machine.Request × machine.Response) → Counter D P → Type 0
   MachineRuns left a steps b =
       (after : List Standing) × Leaves bound b.totals after
-      × Run (machine_of_counter boxes a (part_of bound a.totals left)) steps (machine_of_counter boxes b (part_of bound b.totals after))
+      × Run (machine_of_counter peripherals a (part_of bound a.totals left)) steps (machine_of_counter peripherals b (part_of bound b.totals after))
 
-  pub machine_runs : (a b : Counter D X O) (steps : List (machine.Request × machine.Response)) (left : List Standing) → Leaves bound a.totals left → IsRun bound boxes a steps b → MachineRuns left a steps b
+  pub machine_runs : (a b : Counter D P) (steps : List (machine.Request × machine.Response)) (left : List Standing) → Leaves bound a.totals left → IsRun bound peripherals a steps b → MachineRuns left a steps b
   machine_runs a b [] left leaves run = subst (λ n. MachineRuns left a [] n) (sym run) (left, leaves, refl)
   machine_runs a b (s ∷ steps) left leaves run =
       let first = run.1.steps left leaves in
       let rest = machine_runs run.0 b steps first.after first.leaves run.2 in
-      (rest.0, rest.1, (machine_of_counter boxes run.0 (part_of bound run.0.totals first.after), first.step, rest.2))
+      (rest.0, rest.1, (machine_of_counter peripherals run.0 (part_of bound run.0.totals first.after), first.step, rest.2))
 
   -- what a run does, by what the disk may leave before it: each moment of it is one of a step
-  pub runs_from : (a b : Counter D X O) (steps : List (machine.Request × machine.Response)) (left : List Standing) → ((disk : D) (bytes : List ℕ) → bound.honest disk → (bound.state disk).left_since (bound.state disk).moment bytes → MayLeave (bound.state disk) bytes) → Leaves bound a.totals left → IsRun bound boxes a steps b → RunsFrom bound boxes left a steps b
-  runs_from a b [] left only leaves run = subst (λ n. RunsFrom bound boxes left a [] n) (sym run) (record {
+  pub runs_from : (a b : Counter D P) (steps : List (machine.Request × machine.Response)) (left : List Standing) → ((disk : D) (bytes : List ℕ) → bound.honest disk → (bound.state disk).left_since (bound.state disk).moment bytes → MayLeave (bound.state disk) bytes) → Leaves bound a.totals left → IsRun bound peripherals a steps b → RunsFrom bound peripherals left a steps b
+  runs_from a b [] left only leaves run = subst (λ n. RunsFrom bound peripherals left a [] n) (sym run) (record {
     after = left;
     leaves = leaves;
     run = refl;
@@ -129,9 +128,9 @@ module _ {D X : Type 0} {O : X → Type 0} (bound : DiskGhosts D) (boxes : Ghost
       let b = run.0 in
       let first = run.1.steps left leaves in
       let rest = runs_from b c steps first.after only first.leaves run.2 in
-      let A = machine_of_counter boxes a (part_of bound a.totals left) in
-      let B = machine_of_counter boxes b (part_of bound b.totals first.after) in
-      let C = machine_of_counter boxes c (part_of bound c.totals rest.after) in
+      let A = machine_of_counter peripherals a (part_of bound a.totals left) in
+      let B = machine_of_counter peripherals b (part_of bound b.totals first.after) in
+      let C = machine_of_counter peripherals c (part_of bound c.totals rest.after) in
       let P : List ℕ → Type 0 = IsLeftDuring A (s ∷ steps) C (B, first.step, rest.run) in
       record {
         after = rest.after;
@@ -143,5 +142,5 @@ module _ {D X : Type 0} {O : X → Type 0} (bound : DiskGhosts D) (boxes : Ghost
       }
 
   -- so is one in which the totals have no part
-  pub one_beside : (a b : Counter D X O) (q : machine.Request) (r : machine.Response) → ((bytes : List ℕ) → bound.honest a.totals.disk → (bound.state a.totals.disk).left_since (bound.state a.totals.disk).moment bytes → MayLeave (bound.state a.totals.disk) bytes) → IsStepBeside boxes a q r b → IsRun bound boxes a ((q, r) ∷ []) b
+  pub one_beside : (a b : Counter D P) (q : machine.Request) (r : machine.Response) → ((bytes : List ℕ) → bound.honest a.totals.disk → (bound.state a.totals.disk).left_since (bound.state a.totals.disk).moment bytes → MayLeave (bound.state a.totals.disk) bytes) → IsStepBeside peripherals a q r b → IsRun bound peripherals a ((q, r) ∷ []) b
   one_beside a b q r only beside = one_step a b q r (beside_is_step a b q r only beside)

@@ -7,8 +7,7 @@ use Rattle.pos_counter.specs.declared.devices.Devices.{Devices}
 use Rattle.pos_profile.specs.declared.entry.Entry.{Entry}
 use Rattle.pos_profile.specs.Categories.{is_totals}
 use Rattle.pos_profile.specs.Registries.{Device as Registered, IsRegistrySound, devices as registered, vacant_devices}
-use Rattle.pos_service.specs.declared.peripheral_box.HasState.{Ghosts as Boxes}
-use Rattle.pos_service.specs.declared.peripheral_box.PeripheralBox.{PeripheralBox}
+use Rattle.pos_service.specs.declared.peripheral.Peripheral.{Ghosts}
 
 -- a device that may have a peripheral, and what stands at it
 abbrev pub device_of : Registered → Device
@@ -41,18 +40,12 @@ abbrev pub profile_devices : List Entry → List Device
 profile_devices entries = devices_of (vacant_devices entries) (totals_name entries)
 
 -- the devices that a counter keeps
-abbrev pub devices_in : {X : Type 0} {O : X → Type 0} → Boxes (PeripheralBox X O) → Devices X O → List Device
-devices_in boxes devices = devices_of (registered boxes devices.registry) devices.totals
+abbrev pub devices_in : {P : Type 0} → Ghosts P → Devices P → List Device
+devices_in peripherals devices = devices_of (registered peripherals devices.registry) devices.totals
 
 -- What is true of the devices of every counter: their registry is sound.
-pub record AreDevicesSound {X : Type 0} {O : X → Type 0} (boxes : Boxes (PeripheralBox X O)) (devices : Devices X O)
-    : Type 0 where
-  pub registry : IsRegistrySound boxes devices.registry
-
--- the boxes of devices that are sound
-abbrev pub boxes_in : {X : Type 0} {O : X → Type 0} {boxes : Boxes (PeripheralBox X O)} {devices : Devices X O}
-    → AreDevicesSound boxes devices → Boxes (PeripheralBox X O)
-boxes_in {boxes = boxes} sound = boxes
+pub record AreDevicesSound {P : Type 0} (peripherals : Ghosts P) (devices : Devices P) : Type 0 where
+  pub registry : IsRegistrySound peripherals devices.registry
 
 -- the device may have a peripheral
 abbrev pub has_kind : Device → Bool

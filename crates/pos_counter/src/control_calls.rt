@@ -14,20 +14,20 @@ use crate::devices::Devices;
 use crate::totals_calls::is_totals;
 use pos_common::{Claims, Control};
 use pos_disk::Disk;
-use pos_service::{Answer, Code, HasState, PeripheralBox, Value};
+use pos_service::{Answer, Code, Peripheral, Value};
 use pos_totals::Totals;
 
 /// `open`, of the first device with a name (common chapter).
-pub(crate) fn open(
+pub(crate) fn open<P: Peripheral>(
     controls: &mut [Control],
-    devices: &Devices,
+    devices: &Devices<P>,
     number: usize,
     name: &[u8],
 ) -> Answer
     requires in_range { number < length controls.old }
-    requires parts { ArePartsSound controls.old (devices_in ⟦<PeripheralBox as HasState>⟧ devices.now) }
-    requires sound { AreDevicesSound ⟦<PeripheralBox as HasState>⟧ devices.now }
-    ensures { let devices = devices_in ⟦<PeripheralBox as HasState>⟧ devices.now in
+    requires parts { ArePartsSound controls.old (devices_in P.Peripheral devices.now) }
+    requires sound { AreDevicesSound P.Peripheral devices.now }
+    ensures { let devices = devices_in P.Peripheral devices.now in
         ServesBeside controls.old devices (CallOf number (call.Open name.now)) (Answered result)
         controls.new devices }
 {

@@ -19,8 +19,7 @@ use pos_disk::Disk;
 use pos_profile::laws::is_profile;
 use pos_profile::{AttachFault, DetachFault, Profile, Slot};
 use pos_service::{
-    Answer, Call, Category, ErrorReply, Event, HasState, Input, NoMemory, PeripheralBox, Snapshot,
-    Worked,
+    Answer, Call, Category, ErrorReply, Event, Input, NoMemory, Peripheral, Snapshot, Worked,
 };
 use pos_totals::Totals;
 use std::alloc::Global;
@@ -33,22 +32,22 @@ const FIRST_HANDLE: u64 = 1;
 ///
 /// Each call is a step of the device machine that the counter stands for, so each list of calls is a run of it. What is
 /// said of the totals, and of what a crash leaves, is said over an honest disk.
-pub struct Counter<D: Disk> {
+pub struct Counter<D: Disk, P> {
     desk: Desk,
     claims: Claims,
-    devices: Devices,
+    devices: Devices<P>,
     totals: Totals<D>,
 }
 
 /// What is left of a counter that was ended.
-pub struct Ended<D: Disk> {
+pub struct Ended<D: Disk, P> {
     /// The disk of the totals, at rest where they were ready.
     pub disk: D,
     /// The devices that may have a peripheral, each once, in the profile's order, with what served it, out of service.
-    pub entries: Vec<Slot>,
+    pub entries: Vec<Slot<P>>,
 }
 
-impl<D: Disk> Counter<D> {
+impl<D: Disk, P: Peripheral> Counter<D, P> {
     /// A counter with no control, over a disk and the devices of a profile, each vacant. The totals are off until a
     /// control of Hard Totals is enabled. An empty list becomes a part of the counter.
     ///
@@ -56,13 +55,13 @@ impl<D: Disk> Counter<D> {
     pub fn new(
         alloc: Global,
         profile: &Profile,
-        slots: Vec<Slot>,
+        slots: Vec<Slot<P>>,
         disk: D,
     ) -> Result<Self, (NoMemory, D)>
         requires empty { slots.items ≡ [] }
         ensures begins { IfOk result (λ counter.
-            Begins ⟦<PeripheralBox as HasState>⟧ profile.now.devices disk counter) }
-        ensures sound { IfOk result (λ counter. IsCounterSound ⟦<PeripheralBox as HasState>⟧ counter) }
+            Begins P.Peripheral profile.now.devices disk counter) }
+        ensures sound { IfOk result (λ counter. IsCounterSound P.Peripheral counter) }
         ensures handed_back { IfErr result (λ refusal. refusal.1 ≡ disk) }
     {
         is_profile(profile);
@@ -86,17 +85,13 @@ impl<D: Disk> Counter<D> {
     /// Refused with Unknown where no device of the name may have a peripheral, else with InUse where the device has its
     /// peripheral, else with KindDiffers. A refusal changes nothing, and hands the peripheral back as it is. It takes
     /// no memory.
-    pub fn attach(
-        &mut self,
-        name: &[u8],
-        peripheral: PeripheralBox,
-    ) -> Result<(), (AttachFault, PeripheralBox)>
-        requires sound { IsCounterSound ⟦<PeripheralBox as HasState>⟧ self.old }
-        requires unparked { (⟦<PeripheralBox as HasState>⟧.state peripheral).is_parked ≡ false }
-        ensures step { let boxes = ⟦<PeripheralBox as HasState>⟧ in IsStepBeside boxes self.old
-            (Attach name.now (station_of (boxes.state peripheral))) (attached result) self.new }
+    pub fn attach(&mut self, name: &[u8], peripheral: P) -> Result<(), (AttachFault, P)>
+        requires sound { IsCounterSound P.Peripheral self.old }
+        requires unparked { (P.Peripheral.state peripheral).is_parked ≡ false }
+        ensures step { IsStepBeside P.Peripheral self.old
+            (Attach name.now (station_of (P.Peripheral.state peripheral))) (attached result) self.new }
         ensures handed_back { IfErr result (λ refusal. refusal.1 ≡ peripheral) }
-        ensures sound { IsCounterSound ⟦<PeripheralBox as HasState>⟧ self.new }
+        ensures sound { IsCounterSound P.Peripheral self.new }
     {
         exchange::attach(&self.desk.controls, &mut self.devices, name, peripheral)
     }
@@ -106,13 +101,13 @@ impl<D: Disk> Counter<D> {
     ///
     /// Refused with Unknown where no device of the name may have a peripheral, else with Vacant where it has none, else
     /// with InUse where a control has the device open. A refusal changes nothing. It takes no memory.
-    pub fn detach(&mut self, name: &[u8]) -> Result<PeripheralBox, DetachFault>
-        requires sound { IsCounterSound ⟦<PeripheralBox as HasState>⟧ self.old }
-        ensures step { let boxes = ⟦<PeripheralBox as HasState>⟧ in IsStepBeside boxes self.old
-            (Detach name.now) (detached boxes.state result) self.new }
+    pub fn detach(&mut self, name: &[u8]) -> Result<P, DetachFault>
+        requires sound { IsCounterSound P.Peripheral self.old }
+        ensures step { IsStepBeside P.Peripheral self.old
+            (Detach name.now) (detached P.Peripheral.state result) self.new }
         ensures parked { IfOk result (λ peripheral.
-            (⟦<PeripheralBox as HasState>⟧.state peripheral).is_parked ≡ true) }
-        ensures sound { IsCounterSound ⟦<PeripheralBox as HasState>⟧ self.new }
+            (P.Peripheral.state peripheral).is_parked ≡ true) }
+        ensures sound { IsCounterSound P.Peripheral self.new }
     {
         exchange::detach(&self.desk.controls, &mut self.devices, name)
     }
@@ -121,10 +116,10 @@ impl<D: Disk> Counter<D> {
     ///
     /// Refused with Full where there are 4,096 controls, closed ones included. Want of memory changes nothing.
     pub fn control(&mut self, category: Category) -> Result<usize, ControlFault>
-        requires sound { IsCounterSound ⟦<PeripheralBox as HasState>⟧ self.old }
-        ensures step { IsStep D.Disk ⟦<PeripheralBox as HasState>⟧ self.old
+        requires sound { IsCounterSound P.Peripheral self.old }
+        ensures step { IsStep D.Disk P.Peripheral self.old
             (NewControl category) (made result) self.new }
-        ensures sound { IsCounterSound ⟦<PeripheralBox as HasState>⟧ self.new }
+        ensures sound { IsCounterSound P.Peripheral self.new }
     {
         self.desk.control(&mut self.totals, category)
     }
@@ -136,10 +131,10 @@ impl<D: Disk> Counter<D> {
     /// what may be left before it or after it. The disk is touched only by a change and a commit that nothing refuses,
     /// where the change isn't buffered and the commit has changes, and by an enabling of Hard Totals that are off.
     pub fn call(&mut self, number: usize, call: &Call) -> Result<Answer, NoMemory>
-        requires sound { IsCounterSound ⟦<PeripheralBox as HasState>⟧ self.old }
-        ensures step { IsStep D.Disk ⟦<PeripheralBox as HasState>⟧ self.old
+        requires sound { IsCounterSound P.Peripheral self.old }
+        ensures step { IsStep D.Disk P.Peripheral self.old
             (CallOf number call.now) (answered result) self.new }
-        ensures sound { IsCounterSound ⟦<PeripheralBox as HasState>⟧ self.new }
+        ensures sound { IsCounterSound P.Peripheral self.new }
     {
         self.desk.call(
             &mut self.claims,
@@ -155,10 +150,10 @@ impl<D: Disk> Counter<D> {
     /// Refused with NoDevice where no device has the name or no peripheral stands behind it, with WrongInput where a
     /// peripheral of its kind has no such input. Want of memory changes nothing.
     pub fn input(&mut self, device: &[u8], input: &Input) -> Result<(), InputFault>
-        requires sound { IsCounterSound ⟦<PeripheralBox as HasState>⟧ self.old }
-        ensures step { IsStepBeside ⟦<PeripheralBox as HasState>⟧ self.old
+        requires sound { IsCounterSound P.Peripheral self.old }
+        ensures step { IsStepBeside P.Peripheral self.old
             (InputTo device.now input.now) (taken_in result) self.new }
-        ensures sound { IsCounterSound ⟦<PeripheralBox as HasState>⟧ self.new }
+        ensures sound { IsCounterSound P.Peripheral self.new }
     {
         device_calls::input(
             self.desk.allocator(),
@@ -180,10 +175,10 @@ impl<D: Disk> Counter<D> {
     /// Refused with NoDevice where no device has the name or no peripheral stands behind it. Want of memory changes
     /// nothing.
     pub fn work(&mut self, device: &[u8]) -> Result<Worked, WorkFault>
-        requires sound { IsCounterSound ⟦<PeripheralBox as HasState>⟧ self.old }
-        ensures step { IsStepBeside ⟦<PeripheralBox as HasState>⟧ self.old
+        requires sound { IsCounterSound P.Peripheral self.old }
+        ensures step { IsStepBeside P.Peripheral self.old
             (WorkOn device.now) (worked result) self.new }
-        ensures sound { IsCounterSound ⟦<PeripheralBox as HasState>⟧ self.new }
+        ensures sound { IsCounterSound P.Peripheral self.new }
     {
         working::work(
             &mut self.desk.controls,
@@ -196,10 +191,10 @@ impl<D: Disk> Counter<D> {
     /// Takes the event that may be delivered to a control, with the application's answer in case it is an ErrorEvent.
     /// It is None where there is none, or no control of this number.
     pub fn deliver(&mut self, number: usize, reply: ErrorReply) -> Option<Event>
-        requires sound { IsCounterSound ⟦<PeripheralBox as HasState>⟧ self.old }
-        ensures step { IsStepBeside ⟦<PeripheralBox as HasState>⟧ self.old
+        requires sound { IsCounterSound P.Peripheral self.old }
+        ensures step { IsStepBeside P.Peripheral self.old
             (Deliver number reply) (Delivered result) self.new }
-        ensures sound { IsCounterSound ⟦<PeripheralBox as HasState>⟧ self.new }
+        ensures sound { IsCounterSound P.Peripheral self.new }
     {
         self.desk.deliver(number, reply)
     }
@@ -208,8 +203,8 @@ impl<D: Disk> Counter<D> {
     ///
     /// Refused with NoDevice where no device has the name or no peripheral stands behind it.
     pub fn snapshot(&self, device: &[u8]) -> Result<Snapshot, SnapshotFault>
-        requires sound { IsCounterSound ⟦<PeripheralBox as HasState>⟧ self.now }
-        ensures { IsStepBeside ⟦<PeripheralBox as HasState>⟧ self.now (SnapshotOf device.now) (shown result) self.now }
+        requires sound { IsCounterSound P.Peripheral self.now }
+        ensures { IsStepBeside P.Peripheral self.now (SnapshotOf device.now) (shown result) self.now }
     {
         device_calls::snapshot(&self.devices, device)
     }
@@ -218,12 +213,12 @@ impl<D: Disk> Counter<D> {
     ///
     /// Want of memory for the list of answers changes nothing. A request that finds no memory is answered so.
     pub fn perform(&mut self, requests: &[Request]) -> Result<Vec<Response>, NoMemory>
-        requires sound { IsCounterSound ⟦<PeripheralBox as HasState>⟧ self.old }
+        requires sound { IsCounterSound P.Peripheral self.old }
         ensures run { IfOk result (λ responses.
-            IsRun D.Disk ⟦<PeripheralBox as HasState>⟧ self.old (steps_of requests.now responses.items) self.new) }
+            IsRun D.Disk P.Peripheral self.old (steps_of requests.now responses.items) self.new) }
         ensures whole { IfOk result (λ responses. length responses.items ≡ length requests.now) }
-        ensures unchanged { OnErr result (Stays ⟦<PeripheralBox as HasState>⟧ self.old self.new) }
-        ensures sound { IsCounterSound ⟦<PeripheralBox as HasState>⟧ self.new }
+        ensures unchanged { OnErr result (Stays P.Peripheral self.old self.new) }
+        ensures sound { IsCounterSound P.Peripheral self.new }
     {
         let mut responses = Vec::with_capacity(self.desk.allocator(), requests.len())?;
         for request in requests {
@@ -235,10 +230,10 @@ impl<D: Disk> Counter<D> {
 
     /// Carries out a request.
     fn carry_out(&mut self, request: &Request) -> Response
-        requires sound { IsCounterSound ⟦<PeripheralBox as HasState>⟧ self.old }
-        ensures step { IsStep D.Disk ⟦<PeripheralBox as HasState>⟧ self.old
+        requires sound { IsCounterSound P.Peripheral self.old }
+        ensures step { IsStep D.Disk P.Peripheral self.old
             (request_of request.now) (response_of result) self.new }
-        ensures sound { IsCounterSound ⟦<PeripheralBox as HasState>⟧ self.new }
+        ensures sound { IsCounterSound P.Peripheral self.new }
     {
         match request {
             Request::NewControl(category) => Response::of_control(self.control(*category)),
@@ -254,12 +249,12 @@ impl<D: Disk> Counter<D> {
 
     /// Ends the counter: the disk, and the devices that may have a peripheral, each once, in the profile's order, with
     /// their peripherals, which are taken out of service and else as they are. It takes no memory.
-    pub fn shutdown(self) -> Ended<D>
-        requires sound { IsCounterSound ⟦<PeripheralBox as HasState>⟧ self }
+    pub fn shutdown(self) -> Ended<D, P>
+        requires sound { IsCounterSound P.Peripheral self }
         ensures disk { result.disk ≡ self.totals.disk }
         ensures at_rest { D.honest result.disk → WhenReady self.totals.totals.mode (IsAtRest (D.state result.disk)) }
-        ensures entries { let boxes = ⟦<PeripheralBox as HasState>⟧ in
-            (part : TotalsPart) → HandsOver (machine boxes self part) (registered_in boxes result.entries.items) }
+        ensures entries { (part : TotalsPart)
+            → HandsOver (machine P.Peripheral self part) (registered_in P.Peripheral result.entries.items) }
     {
         let Counter {
             desk: _,

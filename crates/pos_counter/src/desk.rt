@@ -11,7 +11,7 @@ use crate::devices::Devices;
 use crate::faults::ControlFault;
 use pos_common::{Claims, Control};
 use pos_disk::Disk;
-use pos_service::{Answer, Call, Category, ErrorReply, Event, HasState, NoMemory, PeripheralBox};
+use pos_service::{Answer, Call, Category, ErrorReply, Event, NoMemory, Peripheral};
 use pos_totals::Totals;
 use std::alloc::Global;
 use std::marker::Model;
@@ -79,22 +79,21 @@ impl Desk {
     }
 
     /// A call of an application on one of the controls.
-    pub(crate) fn call<D: Disk>(
+    pub(crate) fn call<D: Disk, P: Peripheral>(
         &mut self,
         claims: &mut Claims,
-        devices: &mut Devices,
+        devices: &mut Devices<P>,
         totals: &mut Totals<D>,
         number: usize,
         call: &Call,
     ) -> Result<Answer, NoMemory>
-        requires parts { ArePartsSound self.old (devices_in ⟦<PeripheralBox as HasState>⟧ devices.old) }
-        requires sound { AreDevicesSound ⟦<PeripheralBox as HasState>⟧ devices.old }
-        requires covers { length claims.old ≡ length (devices_in ⟦<PeripheralBox as HasState>⟧ devices.old) }
-        ensures serves { let boxes = ⟦<PeripheralBox as HasState>⟧ in
-            Serves D.Disk self.old claims.old (devices_in boxes devices.old) totals.old
+        requires parts { ArePartsSound self.old (devices_in P.Peripheral devices.old) }
+        requires sound { AreDevicesSound P.Peripheral devices.old }
+        requires covers { length claims.old ≡ length (devices_in P.Peripheral devices.old) }
+        ensures serves { Serves D.Disk self.old claims.old (devices_in P.Peripheral devices.old) totals.old
             (CallOf number call.now) (answered result)
-            self.new claims.new (devices_in boxes devices.new) totals.new }
-        ensures sound { AreDevicesSound ⟦<PeripheralBox as HasState>⟧ devices.new }
+            self.new claims.new (devices_in P.Peripheral devices.new) totals.new }
+        ensures sound { AreDevicesSound P.Peripheral devices.new }
     {
         let alloc = self.alloc;
         device_calls::call(

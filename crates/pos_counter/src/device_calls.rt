@@ -21,29 +21,27 @@ use crate::properties::{get, set};
 use crate::totals_calls::{call_totals, is_totals};
 use pos_common::{Claims, Control};
 use pos_disk::Disk;
-use pos_service::{
-    Answer, Call, Category, Code, HasState, Input, Kind, NoMemory, PeripheralBox, Snapshot,
-};
+use pos_service::{Answer, Call, Category, Code, Input, Kind, NoMemory, Peripheral, Snapshot};
 use pos_totals::Totals;
 use std::alloc::Global;
 
 /// A call of an application on a control.
-pub(crate) fn call<D: Disk>(
+pub(crate) fn call<D: Disk, P: Peripheral>(
     alloc: Global,
     controls: &mut [Control],
     claims: &mut Claims,
-    devices: &mut Devices,
+    devices: &mut Devices<P>,
     totals: &mut Totals<D>,
     number: usize,
     call: &Call,
 ) -> Result<Answer, NoMemory>
-    requires parts { ArePartsSound controls.old (devices_in ⟦<PeripheralBox as HasState>⟧ devices.old) }
-    requires sound { AreDevicesSound ⟦<PeripheralBox as HasState>⟧ devices.old }
-    requires covers { length claims.old ≡ length (devices_in ⟦<PeripheralBox as HasState>⟧ devices.old) }
-    ensures serves { let boxes = ⟦<PeripheralBox as HasState>⟧ in
-        Serves D.Disk controls.old claims.old (devices_in boxes devices.old) totals.old
-        (CallOf number call.now) (answered result) controls.new claims.new (devices_in boxes devices.new) totals.new }
-    ensures sound { AreDevicesSound ⟦<PeripheralBox as HasState>⟧ devices.new }
+    requires parts { ArePartsSound controls.old (devices_in P.Peripheral devices.old) }
+    requires sound { AreDevicesSound P.Peripheral devices.old }
+    requires covers { length claims.old ≡ length (devices_in P.Peripheral devices.old) }
+    ensures serves { Serves D.Disk controls.old claims.old (devices_in P.Peripheral devices.old) totals.old
+        (CallOf number call.now) (answered result) controls.new claims.new (devices_in P.Peripheral devices.new)
+        totals.new }
+    ensures sound { AreDevicesSound P.Peripheral devices.new }
 {
     if number >= controls.len() {
         return Ok(Answer::Refused(Code::Illegal, 0));
@@ -62,23 +60,23 @@ pub(crate) fn call<D: Disk>(
 }
 
 /// A call of a category's own, which the crate of the control's category answers.
-fn call_category<D: Disk>(
+fn call_category<D: Disk, P: Peripheral>(
     alloc: Global,
     controls: &mut [Control],
     claims: &Claims,
-    devices: &mut Devices,
+    devices: &mut Devices<P>,
     totals: &mut Totals<D>,
     number: usize,
     call: &Call,
 ) -> Result<Answer, NoMemory>
     requires in_range { number < length controls.old }
     requires own { is_common call.now ≡ false }
-    requires parts { ArePartsSound controls.old (devices_in ⟦<PeripheralBox as HasState>⟧ devices.old) }
-    requires sound { AreDevicesSound ⟦<PeripheralBox as HasState>⟧ devices.old }
-    ensures serves { let boxes = ⟦<PeripheralBox as HasState>⟧ in
-        Serves D.Disk controls.old claims.now (devices_in boxes devices.old) totals.old
-        (CallOf number call.now) (answered result) controls.new claims.now (devices_in boxes devices.new) totals.new }
-    ensures sound { AreDevicesSound ⟦<PeripheralBox as HasState>⟧ devices.new }
+    requires parts { ArePartsSound controls.old (devices_in P.Peripheral devices.old) }
+    requires sound { AreDevicesSound P.Peripheral devices.old }
+    ensures serves { Serves D.Disk controls.old claims.now (devices_in P.Peripheral devices.old) totals.old
+        (CallOf number call.now) (answered result) controls.new claims.now (devices_in P.Peripheral devices.new)
+        totals.new }
+    ensures sound { AreDevicesSound P.Peripheral devices.new }
 {
     let Some(place) = controls[number].device() else {
         return Ok(Answer::Refused(Code::Closed, 0));
@@ -93,24 +91,24 @@ fn call_category<D: Disk>(
 }
 
 /// A call of a category's own on an open control of the device at a place, which is handed to what serves it.
-fn call_there(
+fn call_there<P: Peripheral>(
     alloc: Global,
     controls: &mut [Control],
     number: usize,
     category: Category,
     place: usize,
     claims: &Claims,
-    devices: &mut Devices,
+    devices: &mut Devices<P>,
     call: &Call,
 ) -> Result<Answer, NoMemory>
     requires open { IsOpen category (controls_of controls.old) number }
-    requires sound { AreDevicesSound ⟦<PeripheralBox as HasState>⟧ devices.old }
-    requires may { let devices = devices_in ⟦<PeripheralBox as HasState>⟧ devices.old in
+    requires sound { AreDevicesSound P.Peripheral devices.old }
+    requires may { let devices = devices_in P.Peripheral devices.old in
         MayBeCalled devices place category (controls_of controls.old) number }
-    ensures done { let boxes = ⟦<PeripheralBox as HasState>⟧ in
-        IsDoneAt (devices_in boxes devices.old) place (CallsAt category claims.now number call.now result)
-        controls.old controls.new (devices_in boxes devices.new) }
-    ensures sound { AreDevicesSound ⟦<PeripheralBox as HasState>⟧ devices.new }
+    ensures done { IsDoneAt (devices_in P.Peripheral devices.old) place
+        (CallsAt category claims.now number call.now result)
+        controls.old controls.new (devices_in P.Peripheral devices.new) }
+    ensures sound { AreDevicesSound P.Peripheral devices.new }
 {
     let Some(mut peripheral) = devices.registry.take(place) else {
         unreachable!();
@@ -130,26 +128,26 @@ fn call_there(
 
 /// A call of a category's own on an open control of a device with a peripheral, which is the device's. Where that is a
 /// display, the control's cursor is at one of its places.
-fn call_device(
+fn call_device<P: Peripheral>(
     alloc: Global,
     controls: &mut [Control],
     number: usize,
     category: Category,
     claims: &Claims,
-    peripheral: &mut PeripheralBox,
+    peripheral: &mut P,
     call: &Call,
 ) -> Result<Answer, NoMemory>
     requires open { IsOpen category (controls_of controls.old) number }
-    requires unparked { (⟦<PeripheralBox as HasState>⟧.state peripheral.old).is_parked ≡ false }
-    requires served { serves category (Some (⟦<PeripheralBox as HasState>⟧.state peripheral.old).kind) ≡ true }
-    requires cursor { let kind = (⟦<PeripheralBox as HasState>⟧.state peripheral.old).kind in
+    requires unparked { (P.Peripheral.state peripheral.old).is_parked ≡ false }
+    requires served { serves category (Some (P.Peripheral.state peripheral.old).kind) ≡ true }
+    requires cursor { let kind = (P.Peripheral.state peripheral.old).kind in
         is_display kind ≡ true → HasCursor kind (controls_of controls.old) number }
-    ensures called { let state = ⟦<PeripheralBox as HasState>⟧.state in
+    ensures called { let state = P.Peripheral.state in
         CalledBy (device_rows category claims.now number (Some (state peripheral.old).kind)) (DeviceDoes category)
         number call.now result
         (controls_of controls.old) (station_of (state peripheral.old))
         (controls_of controls.new) (station_of (state peripheral.new)) }
-    ensures in_service { let state = ⟦<PeripheralBox as HasState>⟧.state in
+    ensures in_service { let state = P.Peripheral.state in
         StaysInService (state peripheral.old) (state peripheral.new) }
 {
     match category {
@@ -166,19 +164,19 @@ fn call_device(
 }
 
 /// Something happens at the first device with a name.
-pub(crate) fn input(
+pub(crate) fn input<P: Peripheral>(
     alloc: Global,
     controls: &mut [Control],
-    devices: &mut Devices,
+    devices: &mut Devices<P>,
     name: &[u8],
     input: &Input,
 ) -> Result<(), InputFault>
-    requires parts { ArePartsSound controls.old (devices_in ⟦<PeripheralBox as HasState>⟧ devices.old) }
-    requires sound { AreDevicesSound ⟦<PeripheralBox as HasState>⟧ devices.old }
-    ensures serves { let boxes = ⟦<PeripheralBox as HasState>⟧ in
-        ServesBeside controls.old (devices_in boxes devices.old) (InputTo name.now input.now) (taken_in result)
-        controls.new (devices_in boxes devices.new) }
-    ensures sound { AreDevicesSound ⟦<PeripheralBox as HasState>⟧ devices.new }
+    requires parts { ArePartsSound controls.old (devices_in P.Peripheral devices.old) }
+    requires sound { AreDevicesSound P.Peripheral devices.old }
+    ensures serves { ServesBeside controls.old (devices_in P.Peripheral devices.old) (InputTo name.now input.now)
+        (taken_in result)
+        controls.new (devices_in P.Peripheral devices.new) }
+    ensures sound { AreDevicesSound P.Peripheral devices.new }
 {
     let Some(place) = devices.find(name) else {
         return Err(InputFault::NoDevice);
@@ -196,19 +194,18 @@ pub(crate) fn input(
 }
 
 /// Hands an input to what serves the device at a place, which it fits.
-fn input_there(
+fn input_there<P: Peripheral>(
     alloc: Global,
     controls: &mut [Control],
     place: usize,
-    devices: &mut Devices,
+    devices: &mut Devices<P>,
     input: &Input,
 ) -> Result<(), NoMemory>
-    requires sound { AreDevicesSound ⟦<PeripheralBox as HasState>⟧ devices.old }
-    requires fits { FitsAt (devices_in ⟦<PeripheralBox as HasState>⟧ devices.old) place input.now }
-    ensures done { let boxes = ⟦<PeripheralBox as HasState>⟧ in
-        IsDoneAt (devices_in boxes devices.old) place (TakenAt input.now place result)
-        controls.old controls.new (devices_in boxes devices.new) }
-    ensures sound { AreDevicesSound ⟦<PeripheralBox as HasState>⟧ devices.new }
+    requires sound { AreDevicesSound P.Peripheral devices.old }
+    requires fits { FitsAt (devices_in P.Peripheral devices.old) place input.now }
+    ensures done { IsDoneAt (devices_in P.Peripheral devices.old) place (TakenAt input.now place result)
+        controls.old controls.new (devices_in P.Peripheral devices.new) }
+    ensures sound { AreDevicesSound P.Peripheral devices.new }
 {
     let Some(mut peripheral) = devices.registry.take(place) else {
         unreachable!();
@@ -219,19 +216,19 @@ fn input_there(
 }
 
 /// Hands an input that fits to the peripheral of the device at a place. Want of memory changes nothing.
-fn take_input(
+fn take_input<P: Peripheral>(
     alloc: Global,
     controls: &mut [Control],
     place: usize,
-    peripheral: &mut PeripheralBox,
+    peripheral: &mut P,
     input: &Input,
 ) -> Result<(), NoMemory>
-    requires unparked { (⟦<PeripheralBox as HasState>⟧.state peripheral.old).is_parked ≡ false }
-    requires fits { input_fits (⟦<PeripheralBox as HasState>⟧.state peripheral.old).kind input.now ≡ true }
-    ensures taken { let state = ⟦<PeripheralBox as HasState>⟧.state in
+    requires unparked { (P.Peripheral.state peripheral.old).is_parked ≡ false }
+    requires fits { input_fits (P.Peripheral.state peripheral.old).kind input.now ≡ true }
+    ensures taken { let state = P.Peripheral.state in
         TakenAt input.now place result (controls_of controls.old) (station_of (state peripheral.old))
         (controls_of controls.new) (station_of (state peripheral.new)) }
-    ensures in_service { let state = ⟦<PeripheralBox as HasState>⟧.state in
+    ensures in_service { let state = P.Peripheral.state in
         StaysInService (state peripheral.old) (state peripheral.new) }
 {
     match peripheral.kind() {
@@ -243,10 +240,13 @@ fn take_input(
 }
 
 /// What the first device with a name is physically.
-pub(crate) fn snapshot(devices: &Devices, name: &[u8]) -> Result<Snapshot, SnapshotFault>
-    requires { AreDevicesSound ⟦<PeripheralBox as HasState>⟧ devices.now }
+pub(crate) fn snapshot<P: Peripheral>(
+    devices: &Devices<P>,
+    name: &[u8],
+) -> Result<Snapshot, SnapshotFault>
+    requires { AreDevicesSound P.Peripheral devices.now }
     ensures { (helds : List Held) (shared : Shared) →
-        let machine = over helds (devices_in ⟦<PeripheralBox as HasState>⟧ devices.now) shared in
+        let machine = over helds (devices_in P.Peripheral devices.now) shared in
         Step machine (SnapshotOf name.now) (shown result) machine }
 {
     let Some(place) = devices.find(name) else {

@@ -6,15 +6,13 @@ ghost use Rattle.pos_counter.specs.Machine.{device_at, found_at, kind_in, place_
 ghost use Rattle.pos_counter.specs.KeptDevices.{AreDevicesSound, devices_in, profile_devices, totals_name, totals_place};
 
 use pos_profile::{Profile, Registry, Slot};
-use pos_service::{
-    Bytes, Category, Finding, HasState, Kind, NoMemory, PaperLevel, PeripheralBox, Signs,
-};
+use pos_service::{Bytes, Category, Finding, Kind, NoMemory, PaperLevel, Peripheral, Signs};
 use std::alloc::Global;
 
 /// The devices of a profile: those that may have a peripheral have the first places, in its order, and the Hard Totals
 /// device, where there is one, has the last.
-pub(crate) struct Devices {
-    pub(crate) registry: Registry,
+pub(crate) struct Devices<P> {
+    pub(crate) registry: Registry<P>,
     totals: Option<Bytes>,
 }
 
@@ -28,13 +26,17 @@ fn copy_totals(alloc: Global, profile: &Profile) -> Result<Option<Bytes>, NoMemo
     }
 }
 
-impl Devices {
+impl<P: Peripheral> Devices<P> {
     /// The devices of a profile, each vacant. An empty list becomes a part of them; want of memory ends that list.
-    pub(crate) fn new(alloc: Global, profile: &Profile, slots: Vec<Slot>) -> Result<Self, NoMemory>
+    pub(crate) fn new(
+        alloc: Global,
+        profile: &Profile,
+        slots: Vec<Slot<P>>,
+    ) -> Result<Self, NoMemory>
         requires empty { slots.items ≡ [] }
         ensures vacant { IfOk result (λ devices.
-            devices_in ⟦<PeripheralBox as HasState>⟧ devices ≡ profile_devices profile.now.devices) }
-        ensures sound { IfOk result (λ devices. AreDevicesSound ⟦<PeripheralBox as HasState>⟧ devices) }
+            devices_in P.Peripheral devices ≡ profile_devices profile.now.devices) }
+        ensures sound { IfOk result (λ devices. AreDevicesSound P.Peripheral devices) }
     {
         let Ok(totals) = copy_totals(alloc, profile) else {
             slots.destroy_empty();
@@ -46,8 +48,8 @@ impl Devices {
 
     /// The place of the first device with a name.
     pub(crate) fn find(&self, name: &[u8]) -> Option<usize>
-        requires { AreDevicesSound ⟦<PeripheralBox as HasState>⟧ self.now }
-        ensures { result ≡ place_of (devices_in ⟦<PeripheralBox as HasState>⟧ self.now) name.now }
+        requires { AreDevicesSound P.Peripheral self.now }
+        ensures { result ≡ place_of (devices_in P.Peripheral self.now) name.now }
     {
         match self.registry.find(name) {
             Some(place) => Some(place),
@@ -57,7 +59,7 @@ impl Devices {
 
     /// The place of the Hard Totals device, where it has the name.
     fn find_totals(&self, name: &[u8]) -> Option<usize>
-        ensures { let list = registered ⟦<PeripheralBox as HasState>⟧ self.now.registry in
+        ensures { let list = registered P.Peripheral self.now.registry in
             result ≡ totals_place (length list) name.now self.now.totals }
     {
         match &self.totals {
@@ -68,8 +70,8 @@ impl Devices {
 
     /// What a control of a category finds under a name.
     pub(crate) fn find_for(&self, category: Category, name: &[u8]) -> Finding
-        requires { AreDevicesSound ⟦<PeripheralBox as HasState>⟧ self.now }
-        ensures { let devices = devices_in ⟦<PeripheralBox as HasState>⟧ self.now in
+        requires { AreDevicesSound P.Peripheral self.now }
+        ensures { let devices = devices_in P.Peripheral self.now in
             result ≡ found_at category (place_of devices name.now) (device_at devices (place_of devices name.now)) }
     {
         let Some(place) = self.find(name) else {
@@ -80,8 +82,8 @@ impl Devices {
 
     /// What a control of a category finds at the place of a device.
     fn find_at(&self, category: Category, place: usize) -> Finding
-        requires { IsSome (device_at (devices_in ⟦<PeripheralBox as HasState>⟧ self.now) (Some place)) }
-        ensures { let devices = devices_in ⟦<PeripheralBox as HasState>⟧ self.now in
+        requires { IsSome (device_at (devices_in P.Peripheral self.now) (Some place)) }
+        ensures { let devices = devices_in P.Peripheral self.now in
             result ≡ found_at category (Some place) (device_at devices (Some place)) }
     {
         let kind = self.kind_at(Some(place));
@@ -96,7 +98,7 @@ impl Devices {
 
     /// What the device at the place is, where it has a peripheral.
     pub(crate) fn kind_at(&self, place: Option<usize>) -> Option<Kind>
-        ensures { result ≡ kind_in (device_at (devices_in ⟦<PeripheralBox as HasState>⟧ self.now) place) }
+        ensures { result ≡ kind_in (device_at (devices_in P.Peripheral self.now) place) }
     {
         match place {
             Some(place) => self.registry.kind(place),
@@ -106,10 +108,9 @@ impl Devices {
 
     /// Ends the devices: those that may have a peripheral, each once, in the profile's order, with their peripherals,
     /// which are taken out of service and else as they were.
-    pub(crate) fn into_entries(self) -> Vec<Slot>
+    pub(crate) fn into_entries(self) -> Vec<Slot<P>>
         requires { Unit {0} }
-        ensures { let boxes = ⟦<PeripheralBox as HasState>⟧ in
-            registered_in boxes result.items ≡ map parked (registered boxes self.registry) }
+        ensures { registered_in P.Peripheral result.items ≡ map parked (registered P.Peripheral self.registry) }
     {
         let Devices {
             registry,
@@ -120,7 +121,7 @@ impl Devices {
 
     /// The signs of the peripheral at the place, each false or good where there is none.
     pub(crate) fn signs_at(&self, place: Option<usize>) -> Signs
-        ensures { let devices = devices_in ⟦<PeripheralBox as HasState>⟧ self.now in
+        ensures { let devices = devices_in P.Peripheral self.now in
             result ≡ signs_in (station_in (device_at devices place)) }
     {
         if let Some(place) = place {

@@ -13,53 +13,52 @@ ghost use Rattle.pos_counter.specs.Steps.{Attach, Detach, has_open, is_open_at};
 use crate::devices::Devices;
 use pos_common::Control;
 use pos_profile::{AttachFault, DetachFault};
-use pos_service::{HasState, PeripheralBox};
+use pos_service::Peripheral;
 
 /// Has a peripheral serve the first device with a name.
-pub(crate) fn attach(
+pub(crate) fn attach<P: Peripheral>(
     controls: &[Control],
-    devices: &mut Devices,
+    devices: &mut Devices<P>,
     name: &[u8],
-    peripheral: PeripheralBox,
-) -> Result<(), (AttachFault, PeripheralBox)>
-    requires parts { ArePartsSound controls.now (devices_in ⟦<PeripheralBox as HasState>⟧ devices.old) }
-    requires sound { AreDevicesSound ⟦<PeripheralBox as HasState>⟧ devices.old }
-    requires unparked { (⟦<PeripheralBox as HasState>⟧.state peripheral).is_parked ≡ false }
-    ensures serves { let boxes = ⟦<PeripheralBox as HasState>⟧ in
-        ServesBeside controls.now (devices_in boxes devices.old)
-        (Attach name.now (station_of (boxes.state peripheral))) (attached result)
-        controls.now (devices_in boxes devices.new) }
+    peripheral: P,
+) -> Result<(), (AttachFault, P)>
+    requires parts { ArePartsSound controls.now (devices_in P.Peripheral devices.old) }
+    requires sound { AreDevicesSound P.Peripheral devices.old }
+    requires unparked { (P.Peripheral.state peripheral).is_parked ≡ false }
+    ensures serves { ServesBeside controls.now (devices_in P.Peripheral devices.old)
+        (Attach name.now (station_of (P.Peripheral.state peripheral))) (attached result)
+        controls.now (devices_in P.Peripheral devices.new) }
     ensures handed_back { IfErr result (λ refusal. refusal.1 ≡ peripheral) }
-    ensures sound { AreDevicesSound ⟦<PeripheralBox as HasState>⟧ devices.new }
+    ensures sound { AreDevicesSound P.Peripheral devices.new }
 {
     let _ = controls;
     devices.registry.attach(name, peripheral)
 }
 
 /// Takes what serves the first device with a name out of service, and hands it out.
-pub(crate) fn detach(
+pub(crate) fn detach<P: Peripheral>(
     controls: &[Control],
-    devices: &mut Devices,
+    devices: &mut Devices<P>,
     name: &[u8],
-) -> Result<PeripheralBox, DetachFault>
-    requires parts { ArePartsSound controls.now (devices_in ⟦<PeripheralBox as HasState>⟧ devices.old) }
-    requires sound { AreDevicesSound ⟦<PeripheralBox as HasState>⟧ devices.old }
-    ensures serves { let boxes = ⟦<PeripheralBox as HasState>⟧ in
-        ServesBeside controls.now (devices_in boxes devices.old) (Detach name.now) (detached boxes.state result)
-        controls.now (devices_in boxes devices.new) }
+) -> Result<P, DetachFault>
+    requires parts { ArePartsSound controls.now (devices_in P.Peripheral devices.old) }
+    requires sound { AreDevicesSound P.Peripheral devices.old }
+    ensures serves { ServesBeside controls.now (devices_in P.Peripheral devices.old) (Detach name.now)
+        (detached P.Peripheral.state result)
+        controls.now (devices_in P.Peripheral devices.new) }
     ensures parked { IfOk result (λ peripheral.
-        (⟦<PeripheralBox as HasState>⟧.state peripheral).is_parked ≡ true) }
-    ensures sound { AreDevicesSound ⟦<PeripheralBox as HasState>⟧ devices.new }
+        (P.Peripheral.state peripheral).is_parked ≡ true) }
+    ensures sound { AreDevicesSound P.Peripheral devices.new }
 {
     let is_open = is_open(controls, devices, name);
     devices.registry.detach(name, is_open)
 }
 
 /// Whether one of the controls has the first device with a name open, where that may have a peripheral.
-fn is_open(controls: &[Control], devices: &Devices, name: &[u8]) -> bool
-    requires { AreDevicesSound ⟦<PeripheralBox as HasState>⟧ devices.now }
+fn is_open<P: Peripheral>(controls: &[Control], devices: &Devices<P>, name: &[u8]) -> bool
+    requires { AreDevicesSound P.Peripheral devices.now }
     ensures { (place : ℕ) →
-        place_of (names_of (registered ⟦<PeripheralBox as HasState>⟧ devices.now.registry)) name.now ≡ Some place
+        place_of (names_of (registered P.Peripheral devices.now.registry)) name.now ≡ Some place
         → result ≡ is_open_at place (controls_of controls.now) }
 {
     match devices.registry.find(name) {

@@ -20,7 +20,7 @@ ghost use Rattle.pos_counter.specs.Totals.{Recovers, TotalsPart};
 
 use crate::counter::Counter;
 use pos_disk::Disk;
-use pos_service::{HasState, PeripheralBox};
+use pos_service::Peripheral;
 
 /// Whatever a machine runs through, from totals whose disk stands for some files: a crash leaves the files after a
 /// prefix of the history, each group whole or absent, which holds each group that was settled before.
@@ -58,47 +58,47 @@ pub fn crash_prefix()
 /// For a counter that began over an honest disk at rest that stands for some files: a crash at any moment of a call
 /// leaves bytes that stand for the files after a prefix of the history before or after the call, each group whole or
 /// absent, which holds each group that was settled before the call; and likewise of a list of requests and its steps.
-pub fn crash_leaves_a_prefix<D: Disk>(counter: &Counter<D>)
+pub fn crash_leaves_a_prefix<D: Disk, P: Peripheral>(counter: &Counter<D, P>)
     // a counter that begins has run through nothing
     ensures begins { (start : List File) (sequence : ℕ)
-        → BeginsOver D.Disk ⟦<PeripheralBox as HasState>⟧ start sequence counter.now
-        → HasBegun D.Disk ⟦<PeripheralBox as HasState>⟧ start sequence counter.now }
+        → BeginsOver D.Disk P.Peripheral start sequence counter.now
+        → HasBegun D.Disk P.Peripheral start sequence counter.now }
     // a call, after others
     ensures call { (start : List File) (sequence : ℕ) (steps : List (Request × Response)) (old : _)
-        (past : HasRun D.Disk ⟦<PeripheralBox as HasState>⟧ start sequence steps old)
+        (past : HasRun D.Disk P.Peripheral start sequence steps old)
         (request : Request) (response : Response)
-        → IsStep D.Disk ⟦<PeripheralBox as HasState>⟧ old request response counter.now
-        → KeepsPrefix D.Disk ⟦<PeripheralBox as HasState>⟧ start sequence steps old past
+        → IsStep D.Disk P.Peripheral old request response counter.now
+        → KeepsPrefix D.Disk P.Peripheral start sequence steps old past
         request response counter.now }
     // a list of requests
     ensures list { (start : List File) (sequence : ℕ) (steps more : List (Request × Response)) (old : _)
-        (past : HasRun D.Disk ⟦<PeripheralBox as HasState>⟧ start sequence steps old)
-        (run : IsRun D.Disk ⟦<PeripheralBox as HasState>⟧ old more counter.now)
-        → KeepsPrefixes D.Disk ⟦<PeripheralBox as HasState>⟧ start sequence steps old past more counter.now run }
+        (past : HasRun D.Disk P.Peripheral start sequence steps old)
+        (run : IsRun D.Disk P.Peripheral old more counter.now)
+        → KeepsPrefixes D.Disk P.Peripheral start sequence steps old past more counter.now run }
     // each moment of a list lies in one of its requests
     ensures moments { (left : List Standing) (steps : List (Request × Response)) (old : _)
         → Leaves D.Disk old.totals left
-        → IsRun D.Disk ⟦<PeripheralBox as HasState>⟧ old steps counter.now
-        → RunsFrom D.Disk ⟦<PeripheralBox as HasState>⟧ left old steps counter.now }
+        → IsRun D.Disk P.Peripheral old steps counter.now
+        → RunsFrom D.Disk P.Peripheral left old steps counter.now }
     // a call in which the totals have no part is one for all that the disk may leave
     ensures beside { (old : _) (request : Request) (response : Response)
-        → IsStepBeside ⟦<PeripheralBox as HasState>⟧ old request response counter.now
-        → IsStep D.Disk ⟦<PeripheralBox as HasState>⟧ old request response counter.now }
+        → IsStepBeside P.Peripheral old request response counter.now
+        → IsStep D.Disk P.Peripheral old request response counter.now }
 {}
 
 /// A run that is followed by a step is a run: so requests that are carried out as a list, and calls made one by one,
 /// among them those that attach and detach peripherals, are runs of the machine in any order.
-pub fn runs_go_on<D: Disk>(counter: &Counter<D>)
+pub fn runs_go_on<D: Disk, P: Peripheral>(counter: &Counter<D, P>)
     // a step behind a run
     ensures step { (first mid : _) (steps : List (Request × Response)) (request : Request) (response : Response)
-        → IsRun D.Disk ⟦<PeripheralBox as HasState>⟧ first steps mid
-        → IsStep D.Disk ⟦<PeripheralBox as HasState>⟧ mid request response counter.now
-        → IsRun D.Disk ⟦<PeripheralBox as HasState>⟧ first (steps ++ (request, response) ∷ []) counter.now }
+        → IsRun D.Disk P.Peripheral first steps mid
+        → IsStep D.Disk P.Peripheral mid request response counter.now
+        → IsRun D.Disk P.Peripheral first (steps ++ (request, response) ∷ []) counter.now }
     // a run behind a run
     ensures run { (first mid : _) (steps more : List (Request × Response))
-        → IsRun D.Disk ⟦<PeripheralBox as HasState>⟧ first steps mid
-        → IsRun D.Disk ⟦<PeripheralBox as HasState>⟧ mid more counter.now
-        → IsRun D.Disk ⟦<PeripheralBox as HasState>⟧ first (steps ++ more) counter.now }
+        → IsRun D.Disk P.Peripheral first steps mid
+        → IsRun D.Disk P.Peripheral mid more counter.now
+        → IsRun D.Disk P.Peripheral first (steps ++ more) counter.now }
 {}
 
 /// An example. The disk fails in a group; the next recovery keeps it or drops it, by the files that it finds, and it is

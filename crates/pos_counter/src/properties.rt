@@ -17,21 +17,21 @@ use crate::totals_calls::is_totals;
 use pos_common::{Claims, Control};
 use pos_disk::Disk;
 use pos_service::claims::{is_foreign, is_own};
-use pos_service::{Answer, Facts, FileFacts, HasState, NoMemory, PeripheralBox, Property, Value};
+use pos_service::{Answer, Facts, FileFacts, NoMemory, Peripheral, Property, Value};
 use pos_totals::Totals;
 
 /// Gets a property. Want of memory, for a copy of bytes, changes nothing.
-pub(crate) fn get<D: Disk>(
+pub(crate) fn get<D: Disk, P: Peripheral>(
     controls: &[Control],
     claims: &Claims,
-    devices: &Devices,
+    devices: &Devices<P>,
     totals: &Totals<D>,
     number: usize,
     property: Property,
 ) -> Result<Answer, NoMemory>
     requires in_range { number < length controls.now }
     ensures { (left : List Standing) →
-        let devices = devices_in ⟦<PeripheralBox as HasState>⟧ devices.now in
+        let devices = devices_in P.Peripheral devices.now in
         let machine = machine_with controls.now claims.now devices (part_of D.Disk totals.now left) in
         Step machine (CallOf number (call.Get property)) (answered result) machine }
 {
@@ -41,15 +41,15 @@ pub(crate) fn get<D: Disk>(
 }
 
 /// What is known of the control with a number and of its device.
-fn find_facts<D: Disk>(
+fn find_facts<D: Disk, P: Peripheral>(
     control: &Control,
     claims: &Claims,
-    devices: &Devices,
+    devices: &Devices<P>,
     totals: &Totals<D>,
     number: usize,
 ) -> Facts
     ensures { (left : List Standing) →
-        let devices = devices_in ⟦<PeripheralBox as HasState>⟧ devices.now in
+        let devices = devices_in P.Peripheral devices.now in
         let machine = machine_with [] claims.now devices (part_of D.Disk totals.now left) in
         result ≡ facts_of machine number control.now.control }
 {
@@ -93,17 +93,17 @@ fn find_file_facts<D: Disk>(totals: &Totals<D>) -> Option<FileFacts>
 ///
 /// Refused as the control says; and where the totals are to be recovered, with E_NOHARDWARE where the disk has none,
 /// with E_FAILURE where it is damaged or fails, or where the handles don't suffice.
-pub(crate) fn set<D: Disk>(
+pub(crate) fn set<D: Disk, P: Peripheral>(
     controls: &mut [Control],
     claims: &Claims,
-    devices: &Devices,
+    devices: &Devices<P>,
     totals: &mut Totals<D>,
     number: usize,
     property: Property,
     value: &Value,
 ) -> Result<Answer, NoMemory>
     requires { number < length controls.old }
-    ensures { let devices = devices_in ⟦<PeripheralBox as HasState>⟧ devices.now in
+    ensures { let devices = devices_in P.Peripheral devices.now in
         ArePartsSound controls.old devices → Serves D.Disk controls.old claims.now devices totals.old
         (CallOf number (call.Set property value.now)) (answered result) controls.new claims.now devices totals.new }
 {
@@ -118,10 +118,10 @@ pub(crate) fn set<D: Disk>(
 }
 
 /// Enables a control of Hard Totals that are off, once they are recovered.
-fn set_recovered<D: Disk>(
+fn set_recovered<D: Disk, P: Peripheral>(
     controls: &mut [Control],
     claims: &Claims,
-    devices: &Devices,
+    devices: &Devices<P>,
     totals: &mut Totals<D>,
     number: usize,
     property: Property,
@@ -129,7 +129,7 @@ fn set_recovered<D: Disk>(
 ) -> Result<Answer, NoMemory>
     requires in_range { number < length controls.old }
     requires recovers { IsRecovering controls.old number property value.now totals.old.totals.mode }
-    ensures { let devices = devices_in ⟦<PeripheralBox as HasState>⟧ devices.now in
+    ensures { let devices = devices_in P.Peripheral devices.now in
         ArePartsSound controls.old devices → Serves D.Disk controls.old claims.now devices totals.old
         (CallOf number (call.Set property value.now)) (answered result) controls.new claims.now devices totals.new }
 {

@@ -14,21 +14,21 @@ ghost use Rattle.pos_counter.specs.Steps.{WorkOn};
 use crate::devices::Devices;
 use crate::faults::WorkFault;
 use pos_common::{Claims, Control};
-use pos_service::{HasState, NoMemory, PeripheralBox, Worked};
+use pos_service::{NoMemory, Peripheral, Worked};
 
 /// Works on the output that waits for the first device with a name.
-pub(crate) fn work(
+pub(crate) fn work<P: Peripheral>(
     controls: &mut [Control],
     claims: &Claims,
-    devices: &mut Devices,
+    devices: &mut Devices<P>,
     name: &[u8],
 ) -> Result<Worked, WorkFault>
-    requires parts { ArePartsSound controls.old (devices_in ⟦<PeripheralBox as HasState>⟧ devices.old) }
-    requires sound { AreDevicesSound ⟦<PeripheralBox as HasState>⟧ devices.old }
-    ensures serves { let boxes = ⟦<PeripheralBox as HasState>⟧ in
-        ServesUnder claims.now controls.old (devices_in boxes devices.old) (WorkOn name.now) (worked result)
-        controls.new (devices_in boxes devices.new) }
-    ensures sound { AreDevicesSound ⟦<PeripheralBox as HasState>⟧ devices.new }
+    requires parts { ArePartsSound controls.old (devices_in P.Peripheral devices.old) }
+    requires sound { AreDevicesSound P.Peripheral devices.old }
+    ensures serves { ServesUnder claims.now controls.old (devices_in P.Peripheral devices.old) (WorkOn name.now)
+        (worked result)
+        controls.new (devices_in P.Peripheral devices.new) }
+    ensures sound { AreDevicesSound P.Peripheral devices.new }
 {
     let Some(place) = devices.find(name) else {
         return Err(WorkFault::NoDevice);
@@ -43,18 +43,18 @@ pub(crate) fn work(
 }
 
 /// Works on the output that waits for what serves the device at a place.
-fn work_there(
+fn work_there<P: Peripheral>(
     controls: &mut [Control],
     place: usize,
     claims: &Claims,
-    devices: &mut Devices,
+    devices: &mut Devices<P>,
 ) -> Result<Worked, NoMemory>
-    requires sound { AreDevicesSound ⟦<PeripheralBox as HasState>⟧ devices.old }
-    requires attached { IsAttachedAt (devices_in ⟦<PeripheralBox as HasState>⟧ devices.old) place }
-    ensures done { let boxes = ⟦<PeripheralBox as HasState>⟧ in
-        IsDoneAt (devices_in boxes devices.old) place (WorksAt (holder_at claims.now (Some place)) place result)
-        controls.old controls.new (devices_in boxes devices.new) }
-    ensures sound { AreDevicesSound ⟦<PeripheralBox as HasState>⟧ devices.new }
+    requires sound { AreDevicesSound P.Peripheral devices.old }
+    requires attached { IsAttachedAt (devices_in P.Peripheral devices.old) place }
+    ensures done { IsDoneAt (devices_in P.Peripheral devices.old) place
+        (WorksAt (holder_at claims.now (Some place)) place result)
+        controls.old controls.new (devices_in P.Peripheral devices.new) }
+    ensures sound { AreDevicesSound P.Peripheral devices.new }
 {
     let Some(mut peripheral) = devices.registry.take(place) else {
         unreachable!();
@@ -66,18 +66,18 @@ fn work_there(
 
 /// Works on the first request of the control that holds the device at a place. There is nothing to do at a device that
 /// is no printer. Want of memory changes nothing.
-fn work_at(
+fn work_at<P: Peripheral>(
     controls: &mut [Control],
     place: usize,
     claims: &Claims,
-    peripheral: &mut PeripheralBox,
+    peripheral: &mut P,
 ) -> Result<Worked, NoMemory>
-    requires unparked { (⟦<PeripheralBox as HasState>⟧.state peripheral.old).is_parked ≡ false }
-    ensures worked { let state = ⟦<PeripheralBox as HasState>⟧.state in
+    requires unparked { (P.Peripheral.state peripheral.old).is_parked ≡ false }
+    ensures worked { let state = P.Peripheral.state in
         WorksAt (holder_at claims.now (Some place)) place result
         (controls_of controls.old) (station_of (state peripheral.old))
         (controls_of controls.new) (station_of (state peripheral.new)) }
-    ensures in_service { let state = ⟦<PeripheralBox as HasState>⟧.state in
+    ensures in_service { let state = P.Peripheral.state in
         StaysInService (state peripheral.old) (state peripheral.new) }
 {
     if !peripheral.kind().is_printer() {

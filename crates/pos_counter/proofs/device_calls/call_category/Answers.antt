@@ -1,4 +1,4 @@
-use Rattle.std.proofs.Common.{◌≡◌, ◌∙◌, get_or, ap, sym, subst, refl, Some, None, false, []}
+use Rattle.std.proofs.Common.{◌≡◌, ◌∙◌, get_or, ap, sym, subst, refl, None, false, []}
 use Rattle.std.proofs.lemmas.List.{get_or_default}
 use Rattle.pos_service.specs.declared.answer.Answer.TheVariants as answer
 use Rattle.pos_service.specs.declared.category.Category.{Category}
@@ -8,7 +8,7 @@ use Rattle.pos_service.specs.Calls.{serves}
 use Rattle.pos_common.specs.Held.{Held, controls_of}
 use Rattle.pos_counter.specs.Machine.{Shared}
 use Rattle.pos_counter.specs.AtDevices.{CallsAt, IsDoneAt, MayBeCalled}
-use Rattle.pos_counter.specs.KeptDevices.{boxes_in, devices_in}
+use Rattle.pos_counter.specs.KeptDevices.{devices_in}
 use Rattle.pos_counter.specs.Assembly.{machine_with}
 use Rattle.pos_counter.specs.Leaving.{part_of}
 use Rattle.pos_counter.specs.Responses.{answered}
@@ -29,7 +29,7 @@ pub returns-in_default-clause-serves : goal.returns-in_default-clause-serves
 returns-in_default-clause-serves g c =
     let hs = c.args.controls.now in
     let cl = c.args.claims.now in
-    let ds = devices_in (boxes_in c.requires.sound) c.args.devices.now in
+    let ds = devices_in g.P.Peripheral c.args.devices.now in
     let n = c.args.number in
     let d = c.index-controls-number.result in
     let view = c.args.totals.now in
@@ -58,7 +58,7 @@ call_there-requires-clause-open g c =
 pub call_there-requires-clause-may : goal.call_there-requires-clause-may
 call_there-requires-clause-may g c =
     let hs = c.args.controls.now in
-    let ds = devices_in (boxes_in c.requires.sound) c.args.devices.now in
+    let ds = devices_in g.P.Peripheral c.args.devices.now in
     let n = c.args.number in
     let d = c.index-controls-number.result in
     let one = (get_or hs n d).control in
@@ -71,12 +71,11 @@ call_there-requires-clause-may g c =
 
 pub returns-clause-serves : goal.returns-clause-serves
 returns-clause-serves g c =
-    let boxes = boxes_in c.requires.sound in
     let hs = c.args.controls.now in
     let gs = c.call_there.new.controls in
     let cl = c.args.claims.now in
-    let ds = devices_in boxes c.args.devices.now in
-    let es = devices_in boxes c.call_there.new.devices in
+    let ds = devices_in g.P.Peripheral c.args.devices.now in
+    let es = devices_in g.P.Peripheral c.call_there.new.devices in
     let n = c.args.number in
     let d = c.index-controls-number.result in
     let one = (get_or hs n d).control in

@@ -2,28 +2,26 @@ use Rattle.std.proofs.Common.{◌∙◌, Some, ap, subst, sym}
 use Rattle.pos_service.specs.Stations.{station_of}
 use Rattle.pos_profile.specs.Registries.{MayServe, devices as registered, with_peripheral}
 use Rattle.pos_profile.proofs.CallerLemmas.{put_back}
-use Rattle.pos_counter.specs.KeptDevices.{boxes_in, devices_of}
+use Rattle.pos_counter.specs.KeptDevices.{devices_of}
 use Rattle.pos_counter.proofs.DeviceLists.{is_out}
 use Rattle.pos_counter.proofs.device_calls.call_there.Goals as goal
 
 pub put-requires-clause-may_serve : goal.put-requires-clause-may_serve
 put-requires-clause-may_serve g c =
-    let boxes = boxes_in c.requires.sound in
-    let list = registered boxes c.args.devices.now.registry in
-    let now = boxes.state c.call_device-answer.new.peripheral in
+    let list = registered g.P.Peripheral c.args.devices.now.registry in
+    let now = g.P.Peripheral.state c.call_device-answer.new.peripheral in
     subst (λ ds. MayServe ds c.args.place now) (sym c.in-Some.ensures.vacated)
-    (put_back list c.args.place (boxes.state c.in-Some.peripheral) now c.requires.sound.registry.served c.in-Some.ensures.taken c.call_device-answer.ensures.in_service.kind)
+    (put_back list c.args.place (g.P.Peripheral.state c.in-Some.peripheral) now c.requires.sound.registry.served c.in-Some.ensures.taken c.call_device-answer.ensures.in_service.kind)
 
 pub returns-clause-done : goal.returns-clause-done
 returns-clause-done g c =
-    let boxes = boxes_in c.requires.sound in
-    let list = registered boxes c.args.devices.now.registry in
+    let list = registered g.P.Peripheral c.args.devices.now.registry in
     let totals = c.args.devices.now.totals in
-    let now = boxes.state c.call_device-answer.new.peripheral in
-    let out = is_out list totals c.args.place (boxes.state c.in-Some.peripheral) c.requires.sound.registry.served c.in-Some.ensures.taken in
+    let now = g.P.Peripheral.state c.call_device-answer.new.peripheral in
+    let out = is_out list totals c.args.place (g.P.Peripheral.state c.in-Some.peripheral) c.requires.sound.registry.served c.in-Some.ensures.taken in
     record {
       device = out.device;
-      before = station_of (boxes.state c.in-Some.peripheral);
+      before = station_of (g.P.Peripheral.state c.in-Some.peripheral);
       after = station_of now;
       is_device = out.is_device;
       is_attached = out.is_attached;

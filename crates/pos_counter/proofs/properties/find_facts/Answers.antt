@@ -2,7 +2,6 @@ use Rattle.std.proofs.Common.{◌≡◌, ◌∙◌, [], ap}
 use Rattle.pos_service.specs.declared.facts.Facts.{Facts}
 use Rattle.pos_service.specs.Claims.{is_own, is_foreign}
 use Rattle.pos_service.specs.Stations.{signs_in}
-use Rattle.pos_service.specs.declared.peripheral_box.HasState.{Ghosts}
 use Rattle.pos_counter.specs.Machine.{device_at, holder_in, kind_in, station_in}
 use Rattle.pos_counter.specs.KeptDevices.{devices_in}
 use Rattle.pos_counter.specs.Assembly.{machine_with}
@@ -23,8 +22,7 @@ facts_same a b kind signs size files claimed foreign transacting =
 
 pub returns : goal.returns
 returns g c = λ left.
-    let boxes : Ghosts _ = record { state = λ b. g.P.Peripheral.state b } in
-    let ds = devices_in boxes c.args.devices.now in
+    let ds = devices_in g.P.Peripheral c.args.devices.now in
     let n = c.args.number in
     let one = c.args.control.now.control in
     let cl = c.args.claims.now in

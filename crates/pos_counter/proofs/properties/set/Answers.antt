@@ -3,7 +3,6 @@ use Rattle.pos_totals.specs.HardTotals.{is_ready}
 use Rattle.pos_service.specs.Properties.{after_set, set_rows}
 use Rattle.pos_common.specs.Held.{Held, TurnsInto}
 use Rattle.pos_store.specs.Standing.{Standing}
-use Rattle.pos_service.specs.declared.peripheral_box.HasState.{Ghosts}
 use Rattle.pos_counter.specs.Machine.{Shared, device_at, holder_in, kind_in}
 use Rattle.pos_counter.specs.Totals.{asks_recovery}
 use Rattle.std.proofs.lemmas.List.{get_or_default}
@@ -18,9 +17,8 @@ use Rattle.pos_counter.proofs.properties.set.Goals as goal
 
 pub returns : goal.returns
 returns g c = λ sound.
-    let boxes : Ghosts _ = record { state = λ b. g.P.Peripheral.state b } in
     let hs = c.args.controls.now in
-    let ds = devices_in boxes c.args.devices.now in
+    let ds = devices_in g.P.Peripheral c.args.devices.now in
     let n = c.args.number in
     let p = c.args.property in
     let v = c.args.value.now in

@@ -4,7 +4,7 @@ use Rattle.pos_common.specs.Held.{Held}
 use Rattle.pos_profile.specs.Registries.{devices as registered}
 use Rattle.pos_counter.specs.Machine.{Device}
 use Rattle.pos_counter.specs.Assembly.{ArePartsSound, machine_with}
-use Rattle.pos_counter.specs.KeptDevices.{boxes_in, devices_in, profile_devices}
+use Rattle.pos_counter.specs.KeptDevices.{devices_in, profile_devices}
 use Rattle.pos_counter.proofs.Beginning.{begins_sound, count_devices}
 use Rattle.pos_counter.proofs.counter.Counter.new.Goals as goal
 
@@ -15,8 +15,8 @@ returns-in-Ok-new-clause-begins g c =
     let claims = c.in-Ok.ensures ∙ ap (λ n. replicate n None) (ap length c.devices.ensures ∙ sym count) in
     record {
       machine = λ part.
-          ap (λ (hs : List Held). machine_with hs c.in-Ok.claims (devices_in (boxes_in c.in-Ok-new.ensures.sound) c.in-Ok-new.devices) part) c.new-in-Ok-new.ensures
-          ∙ ap (λ (cl : List (Option ℕ)). machine_with [] cl (devices_in (boxes_in c.in-Ok-new.ensures.sound) c.in-Ok-new.devices) part) claims
+          ap (λ (hs : List Held). machine_with hs c.in-Ok.claims (devices_in g.P.Peripheral c.in-Ok-new.devices) part) c.new-in-Ok-new.ensures
+          ∙ ap (λ (cl : List (Option ℕ)). machine_with [] cl (devices_in g.P.Peripheral c.in-Ok-new.devices) part) claims
           ∙ ap (λ (ds : List Device). machine_with [] (replicate (length (profile_devices entries)) None) ds part) c.in-Ok-new.ensures.vacant;
       totals = c.new-in-Ok-new-2.ensures;
     }
@@ -26,10 +26,9 @@ returns-in-Ok-new-clause-sound g c =
     let entries = c.args.profile.now.devices in
     let devices = c.in-Ok-new.devices in
     let sound = c.in-Ok-new.ensures.sound in
-    let boxes = boxes_in sound in
     let count : length (profile_devices entries) ≡ length entries = count_devices [] entries refl c.is_profile.ensures.totals in
     record {
-      parts = subst (λ (hs : List Held). ArePartsSound hs (devices_in boxes devices)) (sym c.new-in-Ok-new.ensures) (begins_sound (registered boxes devices.registry) devices.totals sound.registry.kinds sound.registry.served);
+      parts = subst (λ (hs : List Held). ArePartsSound hs (devices_in g.P.Peripheral devices)) (sym c.new-in-Ok-new.ensures) (begins_sound (registered g.P.Peripheral devices.registry) devices.totals sound.registry.kinds sound.registry.served);
       devices = sound;
       covers = ap length c.in-Ok.ensures ∙ length-replicate (length c.devices.result.now) None ∙ ap length c.devices.ensures ∙ sym count ∙ ap length (sym c.in-Ok-new.ensures.vacant);
     }

@@ -1,7 +1,6 @@
 use Rattle.std.proofs.Common.{◌≡◌, ◌∙◌, ap, map, sym, subst, true}
 use Rattle.std.specs.Prelude.{All, IfSome}
 use Rattle.pos_profile.specs.Registries.{Device as Registered, devices as registered}
-use Rattle.pos_counter.specs.Counters.{boxes_of}
 use Rattle.pos_counter.specs.KeptDevices.{device_of}
 use Rattle.pos_counter.proofs.Parking.{devices_stay, all_parked}
 use Rattle.pos_counter.proofs.counter.Counter.shutdown.Goals as goal
@@ -9,7 +8,10 @@ use Rattle.pos_counter.proofs.counter.Counter.shutdown.Goals as goal
 pub returns-clause-entries : goal.returns-clause-entries
 returns-clause-entries g c = λ part.
     let devices = c.args.self.devices in
-    let list = registered (boxes_of c.requires.sound) devices.registry in record {
+    let list = registered g.P.Peripheral devices.registry in record {
       devices = ap (map device_of) c.into_entries.ensures ∙ devices_stay list devices.totals;
       parked = subst (All (λ (d : Registered). IfSome d.peripheral (λ state. state.is_parked ≡ true))) (sym c.into_entries.ensures) (all_parked list);
     }
+
+pub returns-clause-at_rest : goal.returns-clause-at_rest
+returns-clause-at_rest g c = rw c.into_disk.ensures.disk c.into_disk.ensures.at_rest

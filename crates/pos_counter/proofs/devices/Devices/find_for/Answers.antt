@@ -1,7 +1,7 @@
 use Rattle.std.proofs.Common.{sym}
-use Rattle.pos_counter.specs.KeptDevices.{boxes_in, devices_in}
+use Rattle.pos_counter.specs.KeptDevices.{devices_in}
 use Rattle.pos_counter.proofs.Places.{found_there}
 use Rattle.pos_counter.proofs.devices.Devices.find_for.Goals as goal
 
 pub find_at-requires : goal.find_at-requires
-find_at-requires g c = found_there c.args.name.now (devices_in (boxes_in c.requires) c.args.self.now) c.in-Some.place (sym c.in-Some.ensures)
+find_at-requires g c = found_there c.args.name.now (devices_in g.P.Peripheral c.args.self.now) c.in-Some.place (sym c.in-Some.ensures)
