@@ -1,5 +1,5 @@
 -- The devices of a profile, as a counter begins over them.
-use Rattle.std.proofs.Common.{◌≡◌, ◌∙◌, ◌+◌, ℕ, zero, suc, List, [], ◌∷◌, ◌++◌, Option, Some, None, Bool, true, false, map, length, cond, ap, sym, refl, arith}
+use Rattle.std.proofs.Common.{◌≡◌, ◌∙◌, ℕ, suc, List, [], ◌∷◌, ◌++◌, Option, Some, None, Bool, true, false, map, length, cond, ap, sym, refl, arith}
 use Rattle.std.specs.Prelude.{All, IfSome, find, option_map, slice_get, take, ◌||◌, ◌&&◌}
 use Rattle.std.specs.List.{AllByRecursion, cons_option, list_any}
 use Rattle.std.proofs.lemmas.Bool.{false≢true}
@@ -15,7 +15,7 @@ use Rattle.pos_profile.specs.Categories.{is_totals}
 use Rattle.pos_profile.specs.Kinds.{kind_with}
 use Rattle.pos_profile.specs.Profiles.{is_refused_after, is_totals_entry}
 use Rattle.pos_profile.specs.Registries.{Device as Registered, HasKindInRange, IsServed, planned_of, vacant, vacant_devices}
-use Rattle.pos_counter.specs.Machine.{Device, Shared}
+use Rattle.pos_counter.specs.Machine.{Device}
 use Rattle.pos_counter.specs.Assembly.{ArePartsSound}
 use Rattle.pos_counter.specs.KeptDevices.{device_of, devices_of, profile_devices, totals_devices}
 use Rattle.pos_counter.specs.Steps.{HasItsDevice, HasItsKind}

@@ -1,5 +1,5 @@
 -- Claims, releases and closes as steps of the machine.
-use Rattle.std.proofs.Common.{◌≡◌, ◌∙◌, ◌<◌, ◌∷◌, [], ℕ, ℤ, suc, List, Option, Some, None, Bool, true, false, inl, inr, cond, get_or, set, length, ap, sym, subst, refl, arith}
+use Rattle.std.proofs.Common.{◌≡◌, ◌∙◌, ◌<◌, ◌∷◌, [], ℕ, ℤ, List, Option, Some, None, Bool, true, false, inl, inr, cond, get_or, set, length, ap, sym, subst, refl, arith}
 use Rattle.std.specs.Prelude.{IfSome, MatchOption, slice_get, is_none, is_some, not}
 use Rattle.std.proofs.lemmas.List.{map-set, length-set, set-get_or}
 use Rattle.std.proofs.lemmas.List.Elements.{All-get_or, All-weaker}

@@ -1,14 +1,14 @@
 -- The devices of a machine, by the registry of a counter.
-use Rattle.std.proofs.Common.{◌≡◌, ◌∷◌, [], ℕ, ◌+◌, zero, suc, List, Option, Some, None, Bool, true, false, length, map, set, ap, sym, ◌∙◌, subst, refl, arith}
-use Rattle.std.specs.Prelude.{slice_get, option_map, is_some, IfSome, IsSome, All, filter, ◌++◌}
+use Rattle.std.proofs.Common.{◌≡◌, ◌∷◌, [], ℕ, zero, suc, List, Option, Some, None, Bool, true, false, set, ap, sym, ◌∙◌, subst, refl}
+use Rattle.std.specs.Prelude.{slice_get, option_map, is_some, IfSome, IsSome}
 use Rattle.std.specs.List.{AllByRecursion}
 use Rattle.pos_service.specs.declared.input.Input.{Input}
 use Rattle.pos_service.specs.Peripherals.{PeripheralState, input_fits}
 use Rattle.pos_service.specs.Stations.{station_of}
-use Rattle.pos_profile.specs.Registries.{Device as Registered, IsServed, kind_at, parked, standing_at, with_peripheral}
-use Rattle.pos_counter.specs.Machine.{Device, device_at, kind_in, station_in}
+use Rattle.pos_profile.specs.Registries.{Device as Registered, IsServed, kind_at, standing_at, with_peripheral}
+use Rattle.pos_counter.specs.Machine.{Device, kind_in, station_in}
 use Rattle.pos_counter.specs.Steps.{FindsFit}
-use Rattle.pos_counter.specs.KeptDevices.{device_of, devices_of, has_kind, totals_devices}
+use Rattle.pos_counter.specs.KeptDevices.{device_of, devices_of}
 
 -- what the device at a place is
 pub kind_there : (list : List Registered) (totals : Option (List ℕ)) (place : ℕ) → kind_in (slice_get (devices_of list totals) place) ≡ kind_at list place

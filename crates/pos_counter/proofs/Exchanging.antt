@@ -1,23 +1,22 @@
 -- What the registry of a counter tells of an exchange, as steps of the machine.
-use Rattle.std.proofs.Common.{◌≡◌, ◌∙◌, [], ◌∷◌, ℕ, ◌+◌, ◌<◌, ◌≤◌, drop, get_or, List, Option, Some, None, Result, Ok, Err, Bool, true, false, ap, map, sym, subst, refl, length}
+use Rattle.std.proofs.Common.{◌≡◌, ◌∙◌, ℕ, ◌+◌, ◌<◌, ◌≤◌, drop, get_or, List, Option, Some, None, Result, Ok, Err, Bool, false, ap, sym, subst, refl, length}
 use Rattle.std.specs.Prelude.{◌||◌, IsSome, slice_get, option_map, option_and_then}
 use Rattle.std.proofs.lemmas.List.{drop_all, drop_more, length-set}
-use Rattle.pos_service.specs.declared.kind.Kind.{Kind}
 use Rattle.pos_service.specs.Peripherals.{PeripheralState}
-use Rattle.pos_service.specs.Stations.{Station, station_of}
+use Rattle.pos_service.specs.Stations.{station_of}
 use Rattle.pos_common.specs.Held.{Held, controls_of}
 use Rattle.pos_profile.specs.declared.registry_fault.AttachFault.{AttachFault}
 use Rattle.pos_profile.specs.declared.registry_fault.AttachFault.TheVariants as attach
 use Rattle.pos_profile.specs.declared.registry_fault.DetachFault.{DetachFault}
 use Rattle.pos_profile.specs.declared.registry_fault.DetachFault.TheVariants as detach
 use Rattle.pos_profile.specs.Places.{place_of as registered_place}
-use Rattle.pos_profile.specs.Registries.{Device as Registered, Attaches, Detaches, IsNamed, kind_at, names_of, standing_at}
-use Rattle.pos_counter.specs.Machine.{Device, Machine, Shared, device_at, kind_in, kind_named, place_of, station_in, station_named}
+use Rattle.pos_profile.specs.Registries.{Device as Registered, Attaches, Detaches, IsNamed, names_of, standing_at}
+use Rattle.pos_counter.specs.Machine.{Shared, device_at, kind_in, place_of, station_in}
 use Rattle.pos_counter.specs.Assembly.{ArePartsSound, over}
 use Rattle.pos_counter.specs.Serving.{ServesBeside}
 use Rattle.pos_counter.specs.KeptDevices.{device_of, devices_of}
 use Rattle.pos_counter.specs.Responses.{attached, detached}
-use Rattle.pos_counter.specs.Steps.{Attach, Detach, Step, has_open, is_open_at}
+use Rattle.pos_counter.specs.Steps.{Attach, Detach, has_open, is_open_at}
 use Rattle.pos_counter.proofs.DeviceLists.{devices_with, registered_there}
 use Rattle.pos_counter.proofs.Places.{found_first, kind_last}
 use Rattle.pos_counter.proofs.Serving.{step_serves}

@@ -3,7 +3,7 @@ use Rattle.std.proofs.Common.{◌≡◌, ◌≤◌, ◌⊎◌, inl, inr, ℕ, Li
 use Rattle.std.specs.Prelude.{MatchOption, IsSome, IsTrue, is_none, is_some, ⊤}
 use Rattle.std.proofs.lemmas.Option.{same_Some}
 use Rattle.pos_disk.specs.Keeps.{KeepsDisk}
-use Rattle.pos_disk.specs.State.{LeavesOnly, Rises}
+use Rattle.pos_disk.specs.State.{Rises}
 use Rattle.pos_disk.specs.declared.device.Disk.{Ghosts}
 use Rattle.pos_disk.proofs.Moments.{started, weaker}
 use Rattle.pos_service.specs.declared.answer.Answer.{Answer}

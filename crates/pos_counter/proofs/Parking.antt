@@ -1,12 +1,12 @@
 -- Peripherals are taken out of service, and stand as they stood.
-use Rattle.std.proofs.Common.{◌≡◌, [], ◌∷◌, ℕ, List, Option, Some, None, true, get_or, map, ap, sym, ◌∙◌, refl}
-use Rattle.std.specs.Prelude.{All, IfSome, filter, option_map, ◌++◌}
+use Rattle.std.proofs.Common.{◌≡◌, [], ◌∷◌, ℕ, List, Option, Some, None, true, get_or, map, ap, ◌∙◌, refl}
+use Rattle.std.specs.Prelude.{All, IfSome, filter, option_map}
 use Rattle.std.proofs.lemmas.List.Elements.{All-map}
 use Rattle.pos_service.specs.Peripherals.{PeripheralState}
 use Rattle.pos_service.specs.Stations.{Station, station_of}
 use Rattle.pos_profile.specs.Registries.{Device as Registered, parked, parked_state}
 use Rattle.pos_counter.specs.Machine.{Device}
-use Rattle.pos_counter.specs.KeptDevices.{device_of, devices_of, has_kind, totals_devices}
+use Rattle.pos_counter.specs.KeptDevices.{device_of, devices_of, has_kind}
 
 -- a device whose peripheral is out of service is to the machine as it was
 still : (o : Option PeripheralState) → option_map station_of (option_map parked_state o) ≡ option_map station_of o

@@ -1,6 +1,6 @@
 -- Finding a device's place: names alone decide.
-use Rattle.std.proofs.Common.{◌≡◌, ◌∷◌, [], ℕ, ◌+◌, zero, suc, List, Option, Some, None, map, length, cond, Bool, true, false, ap, sym, ◌∙◌, subst, refl, arith}
-use Rattle.std.specs.Prelude.{bytes_eq, slice_get, IsSome, ◌++◌}
+use Rattle.std.proofs.Common.{◌≡◌, ◌∷◌, [], ℕ, ◌+◌, zero, suc, List, Option, Some, None, length, cond, Bool, true, false, ap, ◌∙◌, subst, refl, arith}
+use Rattle.std.specs.Prelude.{bytes_eq, slice_get, IsSome}
 use Rattle.pos_profile.specs.Places.{first_of, place_from as registered_from, place_of as registered_place}
 use Rattle.pos_profile.specs.Registries.{Device as Registered, names_of}
 use Rattle.pos_counter.specs.Machine.{Device, device_at, kind_in, place_from, place_of}

@@ -6,7 +6,6 @@ use Rattle.pos_service.specs.declared.answer.Answer.TheVariants as answer
 use Rattle.pos_service.specs.declared.answer.Value.{Value}
 use Rattle.pos_service.specs.declared.answer.Value.TheVariants as value
 use Rattle.pos_service.specs.declared.call.Call.{Call}
-use Rattle.pos_service.specs.declared.call.Call.TheVariants as call
 use Rattle.pos_service.specs.declared.memory.NoMemory.{NoMemory}
 use Rattle.pos_service.specs.declared.category.Category.{Category}
 use Rattle.pos_service.specs.declared.category.Category.TheVariants as category
@@ -25,7 +24,7 @@ use Rattle.pos_totals.specs.TotalsArrangements.{after_arrangement}
 use Rattle.pos_service.specs.Calls.{has_call, takes_memory}
 use Rattle.pos_service.specs.Refusals.{Decided, first_refusal, when}
 use Rattle.pos_totals.specs.TotalsCalls.{FileCall, Asks, Makes, Arranges, Commits, Nothing, file_call, file_rows}
-use Rattle.pos_store.specs.Standing.{Standing, Unformatted, Damaged, Stands, IsOneOf}
+use Rattle.pos_store.specs.Standing.{Standing, Unformatted, Damaged, IsOneOf}
 pub use Rattle.pos_totals.specs.Changes.{settled}
 use Rattle.pos_totals.specs.Changes.{IsOneGroup, before_or_after}
 use Rattle.pos_totals.specs.Recoveries.{HasFound, HasTooMany}

@@ -1,6 +1,6 @@
-use Rattle.std.proofs.Common.{◌∙◌, Ok, Some, ap, refl, sym, true, false}
+use Rattle.std.proofs.Common.{◌∙◌, Ok, ap, refl, sym, true, false}
 use Rattle.pos_service.specs.Peripherals.{input_fits}
-use Rattle.pos_service.specs.Stations.{TakenAt, station_of}
+use Rattle.pos_service.specs.Stations.{TakenAt}
 use Rattle.pos_profile.specs.Registries.{devices as registered}
 use Rattle.pos_counter.specs.KeptDevices.{devices_in}
 use Rattle.pos_counter.specs.Steps.{InputTo, NoDevice, WrongInput, TakenIn, OutOfMemory}

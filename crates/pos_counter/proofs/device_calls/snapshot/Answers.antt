@@ -1,4 +1,4 @@
-use Rattle.std.proofs.Common.{◌≡◌, ◌∙◌, Option, Some, None, ap, option_map, sym, subst, refl}
+use Rattle.std.proofs.Common.{◌≡◌, ◌∙◌, Option, ap, option_map, sym, subst, refl}
 use Rattle.std.specs.Prelude.{is_some, IfSome}
 use Rattle.pos_profile.specs.Registries.{devices as registered}
 use Rattle.pos_service.specs.Stations.{Station, station_of}

@@ -1,6 +1,4 @@
-use Rattle.std.proofs.Common.{◌≡◌, ◌∙◌, ap, drop, length, sym, true, false, arith}
-use Rattle.pos_common.specs.Held.{controls_of}
-use Rattle.pos_counter.specs.Steps.{is_open_at}
+use Rattle.std.proofs.Common.{◌∙◌, sym, true, false}
 use Rattle.pos_counter.proofs.Exchanging.{open_end, open_next}
 use Rattle.pos_counter.proofs.exchange.is_open_at.Goals as goal
 

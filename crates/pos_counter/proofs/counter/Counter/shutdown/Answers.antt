@@ -12,3 +12,6 @@ returns-clause-entries g c = λ part.
       devices = ap (map device_of) c.into_entries.ensures ∙ devices_stay list devices.totals;
       parked = subst (All (λ (d : Registered). IfSome d.peripheral (λ state. state.is_parked ≡ true))) (sym c.into_entries.ensures) (all_parked list);
     }
+
+pub returns-clause-at_rest : goal.returns-clause-at_rest
+returns-clause-at_rest g c = rw c.into_disk.ensures.disk c.into_disk.ensures.at_rest
