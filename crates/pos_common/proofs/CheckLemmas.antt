@@ -70,3 +70,11 @@ lets_open number holder control needs is none = by needs.is_open (is_none contro
 -- one of a category that has what is asked
 pub lets_own : (number : ℕ) (holder : Option ℕ) (control : Control) (needs : Needs) → first_refusal (table number holder control needs []) ≡ None → needs.is_there ≡ true
 lets_own number holder control needs none = lets_there (needs.is_open && is_none control.device) needs.is_there (claim_rows number holder control needs) none
+
+-- the check has let a control through: the rest of each table decides
+pub let_through : (number : ℕ) (holder holds : Option ℕ) (control : Control) (needs asked : Needs) (outcome : Result (Unit {0}) Code) (u : Unit {0}) → outcome ≡ Ok u → holder ≡ holds → needs ≡ asked → Checks number holder control needs outcome → (rest : List Row) → first_refusal (table number holds control asked rest) ≡ first_refusal rest
+let_through number holder holds control needs asked outcome u ok is are checks rest = rw (ok, is, are) at (checks rest)
+
+-- it has refused it, whatever the rest
+pub kept_out : (number : ℕ) (holder holds : Option ℕ) (control : Control) (needs asked : Needs) (outcome : Result (Unit {0}) Code) (code : Code) → outcome ≡ Err code → holder ≡ holds → needs ≡ asked → Checks number holder control needs outcome → (rest : List Row) → first_refusal (table number holds control asked rest) ≡ Some (answer.Refused code 0)
+kept_out number holder holds control needs asked outcome code err is are checks rest = rw (err, is, are) at (checks rest)

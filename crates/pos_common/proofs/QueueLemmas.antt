@@ -1,13 +1,14 @@
 -- A request that is queued, as the machine sees it.
 use Rattle.std.proofs.Common.{◌≡◌, ◌∙◌, ℕ, ◌<◌, List, get_or, set, length, arith, ap, refl, Ok, Err}
-use Rattle.std.specs.Prelude.{Option, Some, None, Result, MatchOption, MatchResult, slice_get}
+use Rattle.std.specs.Prelude.{Option, Some, None, Result, IsTrue, MatchOption, MatchResult, slice_get}
 use Rattle.std.proofs.lemmas.List.{length-map}
 use Rattle.std.proofs.lemmas.Option.{slice_get-get_or}
 use Rattle.pos_service.specs.declared.answer.Answer.{Answer}
 use Rattle.pos_service.specs.declared.memory.NoMemory.{NoMemory}
 use Rattle.pos_service.specs.declared.order.Order.{Order}
-use Rattle.pos_service.specs.Controls.{queued}
-use Rattle.pos_service.specs.Deeds.{id_rows, QueuesOrder}
+use Rattle.pos_service.specs.declared.deed.Deed.TheVariants as deed
+use Rattle.pos_service.specs.Controls.{Control, queued}
+use Rattle.pos_service.specs.Deeds.{id_rows, may_want, Does, QueuesOrder}
 use Rattle.pos_service.specs.Refusals.{first_refusal}
 use Rattle.pos_service.specs.Stations.{Station, SameStation}
 use Rattle.pos_common.specs.Held.{Held, controls_of, TurnsInto}
@@ -32,3 +33,8 @@ says_at given hs i d g (Ok result) at lt turns =
           turns.outcome;
     })
 says_at given hs i d g (Err want) at lt same = record { controls = same_control hs i d g lt (ap (λ (h : Held). h.control) same); station = refl }
+
+-- as what a call comes to
+pub queued_of : (given : Order) (number place : ℕ) (outcome : Result Answer NoMemory) (old new : List Control) (at : Station) → MatchResult outcome (λ result. QueuesOrder given number result old at new at) (λ want. SameStation old at new at) → MatchResult outcome (λ result. Does (deed.Queues given) number place result old at new at) (λ want. IsTrue (may_want (deed.Queues given)) × SameStation old at new at)
+queued_of given number place (Ok result) old new at h = h
+queued_of given number place (Err want) old new at h = (refl, h)

@@ -1,7 +1,6 @@
 //! What a call comes to that nothing refuses, at a device with a peripheral.
-ghost use Rattle.std.specs.Prelude.{◌≡◌, ◌<◌, false, true, All, MatchOption, MatchResult, length, slice_get};
-ghost use Rattle.pos_service.specs.Controls.{queued};
-ghost use Rattle.pos_service.specs.Deeds.{ChangesOne, DeedFits, Does, GivesOrder, Ordered, QueuesOrder, changed};
+ghost use Rattle.std.specs.Prelude.{◌≡◌, ◌<◌, false, true, IsTrue, MatchResult, length};
+ghost use Rattle.pos_service.specs.Deeds.{ChangesOne, DeedFits, Does, GivesOrder, Ordered, QueuesOrder, changed, may_want};
 ghost use Rattle.pos_service.specs.Peripherals.{PrintersTake, order_fits};
 ghost use Rattle.pos_service.specs.Stations.{SameStation, Station, StaysInService, station_of};
 ghost use Rattle.pos_common.specs.Held.{controls_of};
@@ -27,7 +26,7 @@ pub fn carry_out<P: Peripheral>(
     ensures done { let state = P.Peripheral.state in MatchResult result
         (λ answer. Does deed number place answer (controls_of controls.old) (station_of (state peripheral.old))
         (controls_of controls.new) (station_of (state peripheral.new)))
-        (λ _. SameStation (controls_of controls.old) (station_of (state peripheral.old))
+        (λ _. IsTrue (may_want deed) × SameStation (controls_of controls.old) (station_of (state peripheral.old))
         (controls_of controls.new) (station_of (state peripheral.new))) }
     ensures in_service { let state = P.Peripheral.state in
         StaysInService (state peripheral.old) (state peripheral.new) }

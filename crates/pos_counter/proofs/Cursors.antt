@@ -61,14 +61,14 @@ unless_not false is = cc
 -- ---- places
 
 -- a place of so many rows and columns
-abbrev IsPlace : ℕ → ℕ → Place → Type 0
+abbrev pub IsPlace : ℕ → ℕ → Place → Type 0
 IsPlace rows columns place = is_cursor_place rows columns place ≡ true
 
-with_row : (rows columns : ℕ) (place : Place) (n : ℤ) → is_index rows n ≡ true → IsPlace rows columns place → IsPlace rows columns (record place { row = nat_abs n })
+pub with_row : (rows columns : ℕ) (place : Place) (n : ℤ) → is_index rows n ≡ true → IsPlace rows columns place → IsPlace rows columns (record place { row = nat_abs n })
 with_row rows columns place (pos n) index is = and_from (nat_lt n rows) (nat_le place.column columns) index (and_parts (nat_lt place.row rows) (nat_le place.column columns) is).1
 with_row rows columns place (negsuc n) index is = cc
 
-with_column : (rows columns : ℕ) (place : Place) (n : ℤ) → is_up_to columns n ≡ true → IsPlace rows columns place → IsPlace rows columns (record place { column = nat_abs n })
+pub with_column : (rows columns : ℕ) (place : Place) (n : ℤ) → is_up_to columns n ≡ true → IsPlace rows columns place → IsPlace rows columns (record place { column = nat_abs n })
 with_column rows columns place (pos n) count is = and_from (nat_lt place.row rows) (nat_le n columns) (and_parts (nat_lt place.row rows) (nat_le place.column columns) is).0 count
 with_column rows columns place (negsuc n) count is = cc
 
@@ -94,7 +94,7 @@ place_set (Some k) c p v may is = λ display. by p v may (is display)
     by property.CursorUpdate v may is = is
     by p v may is = is
 
-first_place : (rows columns : ℕ) → 1 ≤ rows → IsPlace rows columns origin
+pub first_place : (rows columns : ℕ) → 1 ≤ rows → IsPlace rows columns origin
 first_place rows columns some = and_from (nat_lt 0 rows) (nat_le 0 columns) (grind (arith, nat_tests)) (grind (arith, nat_tests))
 
 -- the first place is one of each display
@@ -134,99 +134,9 @@ window_place rows columns place some le =
     and_from (nat_lt (place.row - (place.row + 1 - rows)) rows) (nat_le place.column columns) (grind (arith, nat_tests, row)) (grind (arith, nat_tests, le))
 
 -- a text leaves the cursor at a place
-text_place : (rows columns : ℕ) (update : Bool) (start : Place) (bytes : List ℕ) → 0 < rows → 0 < columns → IsPlace rows columns start → IsPlace rows columns (place_left rows columns update start bytes)
+pub text_place : (rows columns : ℕ) (update : Bool) (start : Place) (bytes : List ℕ) → 0 < rows → 0 < columns → IsPlace rows columns start → IsPlace rows columns (place_left rows columns update start bytes)
 text_place rows columns false start bytes tall wide is = is
 text_place rows columns true start bytes tall wide is =
     let within : nat_le start.column columns ≡ true = (and_parts (nat_lt start.row rows) (nat_le start.column columns) is).1 in
     let le : start.column ≤ columns = grind (arith, nat_tests, within) in
     window_place rows columns (text_from columns start bytes).place tall (text_column columns [] bytes (record { placed = []; place = start }) wide le)
-
--- ---- calls
-
--- what a call changes of its control leaves the cursor at a place of what the device is
-abbrev pub StaysOn : Option Kind → Place → Change → Type 0
-StaysOn at was (change.Cursor place) = IsPlaceOn at was → IsPlaceOn at place
-StaysOn at was what = ⊤
-
--- so does what it comes to
-abbrev pub DeedStaysOn : Option Kind → Place → Deed → Type 0
-DeedStaysOn at was (deed.Gives given what) = StaysOn at was what
-DeedStaysOn at was (deed.Changes what) = StaysOn at was what
-DeedStaysOn at was (deed.Queues given) = ⊤
-
-same_some : {A : Type 0} (a b : A) → Some a ≡ Some b → a ≡ b
-same_some a b e = cc
-
--- what comes of an attribute, or of a direction, is one
-one_of : {A : Type 0} (f : A → Deed) (o : Option A) (d : Deed) (P : Deed → Type 0) → ((a : A) → P (f a)) → option_map f o ≡ Some d → P d
-one_of f None d P each is = absurd cc
-one_of f (Some a) d P each is = subst P (same_some (f a) d is) (each a)
-
--- a text from a place of a display leaves the cursor at one
-text_stays : (rows columns : ℕ) (cursor : Cursor) (start : Place) (text : List ℕ) (style : Attribute) → 1 ≤ rows → 1 ≤ columns → (IsPlace rows columns cursor.place → IsPlace rows columns start) → DeedStaysOn (Some (kind.Display rows columns)) cursor.place (shows (Some (kind.Display rows columns)) cursor start text style)
-text_stays rows columns cursor start text style tall wide within = λ is display. text_place rows columns cursor.update start text (omega (arith, tall)) (omega (arith, wide)) (within (is display))
-
--- of a display
-display_stays : (rows columns : ℕ) (cursor : Cursor) (asked : Call) (d : Deed) → 1 ≤ rows → 1 ≤ columns → NoneApplies (display_rows (Some (kind.Display rows columns)) asked) → display_deed (Some (kind.Display rows columns)) cursor asked ≡ Some d → DeedStaysOn (Some (kind.Display rows columns)) cursor.place d
-display_stays rows columns cursor (call.DisplayText text attribute) d tall wide allowed is =
-    let at : Option Kind = Some (kind.Display rows columns) in
-    one_of (shows at cursor cursor.place text) (attribute_of attribute) d (DeedStaysOn at cursor.place) (λ style. text_stays rows columns cursor cursor.place text style tall wide (λ i. i)) is
-display_stays rows columns cursor (call.DisplayTextAt row column text attribute) d tall wide allowed is =
-    let at : Option Kind = Some (kind.Display rows columns) in
-    let start : Place = record { row = nat_abs row; column = nat_abs column } in
-    let first : IsPlace rows columns (record { row = nat_abs row; column = 0 }) = with_row rows columns origin row (unless_not (is_index rows row) allowed.0) (first_place rows columns tall) in
-    let within = with_column rows columns (record { row = nat_abs row; column = 0 }) column (unless_not (is_up_to columns column) allowed.1.0) first in
-    one_of (shows at cursor start text) (attribute_of attribute) d (DeedStaysOn at cursor.place) (λ style. text_stays rows columns cursor start text style tall wide (λ i. within)) is
-display_stays rows columns cursor call.ClearText d tall wide allowed is =
-    let at : Option Kind = Some (kind.Display rows columns) in
-    subst (DeedStaysOn at cursor.place) (same_some _ d is) (λ i display. first_place rows columns tall)
-display_stays rows columns cursor (call.ScrollText direction units) d tall wide allowed is =
-    let at : Option Kind = Some (kind.Display rows columns) in
-    one_of (scrolls units) (direction_of direction) d (DeedStaysOn at cursor.place) (λ way. tt) is
-display_stays rows columns cursor asked d tall wide allowed is = absurd cc
-
--- of a printer, whose calls leave the cursor alone
-request_stays : (at : Option Kind) (was : Place) (b : Bool) (given : Order) (d : Deed) → cond b (deed.Queues given) (deed.Gives given change.Nothing) ≡ d → DeedStaysOn at was d
-request_stays at was true given d is = subst (DeedStaysOn at was) is tt
-request_stays at was false given d is = subst (DeedStaysOn at was) is tt
-
-printer_stays : (at : Option Kind) (was : Place) (c : Control) (asked : Call) (d : Deed) → printer_deed c asked ≡ Some d → DeedStaysOn at was d
-printer_stays at was c (call.PrintNormal station text) d is = request_stays at was c.writer.is_async (order.Print text) d (same_some _ d is)
-printer_stays at was c (call.PrintImmediate station text) d is = subst (DeedStaysOn at was) (same_some _ d is) tt
-printer_stays at was c (call.CutPaper percentage) d is = request_stays at was c.writer.is_async (order.Cut (nat_abs percentage)) d (same_some _ d is)
-printer_stays at was c call.ClearOutput d is = subst (DeedStaysOn at was) (same_some _ d is) tt
-printer_stays at was c asked d is = absurd cc
-
-drawer_stays : (at : Option Kind) (was : Place) (asked : Call) (d : Deed) → drawer_deed asked ≡ Some d → DeedStaysOn at was d
-drawer_stays at was call.OpenDrawer d is = subst (DeedStaysOn at was) (same_some _ d is) tt
-drawer_stays at was asked d is = absurd cc
-
-scanner_stays : (at : Option Kind) (was : Place) (asked : Call) (d : Deed) → scanner_deed asked ≡ Some d → DeedStaysOn at was d
-scanner_stays at was call.ClearInput d is = subst (DeedStaysOn at was) (same_some _ d is) tt
-scanner_stays at was call.ClearInputProperties d is = subst (DeedStaysOn at was) (same_some _ d is) tt
-scanner_stays at was asked d is = absurd cc
-
--- where nothing is a display, each place is as good
-no_display : (k : Kind) (was : Place) (d : Deed) → is_display k ≡ false → DeedStaysOn (Some k) was d
-no_display k was (deed.Gives given (change.Cursor place)) no = λ is display. absurd (false≢true (sym no ∙ display))
-no_display k was (deed.Gives given change.Nothing) no = tt
-no_display k was (deed.Gives given change.Input) no = tt
-no_display k was (deed.Gives given change.InputProperties) no = tt
-no_display k was (deed.Gives given change.Output) no = tt
-no_display k was (deed.Changes (change.Cursor place)) no = λ is display. absurd (false≢true (sym no ∙ display))
-no_display k was (deed.Changes change.Nothing) no = tt
-no_display k was (deed.Changes change.Input) no = tt
-no_display k was (deed.Changes change.InputProperties) no = tt
-no_display k was (deed.Changes change.Output) no = tt
-no_display k was (deed.Queues given) no = tt
-
--- a call whose arguments are allowed comes to what leaves the cursor at a place
-pub deed_called : (k : Category) (is : Kind) (c : Control) (asked : Call) (d : Deed) → IsInRange is → NoneApplies (device_rows k (Some is) c asked) → device_deed k (Some is) c asked ≡ Some d → DeedStaysOn (Some is) c.cursor.place d
-deed_called category.CashDrawer is c asked d range allowed e = drawer_stays (Some is) c.cursor.place asked d e
-deed_called category.Scanner is c asked d range allowed e = scanner_stays (Some is) c.cursor.place asked d e
-deed_called category.LineDisplay kind.Drawer c asked d range allowed e = no_display kind.Drawer c.cursor.place d refl
-deed_called category.LineDisplay kind.Scanner c asked d range allowed e = no_display kind.Scanner c.cursor.place d refl
-deed_called category.LineDisplay (kind.Printer chars near) c asked d range allowed e = no_display (kind.Printer chars near) c.cursor.place d refl
-deed_called category.LineDisplay (kind.Display rows columns) c asked d range allowed e = display_stays rows columns c.cursor asked d range.0 range.2.0 allowed e
-deed_called category.PosPrinter is c asked d range allowed e = printer_stays (Some is) c.cursor.place c asked d e
-deed_called category.HardTotals is c asked d range allowed e = absurd cc

@@ -1,5 +1,6 @@
 pub mod Lifts
 pub mod Places
+pub mod Deeds
 pub mod DeviceLists
 pub mod Cursors
 pub mod Sound

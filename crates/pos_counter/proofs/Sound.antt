@@ -44,10 +44,11 @@ use Rattle.pos_service.specs.Claims.{after_release, holder_at, is_exclusive}
 use Rattle.pos_service.specs.Stations.{Station, Effect, SameStation, TakesIn, reaction}
 use Rattle.pos_service.specs.Statuses.{status_events}
 use Rattle.pos_totals.specs.HardTotals.{with_control as with_place}
-use Rattle.pos_counter.specs.Machine.{Device, Machine, device_at, kind_in, kind_of, place_of, found_at, with_control, with_totals}
+use Rattle.pos_counter.specs.Machine.{Device, Machine, device_at, holder_of, kind_in, kind_of, place_of, found_at, with_control, with_totals}
 use Rattle.pos_counter.specs.Steps.{Request, NewControl, CallOf, InputTo, WorkOn, Deliver, Snapshot, Attach, Detach, Response, Made, Full, Answered, TakenIn, NoDevice, WrongInput, Worked, Delivered, Shown, Attached, NotAttached, Detached, NotDetached, OutOfMemory, IsAttached, IsDetached, has_open, is_open_at, is_place, OnStation, Step, Called, Sets, SetsByRecovery, CategoryDoes, DeviceDoes, category_rows, device_deed, device_rows, claimed, released, dropped, facts_of, refusals, IsSound, IsPlaceOn, HasItsKind, HasItsDevice}
 use Rattle.pos_counter.specs.Totals.{TotalsPart, recovers}
-use Rattle.pos_counter.proofs.Cursors.{DeedStaysOn, NoneApplies, StaysOn, deed_called, none_applies, place_opened, place_set, unless_not}
+use Rattle.pos_counter.proofs.Cursors.{NoneApplies, none_applies, place_opened, place_set, unless_not}
+use Rattle.pos_counter.proofs.Deeds.{DeedStaysOn, StaysOn, deed_called}
 use Rattle.pos_counter.proofs.Lifts.{match_at_some, match_cases}
 
 -- the device is there, and serves a control of the category whose cursor is at a place
@@ -256,11 +257,14 @@ change_seat ds change.Output c stays h = same_seat ds c (changed change.Output c
 
 -- a control that has heard is where it was
 heard_there : (place number : ℕ) (events : List Enqueued) (c : Control) (old : List Control) → slice_get old number ≡ Some c → (g : Control) × (slice_get (all_listening place (heard events) old) number ≡ Some g) × (g.category ≡ c.category) × (g.device ≡ c.device) × (g.cursor ≡ c.cursor)
-heard_there place number events c old at = (
-  if_listening place (heard events) c,
-  slice_get-map (if_listening place (heard events)) old number ∙ ap (option_map (if_listening place (heard events))) at,
-  kept (listens place c),
-)
+heard_there place number events c old at =
+    let same = kept (listens place c) in (
+      if_listening place (heard events) c,
+      slice_get-map (if_listening place (heard events)) old number ∙ ap (option_map (if_listening place (heard events))) at,
+      same.0,
+      same.1,
+      same.2,
+    )
   where
     kept : (b : Bool) → let g : Control = cond b (heard events c) c in (g.category ≡ c.category) × (g.device ≡ c.device) × (g.cursor ≡ c.cursor)
     kept true = (refl, refl, refl)
@@ -283,7 +287,7 @@ deed_keeps ds (deed.Gives given what) r number place c old before new after at s
         let there = heard_there place number (status_events (signs_of before.kind before.plant) (signs_of after.kind after.plant)) c old at in
         let now = ap (λ (cs : List Control). slice_get cs number) ordered.controls ∙ there.1 in
         changes_keep ds what number there.0 h.heard new now
-        (subst (λ (o : Option ℕ). StaysOn (kind_in (device_at ds o)) there.0.cursor.place what) (sym there.2.1) (subst (λ (u : Cursor). StaysOn (kind_in (device_at ds c.device)) u.place what) (sym there.2.2) stays))
+        (subst (λ (o : Option ℕ). StaysOn (kind_in (device_at ds o)) there.0.cursor.place what) (sym there.3) (subst (λ (u : Cursor). StaysOn (kind_in (device_at ds c.device)) u.place what) (sym there.4) stays))
         follows all
     by reply.CoverOpen ordered same all = subst (All (HasItsDevice ds)) (sym same) all
     by reply.PaperEnd ordered same all = subst (All (HasItsDevice ds)) (sym same) all
@@ -398,14 +402,14 @@ called_sound m m' n c call.Release r e h s =
 called_sound m m' n c (call.Set p v) r e h s =
     elim (match_cases (first_refusal (refusals m n c (call.Set p v))) _ _ h.outcome) [
       | inl x ↦
-          let may = unless_not (takes (kind_of m c) p v) (none_applies (refusals m n c (call.Set p v)) x.0).1.1.1.1.0 in
+          let may = unless_not (takes (kind_of m c) p v) (none_applies (refusals m n c (call.Set p v)) x.0).1.1.1.1.1.0 in
           set_sound m m' n c p v r (recovers m.totals c p v) may e x.1 s
       | inr x ↦ same_machine m m' x.2.1 s
     ]
-called_sound m m' n c (call.Get p) r e h s = elim (match_cases (first_refusal (get_rows c (facts_of m n c) p)) _ _ h.outcome) [ inl x ↦ same_machine m m' x.1.1 s | inr x ↦ same_machine m m' x.2.1 s ]
+called_sound m m' n c (call.Get p) r e h s = elim (match_cases (first_refusal (get_rows n (holder_of m c) c (facts_of m n c) p)) _ _ h.outcome) [ inl x ↦ same_machine m m' x.1.1 s | inr x ↦ same_machine m m' x.2.1 s ]
 called_sound m m' n c own r e h s =
     elim (match_cases (first_refusal (refusals m n c own)) _ _ h.outcome) [
-      | inl x ↦ category_sound c.category m m' n c own r e (none_applies (refusals m n c own) x.0).1.1 x.1 s
+      | inl x ↦ category_sound c.category m m' n c own r e (none_applies (refusals m n c own) x.0).1.1.1.1.1 x.1 s
       | inr x ↦ same_machine m m' x.2.1 s
     ]
 

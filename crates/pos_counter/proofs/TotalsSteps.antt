@@ -18,8 +18,9 @@ use Rattle.pos_totals.specs.HardTotals.{Mode, Off, Ready}
 use Rattle.pos_service.specs.Refusals.{Row, first_refusal, when}
 use Rattle.pos_service.specs.Stations.{IsOpen}
 use Rattle.pos_service.specs.Claims.{is_foreign}
-use Rattle.pos_totals.specs.TotalsCalls.{asks_area, file_call, file_rows}
+use Rattle.pos_totals.specs.TotalsCalls.{file_call, file_rows}
 use Rattle.pos_common.specs.Held.{Held, controls_of}
+use Rattle.pos_store.specs.Standing.{Standing}
 use Rattle.pos_totals.specs.Changes.{IsDone}
 use Rattle.pos_totals.specs.Views.{IsReady, TotalsView, TurnsOff}
 use Rattle.pos_counter.specs.Machine.{Device, Machine}

@@ -1,5 +1,5 @@
 -- What a call comes to that nothing refuses, at a device with a peripheral (common chapter, and those of the categories).
-use Rattle.std.specs.Prelude.{◌≡◌, ⊤, true, ℕ, ◌==◌, List, [], ◌∷◌, Option, Some, None, Result, IsTrue, MatchOption, MatchResult, slice_get, slice_set}
+use Rattle.std.specs.Prelude.{◌≡◌, ⊤, Bool, true, false, ℕ, ◌==◌, List, [], ◌∷◌, Option, Some, None, Result, IsTrue, MatchOption, MatchResult, slice_get, slice_set}
 use Rattle.pos_service.specs.declared.answer.Answer.{Answer}
 use Rattle.pos_service.specs.declared.answer.Answer.TheVariants as answer
 use Rattle.pos_service.specs.declared.answer.Value.TheVariants as value
@@ -119,6 +119,12 @@ Does (deed.Changes what) number place result old before new after =
     ChangesItself what number result old before new after
 Does (deed.Queues given) number place result old before new after =
     QueuesOrder given number result old before new after
+
+-- it may want memory: for the room of events, or for a request
+abbrev pub may_want : Deed → Bool
+may_want (deed.Gives given what) = true
+may_want (deed.Changes what) = false
+may_want (deed.Queues given) = true
 
 -- A peripheral of this kind takes the order of a deed, now or later.
 abbrev pub DeedFits : Kind → Deed → Type 0

@@ -62,7 +62,7 @@ returns-in-FindByIndex g c =
     let asked = call.FindByIndex c.in-FindByIndex.index in
     let fits_index : SFits w128 c.in-FindByIndex.index = search rules in
     subst (λ q. CallsFiles g.D.Disk view c.args.number q c.find_by_index.result view) (sym c.in-FindByIndex.is)
-    (question_calls g.D.Disk view c.args.number _ asked c.find_by_index.result (λ bytes h since. g.met.D.Disk.only_now view.disk bytes h since) refl refl (inl refl) (simp to_z-of_z at c.find_by_index.ensures))
+    (question_calls g.D.Disk view c.args.number _ asked c.find_by_index.result (λ bytes h since. g.met.D.Disk.only_now view.disk bytes h since) refl (inl refl) (simp to_z-of_z at c.find_by_index.ensures))
 
 pub returns-in-Read : goal.returns-in-Read
 returns-in-Read g c =
@@ -72,7 +72,7 @@ returns-in-Read g c =
     let fits_offset : SFits w128 c.in-Read.offset = search rules in
     let fits_count : SFits w128 c.in-Read.count = search rules in
     subst (λ q. CallsFiles g.D.Disk view c.args.number q c.read.result view) (sym c.in-Read.is)
-    (question_calls g.D.Disk view c.args.number _ asked c.read.result (λ bytes h since. g.met.D.Disk.only_now view.disk bytes h since) refl refl (inl refl) (simp to_z-of_z at c.read.ensures))
+    (question_calls g.D.Disk view c.args.number _ asked c.read.result (λ bytes h since. g.met.D.Disk.only_now view.disk bytes h since) refl (inl refl) (simp to_z-of_z at c.read.ensures))
 
 pub returns-in-ClaimFile : goal.returns-in-ClaimFile
 returns-in-ClaimFile g c =
@@ -81,7 +81,7 @@ returns-in-ClaimFile g c =
     let fits_handle : SFits w128 c.in-ClaimFile.handle = search rules in
     let fits_timeout : SFits w128 c.in-ClaimFile.timeout = search rules in
     subst (λ q. CallsFiles g.D.Disk view c.args.number q (Ok c.claim_file.result) c.claim_file.new.self) (sym c.in-ClaimFile.is)
-    (arrangement_calls g.D.Disk view c.claim_file.new.self c.args.number (ClaimFile c.in-ClaimFile.handle c.in-ClaimFile.timeout) asked c.claim_file.result (λ bytes h since. g.met.D.Disk.only_now view.disk bytes h since) refl refl (simp to_z-of_z at c.claim_file.ensures))
+    (arrangement_calls g.D.Disk view c.claim_file.new.self c.args.number (ClaimFile c.in-ClaimFile.handle c.in-ClaimFile.timeout) asked c.claim_file.result (λ bytes h since. g.met.D.Disk.only_now view.disk bytes h since) refl (simp to_z-of_z at c.claim_file.ensures))
 
 pub returns-in-ReleaseFile : goal.returns-in-ReleaseFile
 returns-in-ReleaseFile g c =
@@ -89,19 +89,19 @@ returns-in-ReleaseFile g c =
     let asked = call.ReleaseFile c.in-ReleaseFile.handle in
     let fits_handle : SFits w128 c.in-ReleaseFile.handle = search rules in
     subst (λ q. CallsFiles g.D.Disk view c.args.number q (Ok c.release_file.result) c.release_file.new.self) (sym c.in-ReleaseFile.is)
-    (arrangement_calls g.D.Disk view c.release_file.new.self c.args.number (ReleaseFile c.in-ReleaseFile.handle) asked c.release_file.result (λ bytes h since. g.met.D.Disk.only_now view.disk bytes h since) refl refl (simp to_z-of_z at c.release_file.ensures))
+    (arrangement_calls g.D.Disk view c.release_file.new.self c.args.number (ReleaseFile c.in-ReleaseFile.handle) asked c.release_file.result (λ bytes h since. g.met.D.Disk.only_now view.disk bytes h since) refl (simp to_z-of_z at c.release_file.ensures))
 
 pub returns-in-BeginTrans : goal.returns-in-BeginTrans
 returns-in-BeginTrans g c =
     let view = c.args.totals.now in
     subst (λ q. CallsFiles g.D.Disk view c.args.number q (Ok c.begin_trans.result) c.begin_trans.new.self) (sym c.in-BeginTrans.is)
-    (arrangement_calls g.D.Disk view c.begin_trans.new.self c.args.number BeginTrans call.BeginTrans c.begin_trans.result (λ bytes h since. g.met.D.Disk.only_now view.disk bytes h since) refl refl c.begin_trans.ensures)
+    (arrangement_calls g.D.Disk view c.begin_trans.new.self c.args.number BeginTrans call.BeginTrans c.begin_trans.result (λ bytes h since. g.met.D.Disk.only_now view.disk bytes h since) refl c.begin_trans.ensures)
 
 pub returns-in-Rollback : goal.returns-in-Rollback
 returns-in-Rollback g c =
     let view = c.args.totals.now in
     subst (λ q. CallsFiles g.D.Disk view c.args.number q (Ok c.rollback.result) c.rollback.new.self) (sym c.in-Rollback.is)
-    (arrangement_calls g.D.Disk view c.rollback.new.self c.args.number Rollback call.Rollback c.rollback.result (λ bytes h since. g.met.D.Disk.only_now view.disk bytes h since) refl refl c.rollback.ensures)
+    (arrangement_calls g.D.Disk view c.rollback.new.self c.args.number Rollback call.Rollback c.rollback.result (λ bytes h since. g.met.D.Disk.only_now view.disk bytes h since) refl c.rollback.ensures)
 
 pub returns-in-CommitTrans : goal.returns-in-CommitTrans
 returns-in-CommitTrans g c =
