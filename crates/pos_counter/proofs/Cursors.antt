@@ -1,23 +1,11 @@
 -- Where the calls of a display and its properties leave a cursor: at a place of the display.
-use Rattle.std.proofs.Common.{◌≡◌, ◌∷◌, ◌++◌, ◌+◌, ◌-◌, ◌%◌, ◌<◌, ◌≤◌, ℕ, ℤ, pos, negsuc, nat_abs, List, [], Option, Some, None, Bool, true, false, not, cond, length, nat_lt, nat_le, arith, refl, sym, subst, ◌∙◌}
+use Rattle.std.proofs.Common.{◌≡◌, ◌∷◌, ◌++◌, ◌+◌, ◌-◌, ◌%◌, ◌<◌, ◌≤◌, ℕ, ℤ, pos, negsuc, nat_abs, List, [], Option, Some, None, Bool, true, false, not, cond, length, nat_lt, nat_le, arith, refl}
 use Rattle.std.specs.List.{AllByRecursion}
-use Rattle.std.specs.Option.{option_map}
-use Rattle.std.specs.Prelude.{IfSome, ⊤, ◌==◌}
-use Rattle.std.proofs.lemmas.Bool.{and_from, and_parts, false≢true}
+use Rattle.std.specs.Prelude.{IfSome, ◌==◌}
+use Rattle.std.proofs.lemmas.Bool.{and_from, and_parts}
 use Rattle.std.proofs.lemmas.Bool.Decides.{nat_tests}
 use Rattle.std.proofs.lemmas.Nat.{mod_below}
-use Rattle.pos_service.specs.declared.call.Call.{Call}
-use Rattle.pos_service.specs.declared.call.Call.TheVariants as call
-use Rattle.pos_service.specs.declared.category.Category.{Category}
-use Rattle.pos_service.specs.declared.category.Category.TheVariants as category
-use Rattle.pos_service.specs.declared.deed.Change.{Change}
-use Rattle.pos_service.specs.declared.deed.Change.TheVariants as change
-use Rattle.pos_service.specs.declared.deed.Deed.{Deed}
-use Rattle.pos_service.specs.declared.deed.Deed.TheVariants as deed
-use Rattle.pos_service.specs.declared.display_text.Attribute.{Attribute}
 use Rattle.pos_service.specs.declared.display_text.Cursor.{Cursor}
-use Rattle.pos_service.specs.declared.order.Order.{Order}
-use Rattle.pos_service.specs.declared.order.Order.TheVariants as order
 use Rattle.pos_service.specs.declared.display_text.Place.{Place}
 use Rattle.pos_service.specs.declared.kind.Kind.{Kind}
 use Rattle.pos_service.specs.declared.kind.Kind.TheVariants as kind
@@ -27,17 +15,12 @@ use Rattle.pos_service.specs.declared.answer.Answer.TheVariants as answer
 use Rattle.pos_service.specs.declared.answer.Value.{Value}
 use Rattle.pos_service.specs.declared.answer.Value.TheVariants as value
 use Rattle.pos_service.specs.Properties.{takes, cursor_after}
-use Rattle.pos_service.specs.Controls.{Control}
-use Rattle.pos_service.specs.DisplayCalls.{display_deed, display_rows, scrolls, shows}
-use Rattle.pos_service.specs.DrawerCalls.{drawer_deed}
-use Rattle.pos_service.specs.Displays.{Strip, attribute_of, direction_of, fed, is_cursor_place, origin, place_in_window, place_left, returned, text_from, with_run, with_text}
-use Rattle.pos_service.specs.Kinds.{is_display, rows_of, columns_of}
+use Rattle.pos_service.specs.Displays.{Strip, fed, is_cursor_place, origin, place_in_window, place_left, returned, text_from, with_run, with_text}
+use Rattle.pos_service.specs.Kinds.{rows_of, columns_of}
 use Rattle.pos_service.specs.Numbers.{is_index, is_up_to}
 use Rattle.pos_service.specs.Peripherals.{IsInRange}
-use Rattle.pos_service.specs.PrinterCalls.{printer_deed}
 use Rattle.pos_service.specs.Refusals.{Row, first_refusal}
-use Rattle.pos_service.specs.ScannerCalls.{scanner_deed}
-use Rattle.pos_counter.specs.Steps.{IsPlaceOn, device_deed, device_rows}
+use Rattle.pos_counter.specs.Steps.{IsPlaceOn}
 
 -- ---- tables of which no row applies
 

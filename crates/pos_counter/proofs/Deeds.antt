@@ -1,11 +1,8 @@
 -- What calls come to: they leave a cursor at a place of its display, and want memory only where they may.
-use Rattle.std.proofs.Common.{◌≡◌, ◌∷◌, ◌++◌, ◌+◌, ◌-◌, ◌%◌, ◌<◌, ◌≤◌, ℕ, ℤ, pos, negsuc, nat_abs, List, [], Option, Some, None, Bool, true, false, not, cond, length, nat_lt, nat_le, arith, refl, sym, subst, ◌∙◌}
-use Rattle.std.specs.List.{AllByRecursion}
+use Rattle.std.proofs.Common.{◌≡◌, ◌≤◌, ℕ, nat_abs, List, Option, Some, None, true, false, arith, refl, sym, subst, ◌∙◌}
 use Rattle.std.specs.Option.{option_map}
-use Rattle.std.specs.Prelude.{IfSome, IsTrue, MatchResult, Ok, Err, Result, ⊤, slice_get, ◌==◌}
-use Rattle.std.proofs.lemmas.Bool.{and_from, and_parts, false≢true}
-use Rattle.std.proofs.lemmas.Bool.Decides.{nat_tests}
-use Rattle.std.proofs.lemmas.Nat.{mod_below}
+use Rattle.std.specs.Prelude.{IsTrue, MatchResult, Ok, Err, Result, ⊤, slice_get}
+use Rattle.std.proofs.lemmas.Bool.{false≢true}
 use Rattle.pos_service.specs.declared.call.Call.{Call}
 use Rattle.pos_service.specs.declared.call.Call.TheVariants as call
 use Rattle.pos_service.specs.declared.category.Category.{Category}
@@ -16,32 +13,22 @@ use Rattle.pos_service.specs.declared.deed.Deed.{Deed}
 use Rattle.pos_service.specs.declared.deed.Deed.TheVariants as deed
 use Rattle.pos_service.specs.declared.display_text.Attribute.{Attribute}
 use Rattle.pos_service.specs.declared.display_text.Cursor.{Cursor}
-use Rattle.pos_service.specs.declared.order.Order.{Order}
-use Rattle.pos_service.specs.declared.order.Order.TheVariants as order
 use Rattle.pos_service.specs.declared.display_text.Place.{Place}
 use Rattle.pos_service.specs.declared.kind.Kind.{Kind}
 use Rattle.pos_service.specs.declared.kind.Kind.TheVariants as kind
-use Rattle.pos_service.specs.declared.property.Property.{Property}
-use Rattle.pos_service.specs.declared.property.Property.TheVariants as property
 use Rattle.pos_service.specs.declared.answer.Answer.TheVariants as answer
-use Rattle.pos_service.specs.declared.answer.Value.{Value}
-use Rattle.pos_service.specs.declared.answer.Value.TheVariants as value
-use Rattle.pos_service.specs.Properties.{takes, cursor_after}
 use Rattle.pos_service.specs.Controls.{Control}
 use Rattle.pos_service.specs.DisplayCalls.{display_deed, display_rows, scrolls, shows}
-use Rattle.pos_service.specs.DrawerCalls.{drawer_deed}
-use Rattle.pos_service.specs.Displays.{Strip, attribute_of, direction_of, fed, is_cursor_place, origin, place_in_window, place_left, returned, text_from, with_run, with_text}
-use Rattle.pos_service.specs.Kinds.{is_display, rows_of, columns_of}
+use Rattle.pos_service.specs.Displays.{attribute_of, direction_of, origin}
+use Rattle.pos_service.specs.Kinds.{is_display}
 use Rattle.pos_service.specs.Numbers.{is_index, is_up_to}
 use Rattle.pos_service.specs.Peripherals.{IsInRange}
-use Rattle.pos_service.specs.PrinterCalls.{printer_deed}
-use Rattle.pos_service.specs.Refusals.{Row, first_refusal}
-use Rattle.pos_service.specs.ScannerCalls.{scanner_deed}
+use Rattle.pos_service.specs.Refusals.{first_refusal}
 use Rattle.pos_service.specs.declared.answer.Answer.{Answer}
 use Rattle.pos_service.specs.declared.code.Code.{Code}
 use Rattle.pos_service.specs.declared.memory.NoMemory.{NoMemory}
-use Rattle.pos_service.specs.Calls.{takes_memory}
-use Rattle.pos_service.specs.Deeds.{Does as CarriesOut, may_want}
+use Rattle.pos_service.specs.Calls.{serves}
+use Rattle.pos_service.specs.Deeds.{Does as CarriesOut, MayWantFor, may_want}
 use Rattle.pos_service.specs.Stations.{SameStation, Station}
 use Rattle.pos_counter.specs.AtDevices.{CallsAt, CallsFor}
 use Rattle.pos_counter.specs.Steps.{IsPlaceOn, device_deed, device_rows}
@@ -91,27 +78,6 @@ display_stays rows columns cursor (call.ScrollText direction units) d tall wide 
     one_of (scrolls units) (direction_of direction) d (DeedStaysOn at cursor.place) (λ way. tt) is
 display_stays rows columns cursor asked d tall wide allowed is = absurd cc
 
--- of a printer, whose calls leave the cursor alone
-request_stays : (at : Option Kind) (was : Place) (b : Bool) (given : Order) (d : Deed) → cond b (deed.Queues given) (deed.Gives given change.Nothing) ≡ d → DeedStaysOn at was d
-request_stays at was true given d is = subst (DeedStaysOn at was) is tt
-request_stays at was false given d is = subst (DeedStaysOn at was) is tt
-
-printer_stays : (at : Option Kind) (was : Place) (c : Control) (asked : Call) (d : Deed) → printer_deed c asked ≡ Some d → DeedStaysOn at was d
-printer_stays at was c (call.PrintNormal station text) d is = request_stays at was c.writer.is_async (order.Print text) d (same_some _ d is)
-printer_stays at was c (call.PrintImmediate station text) d is = subst (DeedStaysOn at was) (same_some _ d is) tt
-printer_stays at was c (call.CutPaper percentage) d is = request_stays at was c.writer.is_async (order.Cut (nat_abs percentage)) d (same_some _ d is)
-printer_stays at was c call.ClearOutput d is = subst (DeedStaysOn at was) (same_some _ d is) tt
-printer_stays at was c asked d is = absurd cc
-
-drawer_stays : (at : Option Kind) (was : Place) (asked : Call) (d : Deed) → drawer_deed asked ≡ Some d → DeedStaysOn at was d
-drawer_stays at was call.OpenDrawer d is = subst (DeedStaysOn at was) (same_some _ d is) tt
-drawer_stays at was asked d is = absurd cc
-
-scanner_stays : (at : Option Kind) (was : Place) (asked : Call) (d : Deed) → scanner_deed asked ≡ Some d → DeedStaysOn at was d
-scanner_stays at was call.ClearInput d is = subst (DeedStaysOn at was) (same_some _ d is) tt
-scanner_stays at was call.ClearInputProperties d is = subst (DeedStaysOn at was) (same_some _ d is) tt
-scanner_stays at was asked d is = absurd cc
-
 -- where nothing is a display, each place is as good
 no_display_change : (k : Kind) (was : Place) (what : Change) → is_display k ≡ false → StaysOn (Some k) was what
 no_display_change k was (change.Cursor place) flat = λ is display. absurd (false≢true (sym flat ∙ display))
@@ -125,65 +91,28 @@ no_display k was (deed.Gives given what) flat = no_display_change k was what fla
 no_display k was (deed.Changes what) flat = no_display_change k was what flat
 no_display k was (deed.Queues given) flat = tt
 
--- a call whose arguments are allowed comes to what leaves the cursor at a place
-pub deed_called : (k : Category) (is : Kind) (c : Control) (asked : Call) (d : Deed) → IsInRange is → NoneApplies (device_rows k (Some is) c asked) → device_deed k (Some is) c asked ≡ Some d → DeedStaysOn (Some is) c.cursor.place d
-deed_called category.CashDrawer is c asked d range allowed e = drawer_stays (Some is) c.cursor.place asked d e
-deed_called category.Scanner is c asked d range allowed e = scanner_stays (Some is) c.cursor.place asked d e
-deed_called category.LineDisplay kind.Drawer c asked d range allowed e = no_display kind.Drawer c.cursor.place d refl
-deed_called category.LineDisplay kind.Scanner c asked d range allowed e = no_display kind.Scanner c.cursor.place d refl
-deed_called category.LineDisplay (kind.Printer chars near) c asked d range allowed e = no_display (kind.Printer chars near) c.cursor.place d refl
-deed_called category.LineDisplay (kind.Display rows columns) c asked d range allowed e = display_stays rows columns c.cursor asked d range.0 range.2 allowed e
-deed_called category.PosPrinter is c asked d range allowed e = printer_stays (Some is) c.cursor.place c asked d e
-deed_called category.HardTotals is c asked d range allowed e = absurd cc
-
--- ---- memory
-
-drawer_wants : (asked : Call) (d : Deed) → drawer_deed asked ≡ Some d → takes_memory asked ≡ true
-drawer_wants call.OpenDrawer d is = refl
-drawer_wants asked d is = absurd cc
-
-scanner_wants : (asked : Call) (d : Deed) → scanner_deed asked ≡ Some d → may_want d ≡ false
-scanner_wants call.ClearInput d is = subst (λ e. may_want e ≡ false) (same_some _ d is) refl
-scanner_wants call.ClearInputProperties d is = subst (λ e. may_want e ≡ false) (same_some _ d is) refl
-scanner_wants asked d is = absurd cc
-
-display_wants : (at : Option Kind) (cursor : Cursor) (asked : Call) (d : Deed) → display_deed at cursor asked ≡ Some d → takes_memory asked ≡ true
-display_wants at cursor (call.DisplayText text attribute) d is = refl
-display_wants at cursor (call.DisplayTextAt row column text attribute) d is = refl
-display_wants at cursor call.ClearText d is = refl
-display_wants at cursor (call.ScrollText direction units) d is = refl
-display_wants at cursor asked d is = absurd cc
-
-printer_wants : (c : Control) (asked : Call) (d : Deed) → printer_deed c asked ≡ Some d → may_want d ≡ true → takes_memory asked ≡ true
-printer_wants c (call.PrintNormal station text) d is wants = refl
-printer_wants c (call.PrintImmediate station text) d is wants = refl
-printer_wants c (call.CutPaper percentage) d is wants = refl
-printer_wants c call.ClearOutput d is wants = absurd (false≢true (subst (λ e. may_want e ≡ true) (sym (same_some _ d is)) wants))
-printer_wants c asked d is wants = absurd cc
-
--- a call that comes to what may want memory may want it
-pub deed_wants : (k : Category) (at : Option Kind) (c : Control) (asked : Call) (d : Deed) → device_deed k at c asked ≡ Some d → may_want d ≡ true → takes_memory asked ≡ true
-deed_wants category.CashDrawer at c asked d is wants = drawer_wants asked d is
-deed_wants category.Scanner at c asked d is wants = absurd (false≢true (sym (scanner_wants asked d is) ∙ wants))
-deed_wants category.LineDisplay at c asked d is wants = display_wants at c.cursor asked d is
-deed_wants category.PosPrinter at c asked d is wants = printer_wants c asked d is wants
-deed_wants category.HardTotals at c asked d is wants = absurd cc
+-- a call whose arguments are allowed comes to what leaves the cursor at a place of the device, which serves the category
+pub deed_called : (k : Category) (is : Kind) (c : Control) (asked : Call) (d : Deed) → serves k (Some is) ≡ true → IsInRange is → NoneApplies (device_rows k (Some is) c asked) → device_deed k (Some is) c asked ≡ Some d → DeedStaysOn (Some is) c.cursor.place d
+deed_called category.LineDisplay (kind.Display rows columns) c asked d served range allowed e = display_stays rows columns c.cursor asked d range.0 range.2 allowed e
+deed_called category.LineDisplay is c asked d served range allowed e = absurd cc
+deed_called category.CashDrawer kind.Drawer c asked d served range allowed e = no_display kind.Drawer c.cursor.place d refl
+deed_called category.CashDrawer is c asked d served range allowed e = absurd cc
+deed_called category.Scanner kind.Scanner c asked d served range allowed e = no_display kind.Scanner c.cursor.place d refl
+deed_called category.Scanner is c asked d served range allowed e = absurd cc
+deed_called category.PosPrinter (kind.Printer chars near) c asked d served range allowed e = no_display (kind.Printer chars near) c.cursor.place d refl
+deed_called category.PosPrinter is c asked d served range allowed e = absurd cc
+deed_called category.HardTotals is c asked d served range allowed e = absurd cc
 
 -- a call that is refused by its arguments
 pub called_refused : (n place : ℕ) (asked : Call) (c : Control) (code : Code) (old : List Control) (before : Station) → slice_get old n ≡ Some c → first_refusal (device_rows c.category (Some before.kind) c asked) ≡ Some (answer.Refused code 0) → CallsAt n asked place (Ok (answer.Refused code 0)) old before old before
 called_refused n place asked c code old before at refused =
     match_at_some _ c _ _ at (record { outcome = match_at_some (first_refusal (device_rows c.category (Some before.kind) c asked)) (answer.Refused code 0) _ _ refused (refl, record { controls = refl; station = refl }) })
 
--- one that finds no memory before it is done
-pub called_wants : (n place : ℕ) (asked : Call) (c : Control) (want : NoMemory) (old : List Control) (before : Station) → slice_get old n ≡ Some c → IsTrue (takes_memory asked) → first_refusal (device_rows c.category (Some before.kind) c asked) ≡ None → CallsAt n asked place (Err want) old before old before
-called_wants n place asked c want old before at takes none =
-    match_at_some _ c _ _ at (takes, none, record { controls = refl; station = refl })
-
 -- one that comes to a deed
-pub called_done : (n place : ℕ) (asked : Call) (c : Control) (d : Deed) (outcome : Result Answer NoMemory) (old new : List Control) (before after : Station) → slice_get old n ≡ Some c → first_refusal (device_rows c.category (Some before.kind) c asked) ≡ None → device_deed c.category (Some before.kind) c asked ≡ Some d
+pub called_done : (n place : ℕ) (asked : Call) (c : Control) (d : Deed) (outcome : Result Answer NoMemory) (old new : List Control) (before after : Station) → slice_get old n ≡ Some c → first_refusal (device_rows c.category (Some before.kind) c asked) ≡ None → device_deed c.category (Some before.kind) c asked ≡ Some d → MayWantFor asked d
     → MatchResult outcome (λ result. CarriesOut d n place result old before new after) (λ want. IsTrue (may_want d) × SameStation old before new after) → CallsAt n asked place outcome old before new after
-called_done n place asked c d outcome old new before after at none is done = match_at_some _ c _ _ at (by outcome done)
+called_done n place asked c d outcome old new before after at none is wants done = match_at_some _ c _ _ at (by outcome done)
   where
     by : (o : Result Answer NoMemory) → MatchResult o (λ result. CarriesOut d n place result old before new after) (λ want. IsTrue (may_want d) × SameStation old before new after) → CallsFor n asked place o c old before new after
     by (Ok result) h = record { outcome = match_at_none (first_refusal (device_rows c.category (Some before.kind) c asked)) _ _ none (match_at_some _ d _ _ is h) }
-    by (Err want) h = (deed_wants c.category (Some before.kind) c asked d is h.0, none, h.1)
+    by (Err want) h = (wants h.0, none, h.1)

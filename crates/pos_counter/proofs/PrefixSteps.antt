@@ -1,7 +1,7 @@
 -- What each step of the machine does to the totals' files.
 use Rattle.std.proofs.Common.{◌≡◌, ◌∙◌, ◌⊎◌, ◌+◌, ℕ, Bool, true, false, not, List, [], ◌∷◌, Option, Some, cond, inl, inr, refl, sym, ap, subst}
 use Rattle.std.specs.Bool.{MatchBool}
-use Rattle.std.specs.Prelude.{⊤, MatchOption, slice_get, is_some, Ok, None}
+use Rattle.std.specs.Prelude.{slice_get, is_some, Ok, None}
 use Rattle.std.proofs.lemmas.Bool.{and_parts}
 use Rattle.std.proofs.lemmas.Option.{same_Some}
 use Rattle.pos_dir.specs.Changes.{outcome_of_all}
@@ -18,10 +18,8 @@ use Rattle.pos_service.specs.declared.code.Code.TheVariants as code
 use Rattle.pos_service.specs.declared.property.Property.{Property}
 use Rattle.pos_service.specs.Claims.{after_release}
 use Rattle.pos_service.specs.Controls.{Control, closed}
-use Rattle.pos_service.specs.declared.deed.Deed.{Deed}
-use Rattle.pos_service.specs.declared.display_text.Cursor.{Cursor}
-use Rattle.pos_service.specs.declared.kind.Kind.{Kind}
-use Rattle.pos_service.specs.DisplayCalls.{display_deed}
+use Rattle.pos_service.specs.Calls.{has_call, is_category, is_common, needs_of, row_of}
+use Rattle.pos_service.specs.Needs.{table}
 use Rattle.pos_totals.specs.HardTotals.{File, Totals, Mode, Off, Ready, Change, IsAmong, sequences_after, files_of, is_ready, with_files, with_transaction, changes_in, in_transaction, transaction_of, after_disk_fault}
 use Rattle.pos_totals.specs.TotalsChanges.{Done, DoesTogether, mode_after, files_after_all, number_rows, given_by, RunsOut}
 use Rattle.pos_totals.specs.TotalsCommits.{DoesCommit}
@@ -30,7 +28,7 @@ use Rattle.pos_totals.specs.TotalsClaims.{is_own_claim}
 use Rattle.pos_totals.specs.TotalsArrangements.{claimed as claimed_file}
 use Rattle.pos_totals.specs.TotalsArrangements.{Arrangement, ClaimFile, ReleaseFile, BeginTrans, Rollback, after_arrangement}
 use Rattle.pos_service.specs.Refusals.{Row, Decided, first_refusal}
-use Rattle.pos_service.specs.Stations.{Effect, Station}
+use Rattle.pos_service.specs.Stations.{Effect}
 use Rattle.pos_totals.specs.TotalsCalls.{FileCall, Arranges, Asks, Commits, Makes, Nothing, file_call}
 use Rattle.pos_disk.specs.State.{Rises}
 use Rattle.pos_store.specs.Modes.{Ready as StoreReady}
@@ -41,11 +39,13 @@ use Rattle.pos_totals.specs.Recoveries.{numbered}
 use Rattle.pos_totals.specs.Views.{plain, stored}
 use Rattle.pos_counter.specs.DiskUse.{IsUndone}
 use Rattle.pos_counter.specs.History.{NothingDone, changes_asked, event_between, event_of}
-use Rattle.pos_counter.specs.Machine.{Machine, kind_of, with_control}
-use Rattle.pos_counter.specs.Steps.{Request, NewControl, CallOf, InputTo, WorkOn, Deliver, Snapshot, Attach, Detach, Response, Made, Full, Answered, TakenIn, NoDevice, WrongInput, Worked, Delivered, Shown, Attached, NotAttached, Detached, NotDetached, OutOfMemory, OnStation, Step, Called, Does, CategoryDoes, Sets, SetsByRecovery, refusals, claimed, dropped, released}
-use Rattle.pos_counter.specs.Totals.{TotalsPart, ChangesTotals, CommitsTotals, TotalsDo, Recovered, asks_recovery, in_doubt, left_after, put_at_once, recovers, settled}
+use Rattle.pos_counter.specs.Machine.{Machine, holder_of, with_control}
+use Rattle.pos_counter.specs.Steps.{Request, NewControl, CallOf, InputTo, WorkOn, Deliver, Snapshot, Attach, Detach, Response, Made, Full, Answered, TakenIn, NoDevice, WrongInput, Worked, Delivered, Shown, Attached, NotAttached, Detached, NotDetached, OutOfMemory, OnStation, Step, Called, Does, CategoryDoes, Sets, SetsByRecovery, category_rows, refusals, claimed, dropped, released}
+use Rattle.pos_counter.specs.Totals.{TotalsPart, ChangesTotals, CommitsTotals, TotalsDo, Recovered, asks_recovery, in_doubt, is_totals, left_after, put_at_once, recovers, settled}
 use Rattle.pos_counter.proofs.FileCalls.{kept_left, plain_claimed}
+use Rattle.pos_counter.proofs.Cursors.{none_applies, unless_not}
 use Rattle.pos_counter.proofs.Lifts.{match_cases}
+use Rattle.pos_counter.proofs.Stations.{own_refusals}
 use Rattle.pos_counter.proofs.Prefixes.{Happens}
 
 -- what changes, a response and the modes say is what happens
@@ -283,29 +283,37 @@ set_told old new n c p v result true e (inr (h, is)) = elim h [
 station_same : (old new : Machine) (at : Option ℕ) (Does : ℕ → Effect) → OnStation old at Does new → new.totals ≡ old.totals
 station_same old new at Does o = ap (λ (m : Machine). m.totals) o.machine
 
--- a display's call is none of the totals'
-display_asks : (at : Option Kind) (cursor : Cursor) (own : Call) (R : Deed → Type 0) → MatchOption (display_deed at cursor own) ⊥ R → file_call own ≡ Nothing
-display_asks at cursor (call.DisplayText text attribute) R h = refl
-display_asks at cursor (call.DisplayTextAt row column text attribute) R h = refl
-display_asks at cursor call.ClearText R h = refl
-display_asks at cursor (call.ScrollText direction units) R h = refl
-display_asks at cursor own R h = absurd h
+-- a call that totals don't have asks nothing of them
+asks_nothing : (own : Call) → has_call category.HardTotals own ≡ false → file_call own ≡ Nothing
+asks_nothing (call.Create name size detection) other = cc
+asks_nothing (call.Delete name) other = cc
+asks_nothing (call.Find name) other = cc
+asks_nothing (call.FindByIndex index) other = cc
+asks_nothing (call.Read handle offset count) other = cc
+asks_nothing (call.Write handle offset bytes) other = cc
+asks_nothing (call.SetAll handle n) other = cc
+asks_nothing (call.Rename handle name) other = cc
+asks_nothing (call.ClaimFile handle timeout) other = cc
+asks_nothing (call.ReleaseFile handle) other = cc
+asks_nothing call.BeginTrans other = cc
+asks_nothing call.CommitTrans other = cc
+asks_nothing call.Rollback other = cc
+asks_nothing own other = refl
 
-category_told : (k : Category) (old new : Machine) (n : ℕ) (c : Control) (own : Call) (result : Answer) → old.totals.left ≡ settled old.totals.totals.mode old.totals.left → CategoryDoes k old n c own result new → Told (changes_asked old.totals.totals n (file_call own)) old.totals (Answered result) new.totals
-category_told category.CashDrawer old new n c call.OpenDrawer result is h = rest_unasked old.totals new.totals (Answered result) (station_same old new c.device _ h)
-category_told category.CashDrawer old new n c own result is h = absurd h.does
-category_told category.Scanner old new n c call.ClearInput result is h = rest_unasked old.totals new.totals (Answered result) (station_same old new c.device _ h)
-category_told category.Scanner old new n c call.ClearInputProperties result is h = rest_unasked old.totals new.totals (Answered result) (station_same old new c.device _ h)
-category_told category.Scanner old new n c own result is h = absurd h.does
-category_told category.LineDisplay old new n c own result is h =
-    subst (λ asked. Told (changes_asked old.totals.totals n asked) old.totals (Answered result) new.totals) (sym (display_asks (kind_of old c) c.cursor own _ h.does))
-    (rest_unasked old.totals new.totals (Answered result) (station_same old new c.device _ h))
-category_told category.PosPrinter old new n c (call.PrintNormal station text) result is h = rest_unasked old.totals new.totals (Answered result) (station_same old new c.device _ h)
-category_told category.PosPrinter old new n c (call.PrintImmediate station text) result is h = rest_unasked old.totals new.totals (Answered result) (station_same old new c.device _ h)
-category_told category.PosPrinter old new n c (call.CutPaper percentage) result is h = rest_unasked old.totals new.totals (Answered result) (station_same old new c.device _ h)
-category_told category.PosPrinter old new n c call.ClearOutput result is h = rest_unasked old.totals new.totals (Answered result) (station_same old new c.device _ h)
-category_told category.PosPrinter old new n c own result is h = absurd h.does
-category_told category.HardTotals old new n c own result is h = files_told (file_call own) old.totals new.totals n result is h.0
+-- a call of one category is none of another's
+one_category : (o : Option Category) (k : Category) → is_totals k ≡ false → is_category o k ≡ true → is_category o category.HardTotals ≡ false
+one_category None k other is = refl
+one_category (Some category.HardTotals) category.HardTotals other is = cc
+one_category (Some category.HardTotals) k other is = absurd cc
+one_category (Some c) k other is = refl
+
+at_device_told : (k : Category) (old new : Machine) (n : ℕ) (c : Control) (own : Call) (result : Answer) → is_totals k ≡ false → has_call k own ≡ true → new.totals ≡ old.totals → Told (changes_asked old.totals.totals n (file_call own)) old.totals (Answered result) new.totals
+at_device_told k old new n c own result other has same =
+    subst (λ asked. Told (changes_asked old.totals.totals n asked) old.totals (Answered result) new.totals) (sym (asks_nothing own (one_category (row_of own).category k other has))) (rest_unasked old.totals new.totals (Answered result) same)
+
+category_told : (k : Category) (old new : Machine) (n : ℕ) (c : Control) (own : Call) (result : Answer) → old.totals.left ≡ settled old.totals.totals.mode old.totals.left → has_call k own ≡ true → CategoryDoes k old n c own result new → Told (changes_asked old.totals.totals n (file_call own)) old.totals (Answered result) new.totals
+category_told category.HardTotals old new n c own result is has h = files_told (file_call own) old.totals new.totals n result is h.0
+category_told k old new n c own result is has h = at_device_told k old new n c own result refl has (station_same old new c.device _ h)
 
 -- what a control's claim, its release and its end leave of the files
 claimed_told : (k : Category) (old new : Machine) (n : ℕ) (c : Control) (response : Response) → new ≡ claimed k old n c → Told [] old.totals response new.totals
@@ -321,19 +329,23 @@ dropped_told category.HardTotals old new n c response h =
     rest_beside old.totals new.totals response (ap (λ (m : Machine). stored m.totals.totals.mode) h ∙ stored_claimed (is_own_claim n) None old.totals.totals.mode) (ap (λ (m : Machine). m.totals.left) h)
 dropped_told k old new n c response h = rest_unasked old.totals new.totals response (ap (λ (m : Machine). m.totals) h)
 
-does_told : (old new : Machine) (n : ℕ) (c : Control) (asked : Call) (result : Answer) → old.totals.left ≡ settled old.totals.totals.mode old.totals.left → Does old n c asked result new → Told (changes_asked old.totals.totals n (file_call asked)) old.totals (Answered result) new.totals
-does_told old new n c (call.Open name) result is h = rest_unasked old.totals new.totals (Answered result) (ap (λ (m : Machine). m.totals) h.1)
-does_told old new n c call.Close result is h = dropped_told c.category old new n c (Answered result) h.1
-does_told old new n c (call.Claim timeout) result is h = claimed_told c.category old new n c (Answered result) h.1
-does_told old new n c call.Release result is h = released_told c.category old new n c (Answered result) h.1
-does_told old new n c (call.Set p v) result is h = set_told old new n c p v result (recovers old.totals c p v) refl h
-does_told old new n c (call.Get p) result is h = rest_unasked old.totals new.totals (Answered result) (ap (λ (m : Machine). m.totals) h.1)
-does_told old new n c own result is h = category_told c.category old new n c own result is h
+does_told : (old new : Machine) (n : ℕ) (c : Control) (asked : Call) (result : Answer) → old.totals.left ≡ settled old.totals.totals.mode old.totals.left → (is_common asked ≡ false → has_call c.category asked ≡ true) → Does old n c asked result new → Told (changes_asked old.totals.totals n (file_call asked)) old.totals (Answered result) new.totals
+does_told old new n c (call.Open name) result is has h = rest_unasked old.totals new.totals (Answered result) (ap (λ (m : Machine). m.totals) h.1)
+does_told old new n c call.Close result is has h = dropped_told c.category old new n c (Answered result) h.1
+does_told old new n c (call.Claim timeout) result is has h = claimed_told c.category old new n c (Answered result) h.1
+does_told old new n c call.Release result is has h = released_told c.category old new n c (Answered result) h.1
+does_told old new n c (call.Set p v) result is has h = set_told old new n c p v result (recovers old.totals c p v) refl h
+does_told old new n c (call.Get p) result is has h = rest_unasked old.totals new.totals (Answered result) (ap (λ (m : Machine). m.totals) h.1)
+does_told old new n c own result is has h = category_told c.category old new n c own result is (has refl) h
+
+-- a call of a category's own that nothing refuses is one of its control's category
+own_of : (m : Machine) (n : ℕ) (c : Control) (asked : Call) → is_common asked ≡ false → first_refusal (refusals m n c asked) ≡ None → has_call c.category asked ≡ true
+own_of m n c asked own none = unless_not (has_call c.category asked) (none_applies (table n (holder_of m c) c (needs_of c.category asked) (category_rows c.category m n c asked)) (ap first_refusal (sym (own_refusals m n c asked own)) ∙ none)).1.0
 
 called_told : (old new : Machine) (n : ℕ) (c : Control) (asked : Call) (result : Answer) → old.totals.left ≡ settled old.totals.totals.mode old.totals.left → Called old n c asked result new → Told (changes_asked old.totals.totals n (file_call asked)) old.totals (Answered result) new.totals
 called_told old new n c asked result is h =
     elim (match_cases (first_refusal (refusals old n c asked)) _ _ h.outcome) [
-      | inl x ↦ does_told old new n c asked result is x.1
+      | inl x ↦ does_told old new n c asked result is (λ own. own_of old n c asked own x.0) x.1
       | inr x ↦ rest_undone (changes_asked old.totals.totals n (file_call asked)) old.totals new.totals (Answered result)
           (refused_undone (refusals old n c asked) x.0 result x.1 x.2.0) (ap (λ (m : Machine). m.totals) x.2.1)
     ]

@@ -20,7 +20,6 @@ use Rattle.pos_service.specs.declared.display_text.Place.{Place}
 use Rattle.pos_service.specs.declared.kind.Kind.{Kind}
 use Rattle.pos_service.specs.declared.memory.NoMemory.{NoMemory}
 use Rattle.pos_service.specs.declared.order.Order.{Order}
-use Rattle.pos_service.specs.declared.order.Order.TheVariants as order
 use Rattle.pos_service.specs.declared.order.Reply.{Reply}
 use Rattle.pos_service.specs.declared.order.Reply.TheVariants as reply
 use Rattle.pos_service.specs.declared.worked.Worked.{Worked as WorkResult}
@@ -31,7 +30,7 @@ use Rattle.pos_service.specs.declared.deed.Change.{Change}
 use Rattle.pos_service.specs.declared.deed.Change.TheVariants as change
 use Rattle.pos_service.specs.declared.deed.Deed.{Deed}
 use Rattle.pos_service.specs.declared.deed.Deed.TheVariants as deed
-use Rattle.pos_service.specs.Controls.{Control, new_control, closed, stopped, delivered, heard, queued, read, without_output, listens, if_listening, all_listening, with_place as moved}
+use Rattle.pos_service.specs.Controls.{Control, new_control, closed, stopped, delivered, heard, queued, read, listens, if_listening, all_listening}
 use Rattle.pos_service.specs.Events.{EventList, Enqueued}
 use Rattle.pos_service.specs.Refusals.{Row, Decided, first_refusal}
 use Rattle.pos_service.specs.Calls.{serves, place_found, close_rows}
@@ -49,7 +48,7 @@ use Rattle.pos_counter.specs.Steps.{Request, NewControl, CallOf, InputTo, WorkOn
 use Rattle.pos_counter.specs.Totals.{TotalsPart, recovers}
 use Rattle.pos_counter.proofs.Cursors.{NoneApplies, none_applies, place_opened, place_set, unless_not}
 use Rattle.pos_counter.proofs.Deeds.{DeedStaysOn, StaysOn, deed_called}
-use Rattle.pos_counter.proofs.Lifts.{match_at_some, match_cases}
+use Rattle.pos_counter.proofs.Lifts.{match_cases}
 
 -- the device is there, and serves a control of the category whose cursor is at a place
 abbrev pub Served : Category → Place → Option Device → Type 0
@@ -327,8 +326,8 @@ works_keep ds holder place outcome old before new after h = elim (match_cases (d
     by work (Ok r) h = worked_keeps ds work place r old before new after h
     by work (Err want) h = same_keeps ds old before new after h
 
-device_keeps : (k : Category) (m : Machine) (asked : Call) (r : Answer) (n place : ℕ) (c : Control) (before : Station) (new : List Control) (after : Station) → slice_get m.controls n ≡ Some c → NoneApplies (device_rows k (kind_of m c) c asked) → StandsAt m.devices c.device before → DeviceDoes k (kind_of m c) n c asked r place m.controls before new after → Keeps m.devices before m.controls after new
-device_keeps k m asked r n place c before new after at allowed stands h =
+device_keeps : (k : Category) (m : Machine) (asked : Call) (r : Answer) (n place : ℕ) (c : Control) (before : Station) (new : List Control) (after : Station) → slice_get m.controls n ≡ Some c → serves k (kind_of m c) ≡ true → NoneApplies (device_rows k (kind_of m c) c asked) → StandsAt m.devices c.device before → DeviceDoes k (kind_of m c) n c asked r place m.controls before new after → Keeps m.devices before m.controls after new
+device_keeps k m asked r n place c before new after at served allowed stands h =
     elim (match_cases (device_deed k (kind_of m c) c asked) _ _ h) [
       | inl x ↦ absurd x.1
       | inr x ↦ deed_keeps m.devices x.0 r n place c m.controls before new after at (stays x.0 x.1) x.2
@@ -337,16 +336,28 @@ device_keeps k m asked r n place c before new after at allowed stands h =
     stays : (d : Deed) → device_deed k (kind_of m c) c asked ≡ Some d → DeedStaysOn (kind_of m c) c.cursor.place d
     stays d is =
         subst (λ at. DeedStaysOn at c.cursor.place d) (sym stands.kind)
-        (deed_called k before.kind c asked d stands.range (subst (λ at. NoneApplies (device_rows k at c asked)) stands.kind allowed) (subst (λ at. device_deed k at c asked ≡ Some d) stands.kind is))
+        (deed_called k before.kind c asked d (subst (λ at. serves k at ≡ true) stands.kind served) stands.range (subst (λ at. NoneApplies (device_rows k at c asked)) stands.kind allowed) (subst (λ at. device_deed k at c asked ≡ Some d) stands.kind is))
+
+-- an open control's category serves its device
+served_by : (ds : List Device) (c : Control) (before : Station) → StandsAt ds c.device before → HasItsDevice ds c → serves c.category (kind_in (device_at ds c.device)) ≡ true
+served_by ds c before stands h = by c.device stands.kind h
+  where
+    by : (o : Option ℕ) → kind_in (device_at ds o) ≡ Some before.kind → Seat ds c.category c.cursor.place o → serves c.category (kind_in (device_at ds o)) ≡ true
+    by None kind h = absurd cc
+    by (Some i) kind h = there (slice_get ds i) h
+      where
+        there : (o : Option Device) → Served c.category c.cursor.place o → serves c.category (kind_in o) ≡ true
+        there None h = absurd h
+        there (Some d) h = h.0
 
 -- totals that have changed leave all else as it was
 other_totals : (m m' : Machine) → m' ≡ record m { totals = m'.totals } → IsSound m → IsSound m'
 other_totals m m' e s = subst IsSound (sym e) (record { kinds = s.kinds; places = s.places })
 
 -- what a category's call does keeps the machine sound
-category_sound : (k : Category) (m m' : Machine) (n : ℕ) (c : Control) (own : Call) (r : Answer) → slice_get m.controls n ≡ Some c → NoneApplies (category_rows k m n c own) → CategoryDoes k m n c own r m' → IsSound m → IsSound m'
-category_sound category.HardTotals m m' n c own r e allowed h s = other_totals m m' h.1 s
-category_sound k m m' n c own r e allowed h s = on_station_sound m m' c.device _ (λ place before new after. device_keeps k m own r n place c before new after e allowed) h s
+category_sound : (k : Category) (m m' : Machine) (n : ℕ) (c : Control) (own : Call) (r : Answer) → slice_get m.controls n ≡ Some c → ((before : Station) → StandsAt m.devices c.device before → serves k (kind_of m c) ≡ true) → NoneApplies (category_rows k m n c own) → CategoryDoes k m n c own r m' → IsSound m → IsSound m'
+category_sound category.HardTotals m m' n c own r e served allowed h s = other_totals m m' h.1 s
+category_sound k m m' n c own r e served allowed h s = on_station_sound m m' c.device _ (λ place before new after stands. device_keeps k m own r n place c before new after e (served before stands) allowed stands) h s
 
 -- a control with a property set to what it takes has its device
 pub set_seat : (ds : List Device) (c : Control) (p : Property) (v : Value) → takes (kind_in (device_at ds c.device)) p v ≡ true → HasItsDevice ds c → HasItsDevice ds (after_set c p v)
@@ -409,7 +420,7 @@ called_sound m m' n c (call.Set p v) r e h s =
 called_sound m m' n c (call.Get p) r e h s = elim (match_cases (first_refusal (get_rows n (holder_of m c) c (facts_of m n c) p)) _ _ h.outcome) [ inl x ↦ same_machine m m' x.1.1 s | inr x ↦ same_machine m m' x.2.1 s ]
 called_sound m m' n c own r e h s =
     elim (match_cases (first_refusal (refusals m n c own)) _ _ h.outcome) [
-      | inl x ↦ category_sound c.category m m' n c own r e (none_applies (refusals m n c own) x.0).1.1.1.1.1 x.1 s
+      | inl x ↦ category_sound c.category m m' n c own r e (λ before stands. served_by m.devices c before stands (seated m n c s e)) (none_applies (refusals m n c own) x.0).1.1.1.1.1 x.1 s
       | inr x ↦ same_machine m m' x.2.1 s
     ]
 

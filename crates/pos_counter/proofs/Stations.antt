@@ -1,6 +1,6 @@
 -- What is done at a device, and the steps that it makes.
 use Rattle.std.proofs.Common.{◌≡◌, ℕ, inl, inr, [], ◌∷◌, zero, suc, List, Option, Some, None, Result, Ok, Err, Bool, true, false, set, length, ap, sym, ◌∙◌, subst, refl}
-use Rattle.std.specs.Prelude.{slice_get, is_some, is_none, ◌||◌, IfSome, IsSome, IsTrue, MatchOption}
+use Rattle.std.specs.Prelude.{slice_get, is_some, is_none, ◌||◌, IfSome, IsSome, IsTrue}
 use Rattle.std.proofs.lemmas.List.{length-set}
 use Rattle.std.proofs.lemmas.Option.{MatchOption-at_some}
 use Rattle.pos_service.specs.declared.answer.Answer.{Answer}

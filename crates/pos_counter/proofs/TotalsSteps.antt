@@ -1,23 +1,17 @@
 -- A call of the totals' own as a step of the machine.
-use Rattle.std.proofs.Common.{◌≡◌, ◌<◌, ◌⊎◌, inl, inr, ℕ, List, [], ◌∷◌, length, get_or, arith, Option, Some, None, Result, Ok, Err, Bool, true, false, not, ◌&&◌, refl, sym, ap, ◌∙◌, subst}
-use Rattle.std.specs.Prelude.{MatchOption, IsSome, IsTrue, is_some, slice_get, ⊤}
-use Rattle.std.proofs.lemmas.List.{length-map}
-use Rattle.std.proofs.lemmas.Option.{slice_get_within}
+use Rattle.std.proofs.Common.{◌≡◌, ◌⊎◌, inl, inr, ℕ, List, [], Option, Some, Result, Ok, Err, false, refl, sym, ap, ◌∙◌, subst}
+use Rattle.std.specs.Prelude.{MatchOption, IsSome, slice_get, ⊤}
 use Rattle.pos_disk.specs.declared.device.Disk.{Ghosts}
 use Rattle.pos_service.specs.declared.answer.Answer.{Answer}
 use Rattle.pos_service.specs.declared.answer.Answer.TheVariants as answer
 use Rattle.pos_service.specs.declared.call.Call.{Call}
 use Rattle.pos_service.specs.declared.call.Call.TheVariants as call
 use Rattle.pos_service.specs.declared.category.Category.TheVariants as category
-use Rattle.pos_service.specs.declared.code.Code.{Code}
-use Rattle.pos_service.specs.declared.code.Code.TheVariants as code
 use Rattle.pos_service.specs.declared.memory.NoMemory.{NoMemory}
-use Rattle.pos_service.specs.Calls.{is_common, has_call}
+use Rattle.pos_service.specs.Calls.{is_common}
 use Rattle.pos_service.specs.Controls.{Control}
 use Rattle.pos_totals.specs.HardTotals.{Mode, Off, Ready}
-use Rattle.pos_service.specs.Refusals.{Row, first_refusal, when}
-use Rattle.pos_service.specs.Stations.{IsOpen}
-use Rattle.pos_service.specs.Claims.{is_foreign}
+use Rattle.pos_service.specs.Refusals.{first_refusal}
 use Rattle.pos_totals.specs.TotalsCalls.{file_call, file_rows}
 use Rattle.pos_common.specs.Held.{Held, controls_of}
 use Rattle.pos_store.specs.Standing.{Standing}
@@ -32,7 +26,7 @@ use Rattle.pos_counter.specs.Steps.{CallOf, Step, CategoryDoes, category_rows, r
 use Rattle.pos_counter.specs.DiskUse.{AsksNothing, IsUndone, SparesDisk, SparesFiles}
 use Rattle.pos_counter.specs.History.{changes_asked}
 use Rattle.pos_counter.specs.Totals.{TotalsPart, FilesCalled}
-use Rattle.pos_counter.proofs.Lifts.{control_at, match_at_some, match_by, match_cases, match_weaker}
+use Rattle.pos_counter.proofs.Lifts.{match_at_some, match_by, match_weaker}
 use Rattle.pos_counter.proofs.Stations.{IsLet, let_refusals, own_does, own_takes}
 
 -- behind the check of an open control of Hard Totals, the totals' refusals decide

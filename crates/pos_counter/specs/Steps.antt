@@ -23,7 +23,7 @@ use Rattle.pos_service.specs.Kinds.{is_display, rows_of, columns_of}
 use Rattle.pos_service.specs.Peripherals.{IsInRange, input_fits}
 use Rattle.pos_service.specs.Controls.{Control, new_control, opened, closed, deliverable, delivered}
 use Rattle.pos_service.specs.Claims.{is_own, is_foreign, holder_at, claimed_by, released_by, claim_rows, release_rows, after_release}
-use Rattle.pos_service.specs.Refusals.{Row, Decided, first_refusal, when}
+use Rattle.pos_service.specs.Refusals.{Row, Decided, first_refusal}
 use Rattle.pos_service.specs.Calls.{takes_memory as own_takes_memory}
 use Rattle.pos_service.specs.Calls.{serves, needs_of, place_found, open_rows, close_rows}
 use Rattle.pos_service.specs.Properties.{set_rows, after_set, get_rows, is_of_bytes, property_of}

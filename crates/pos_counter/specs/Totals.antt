@@ -21,8 +21,8 @@ use Rattle.pos_totals.specs.TotalsChanges.{DoesChange}
 use Rattle.pos_totals.specs.TotalsCommits.{DoesCommit}
 use Rattle.pos_totals.specs.HardTotals.{changes_in, in_transaction, transaction_of, with_transaction}
 use Rattle.pos_totals.specs.TotalsArrangements.{after_arrangement}
-use Rattle.pos_service.specs.Calls.{has_call, takes_memory}
-use Rattle.pos_service.specs.Refusals.{Decided, first_refusal, when}
+use Rattle.pos_service.specs.Calls.{takes_memory}
+use Rattle.pos_service.specs.Refusals.{Decided, first_refusal}
 use Rattle.pos_totals.specs.TotalsCalls.{FileCall, Asks, Makes, Arranges, Commits, Nothing, file_call, file_rows}
 use Rattle.pos_store.specs.Standing.{Standing, Unformatted, Damaged, IsOneOf}
 pub use Rattle.pos_totals.specs.Changes.{settled}

@@ -2,7 +2,7 @@ ghost use Rattle.std.specs.Prelude.{◌≡◌, true, Some};
 ghost use Rattle.pos_service.specs.declared.category.Category.TheVariants as category;
 ghost use Rattle.pos_service.specs.declared.kind.Kind.{Kind};
 ghost use Rattle.pos_service.specs.Calls.{has_call};
-ghost use Rattle.pos_service.specs.Deeds.{DeedFits};
+ghost use Rattle.pos_service.specs.Deeds.{DeedFits, MayWantFor};
 ghost use Rattle.pos_service.specs.ScannerCalls.{scanner_deed};
 
 use pos_service::{Call, Change, Deed};
@@ -14,6 +14,7 @@ pub fn plan(call: &Call) -> Deed
     requires { has_call category.Scanner call.now ≡ true }
     ensures deed { scanner_deed call.now ≡ Some result }
     ensures fits { (is : Kind) → DeedFits is result }
+    ensures wants { MayWantFor call.now result }
 {
     match call {
         Call::ClearInput => Deed::Changes(Change::Input),

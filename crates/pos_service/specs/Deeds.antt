@@ -138,11 +138,15 @@ PrintersDo (deed.Gives given what) = PrintersTake given
 PrintersDo (deed.Changes what) = ⊤
 PrintersDo (deed.Queues given) = PrintersTake given
 
+-- A call that comes to this deed may want memory where that does.
+abbrev pub MayWantFor : Call → Deed → Type 0
+MayWantFor asked comes_to = IsTrue (may_want comes_to) → IsTrue (takes_memory asked)
+
 -- A call of a category's own that its control may make: it is refused by its arguments, or comes to this deed, which
 -- fits. Memory is wanted only by a call that may want some, behind the arguments.
 abbrev pub Plans : List Row → Option Deed → (Deed → Type 0) → Call → Result (Result Deed Code) NoMemory → Type 0
 Plans rows comes_to Fits asked outcome = MatchResult outcome
     (λ found. MatchResult found
-    (λ deed. (first_refusal rows ≡ None) × (comes_to ≡ Some deed) × Fits deed)
+    (λ deed. (first_refusal rows ≡ None) × (comes_to ≡ Some deed) × Fits deed × MayWantFor asked deed)
     (λ code. first_refusal rows ≡ Some (answer.Refused code 0)))
     (λ want. IsTrue (takes_memory asked) × (first_refusal rows ≡ None))

@@ -5,7 +5,6 @@ use Rattle.pos_service.specs.declared.answer.Answer.TheVariants as answer
 use Rattle.pos_service.specs.declared.category.Category.{Category}
 use Rattle.pos_service.specs.declared.category.Category.TheVariants as category
 use Rattle.pos_service.specs.Calls.{has_call, needs_of, serves}
-use Rattle.pos_service.specs.Controls.{Control}
 use Rattle.pos_common.proofs.CheckLemmas.{kept_out, let_through, lets_open, lets_own}
 use Rattle.pos_counter.specs.Machine.{Shared, holder_in}
 use Rattle.pos_counter.specs.KeptDevices.{devices_in}

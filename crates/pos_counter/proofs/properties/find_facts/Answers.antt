@@ -1,8 +1,7 @@
 use Rattle.std.proofs.Common.{◌≡◌, ◌∙◌, [], ap}
 use Rattle.pos_service.specs.declared.facts.Facts.{Facts}
 use Rattle.pos_service.specs.Stations.{signs_in}
-use Rattle.pos_service.specs.declared.peripheral.Peripheral.{Ghosts}
-use Rattle.pos_counter.specs.Machine.{device_at, holder_in, kind_in, station_in}
+use Rattle.pos_counter.specs.Machine.{device_at, kind_in, station_in}
 use Rattle.pos_counter.specs.KeptDevices.{devices_in}
 use Rattle.pos_counter.specs.Assembly.{machine_with}
 use Rattle.pos_counter.specs.Leaving.{part_of}

@@ -1,7 +1,6 @@
 use Rattle.std.proofs.Common.{◌≡◌, ◌∙◌, Some, ap, subst, sym}
 use Rattle.pos_service.specs.Properties.{property_of, get_rows}
 use Rattle.pos_common.specs.Held.{Gets, Held}
-use Rattle.pos_service.specs.declared.peripheral.Peripheral.{Ghosts}
 use Rattle.pos_counter.specs.KeptDevices.{devices_in}
 use Rattle.pos_counter.specs.Assembly.{machine_with}
 use Rattle.pos_counter.specs.Leaving.{part_of}

@@ -3,7 +3,6 @@ use Rattle.pos_totals.specs.HardTotals.{is_ready}
 use Rattle.pos_service.specs.Properties.{after_set, set_rows}
 use Rattle.pos_common.specs.Held.{Held, TurnsInto}
 use Rattle.pos_store.specs.Standing.{Standing}
-use Rattle.pos_service.specs.declared.peripheral.Peripheral.{Ghosts}
 use Rattle.pos_counter.specs.Machine.{Shared, device_at, holder_in, kind_in}
 use Rattle.pos_counter.specs.Totals.{asks_recovery}
 use Rattle.std.proofs.lemmas.List.{get_or_default}

@@ -1,6 +1,5 @@
 use Rattle.std.proofs.Common.{get_or}
 use Rattle.std.proofs.lemmas.List.{get_or_default}
-use Rattle.pos_service.specs.declared.peripheral.Peripheral.{Ghosts}
 use Rattle.pos_counter.specs.KeptDevices.{devices_in}
 use Rattle.pos_counter.proofs.Recovering.{asks_there, done_set, failed_serves, recovered_serves}
 use Rattle.pos_counter.proofs.properties.set_recovered.Goals as goal

@@ -1,6 +1,5 @@
 use Rattle.std.proofs.Common.{◌≡◌, ◌≤◌, take, length}
 use Rattle.std.specs.Prelude.{vec_capacity}
-use Rattle.pos_service.specs.declared.peripheral.Peripheral.{Ghosts}
 use Rattle.pos_counter.specs.Responses.{steps_of}
 use Rattle.pos_counter.specs.Counters.{IsCounterSound, IsRun}
 use Rattle.pos_counter.proofs.counter.Counter.perform.Given as goal
