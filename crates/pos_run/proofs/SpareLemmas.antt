@@ -4,8 +4,7 @@ use Rattle.std.specs.Prelude.{option_map}
 use Rattle.std.proofs.lemmas.List.{get_or-map, length-map, map-set}
 use Rattle.std.proofs.lemmas.List.Elements.{All-set}
 use Rattle.std.proofs.lemmas.Option.{slice_get-map, slice_get_past, slice_get_read, slice_get_within}
-use Rattle.pos_service.specs.declared.peripheral_box.PeripheralBox.{PeripheralBox}
-use Rattle.pos_service.specs.declared.peripheral_box.HasState.{Ghosts}
+use Rattle.pos_service.specs.declared.peripheral.Peripheral.{Ghosts}
 use Rattle.pos_service.specs.Peripherals.{PeripheralState}
 use Rattle.pos_run.specs.Spares.{IsEmptyAt, IsInService, SpareStates, spare_at, states_in, with_spare}
 
@@ -71,33 +70,33 @@ not_both spares number place state is (other, same, none) at =
     let both : Some (Some state) ≡ Some None = sym at ∙ here in
     cc
 
-module _ {X : Type 0} {O : X → Type 0} (boxes : Ghosts (PeripheralBox X O)) (list : List (Option (PeripheralBox X O))) (place : ℕ) where
+module _ {P : Type 0} (peripherals : Ghosts P) (list : List (Option P)) (place : ℕ) where
   -- what is at the place of a box
-  pub state_there : (spare : Option (PeripheralBox X O)) → place < length list → spare ≡ get_or list place spare → slice_get (states_in boxes list) place ≡ Some (option_map boxes.state spare)
+  pub state_there : (spare : Option P) → place < length list → spare ≡ get_or list place spare → slice_get (states_in peripherals list) place ≡ Some (option_map peripherals.state spare)
   state_there spare within at =
-      slice_get-map (option_map boxes.state) list place ∙ ap (option_map (option_map boxes.state)) (slice_get_read list (length list) place spare refl within at)
+      slice_get-map (option_map peripherals.state) list place ∙ ap (option_map (option_map peripherals.state)) (slice_get_read list (length list) place spare refl within at)
 
   -- the box that is there is in service
-  serving : (spare : Option (PeripheralBox X O)) → IsInService (option_map boxes.state spare) → IfSome spare (λ b. (boxes.state b).is_parked ≡ false)
+  serving : (spare : Option P) → IsInService (option_map peripherals.state spare) → IfSome spare (λ b. (peripherals.state b).is_parked ≡ false)
   serving None h = tt
   serving (Some b) h = h
 
-  pub serves_there : (spare : Option (PeripheralBox X O)) → All IsInService (states_in boxes list) → place < length list → spare ≡ get_or list place spare → IfSome spare (λ b. (boxes.state b).is_parked ≡ false)
+  pub serves_there : (spare : Option P) → All IsInService (states_in peripherals list) → place < length list → spare ≡ get_or list place spare → IfSome spare (λ b. (peripherals.state b).is_parked ≡ false)
   serves_there spare all within at =
-      let count : length (states_in boxes list) ≡ length list = length-map list (option_map boxes.state) in
-      let there : get_or (states_in boxes list) place (option_map boxes.state spare) ≡ option_map boxes.state spare = get_or-map (option_map boxes.state) list place spare (option_map boxes.state spare) within ∙ ap (option_map boxes.state) (sym at) in
-      serving spare (subst IsInService there (all place (option_map boxes.state spare) (omega (arith, count, within))))
+      let count : length (states_in peripherals list) ≡ length list = length-map list (option_map peripherals.state) in
+      let there : get_or (states_in peripherals list) place (option_map peripherals.state spare) ≡ option_map peripherals.state spare = get_or-map (option_map peripherals.state) list place spare (option_map peripherals.state spare) within ∙ ap (option_map peripherals.state) (sym at) in
+      serving spare (subst IsInService there (all place (option_map peripherals.state spare) (omega (arith, count, within))))
 
   -- another box, or none, is put there
-  pub states_set : (spare : Option (PeripheralBox X O)) → states_in boxes (set list place spare) ≡ set (states_in boxes list) place (option_map boxes.state spare)
-  states_set spare = map-set (option_map boxes.state) list place spare
+  pub states_set : (spare : Option P) → states_in peripherals (set list place spare) ≡ set (states_in peripherals list) place (option_map peripherals.state spare)
+  states_set spare = map-set (option_map peripherals.state) list place spare
 
-  pub service_set : (spare : Option (PeripheralBox X O)) → All IsInService (states_in boxes list) → IsInService (option_map boxes.state spare) → All IsInService (states_in boxes (set list place spare))
-  service_set spare all one = subst (All IsInService) (sym (states_set spare)) (All-set IsInService (states_in boxes list) place (option_map boxes.state spare) one all)
+  pub service_set : (spare : Option P) → All IsInService (states_in peripherals list) → IsInService (option_map peripherals.state spare) → All IsInService (states_in peripherals (set list place spare))
+  service_set spare all one = subst (All IsInService) (sym (states_set spare)) (All-set IsInService (states_in peripherals list) place (option_map peripherals.state spare) one all)
 
   -- the place of a number that is empty has no box
-  pub no_box : (number : ℕ) (spare : Option (PeripheralBox X O)) (other : PeripheralBox X O) → number ≡ suc place → IsEmptyAt (states_in boxes list) number → spare ≡ get_or list place spare → spare ≡ Some other → ⊥
+  pub no_box : (number : ℕ) (spare : Option P) (other : P) → number ≡ suc place → IsEmptyAt (states_in peripherals list) number → spare ≡ get_or list place spare → spare ≡ Some other → ⊥
   no_box number spare other is (empty, same, none) at some =
-      let count : length (states_in boxes list) ≡ length list = length-map list (option_map boxes.state) in
-      let within : place < length list = omega (arith, is, same, count, slice_get_within (states_in boxes list) empty None none) in
-      not_both (states_in boxes list) number place (boxes.state other) is (empty, same, none) (state_there spare within at ∙ ap (λ (o : Option (PeripheralBox X O)). Some (option_map boxes.state o)) some)
+      let count : length (states_in peripherals list) ≡ length list = length-map list (option_map peripherals.state) in
+      let within : place < length list = omega (arith, is, same, count, slice_get_within (states_in peripherals list) empty None none) in
+      not_both (states_in peripherals list) number place (peripherals.state other) is (empty, same, none) (state_there spare within at ∙ ap (λ (o : Option P). Some (option_map peripherals.state o)) some)

@@ -2,8 +2,7 @@
 use Rattle.std.proofs.Common.{◌≡◌, ◌∙◌, [], ℕ, List, Option, refl, subst, sym, ap}
 use Rattle.std.specs.Prelude.{Result, Ok, Err, None}
 use Rattle.pos_disk.specs.declared.device.Disk.{Ghosts as DiskGhosts}
-use Rattle.pos_service.specs.declared.peripheral_box.PeripheralBox.{PeripheralBox}
-use Rattle.pos_service.specs.declared.peripheral_box.HasState.{Ghosts}
+use Rattle.pos_service.specs.declared.peripheral.Peripheral.{Ghosts}
 use Rattle.pos_profile.specs.Entries.{Contents}
 use Rattle.pos_totals.specs.HardTotals.{Off}
 use Rattle.pos_store.specs.Standing.{Standing, LeavesOneOf}
@@ -28,18 +27,18 @@ abbrev pub begun_totals : {D : Type 0} → D → TotalsView D
 begun_totals disk = record { disk = disk; totals = record { mode = Off; next = 1; area = None; transactions = [] } }
 
 -- each moment of a run is one of a step, over a disk whose crash now leaves what it says
-pub runs_through : {D X : Type 0} {O : X → Type 0} (bound : DiskGhosts D) (boxes : Ghosts (PeripheralBox X O)) → ((disk : D) (bytes : List ℕ) → bound.honest disk → (bound.state disk).left_since (bound.state disk).moment bytes → MayLeave (bound.state disk) bytes) → (a b : Counter D X O) (steps : List (Request × Response)) → IsRun bound boxes a steps b → RunsThrough bound boxes a steps b
-runs_through bound boxes only a b steps run = (run, λ left leaves. runs_from bound boxes a b steps left only leaves run)
+pub runs_through : {D P : Type 0} (bound : DiskGhosts D) (peripherals : Ghosts P) → ((disk : D) (bytes : List ℕ) → bound.honest disk → (bound.state disk).left_since (bound.state disk).moment bytes → MayLeave (bound.state disk) bytes) → (a b : Counter D P) (steps : List (Request × Response)) → IsRun bound peripherals a steps b → RunsThrough bound peripherals a steps b
+runs_through bound peripherals only a b steps run = (run, λ left leaves. runs_from bound peripherals a b steps left only leaves run)
 
-module _ {D X : Type 0} {O : X → Type 0} (bound : DiskGhosts D) (boxes : Ghosts (PeripheralBox X O)) (old : Counter D X O) (left : List Standing) (leaves : Leaves bound old.totals left) (spares : SpareStates) where
+module _ {D P : Type 0} (bound : DiskGhosts D) (peripherals : Ghosts P) (old : Counter D P) (left : List Standing) (leaves : Leaves bound old.totals left) (spares : SpareStates) where
   abbrev begun : Machine
-  begun = machine boxes old (part_of bound old.totals left)
+  begun = machine peripherals old (part_of bound old.totals left)
 
   -- what a run over a counter leaves, over its machine
-  script_leaves : (bytes : List ℕ) (before after : Option (List ℕ)) (result : Result (Unit {0}) RunFault) (kept : SpareStates) (new : Counter D X O) → ScriptLeaves (RunsThrough bound boxes) old spares bytes before after result kept new → (end : Machine) × ScriptLeaves Run begun spares bytes before after result kept end
+  script_leaves : (bytes : List ℕ) (before after : Option (List ℕ)) (result : Result (Unit {0}) RunFault) (kept : SpareStates) (new : Counter D P) → ScriptLeaves (RunsThrough bound peripherals) old spares bytes before after result kept new → (end : Machine) × ScriptLeaves Run begun spares bytes before after result kept end
   script_leaves bytes before after (Ok u) kept new h =
-      let r = machine_runs bound boxes old _ h.transcript.steps left leaves h.transcript.run.0 in (
-        machine boxes new (part_of bound new.totals r.0),
+      let r = machine_runs bound peripherals old _ h.transcript.steps left leaves h.transcript.run.0 in (
+        machine peripherals new (part_of bound new.totals r.0),
         record {
           text = h.text;
           names = h.names;
@@ -49,16 +48,16 @@ module _ {D X : Type 0} {O : X → Type 0} (bound : DiskGhosts D) (boxes : Ghost
       )
   script_leaves bytes before after (Err fault.Read) kept new h = (begun, (refl, h.1, h.2))
   script_leaves bytes before after (Err fault.Write) kept new h =
-      let r = machine_runs bound boxes old _ h.transcript.steps left leaves h.transcript.run.0 in
-      let s = machine_runs bound boxes h.mid new h.carried.steps r.0 r.1 h.carried.run.0 in (
-        machine boxes new (part_of bound new.totals s.0),
+      let r = machine_runs bound peripherals old _ h.transcript.steps left leaves h.transcript.run.0 in
+      let s = machine_runs bound peripherals h.mid new h.carried.steps r.0 r.1 h.carried.run.0 in (
+        machine peripherals new (part_of bound new.totals s.0),
         record {
           earlier = h.earlier;
           line = h.line;
           later = h.later;
           text = h.text;
           session = h.session;
-          mid = machine boxes h.mid (part_of bound h.mid.totals r.0);
+          mid = machine peripherals h.mid (part_of bound h.mid.totals r.0);
           reply = h.reply;
           names_after = h.names_after;
           front = h.front;
@@ -74,10 +73,10 @@ module _ {D X : Type 0} {O : X → Type 0} (bound : DiskGhosts D) (boxes : Ghost
   script_leaves bytes before after (Err fault.NoMemory) kept new h = (begun, (refl, h.1, h.2))
 
   -- a run over a counter whose devices are served is one over its profile
-  pub runs_over : (contents : Contents) (disk : D) → old.totals ≡ begun_totals disk → ((part : TotalsPart) → machine boxes old part ≡ begun_with (simulated_devices contents.devices) part) → (known before after : Option (List ℕ)) (result : Result (Unit {0}) RunFault) (kept : SpareStates) (new : Counter D X O) → spares ≡ simulated_all contents.spares → RunsScript (RunsThrough bound boxes) old spares known before after result kept new → RunsOverProfile contents (new_totals left (bound.state disk).failures) known before after result
+  pub runs_over : (contents : Contents) (disk : D) → old.totals ≡ begun_totals disk → ((part : TotalsPart) → machine peripherals old part ≡ begun_with (simulated_devices contents.devices) part) → (known before after : Option (List ℕ)) (result : Result (Unit {0}) RunFault) (kept : SpareStates) (new : Counter D P) → spares ≡ simulated_all contents.spares → RunsScript (RunsThrough bound peripherals) old spares known before after result kept new → RunsOverProfile contents (new_totals left (bound.state disk).failures) known before after result
   runs_over contents disk totals served known before after result kept new begin_spares script =
       let part = new_totals left (bound.state disk).failures in
-      let same : begun ≡ begun_with (simulated_devices contents.devices) part = ap (λ v. machine boxes old (part_of bound v left)) totals ∙ served part in
+      let same : begun ≡ begun_with (simulated_devices contents.devices) part = ap (λ v. machine peripherals old (part_of bound v left)) totals ∙ served part in
       let moved = script_leaves script.input before after result kept new script.run in
       record {
         end = moved.0;
@@ -89,7 +88,7 @@ module _ {D X : Type 0} {O : X → Type 0} (bound : DiskGhosts D) (boxes : Ghost
         };
       }
 
-module _ {D X : Type 0} {O : X → Type 0} (bound : DiskGhosts D) (boxes : Ghosts (PeripheralBox X O)) (disk : D) (counter : Counter D X O) (totals : counter.totals ≡ begun_totals disk) where
+module _ {D P : Type 0} (bound : DiskGhosts D) (peripherals : Ghosts P) (disk : D) (counter : Counter D P) (totals : counter.totals ≡ begun_totals disk) where
   -- a counter that begins leaves what its disk does
   pub begun_leaves : (left : List Standing) → bound.honest disk → LeavesOneOf left (bound.state disk) → Leaves bound counter.totals left
   begun_leaves left honest leaves = subst (λ v. Leaves bound v left) (sym totals) (record { honest = honest; leaves = leaves; is_settled = refl })

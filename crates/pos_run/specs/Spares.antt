@@ -1,7 +1,6 @@
 -- The spares of a script: peripherals that no device has (docs/CONSOLE.md, "Lines").
 use Rattle.std.specs.Prelude.{◌≡◌, ℕ, zero, suc, false, List, Option, Some, None, IfSome, All, map, option_map, option_and_then, slice_get, slice_set}
-use Rattle.pos_service.specs.declared.peripheral_box.PeripheralBox.{PeripheralBox}
-use Rattle.pos_service.specs.declared.peripheral_box.HasState.{Ghosts}
+use Rattle.pos_service.specs.declared.peripheral.Peripheral.{Ghosts}
 use Rattle.pos_service.specs.Peripherals.{PeripheralState}
 use Rattle.pos_run.specs.declared.spares.Spares.{Spares}
 
@@ -24,19 +23,17 @@ abbrev pub IsEmptyAt : SpareStates → ℕ → Type 0
 IsEmptyAt spares number = (place : ℕ) × (number ≡ suc place) × (slice_get spares place ≡ Some None)
 
 -- what peripherals are, each of which may be there or not
-abbrev pub states_in : {X : Type 0} {O : X → Type 0} → Ghosts (PeripheralBox X O) → List (Option (PeripheralBox X O))
-    → SpareStates
-states_in boxes list = map (option_map boxes.state) list
+abbrev pub states_in : {P : Type 0} → Ghosts P → List (Option P) → SpareStates
+states_in peripherals list = map (option_map peripherals.state) list
 
 -- what the spares are
-abbrev pub spares_in : {X : Type 0} {O : X → Type 0} → Ghosts (PeripheralBox X O) → Spares X O → SpareStates
-spares_in boxes spares = states_in boxes spares.boxes.items
+abbrev pub spares_in : {P : Type 0} → Ghosts P → Spares P → SpareStates
+spares_in peripherals spares = states_in peripherals spares.peripherals.items
 
 -- a spare that is there is in service
 abbrev pub IsInService : Option PeripheralState → Type 0
 IsInService spare = IfSome spare (λ state. state.is_parked ≡ false)
 
 -- What is true of all spares: each that is there is in service.
-pub record AreSparesSound {X : Type 0} {O : X → Type 0} (boxes : Ghosts (PeripheralBox X O)) (spares : Spares X O)
-    : Type 0 where
-  pub in_service : All IsInService (spares_in boxes spares)
+pub record AreSparesSound {P : Type 0} (peripherals : Ghosts P) (spares : Spares P) : Type 0 where
+  pub in_service : All IsInService (spares_in peripherals spares)

@@ -7,15 +7,19 @@ ghost use Rattle.pos_service.specs.Stations.{station_of};
 use pos_counter::{Counter, Ended};
 use pos_disk::Disk;
 use pos_profile::Slot;
-use pos_service::{HasState, PeripheralBox};
+use pos_service::{Peripheral, PeripheralBox};
 
 /// Attaches a peripheral in service to the device of a name. One that is refused is ended.
-pub fn offer<D: Disk>(counter: &mut Counter<D>, name: &[u8], peripheral: PeripheralBox)
-    requires sound { IsCounterSound ⟦<PeripheralBox as HasState>⟧ counter.old }
-    requires unparked { (⟦<PeripheralBox as HasState>⟧.state peripheral).is_parked ≡ false }
-    ensures step { let boxes = ⟦<PeripheralBox as HasState>⟧ in (response : Response) ×
+pub fn offer<D: Disk>(
+    counter: &mut Counter<D, PeripheralBox>,
+    name: &[u8],
+    peripheral: PeripheralBox,
+)
+    requires sound { IsCounterSound ⟦<PeripheralBox as Peripheral>⟧ counter.old }
+    requires unparked { (⟦<PeripheralBox as Peripheral>⟧.state peripheral).is_parked ≡ false }
+    ensures step { let boxes = ⟦<PeripheralBox as Peripheral>⟧ in (response : Response) ×
         IsStepBeside boxes counter.old (Attach name.now (station_of (boxes.state peripheral))) response counter.new }
-    ensures sound { IsCounterSound ⟦<PeripheralBox as HasState>⟧ counter.new }
+    ensures sound { IsCounterSound ⟦<PeripheralBox as Peripheral>⟧ counter.new }
 {
     if let Err((_, refused)) = counter.attach(name, peripheral) {
         refused.end();
@@ -23,7 +27,7 @@ pub fn offer<D: Disk>(counter: &mut Counter<D>, name: &[u8], peripheral: Periphe
 }
 
 /// Ends devices and their peripherals.
-fn end_all(mut entries: Vec<Slot>)
+fn end_all(mut entries: Vec<Slot<PeripheralBox>>)
     requires { Unit {0} }
 {
     while let Some(entry) = entries.pop() {
@@ -40,8 +44,8 @@ fn end_all(mut entries: Vec<Slot>)
 }
 
 /// Shuts a counter down, and ends what is left of it.
-pub fn end_counter<D: Disk + Drop>(counter: Counter<D>)
-    requires { IsCounterSound ⟦<PeripheralBox as HasState>⟧ counter }
+pub fn end_counter<D: Disk + Drop>(counter: Counter<D, PeripheralBox>)
+    requires { IsCounterSound ⟦<PeripheralBox as Peripheral>⟧ counter }
 {
     let Ended { disk: _, entries } = counter.shutdown();
     end_all(entries);

@@ -5,6 +5,7 @@ ghost use Rattle.pos_run.specs.Running.{RunsScript};
 ghost use Rattle.pos_run.specs.Carried.{CarriesOutLines, RunsThrough};
 ghost use Rattle.pos_run.specs.Spares.{AreSparesSound, spares_in};
 
+use crate::ending::Ends;
 use crate::names::Names;
 use crate::read::{ReadFault, read_input};
 use crate::session::carry_out_line;
@@ -12,7 +13,7 @@ use crate::spares::Spares;
 use pos_counter::Counter;
 use pos_disk::Disk;
 use pos_script::{WriteFault, next_line, print_line};
-use pos_service::{HasState, NoMemory, PeripheralBox};
+use pos_service::{NoMemory, Peripheral};
 use std::alloc::Global;
 use std::io::{Read, Write};
 use thiserror::Error;
@@ -48,20 +49,19 @@ impl From<NoMemory> for RunFault {
 }
 
 /// Carries out the lines of a script.
-fn carry_out_lines<W: Write, D: Disk>(
+fn carry_out_lines<W: Write, D: Disk, P: Peripheral + Ends>(
     alloc: Global,
     input: &[u8],
     writer: &mut W,
-    counter: &mut Counter<D>,
-    spares: &mut Spares,
+    counter: &mut Counter<D, P>,
+    spares: &mut Spares<P>,
 ) -> Result<(), WriteFault>
-    requires sound { IsCounterSound ⟦<PeripheralBox as HasState>⟧ counter.old }
-    requires spares { AreSparesSound ⟦<PeripheralBox as HasState>⟧ spares.old }
-    ensures lines { let boxes = ⟦<PeripheralBox as HasState>⟧ in
-        CarriesOutLines D.Disk boxes counter.old (spares_in boxes spares.old) input.now
-        (W.contents writer.old) (W.contents writer.new) result (spares_in boxes spares.new) counter.new }
-    ensures sound { IsCounterSound ⟦<PeripheralBox as HasState>⟧ counter.new }
-    ensures spares { AreSparesSound ⟦<PeripheralBox as HasState>⟧ spares.new }
+    requires sound { IsCounterSound P.Peripheral counter.old }
+    requires spares { AreSparesSound P.Peripheral spares.old }
+    ensures lines { CarriesOutLines D.Disk P.Peripheral counter.old (spares_in P.Peripheral spares.old) input.now
+        (W.contents writer.old) (W.contents writer.new) result (spares_in P.Peripheral spares.new) counter.new }
+    ensures sound { IsCounterSound P.Peripheral counter.new }
+    ensures spares { AreSparesSound P.Peripheral spares.new }
 {
     let mut names = Names::new(alloc);
     let mut rest = input;
@@ -76,26 +76,27 @@ fn carry_out_lines<W: Write, D: Disk>(
     Ok(())
 }
 
-/// Reads a script whole, carries out its lines in order, and writes what each prints (docs/CONSOLE.md).
+/// Reads a script whole, carries out its lines in order, and writes what each prints (docs/CONSOLE.md), over a counter
+/// of any peripherals and any disk.
 ///
 /// At a fault of the reader, or want of memory for the input, no line was carried out and nothing is written. At a
 /// fault of the writer the earlier lines were carried out and their text is written; the line at which it came was
 /// carried out too, and no later one. A crash at any moment leaves what it may leave inside a step of the lines that
 /// were carried out.
-pub fn run<R: Read, W: Write, D: Disk>(
+pub fn run<R: Read, W: Write, D: Disk, P: Peripheral + Ends>(
     alloc: Global,
     reader: &mut R,
     writer: &mut W,
-    counter: &mut Counter<D>,
-    spares: &mut Spares,
+    counter: &mut Counter<D, P>,
+    spares: &mut Spares<P>,
 ) -> Result<(), RunFault>
-    requires sound { IsCounterSound ⟦<PeripheralBox as HasState>⟧ counter.old }
-    requires spares { AreSparesSound ⟦<PeripheralBox as HasState>⟧ spares.old }
-    ensures script { let boxes = ⟦<PeripheralBox as HasState>⟧ in
-        RunsScript (RunsThrough D.Disk boxes) counter.old (spares_in boxes spares.old) (R.remaining reader.old)
-        (W.contents writer.old) (W.contents writer.new) result (spares_in boxes spares.new) counter.new }
-    ensures sound { IsCounterSound ⟦<PeripheralBox as HasState>⟧ counter.new }
-    ensures spares { AreSparesSound ⟦<PeripheralBox as HasState>⟧ spares.new }
+    requires sound { IsCounterSound P.Peripheral counter.old }
+    requires spares { AreSparesSound P.Peripheral spares.old }
+    ensures script { RunsScript (RunsThrough D.Disk P.Peripheral) counter.old (spares_in P.Peripheral spares.old)
+        (R.remaining reader.old) (W.contents writer.old) (W.contents writer.new) result
+        (spares_in P.Peripheral spares.new) counter.new }
+    ensures sound { IsCounterSound P.Peripheral counter.new }
+    ensures spares { AreSparesSound P.Peripheral spares.new }
 {
     let input = read_input(alloc, reader)?;
     match carry_out_lines(alloc, input.as_slice(), writer, counter, spares) {

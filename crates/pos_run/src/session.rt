@@ -5,6 +5,7 @@ ghost use Rattle.pos_run.specs.Carried.{CarriesOutAsking, CarriesOutAtControl, C
 ghost use Rattle.pos_run.specs.Spares.{AreSparesSound, spares_in};
 ghost use Rattle.pos_run.specs.Transcript.{attach_refusal, detach_refusal};
 
+use crate::ending::Ends;
 use crate::names::Names;
 use crate::spares::Spares;
 use pos_counter::{
@@ -12,20 +13,20 @@ use pos_counter::{
 };
 use pos_disk::Disk;
 use pos_script::{Command, LineFault, Refusal, Reply, is_quiet_line, read_command};
-use pos_service::{Call, Category, ErrorReply, HasState, Input, PeripheralBox};
+use pos_service::{Call, Category, ErrorReply, Input, Peripheral};
 use std::alloc::Global;
 
 /// A new control, under a name that no control has.
-fn new_control<D: Disk>(
-    counter: &mut Counter<D>,
+fn new_control<D: Disk, P: Peripheral>(
+    counter: &mut Counter<D, P>,
     names: &mut Names,
     name: &[u8],
     category: Category,
 ) -> Reply
-    requires sound { IsCounterSound ⟦<PeripheralBox as HasState>⟧ counter.old }
-    ensures asks { CarriesOutAtControl D.Disk ⟦<PeripheralBox as HasState>⟧ counter.old names.old
+    requires sound { IsCounterSound P.Peripheral counter.old }
+    ensures asks { CarriesOutAtControl D.Disk P.Peripheral counter.old names.old
         (NewLine name.now category) result names.new counter.new }
-    ensures sound { IsCounterSound ⟦<PeripheralBox as HasState>⟧ counter.new }
+    ensures sound { IsCounterSound P.Peripheral counter.new }
 {
     if names.find(name).is_some() {
         return Reply::BadControl;
@@ -44,11 +45,16 @@ fn new_control<D: Disk>(
 }
 
 /// A call on the control of a name.
-fn call_control<D: Disk>(counter: &mut Counter<D>, names: &Names, name: &[u8], call: &Call) -> Reply
-    requires sound { IsCounterSound ⟦<PeripheralBox as HasState>⟧ counter.old }
-    ensures asks { CarriesOutAtControl D.Disk ⟦<PeripheralBox as HasState>⟧ counter.old names.now
+fn call_control<D: Disk, P: Peripheral>(
+    counter: &mut Counter<D, P>,
+    names: &Names,
+    name: &[u8],
+    call: &Call,
+) -> Reply
+    requires sound { IsCounterSound P.Peripheral counter.old }
+    ensures asks { CarriesOutAtControl D.Disk P.Peripheral counter.old names.now
         (CallLine name.now call.now) result names.now counter.new }
-    ensures sound { IsCounterSound ⟦<PeripheralBox as HasState>⟧ counter.new }
+    ensures sound { IsCounterSound P.Peripheral counter.new }
 {
     let Some(number) = names.find(name) else {
         return Reply::BadControl;
@@ -60,16 +66,16 @@ fn call_control<D: Disk>(counter: &mut Counter<D>, names: &Names, name: &[u8], c
 }
 
 /// The delivery of an event to the control of a name.
-fn deliver_event<D: Disk>(
-    counter: &mut Counter<D>,
+fn deliver_event<D: Disk, P: Peripheral>(
+    counter: &mut Counter<D, P>,
     names: &Names,
     name: &[u8],
     reply: ErrorReply,
 ) -> Reply
-    requires sound { IsCounterSound ⟦<PeripheralBox as HasState>⟧ counter.old }
-    ensures asks { CarriesOutAtControl D.Disk ⟦<PeripheralBox as HasState>⟧ counter.old names.now
+    requires sound { IsCounterSound P.Peripheral counter.old }
+    ensures asks { CarriesOutAtControl D.Disk P.Peripheral counter.old names.now
         (DeliverLine name.now reply) result names.now counter.new }
-    ensures sound { IsCounterSound ⟦<PeripheralBox as HasState>⟧ counter.new }
+    ensures sound { IsCounterSound P.Peripheral counter.new }
 {
     match names.find(name) {
         Some(number) => Reply::Delivered(counter.deliver(number, reply)),
@@ -78,11 +84,15 @@ fn deliver_event<D: Disk>(
 }
 
 /// What happens at a device.
-fn input_device<D: Disk>(counter: &mut Counter<D>, name: &[u8], input: &Input) -> Reply
-    requires sound { IsCounterSound ⟦<PeripheralBox as HasState>⟧ counter.old }
-    ensures asks { CarriesOutAtDevice D.Disk ⟦<PeripheralBox as HasState>⟧ counter.old
+fn input_device<D: Disk, P: Peripheral>(
+    counter: &mut Counter<D, P>,
+    name: &[u8],
+    input: &Input,
+) -> Reply
+    requires sound { IsCounterSound P.Peripheral counter.old }
+    ensures asks { CarriesOutAtDevice D.Disk P.Peripheral counter.old
         (InputLine name.now input.now) result counter.new }
-    ensures sound { IsCounterSound ⟦<PeripheralBox as HasState>⟧ counter.new }
+    ensures sound { IsCounterSound P.Peripheral counter.new }
 {
     match counter.input(name, input) {
         Ok(()) => Reply::Ok,
@@ -93,10 +103,9 @@ fn input_device<D: Disk>(counter: &mut Counter<D>, name: &[u8], input: &Input) -
 }
 
 /// What a device is physically.
-fn show_device<D: Disk>(counter: &Counter<D>, name: &[u8]) -> Reply
-    requires sound { IsCounterSound ⟦<PeripheralBox as HasState>⟧ counter.now }
-    ensures { CarriesOutAtDevice D.Disk ⟦<PeripheralBox as HasState>⟧ counter.now
-        (ShowLine name.now) result counter.now }
+fn show_device<D: Disk, P: Peripheral>(counter: &Counter<D, P>, name: &[u8]) -> Reply
+    requires sound { IsCounterSound P.Peripheral counter.now }
+    ensures { CarriesOutAtDevice D.Disk P.Peripheral counter.now (ShowLine name.now) result counter.now }
 {
     match counter.snapshot(name) {
         Ok(snapshot) => Reply::Shown(snapshot),
@@ -106,11 +115,10 @@ fn show_device<D: Disk>(counter: &Counter<D>, name: &[u8]) -> Reply
 }
 
 /// Work on a device's output.
-fn work_device<D: Disk>(counter: &mut Counter<D>, name: &[u8]) -> Reply
-    requires sound { IsCounterSound ⟦<PeripheralBox as HasState>⟧ counter.old }
-    ensures asks { CarriesOutAtDevice D.Disk ⟦<PeripheralBox as HasState>⟧ counter.old
-        (WorkLine name.now) result counter.new }
-    ensures sound { IsCounterSound ⟦<PeripheralBox as HasState>⟧ counter.new }
+fn work_device<D: Disk, P: Peripheral>(counter: &mut Counter<D, P>, name: &[u8]) -> Reply
+    requires sound { IsCounterSound P.Peripheral counter.old }
+    ensures asks { CarriesOutAtDevice D.Disk P.Peripheral counter.old (WorkLine name.now) result counter.new }
+    ensures sound { IsCounterSound P.Peripheral counter.new }
 {
     match counter.work(name) {
         Ok(worked) => Reply::Worked(worked),
@@ -142,19 +150,18 @@ fn detach_refusal(fault: DetachFault) -> Refusal
 }
 
 /// The spare of a number is to serve a device. One that is refused goes back to its place.
-fn attach_spare<D: Disk>(
-    counter: &mut Counter<D>,
-    spares: &mut Spares,
+fn attach_spare<D: Disk, P: Peripheral>(
+    counter: &mut Counter<D, P>,
+    spares: &mut Spares<P>,
     name: &[u8],
     number: u32,
 ) -> Reply
-    requires sound { IsCounterSound ⟦<PeripheralBox as HasState>⟧ counter.old }
-    requires spares { AreSparesSound ⟦<PeripheralBox as HasState>⟧ spares.old }
-    ensures asks { let boxes = ⟦<PeripheralBox as HasState>⟧ in
-        CarriesOutWithSpare D.Disk boxes counter.old (spares_in boxes spares.old)
-        (AttachLine name.now number) result (spares_in boxes spares.new) counter.new }
-    ensures sound { IsCounterSound ⟦<PeripheralBox as HasState>⟧ counter.new }
-    ensures spares { AreSparesSound ⟦<PeripheralBox as HasState>⟧ spares.new }
+    requires sound { IsCounterSound P.Peripheral counter.old }
+    requires spares { AreSparesSound P.Peripheral spares.old }
+    ensures asks { CarriesOutWithSpare D.Disk P.Peripheral counter.old (spares_in P.Peripheral spares.old)
+        (AttachLine name.now number) result (spares_in P.Peripheral spares.new) counter.new }
+    ensures sound { IsCounterSound P.Peripheral counter.new }
+    ensures spares { AreSparesSound P.Peripheral spares.new }
 {
     let Some(peripheral) = spares.take(number) else {
         return Reply::BadSpare;
@@ -169,15 +176,14 @@ fn attach_spare<D: Disk>(
 }
 
 /// A device is to be vacant. Its peripheral, which is out of service then, is ended.
-fn detach_device<D: Disk>(counter: &mut Counter<D>, name: &[u8]) -> Reply
-    requires sound { IsCounterSound ⟦<PeripheralBox as HasState>⟧ counter.old }
-    ensures asks { CarriesOutAtDevice D.Disk ⟦<PeripheralBox as HasState>⟧ counter.old
-        (DetachLine name.now) result counter.new }
-    ensures sound { IsCounterSound ⟦<PeripheralBox as HasState>⟧ counter.new }
+fn detach_device<D: Disk, P: Peripheral + Ends>(counter: &mut Counter<D, P>, name: &[u8]) -> Reply
+    requires sound { IsCounterSound P.Peripheral counter.old }
+    ensures asks { CarriesOutAtDevice D.Disk P.Peripheral counter.old (DetachLine name.now) result counter.new }
+    ensures sound { IsCounterSound P.Peripheral counter.new }
 {
     match counter.detach(name) {
         Ok(peripheral) => {
-            drop(peripheral);
+            peripheral.end();
             Reply::Ok
         }
         Err(fault) => Reply::Refused(detach_refusal(fault)),
@@ -185,19 +191,18 @@ fn detach_device<D: Disk>(counter: &mut Counter<D>, name: &[u8]) -> Reply
 }
 
 /// Carries out what a line asks, and replies to it.
-fn carry_out_command<D: Disk>(
-    counter: &mut Counter<D>,
+fn carry_out_command<D: Disk, P: Peripheral + Ends>(
+    counter: &mut Counter<D, P>,
     names: &mut Names,
-    spares: &mut Spares,
+    spares: &mut Spares<P>,
     command: Command<'_>,
 ) -> Reply
-    requires sound { IsCounterSound ⟦<PeripheralBox as HasState>⟧ counter.old }
-    requires spares { AreSparesSound ⟦<PeripheralBox as HasState>⟧ spares.old }
-    ensures asks { let boxes = ⟦<PeripheralBox as HasState>⟧ in
-        CarriesOutAsking D.Disk boxes counter.old (session_of boxes names.old spares.old)
-        (asking command.entry) result (session_of boxes names.new spares.new) counter.new }
-    ensures sound { IsCounterSound ⟦<PeripheralBox as HasState>⟧ counter.new }
-    ensures spares { AreSparesSound ⟦<PeripheralBox as HasState>⟧ spares.new }
+    requires sound { IsCounterSound P.Peripheral counter.old }
+    requires spares { AreSparesSound P.Peripheral spares.old }
+    ensures asks { CarriesOutAsking D.Disk P.Peripheral counter.old (session_of P.Peripheral names.old spares.old)
+        (asking command.entry) result (session_of P.Peripheral names.new spares.new) counter.new }
+    ensures sound { IsCounterSound P.Peripheral counter.new }
+    ensures spares { AreSparesSound P.Peripheral spares.new }
 {
     match command {
         Command::New(name, category) => new_control(counter, names, name, category),
@@ -212,20 +217,19 @@ fn carry_out_command<D: Disk>(
 }
 
 /// Carries out a line, and says what it prints, if it prints anything.
-pub fn carry_out_line<D: Disk>(
+pub fn carry_out_line<D: Disk, P: Peripheral + Ends>(
     alloc: Global,
-    counter: &mut Counter<D>,
+    counter: &mut Counter<D, P>,
     names: &mut Names,
-    spares: &mut Spares,
+    spares: &mut Spares<P>,
     line: &[u8],
 ) -> Option<Reply>
-    requires sound { IsCounterSound ⟦<PeripheralBox as HasState>⟧ counter.old }
-    requires spares { AreSparesSound ⟦<PeripheralBox as HasState>⟧ spares.old }
-    ensures becomes { let boxes = ⟦<PeripheralBox as HasState>⟧ in
-        CarriesOutLine D.Disk boxes counter.old (session_of boxes names.old spares.old)
-        line.now result (session_of boxes names.new spares.new) counter.new }
-    ensures sound { IsCounterSound ⟦<PeripheralBox as HasState>⟧ counter.new }
-    ensures spares { AreSparesSound ⟦<PeripheralBox as HasState>⟧ spares.new }
+    requires sound { IsCounterSound P.Peripheral counter.old }
+    requires spares { AreSparesSound P.Peripheral spares.old }
+    ensures becomes { CarriesOutLine D.Disk P.Peripheral counter.old (session_of P.Peripheral names.old spares.old)
+        line.now result (session_of P.Peripheral names.new spares.new) counter.new }
+    ensures sound { IsCounterSound P.Peripheral counter.new }
+    ensures spares { AreSparesSound P.Peripheral spares.new }
 {
     if is_quiet_line(line) {
         return None;

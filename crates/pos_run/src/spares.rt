@@ -1,64 +1,70 @@
 ghost use Rattle.std.specs.Prelude.{◌≡◌, false, None, Some, All, IfSome, option_map};
 ghost use Rattle.pos_run.specs.Spares.{AreSparesSound, IsEmptyAt, IsInService, spare_at, spares_in, states_in, with_spare};
 
-use pos_service::{HasState, PeripheralBox};
+use pos_service::{Peripheral, PeripheralBox};
 
 /// Peripherals in service that no device has, by their numbers, counted from 1. The place of one that was attached is
-/// empty. They are ended by `park_all` alone.
-pub struct Spares {
-    boxes: Vec<Option<PeripheralBox>>,
+/// empty. They are ended by `into_peripherals`, and boxes by `park_all`.
+pub struct Spares<P> {
+    peripherals: Vec<Option<P>>,
 }
 
-impl Spares {
+impl<P: Peripheral> Spares<P> {
     /// Spares in the order of their numbers, each of which is in service. It takes no memory.
-    pub fn new(boxes: Vec<Option<PeripheralBox>>) -> Self
-        requires { All IsInService (states_in ⟦<PeripheralBox as HasState>⟧ boxes.items) }
-        ensures spares { spares_in ⟦<PeripheralBox as HasState>⟧ result
-            ≡ states_in ⟦<PeripheralBox as HasState>⟧ boxes.items }
-        ensures sound { AreSparesSound ⟦<PeripheralBox as HasState>⟧ result }
+    pub fn new(peripherals: Vec<Option<P>>) -> Self
+        requires { All IsInService (states_in P.Peripheral peripherals.items) }
+        ensures spares { spares_in P.Peripheral result ≡ states_in P.Peripheral peripherals.items }
+        ensures sound { AreSparesSound P.Peripheral result }
     {
-        Spares { boxes }
+        Spares { peripherals }
     }
 
     /// Takes the spare of a number, whose place is empty then. None where there is no such number, or its place is
     /// empty.
-    pub fn take(&mut self, number: u32) -> Option<PeripheralBox>
-        requires sound { AreSparesSound ⟦<PeripheralBox as HasState>⟧ self.old }
-        ensures taken { let boxes = ⟦<PeripheralBox as HasState>⟧ in
-            option_map boxes.state result ≡ spare_at (spares_in boxes self.old) number }
-        ensures left { let boxes = ⟦<PeripheralBox as HasState>⟧ in
-            spares_in boxes self.new ≡ with_spare (spares_in boxes self.old) number None }
-        ensures in_service { IfSome result (λ peripheral.
-            (⟦<PeripheralBox as HasState>⟧.state peripheral).is_parked ≡ false) }
-        ensures sound { AreSparesSound ⟦<PeripheralBox as HasState>⟧ self.new }
+    pub fn take(&mut self, number: u32) -> Option<P>
+        requires sound { AreSparesSound P.Peripheral self.old }
+        ensures taken { option_map P.Peripheral.state result ≡ spare_at (spares_in P.Peripheral self.old) number }
+        ensures left { spares_in P.Peripheral self.new ≡ with_spare (spares_in P.Peripheral self.old) number None }
+        ensures in_service { IfSome result (λ peripheral. (P.Peripheral.state peripheral).is_parked ≡ false) }
+        ensures sound { AreSparesSound P.Peripheral self.new }
     {
-        if number == 0 || number as usize > self.boxes.len() {
+        if number == 0 || number as usize > self.peripherals.len() {
             return None;
         }
-        self.boxes[number as usize - 1].take()
+        self.peripherals[number as usize - 1].take()
     }
 
     /// Puts a peripheral that is in service into the place of a number, which is empty.
-    pub fn put(&mut self, number: u32, peripheral: PeripheralBox)
-        requires sound { AreSparesSound ⟦<PeripheralBox as HasState>⟧ self.old }
-        requires empty { IsEmptyAt (spares_in ⟦<PeripheralBox as HasState>⟧ self.old) number }
-        requires unparked { (⟦<PeripheralBox as HasState>⟧.state peripheral).is_parked ≡ false }
-        ensures spares { let boxes = ⟦<PeripheralBox as HasState>⟧ in spares_in boxes self.new
-            ≡ with_spare (spares_in boxes self.old) number (Some (boxes.state peripheral)) }
-        ensures sound { AreSparesSound ⟦<PeripheralBox as HasState>⟧ self.new }
+    pub fn put(&mut self, number: u32, peripheral: P)
+        requires sound { AreSparesSound P.Peripheral self.old }
+        requires empty { IsEmptyAt (spares_in P.Peripheral self.old) number }
+        requires unparked { (P.Peripheral.state peripheral).is_parked ≡ false }
+        ensures spares { spares_in P.Peripheral self.new
+            ≡ with_spare (spares_in P.Peripheral self.old) number (Some (P.Peripheral.state peripheral)) }
+        ensures sound { AreSparesSound P.Peripheral self.new }
     {
-        match self.boxes[number as usize - 1].replace(peripheral) {
+        match self.peripherals[number as usize - 1].replace(peripheral) {
             None => {}
             Some(_) => unreachable!(),
         }
     }
 
+    /// Hands out the spares that are left, in the order of their numbers. It takes no memory.
+    pub fn into_peripherals(self) -> Vec<Option<P>>
+        requires { Unit {0} }
+        ensures { states_in P.Peripheral result.items ≡ spares_in P.Peripheral self }
+    {
+        let Spares { peripherals } = self;
+        peripherals
+    }
+}
+
+impl Spares<PeripheralBox> {
     /// Takes the spares that are left out of service, and ends them. It takes no memory.
     pub fn park_all(self)
         requires { Unit {0} }
     {
-        let Spares { boxes } = self;
-        end_boxes(boxes);
+        end_boxes(self.into_peripherals());
     }
 }
 

@@ -4,7 +4,9 @@ use denote.Param.Object.{read_made}
 use Rattle.pos_service.specs.Peripherals.{PeripheralState}
 use Rattle.pos_service.specs.Stations.{station_of}
 use Rattle.pos_profile.specs.declared.role.Role.TheVariants.{Device, Spare}
-use Rattle.pos_counter.specs.Counters.{boxes_of, machine}
+use Rattle.pos_service.specs.declared.peripheral.Peripheral.{Ghosts}
+use Rattle.pos_counter.specs.declared.counter.Counter.{Counter}
+use Rattle.pos_counter.specs.Counters.{IsCounterSound, machine}
 use Rattle.pos_counter.specs.Steps.{Attach, Step}
 use Rattle.pos_run.specs.Simulating.{boxed_state, simulated_all, simulated_for, state_of}
 use Rattle.pos_run.specs.Spares.{IsInService, spares_in, states_in}
@@ -13,6 +15,10 @@ use Rattle.pos_run.proofs.Profiling.{all_serve, simulable, spares_more}
 use Rattle.pos_run.proofs.Starting.{begun_leaves, runs_over}
 use Rattle.pos_run.proofs.profiled.run_over_profile.OwnLists.{at-1-1, own-1}
 use Rattle.pos_run.proofs.profiled.run_over_profile.Goals as goal
+
+-- the states of the boxes of a counter that is sound
+abbrev boxes_of : {D P : Type 0} {boxes : Ghosts P} {counter : Counter D P} → IsCounterSound boxes counter → Ghosts P
+boxes_of {boxes = boxes} sound = boxes
 
 pub loop-entry-init : goal.loop-entry-init
 loop-entry-init g c = record {

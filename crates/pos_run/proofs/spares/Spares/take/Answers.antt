@@ -1,40 +1,35 @@
 use Rattle.std.proofs.Common.{◌≡◌, ◌∙◌, ◌-◌, ◌<◌, suc, None, length, ap, sym, arith}
 use Rattle.std.specs.Prelude.{option_map}
-use Rattle.pos_service.specs.declared.peripheral_box.HasState.{Ghosts}
 use Rattle.pos_run.specs.Spares.{states_in}
 use Rattle.pos_run.proofs.SpareLemmas.{service_set, serves_there, spare_is, state_there, states_set, with_is}
 use Rattle.pos_run.proofs.spares.Spares.take.Goals as goal
 
 pub returns-clause-taken : goal.returns-clause-taken
 returns-clause-taken g c =
-    let boxes : Ghosts _ = record { state = λ b. g.P.Peripheral.state b } in
-    let list = c.args.self.now.boxes.items in
+    let list = c.args.self.now.peripherals.items in
     let place = c.args.number - 1 in
     let spare = c.index_mut.result.now in
     let is : c.args.number ≡ suc place = omega arith in
     let within : place < length list = omega arith in
-    let at = state_there boxes list place spare within c.index_mut.ensures.value in
-    ap (option_map boxes.state) c.take.ensures.value ∙ sym (spare_is (states_in boxes list) c.args.number place (option_map boxes.state spare) is at)
+    let at = state_there g.P.Peripheral list place spare within c.index_mut.ensures.value in
+    ap (option_map g.P.Peripheral.state) c.take.ensures.value ∙ sym (spare_is (states_in g.P.Peripheral list) c.args.number place (option_map g.P.Peripheral.state spare) is at)
 
 pub returns-clause-left : goal.returns-clause-left
 returns-clause-left g c =
-    let boxes : Ghosts _ = record { state = λ b. g.P.Peripheral.state b } in
-    let list = c.args.self.now.boxes.items in
+    let list = c.args.self.now.peripherals.items in
     let place = c.args.number - 1 in
     let is : c.args.number ≡ suc place = omega arith in
-    rw c.take.ensures.after (states_set boxes list place None ∙ with_is (states_in boxes list) c.args.number place None is)
+    rw c.take.ensures.after (states_set g.P.Peripheral list place None ∙ with_is (states_in g.P.Peripheral list) c.args.number place None is)
 
 pub returns-clause-in_service : goal.returns-clause-in_service
 returns-clause-in_service g c =
-    let boxes : Ghosts _ = record { state = λ b. g.P.Peripheral.state b } in
-    let list = c.args.self.now.boxes.items in
+    let list = c.args.self.now.peripherals.items in
     let place = c.args.number - 1 in
     let spare = c.index_mut.result.now in
     let within : place < length list = omega arith in
-    rw c.take.ensures.value (serves_there boxes list place spare c.requires.sound.in_service within c.index_mut.ensures.value)
+    rw c.take.ensures.value (serves_there g.P.Peripheral list place spare c.requires.sound.in_service within c.index_mut.ensures.value)
 
 pub returns-clause-sound : goal.returns-clause-sound
 returns-clause-sound g c =
-    let boxes : Ghosts _ = record { state = λ b. g.P.Peripheral.state b } in
-    let list = c.args.self.now.boxes.items in
-    rw c.take.ensures.after (record { in_service = service_set boxes list (c.args.number - 1) None c.requires.sound.in_service tt })
+    let list = c.args.self.now.peripherals.items in
+    rw c.take.ensures.after (record { in_service = service_set g.P.Peripheral list (c.args.number - 1) None c.requires.sound.in_service tt })
