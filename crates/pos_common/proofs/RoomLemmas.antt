@@ -16,7 +16,3 @@ room_left place count events old new is spare room = λ l.
     let same : listens place new.control ≡ listens place old.control =
     ap (listens place) is ∙ still_listens (listens place old.control) place events old.control in
     omega (arith, spare, room (subst IsTrue same l))
-
--- room for so many events is room for fewer
-pub room_for_fewer : (place few many : ℕ) (hs : List Held) → few ≤ many → All (HasRoom place many) hs → All (HasRoom place few) hs
-room_for_fewer place few many hs le all = λ i d lt l. omega (arith, le, all i d lt l)

@@ -10,15 +10,6 @@ use Rattle.pos_counter.specs.Machine.{Device, kind_in, station_in}
 use Rattle.pos_counter.specs.Steps.{FindsFit}
 use Rattle.pos_counter.specs.KeptDevices.{device_of, devices_of}
 
--- what the device at a place is
-pub kind_there : (list : List Registered) (totals : Option (List ℕ)) (place : ℕ) → kind_in (slice_get (devices_of list totals) place) ≡ kind_at list place
-kind_there [] None zero = refl
-kind_there [] None (suc place) = refl
-kind_there [] (Some name) zero = refl
-kind_there [] (Some name) (suc place) = refl
-kind_there (d ∷ list) totals zero = refl
-kind_there (d ∷ list) totals (suc place) = kind_there list totals place
-
 -- what stands at it
 pub station_there : (list : List Registered) (totals : Option (List ℕ)) (place : ℕ) → station_in (slice_get (devices_of list totals) place) ≡ option_map station_of (standing_at list place)
 station_there [] None zero = refl
@@ -94,9 +85,3 @@ found_fit list totals place state given fits is fit = record {
 pub attached_there : {B : Type 0} (list : List Registered) (totals : Option (List ℕ)) (place : ℕ) (found : Option B) (f : B → PeripheralState) → option_map f found ≡ standing_at list place → is_some found ≡ true → IsSome (station_in (slice_get (devices_of list totals) place))
 attached_there list totals place None f is some = cc
 attached_there list totals place (Some x) f is some = subst IsSome (sym (station_there list totals place ∙ ap (option_map station_of) (sym is))) refl
-
--- nothing is taken where nothing stands
-pub none_out : (list : List Registered) (totals : Option (List ℕ)) (place : ℕ) → None ≡ standing_at list place → IsSome (station_in (slice_get (devices_of list totals) place)) → ⊥
-none_out list totals place none some =
-    let gone : station_in (slice_get (devices_of list totals) place) ≡ None = station_there list totals place ∙ ap (option_map station_of) (sym none) in
-    let bad = subst IsSome gone some in cc

@@ -40,10 +40,6 @@ pub idles : (at : Option ℕ) (holder place : ℕ) (old : List Control) (before 
 idles at holder place old before is printer none =
     rw (is, printer) (none_of (due_request holder) (option_and_then (first_request place) (slice_get old holder)) _ _ none (refl, record { controls = refl; station = refl }))
 
--- nobody holds the printer
-pub idles_unclaimed : (at : Option ℕ) (place : ℕ) (old : List Control) (before : Station) → at ≡ None → WorksAt at place (Ok worked.Idle) old before old before
-idles_unclaimed at place old before is = rw is (refl, record { controls = refl; station = refl })
-
 -- the request to do is the one that is done
 of_request : (o : Option (ℕ × Order)) (id i : ℕ) (old new : List Control) (control : Control) → option_map (λ (request : ℕ × Order). request.0) o ≡ Some id → new ≡ slice_set old i (completed id control) → MatchOption o ⊥ (λ request. (worked.Done id ≡ worked.Done request.0) × (new ≡ slice_set old i (completed request.0 control)))
 of_request None id i old new control is h = absurd cc

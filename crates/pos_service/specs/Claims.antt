@@ -31,12 +31,6 @@ abbrev pub is_foreign : ℕ → Option ℕ → Bool
 is_foreign number None = false
 is_foreign number (Some holder) = not (nat_eq holder number)
 
--- what is asked of the control with a number, where it has to hold its device: another control holds it, or nobody does
-abbrev pub held_rows : ℕ → Option ℕ → List Row
-held_rows number holder =
-    when (is_foreign number holder) code.Claimed
-    ∷ when (is_none holder) code.NotClaimed ∷ []
-
 -- the table, once the control with a number has claimed its device
 abbrev pub claimed_by : List (Option ℕ) → Option ℕ → ℕ → List (Option ℕ)
 claimed_by claims None number = claims

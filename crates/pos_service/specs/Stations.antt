@@ -30,12 +30,6 @@ abbrev pub signs_in : Option Station → Signs
 signs_in None = record { drawer_open = false; cover_open = false; paper = paper.Good }
 signs_in (Some station) = signs_of station.kind station.plant
 
--- The control that a number has is of this category, and open.
-abbrev pub IsOpen : Category → List Control → ℕ → Type 0
-IsOpen category controls number =
-    MatchOption (slice_get controls number) ⊥
-    (λ control. (control.category ≡ category) × IsTrue (is_some control.device))
-
 -- Controls and station are as they were.
 pub record SameStation (old : List Control) (before : Station) (new : List Control) (after : Station) : Type 0 where
   pub controls : new ≡ old
