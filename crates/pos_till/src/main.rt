@@ -12,8 +12,8 @@ use pos_disk::MemDisk;
 use pos_image::Images;
 use pos_profile::{Profile, Slot};
 use pos_service::{
-    Answer, Bytes, Call, Category, ErrorReply, Event, HasState, NoMemory, PeripheralBox, Property,
-    Value,
+    Answer, Bytes, Call, Category, ErrorReply, Event, NoMemory, Peripheral, PeripheralBox,
+    Property, Value,
 };
 
 /// The devices of the counter.
@@ -28,9 +28,12 @@ fn done(answer: Result<Answer, NoMemory>) -> anyhow::Result<()> {
 }
 
 /// Opens the drawer, and prints what is told of it.
-fn open_drawer(rt: &HostRuntime, counter: &mut Counter<MemDisk>) -> anyhow::Result<()>
-    requires { IsCounterSound ⟦<PeripheralBox as HasState>⟧ counter.old }
-    ensures { IsCounterSound ⟦<PeripheralBox as HasState>⟧ counter.new }
+fn open_drawer<P: Peripheral>(
+    rt: &HostRuntime,
+    counter: &mut Counter<MemDisk, P>,
+) -> anyhow::Result<()>
+    requires { IsCounterSound P.Peripheral counter.old }
+    ensures { IsCounterSound P.Peripheral counter.new }
 {
     let name = Bytes::from_slice(rt.alloc(), b"drawer")?;
     let enable = Call::Set(Property::DeviceEnabled, Value::Truth(true));
@@ -46,7 +49,7 @@ fn open_drawer(rt: &HostRuntime, counter: &mut Counter<MemDisk>) -> anyhow::Resu
 }
 
 /// Ends the devices of a counter that was shut down, and their drivers.
-fn end_all(mut entries: Vec<Slot>) {
+fn end_all(mut entries: Vec<Slot<PeripheralBox>>) {
     while let Some(entry) = entries.pop() {
         let Slot {
             name: _,
