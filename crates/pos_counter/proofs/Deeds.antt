@@ -33,7 +33,6 @@ use Rattle.pos_service.specs.Stations.{SameStation, Station}
 use Rattle.pos_counter.specs.AtDevices.{CallsAt, CallsFor}
 use Rattle.pos_counter.specs.Steps.{IsPlaceOn, device_deed, device_rows}
 use Rattle.pos_counter.proofs.Lifts.{match_at_none, match_at_some}
-
 use Rattle.pos_counter.proofs.Cursors.{IsPlace, NoneApplies, first_place, text_place, unless_not, with_column, with_row}
 
 -- what a call changes of its control leaves the cursor at a place of what the device is

@@ -298,9 +298,9 @@ deed_keeps ds (deed.Changes what) r number place c old before new after at stays
 deed_keeps ds (deed.Queues given) r number place c old before new after at stays h =
     elim (match_cases (first_refusal (id_rows c)) _ _ (MatchOption-at_some ⊥ (λ control. Decided (id_rows control) r (SameStation old before new after) (Queued given number r old before new after)) c at h).outcome) [
       | inl x ↦ record {
-          kind = ap (λ (s : Station). s.kind) x.1.station;
-          seats = one_keeps ds (queued given) number old new (record { category = λ c. refl; device = λ c. refl; cursor = λ c. refl }) x.1.controls;
-        }
+        kind = ap (λ (s : Station). s.kind) x.1.station;
+        seats = one_keeps ds (queued given) number old new (record { category = λ c. refl; device = λ c. refl; cursor = λ c. refl }) x.1.controls;
+      }
       | inr x ↦ same_keeps ds old before new after x.2.1
     ]
 

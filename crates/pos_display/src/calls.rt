@@ -49,10 +49,7 @@ pub fn plan(
             };
             plan_text(alloc, kind, cursor, Place { row, column }, text, *attribute)
         }
-        Call::ClearText => Ok(Ok(Deed::Gives(
-            Order::ClearText,
-            Change::Cursor(ORIGIN),
-        ))),
+        Call::ClearText => Ok(Ok(Deed::Gives(Order::ClearText, Change::Cursor(ORIGIN)))),
         Call::ScrollText(direction, units) => Ok(plan_scroll(kind, *direction, *units)),
         _ => unreachable!(),
     }
@@ -116,8 +113,5 @@ fn plan_scroll(kind: Kind, direction: i128, units: i128) -> Result<Deed, Code>
     let Some(units) = to_count(units, most) else {
         return Err(Code::Illegal);
     };
-    Ok(Deed::Gives(
-        Order::Scroll { direction, units },
-        Change::Nothing,
-    ))
+    Ok(Deed::Gives(Order::Scroll { direction, units }, Change::Nothing))
 }

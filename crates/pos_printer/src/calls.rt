@@ -19,11 +19,7 @@ use std::alloc::Global;
 ///
 /// Refused with E_ILLEGAL for another station than the receipt's, a text that printers don't take, a percentage that isn't
 /// 0 to 100; then with E_BUSY for a synchronous request while others are queued, but for `printImmediate`.
-pub fn plan(
-    alloc: Global,
-    control: &Control,
-    call: &Call,
-) -> Result<Result<Deed, Code>, NoMemory>
+pub fn plan(alloc: Global, control: &Control, call: &Call) -> Result<Result<Deed, Code>, NoMemory>
     requires { has_call category.PosPrinter call.now ≡ true }
     ensures { Plans (printer_rows control.now.control call.now) (printer_deed control.now.control call.now) PrintersDo
         call.now result }

@@ -91,12 +91,7 @@ pub struct CallRow {
 }
 
 /// The row of a call of a category's own.
-fn own_row(
-    category: Category,
-    claim: ClaimNeed,
-    is_enabled: bool,
-    takes_memory: bool,
-) -> CallRow
+fn own_row(category: Category, claim: ClaimNeed, is_enabled: bool, takes_memory: bool) -> CallRow
     ensures { result ≡ own_row category claim is_enabled takes_memory }
 {
     CallRow {

@@ -194,7 +194,11 @@ impl Property {
         Needs {
             is_open: true,
             is_there: row.is_in(category) && row.is_settable,
-            claim: if is_held { ClaimNeed::Own } else { ClaimNeed::Any },
+            claim: if is_held {
+                ClaimNeed::Own
+            } else {
+                ClaimNeed::Any
+            },
             is_enabled: false,
         }
     }
