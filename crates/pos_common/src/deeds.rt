@@ -62,8 +62,8 @@ fn queue(controls: &mut [Control], number: usize, order: Order) -> Result<Answer
     controls[number].queue(order)
 }
 
-/// Gives the peripheral at a place an order of the control with a number, which changes once that is done. Want of memory
-/// changes nothing.
+/// Gives the peripheral at a place an order of the control with a number, which changes once that is done. Want of
+/// memory changes nothing.
 ///
 /// Refused as the peripheral says.
 fn give<P: Peripheral>(
@@ -95,8 +95,8 @@ fn give<P: Peripheral>(
     }
 }
 
-/// Gives the peripheral at a place an order, once there is room for what the controls will hear. Each control that has the
-/// device open and enabled hears the statuses that have changed. Want of memory changes nothing.
+/// Gives the peripheral at a place an order, once there is room for what the controls will hear. Each control that has
+/// the device open and enabled hears the statuses that have changed. Want of memory changes nothing.
 fn ask<P: Peripheral>(
     controls: &mut [Control],
     place: usize,

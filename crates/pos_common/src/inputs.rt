@@ -9,9 +9,9 @@ use crate::controls::{copy_for_all, fail_all, hear_all, read_all, room_all};
 use pos_service::{Input, NoMemory, Peripheral, Scan, Taken};
 use std::alloc::Global;
 
-/// Hands an input that fits to the peripheral of the device at a place. Each control that has the device open and enabled
-/// hears the statuses that have changed, as a drawer or a cover is moved, or paper is loaded. Of a scan it gets a
-/// DataEvent with a copy of its own, and is disabled under AutoDisable; of a failed scan it gets ErrorEvents. In the
+/// Hands an input that fits to the peripheral of the device at a place. Each control that has the device open and
+/// enabled hears the statuses that have changed, as a drawer or a cover is moved, or paper is loaded. Of a scan it gets
+/// a DataEvent with a copy of its own, and is disabled under AutoDisable; of a failed scan it gets ErrorEvents. In the
 /// input error state both are ignored (common chapter, data events and error handling).
 ///
 /// All copies, and the room for all events, are made before the peripheral is told. Want of memory changes nothing.

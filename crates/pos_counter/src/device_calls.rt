@@ -60,7 +60,8 @@ pub(crate) fn call<D: Disk, P: Peripheral>(
     }
 }
 
-/// A call of a category's own: its control is checked, and then the totals or what serves the control's device answer it.
+/// A call of a category's own: its control is checked, and then the totals or what serves the control's device answer
+/// it.
 fn call_category<D: Disk, P: Peripheral>(
     alloc: Global,
     controls: &mut [Control],

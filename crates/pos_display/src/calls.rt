@@ -14,8 +14,9 @@ use pos_service::numbers::{to_count, to_index};
 use pos_service::{Bytes, Call, Change, Code, Deed, Kind, NoMemory, Order, columns_of, rows_of};
 use std::alloc::Global;
 
-/// What a call that displays have comes to, at a display of this kind, for a control with this cursor. Each call gives one
-/// order, once its arguments are found good and its text, if any, is copied; only when that is done, the cursor moves.
+/// What a call that displays have comes to, at a display of this kind, for a control with this cursor. Each call gives
+/// one order, once its arguments are found good and its text, if any, is copied; only when that is done, the cursor
+/// moves.
 ///
 /// `displayText` shows a text from the cursor on and leaves the cursor at its end, where CursorUpdate is true;
 /// `displayTextAt` has the cursor at a row and a column first; `clearText` blanks the display and has the cursor at the

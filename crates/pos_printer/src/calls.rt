@@ -11,14 +11,15 @@ use pos_service::receipt_text::is_printable;
 use pos_service::{Bytes, Call, Change, Code, Deed, NoMemory, Order};
 use std::alloc::Global;
 
-/// What a call that printers have comes to, for its control. Its text, if any, is copied once its arguments are found good.
+/// What a call that printers have comes to, for its control. Its text, if any, is copied once its arguments are found
+/// good.
 ///
-/// `printNormal` and `cutPaper` are done at once, or queued with AsyncMode true; `printImmediate` is done at once in every
-/// state, before all that is queued, also while the first request has failed; `clearOutput` deletes what is queued
-/// (chapter POS Printer).
+/// `printNormal` and `cutPaper` are done at once, or queued with AsyncMode true; `printImmediate` is done at once in
+/// every state, before all that is queued, also while the first request has failed; `clearOutput` deletes what is
+/// queued (chapter POS Printer).
 ///
-/// Refused with E_ILLEGAL for another station than the receipt's, a text that printers don't take, a percentage that isn't
-/// 0 to 100; then with E_BUSY for a synchronous request while others are queued, but for `printImmediate`.
+/// Refused with E_ILLEGAL for another station than the receipt's, a text that printers don't take, a percentage that
+/// isn't 0 to 100; then with E_BUSY for a synchronous request while others are queued, but for `printImmediate`.
 pub fn plan(alloc: Global, control: &Control, call: &Call) -> Result<Result<Deed, Code>, NoMemory>
     requires { has_call category.PosPrinter call.now ≡ true }
     ensures { Plans (printer_rows control.now.control call.now) (printer_deed control.now.control call.now) PrintersDo
@@ -41,7 +42,8 @@ fn print_normal(
     text: &Bytes,
 ) -> Result<Result<Deed, Code>, NoMemory>
     ensures { let asked = Call.PrintNormal station text.now in
-        Plans (printer_rows control.now.control asked) (printer_deed control.now.control asked) PrintersDo asked result }
+        Plans (printer_rows control.now.control asked) (printer_deed control.now.control asked) PrintersDo
+        asked result }
 {
     if !is_receipt(station) || !is_printable(text.as_slice()) {
         return Ok(Err(Code::Illegal));

@@ -7,9 +7,9 @@ ghost use Rattle.pos_service.specs.ScannerCalls.{scanner_deed};
 
 use pos_service::{Call, Change, Deed};
 
-/// What a call that scanners have comes to, none of which gives an order: `clearInput` deletes the caller's DataEvents and
-/// ErrorEvents of input and ends its input error state; `clearInputProperties` gives its ScanData, ScanDataLabel and
-/// ScanDataType their defaults (common chapter, chapter Scanner).
+/// What a call that scanners have comes to, none of which gives an order: `clearInput` deletes the caller's DataEvents
+/// and ErrorEvents of input and ends its input error state; `clearInputProperties` gives its ScanData, ScanDataLabel
+/// and ScanDataType their defaults (common chapter, chapter Scanner).
 pub fn plan(call: &Call) -> Deed
     requires { has_call category.Scanner call.now ≡ true }
     ensures deed { scanner_deed call.now ≡ Some result }

@@ -1,4 +1,5 @@
--- What a call comes to that nothing refuses, at a device with a peripheral (common chapter, and those of the categories).
+-- What a call comes to that nothing refuses, at a device with a peripheral (common chapter, and those of the
+-- categories).
 use Rattle.std.specs.Prelude.{◌≡◌, ⊤, Bool, true, false, ℕ, ◌==◌, List, [], ◌∷◌, Option, Some, None, Result, IsTrue, MatchOption, MatchResult, slice_get, slice_set}
 use Rattle.pos_service.specs.declared.answer.Answer.{Answer}
 use Rattle.pos_service.specs.declared.answer.Answer.TheVariants as answer

@@ -41,8 +41,8 @@ text_rows station text =
     when (not (is_receipt station)) code.Illegal
     ∷ when (not (is_printable_text text)) code.Illegal ∷ []
 
--- the arguments of each call, in order, and but for printImmediate that a synchronous request doesn't come before others
--- that are queued
+-- the arguments of each call, in order, and but for printImmediate that a synchronous request doesn't come before
+-- others that are queued
 abbrev pub printer_rows : Control → Call → List Row
 printer_rows control (call.PrintNormal station text) =
     when (not (is_receipt station)) code.Illegal

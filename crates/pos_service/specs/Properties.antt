@@ -107,12 +107,14 @@ takes at property.CursorUpdate (value.Truth is_true) = true
 takes at property.AsyncMode (value.Truth is_true) = true
 takes at p v = false
 
--- whose claim setting the property asks: DeviceEnabled of an exclusive-use device is set by the control alone that holds it
+-- whose claim setting the property asks: DeviceEnabled of an exclusive-use device is set by the control alone that
+-- holds it
 abbrev pub claim_to_set : Category → Property → ClaimNeed
 claim_to_set c property.DeviceEnabled = if is_exclusive c then claim_need.Own else claim_need.Any
 claim_to_set c p = claim_need.Any
 
--- what setting it asks of a control of a category before anything else: a property of another category can't be set either
+-- what setting it asks of a control of a category before anything else: a property of another category can't be set
+-- either
 abbrev pub needs_to_set : Category → Property → Needs
 needs_to_set c p = record {
   is_open = true;

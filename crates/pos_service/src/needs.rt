@@ -1,4 +1,5 @@
-//! What calls and properties ask of a control before anything else (common chapter, sharable and exclusive-use devices).
+//! What calls and properties ask of a control before anything else (common chapter, sharable and exclusive-use
+//! devices).
 
 /// What is asked of the claim of a control's device.
 #[derive(Clone, Copy, PartialEq, Eq)]

@@ -92,7 +92,8 @@ pub enum Reply {
 }
 
 impl Reply {
-    /// The result code that it means: E_EXTENDED for an open cover and too little paper, E_FAILURE for a line that failed.
+    /// The result code that it means: E_EXTENDED for an open cover and too little paper, E_FAILURE for a line that
+    /// failed.
     pub fn code(self) -> Code
         ensures { result ≡ code_by self }
     {

@@ -10,8 +10,8 @@ use crate::signs::Signs;
 
 /// What stands behind a device: a simulation, or the driver of real hardware.
 ///
-/// What is asked of one that is out of service, or that doesn't fit its kind, it may answer and do as it likes. A box of
-/// one ends only parked: see `PeripheralBox`.
+/// What is asked of one that is out of service, or that doesn't fit its kind, it may answer and do as it likes. A box
+/// of one ends only parked: see `PeripheralBox`.
 pub trait Peripheral {
     /// Its kind, its plant, whether it is parked, and how often its line has failed.
     ghost state: { Self → PeripheralState };

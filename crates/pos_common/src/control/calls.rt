@@ -116,8 +116,8 @@ impl Control {
     /// device, if any (common chapter).
     ///
     /// Refused with E_CLOSED where it has to be open and isn't; with E_ILLEGAL where its category doesn't have what is
-    /// asked; with E_CLAIMED where no other control may hold the device, and one does; with E_NOTCLAIMED where it has to
-    /// hold the device itself, and nobody does; then with E_DISABLED where the device has to be enabled and isn't.
+    /// asked; with E_CLAIMED where no other control may hold the device, and one does; with E_NOTCLAIMED where it has
+    /// to hold the device itself, and nobody does; then with E_DISABLED where the device has to be enabled and isn't.
     pub fn check(&self, number: usize, holder: Option<usize>, needs: Needs) -> Result<(), Code>
         ensures { Checks number holder self.now.control needs result }
     {

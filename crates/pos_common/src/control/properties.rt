@@ -112,9 +112,9 @@ impl Control {
         }
     }
 
-    /// A property, by the control's number, the number of the control that holds its device, if any, and what is known of
-    /// the device (common chapter, chapters Cash Drawer, Scanner, Line
-    /// Display, POS Printer and Hard Totals). Bytes are copied, for which memory may be wanted.
+    /// A property, by the control's number, the number of the control that holds its device, if any, and what is known
+    /// of the device (common chapter, chapters Cash Drawer, Scanner, Line Display, POS Printer and Hard Totals). Bytes
+    /// are copied, for which memory may be wanted.
     ///
     /// Refused with E_CLOSED where the control is closed, but for State; with E_ILLEGAL where its category doesn't
     /// have the property; with E_CLAIMED where the property is one for the control that holds the device, and another
@@ -136,7 +136,8 @@ impl Control {
         }
     }
 
-    /// The value of a property, by what is known of the control's device. Bytes are copied, for which memory may be wanted.
+    /// The value of a property, by what is known of the control's device. Bytes are copied, for which memory may be
+    /// wanted.
     ///
     /// Refused with E_FAILURE where it is one of the files and the totals are off.
     fn tell_property(&self, property: Property, facts: &Facts) -> Result<Answer, NoMemory>
