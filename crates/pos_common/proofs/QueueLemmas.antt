@@ -1,6 +1,6 @@
 -- A request that is queued, as the machine sees it.
-use Rattle.std.proofs.Common.{◌≡◌, ◌∙◌, ℕ, ◌<◌, List, get_or, set, length, arith, ap, refl, Ok, Err}
-use Rattle.std.specs.Prelude.{Option, Some, None, Result, IsTrue, MatchOption, MatchResult, slice_get}
+use Rattle.std.proofs.Common.{◌≡◌, ℕ, ◌<◌, List, get_or, set, length, arith, ap, refl, Ok, Err}
+use Rattle.std.specs.Prelude.{Option, Some, None, Result, IsTrue, MatchOption, MatchResult}
 use Rattle.std.proofs.lemmas.List.{length-map}
 use Rattle.std.proofs.lemmas.Option.{slice_get-get_or}
 use Rattle.pos_service.specs.declared.answer.Answer.{Answer}

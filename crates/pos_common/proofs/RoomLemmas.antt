@@ -1,5 +1,5 @@
 -- The room of a control that has heard, or that something less is asked of.
-use Rattle.std.proofs.Common.{◌≡◌, ◌∙◌, ℕ, ◌+◌, ◌≤◌, Bool, true, false, cond, List, All, ap, refl, subst, arith}
+use Rattle.std.proofs.Common.{◌≡◌, ◌∙◌, ℕ, ◌+◌, ◌≤◌, Bool, true, false, cond, List, ap, refl, subst, arith}
 use Rattle.std.specs.Prelude.{IsTrue}
 use Rattle.pos_service.specs.Controls.{Control, heard, if_listening, listens}
 use Rattle.pos_service.specs.Events.{Enqueued}

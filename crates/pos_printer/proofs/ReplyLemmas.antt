@@ -1,20 +1,13 @@
 -- What a printer that does nothing leaves.
-use Rattle.std.proofs.Common.{◌≡◌, true, List, ap, refl}
-use Rattle.std.proofs.lemmas.Bool.{false≢true}
-use Rattle.pos_service.specs.declared.input.Input.{Input}
-use Rattle.pos_service.specs.declared.input.Input.TheVariants as input
-use Rattle.pos_service.specs.declared.input.Taken.{Taken}
-use Rattle.pos_service.specs.declared.input.Taken.TheVariants as taken
+use Rattle.std.proofs.Common.{◌≡◌, List, ap}
 use Rattle.pos_service.specs.declared.kind.Kind.{Kind}
-use Rattle.pos_service.specs.declared.kind.Kind.TheVariants as kind
 use Rattle.pos_service.specs.declared.order.Order.{Order}
 use Rattle.pos_service.specs.declared.order.Order.TheVariants as order
 use Rattle.pos_service.specs.declared.order.Reply.TheVariants as reply
 use Rattle.pos_service.specs.declared.plant.Plant.{Plant}
 use Rattle.pos_service.specs.declared.plant.Plant.TheVariants as plant
 use Rattle.pos_service.specs.declared.receipt_text.Piece.{Piece}
-use Rattle.pos_service.specs.Kinds.{is_printer}
-use Rattle.pos_service.specs.Peripherals.{Performs, PrintsOut, Takes, input_fits}
+use Rattle.pos_service.specs.Peripherals.{Performs, PrintsOut}
 use Rattle.pos_service.specs.Receipts.{Printer, pieces, cut_pieces}
 
 -- with the cover open nothing is printed of some pieces

@@ -1,5 +1,5 @@
 -- The calls of a line display (chapter Line Display).
-use Rattle.std.specs.Prelude.{◌≡◌, ℕ, ℤ, nat_abs, Bool, true, false, not, List, [], ◌∷◌, Option, Some, None, is_none, MatchOption, slice_get}
+use Rattle.std.specs.Prelude.{ℕ, ℤ, nat_abs, Bool, false, not, List, [], ◌∷◌, Option, Some, None, is_none}
 use Rattle.std.specs.Option.{option_map}
 use Rattle.pos_service.specs.declared.call.Call.{Call}
 use Rattle.pos_service.specs.declared.call.Call.TheVariants as call
@@ -13,8 +13,7 @@ use Rattle.pos_service.specs.declared.display_text.Direction.{Direction}
 use Rattle.pos_service.specs.declared.display_text.Place.{Place}
 use Rattle.pos_service.specs.declared.kind.Kind.{Kind}
 use Rattle.pos_service.specs.declared.order.Order.TheVariants as order
-use Rattle.pos_service.specs.Controls.{Control}
-use Rattle.pos_service.specs.Displays.{attribute_of, direction_of, is_cursor_place, is_display_text, most_units, origin, place_left}
+use Rattle.pos_service.specs.Displays.{attribute_of, direction_of, is_display_text, most_units, origin, place_left}
 use Rattle.pos_service.specs.Kinds.{rows_of, columns_of}
 use Rattle.pos_service.specs.Numbers.{is_index, is_up_to}
 use Rattle.pos_service.specs.Peripherals.{place_at}

@@ -1,6 +1,5 @@
 -- What stands at a device, and what a category's calls and inputs do there to the list of all controls.
-use Rattle.std.specs.Prelude.{◌≡◌, ℕ, true, false, List, Option, Some, None, Result, MatchOption, MatchResult, IsTrue, is_some, slice_get}
-use Rattle.pos_service.specs.declared.category.Category.{Category}
+use Rattle.std.specs.Prelude.{◌≡◌, ℕ, true, false, List, Option, Some, None, Result, MatchResult}
 use Rattle.pos_service.specs.declared.input.Input.{Input}
 use Rattle.pos_service.specs.declared.input.Input.TheVariants as input
 use Rattle.pos_service.specs.declared.input.Taken.{Taken}

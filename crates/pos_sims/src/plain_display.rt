@@ -81,8 +81,7 @@ impl Peripheral for PlainDisplay {
                 self.window.scroll(*direction, *units);
                 Ok(Reply::Done)
             }
-            Order::OpenDrawer | Order::Print { bytes: _ } | Order::Cut { percentage: _ } =>
-                unreachable!(),
+            _ => unreachable!(),
         }
     }
 

@@ -2,7 +2,6 @@
 -- below 0.
 use Rattle.std.specs.Prelude.{◌≡◌, ◌⊎◌, ℕ, ◌+◌, ℤ, Bool, true, false, List, [], ◌∷◌, ◌++◌, map, slice_get, slice_set, Option, Some, None, is_some, nat_eq, if◌then◌else◌}
 use Rattle.std.specs.Option.{option_flatten}
-use Rattle.pos_service.specs.declared.answer.Value.TheVariants as value
 
 -- How much totals may hold, which goes by the layout of their disk: the most bytes of all files in sum (TotalsSize),
 -- the most files, and the most that the changes of one transaction may cost in sum.

@@ -1,10 +1,7 @@
 -- The calls of Hard Totals, by what they ask of the files (chapter Hard Totals).
-use Rattle.std.specs.Prelude.{ℕ, Bool, true, false, not, ◌&&◌, List, [], ◌∷◌}
+use Rattle.std.specs.Prelude.{ℕ, List, []}
 use Rattle.pos_service.specs.declared.call.Call.{Call}
 use Rattle.pos_service.specs.declared.call.Call.TheVariants as call
-use Rattle.pos_service.specs.declared.code.Code.TheVariants as code
-use Rattle.pos_service.specs.Claims.{is_foreign}
-use Rattle.pos_service.specs.Controls.{Control}
 use Rattle.pos_totals.specs.HardTotals.{Totals, layout_1}
 use Rattle.pos_totals.specs.TotalsQuestions.{Question, Find, FindByIndex, Read, refusals_of_question}
 use Rattle.pos_totals.specs.HardTotals.{Change, Create, Delete, Rename, Write, SetAll}
@@ -12,7 +9,7 @@ use Rattle.pos_totals.specs.TotalsChanges.{refusals_of_change}
 use Rattle.pos_totals.specs.TotalsArrangements.{Arrangement, ClaimFile, ReleaseFile, BeginTrans, Rollback}
 use Rattle.pos_totals.specs.TotalsArrangements.{refusals_of_arrangement}
 use Rattle.pos_totals.specs.TotalsCommits.{refusals_of_commit}
-use Rattle.pos_service.specs.Refusals.{Row, when}
+use Rattle.pos_service.specs.Refusals.{Row}
 
 -- a call asks about the files, asks for a change of them, makes an arrangement for its control, or commits what that
 -- has buffered; a call of another category asks nothing

@@ -1,4 +1,4 @@
-use Rattle.std.proofs.Common.{◌≡◌, ◌∙◌, ◌<◌, length, arith, ap, sym, get_or, true, false}
+use Rattle.std.proofs.Common.{◌≡◌, ◌∙◌, ◌<◌, length, arith, ap, sym, get_or}
 use Rattle.std.proofs.lemmas.List.{length-map}
 use Rattle.pos_service.specs.Controls.{listens}
 use Rattle.pos_common.specs.Held.{Held, controls_of}
