@@ -59,8 +59,7 @@ impl<D: Disk, P: Peripheral> Counter<D, P> {
         disk: D,
     ) -> Result<Self, (NoMemory, D)>
         requires empty { slots.items ≡ [] }
-        ensures begins { IfOk result (λ counter.
-            Begins P.Peripheral profile.now.devices disk counter) }
+        ensures begins { IfOk result (λ counter. Begins P.Peripheral profile.now.devices disk counter) }
         ensures sound { IfOk result (λ counter. IsCounterSound P.Peripheral counter) }
         ensures handed_back { IfErr result (λ refusal. refusal.1 ≡ disk) }
     {
@@ -105,8 +104,7 @@ impl<D: Disk, P: Peripheral> Counter<D, P> {
         requires sound { IsCounterSound P.Peripheral self.old }
         ensures step { IsStepBeside P.Peripheral self.old
             (Detach name.now) (detached P.Peripheral.state result) self.new }
-        ensures parked { IfOk result (λ peripheral.
-            (P.Peripheral.state peripheral).is_parked ≡ true) }
+        ensures parked { IfOk result (λ peripheral. (P.Peripheral.state peripheral).is_parked ≡ true) }
         ensures sound { IsCounterSound P.Peripheral self.new }
     {
         exchange::detach(&self.desk.controls, &mut self.devices, name)
@@ -117,8 +115,7 @@ impl<D: Disk, P: Peripheral> Counter<D, P> {
     /// Refused with Full where there are 4,096 controls, closed ones included. Want of memory changes nothing.
     pub fn control(&mut self, category: Category) -> Result<usize, ControlFault>
         requires sound { IsCounterSound P.Peripheral self.old }
-        ensures step { IsStep D.Disk P.Peripheral self.old
-            (NewControl category) (made result) self.new }
+        ensures step { IsStep D.Disk P.Peripheral self.old (NewControl category) (made result) self.new }
         ensures sound { IsCounterSound P.Peripheral self.new }
     {
         self.desk.control(&mut self.totals, category)
@@ -132,8 +129,7 @@ impl<D: Disk, P: Peripheral> Counter<D, P> {
     /// where the change isn't buffered and the commit has changes, and by an enabling of Hard Totals that are off.
     pub fn call(&mut self, number: usize, call: &Call) -> Result<Answer, NoMemory>
         requires sound { IsCounterSound P.Peripheral self.old }
-        ensures step { IsStep D.Disk P.Peripheral self.old
-            (CallOf number call.now) (answered result) self.new }
+        ensures step { IsStep D.Disk P.Peripheral self.old (CallOf number call.now) (answered result) self.new }
         ensures sound { IsCounterSound P.Peripheral self.new }
     {
         self.desk.call(
@@ -151,8 +147,7 @@ impl<D: Disk, P: Peripheral> Counter<D, P> {
     /// peripheral of its kind has no such input. Want of memory changes nothing.
     pub fn input(&mut self, device: &[u8], input: &Input) -> Result<(), InputFault>
         requires sound { IsCounterSound P.Peripheral self.old }
-        ensures step { IsStepBeside P.Peripheral self.old
-            (InputTo device.now input.now) (taken_in result) self.new }
+        ensures step { IsStepBeside P.Peripheral self.old (InputTo device.now input.now) (taken_in result) self.new }
         ensures sound { IsCounterSound P.Peripheral self.new }
     {
         device_calls::input(
@@ -176,8 +171,7 @@ impl<D: Disk, P: Peripheral> Counter<D, P> {
     /// nothing.
     pub fn work(&mut self, device: &[u8]) -> Result<Worked, WorkFault>
         requires sound { IsCounterSound P.Peripheral self.old }
-        ensures step { IsStepBeside P.Peripheral self.old
-            (WorkOn device.now) (worked result) self.new }
+        ensures step { IsStepBeside P.Peripheral self.old (WorkOn device.now) (worked result) self.new }
         ensures sound { IsCounterSound P.Peripheral self.new }
     {
         working::work(
@@ -192,8 +186,7 @@ impl<D: Disk, P: Peripheral> Counter<D, P> {
     /// It is None where there is none, or no control of this number.
     pub fn deliver(&mut self, number: usize, reply: ErrorReply) -> Option<Event>
         requires sound { IsCounterSound P.Peripheral self.old }
-        ensures step { IsStepBeside P.Peripheral self.old
-            (Deliver number reply) (Delivered result) self.new }
+        ensures step { IsStepBeside P.Peripheral self.old (Deliver number reply) (Delivered result) self.new }
         ensures sound { IsCounterSound P.Peripheral self.new }
     {
         self.desk.deliver(number, reply)
@@ -231,8 +224,7 @@ impl<D: Disk, P: Peripheral> Counter<D, P> {
     /// Carries out a request.
     fn carry_out(&mut self, request: &Request) -> Response
         requires sound { IsCounterSound P.Peripheral self.old }
-        ensures step { IsStep D.Disk P.Peripheral self.old
-            (request_of request.now) (response_of result) self.new }
+        ensures step { IsStep D.Disk P.Peripheral self.old (request_of request.now) (response_of result) self.new }
         ensures sound { IsCounterSound P.Peripheral self.new }
     {
         match request {

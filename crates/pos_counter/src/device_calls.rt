@@ -39,8 +39,8 @@ pub(crate) fn call<D: Disk, P: Peripheral>(
     requires sound { AreDevicesSound P.Peripheral devices.old }
     requires covers { length claims.old ≡ length (devices_in P.Peripheral devices.old) }
     ensures serves { Serves D.Disk controls.old claims.old (devices_in P.Peripheral devices.old) totals.old
-        (CallOf number call.now) (answered result) controls.new claims.new (devices_in P.Peripheral devices.new)
-        totals.new }
+        (CallOf number call.now) (answered result)
+        controls.new claims.new (devices_in P.Peripheral devices.new) totals.new }
     ensures sound { AreDevicesSound P.Peripheral devices.new }
 {
     if number >= controls.len() {
@@ -74,8 +74,8 @@ fn call_category<D: Disk, P: Peripheral>(
     requires parts { ArePartsSound controls.old (devices_in P.Peripheral devices.old) }
     requires sound { AreDevicesSound P.Peripheral devices.old }
     ensures serves { Serves D.Disk controls.old claims.now (devices_in P.Peripheral devices.old) totals.old
-        (CallOf number call.now) (answered result) controls.new claims.now (devices_in P.Peripheral devices.new)
-        totals.new }
+        (CallOf number call.now) (answered result)
+        controls.new claims.now (devices_in P.Peripheral devices.new) totals.new }
     ensures sound { AreDevicesSound P.Peripheral devices.new }
 {
     let Some(place) = controls[number].device() else {
@@ -173,8 +173,8 @@ pub(crate) fn input<P: Peripheral>(
 ) -> Result<(), InputFault>
     requires parts { ArePartsSound controls.old (devices_in P.Peripheral devices.old) }
     requires sound { AreDevicesSound P.Peripheral devices.old }
-    ensures serves { ServesBeside controls.old (devices_in P.Peripheral devices.old) (InputTo name.now input.now)
-        (taken_in result)
+    ensures serves { ServesBeside controls.old (devices_in P.Peripheral devices.old)
+        (InputTo name.now input.now) (taken_in result)
         controls.new (devices_in P.Peripheral devices.new) }
     ensures sound { AreDevicesSound P.Peripheral devices.new }
 {

@@ -43,11 +43,10 @@ pub(crate) fn detach<P: Peripheral>(
 ) -> Result<P, DetachFault>
     requires parts { ArePartsSound controls.now (devices_in P.Peripheral devices.old) }
     requires sound { AreDevicesSound P.Peripheral devices.old }
-    ensures serves { ServesBeside controls.now (devices_in P.Peripheral devices.old) (Detach name.now)
-        (detached P.Peripheral.state result)
+    ensures serves { ServesBeside controls.now (devices_in P.Peripheral devices.old)
+        (Detach name.now) (detached P.Peripheral.state result)
         controls.now (devices_in P.Peripheral devices.new) }
-    ensures parked { IfOk result (λ peripheral.
-        (P.Peripheral.state peripheral).is_parked ≡ true) }
+    ensures parked { IfOk result (λ peripheral. (P.Peripheral.state peripheral).is_parked ≡ true) }
     ensures sound { AreDevicesSound P.Peripheral devices.new }
 {
     let is_open = is_open(controls, devices, name);

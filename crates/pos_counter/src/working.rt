@@ -25,8 +25,8 @@ pub(crate) fn work<P: Peripheral>(
 ) -> Result<Worked, WorkFault>
     requires parts { ArePartsSound controls.old (devices_in P.Peripheral devices.old) }
     requires sound { AreDevicesSound P.Peripheral devices.old }
-    ensures serves { ServesUnder claims.now controls.old (devices_in P.Peripheral devices.old) (WorkOn name.now)
-        (worked result)
+    ensures serves { ServesUnder claims.now controls.old (devices_in P.Peripheral devices.old)
+        (WorkOn name.now) (worked result)
         controls.new (devices_in P.Peripheral devices.new) }
     ensures sound { AreDevicesSound P.Peripheral devices.new }
 {

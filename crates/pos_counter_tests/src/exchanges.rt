@@ -7,19 +7,19 @@ use crate::support::{end_all, formatted, serve, vacant};
 use pos_counter::{AttachFault, Counter, DetachFault, Ended};
 use pos_disk::Disk;
 use pos_profile::Slot;
-use pos_service::{HasState, PeripheralBox};
+use pos_service::{Peripheral, PeripheralBox};
 use pos_sims::{PlainDrawer, PlainScanner};
 use std::test::Fail;
 
 /// Offers a drawer to a device: why it is refused, if so, and whether what is handed back is mute, which `d1` gets.
 fn offer<D: Disk>(
-    counter: &mut Counter<D>,
+    counter: &mut Counter<D, PeripheralBox>,
     name: &[u8],
     drawer: PeripheralBox,
 ) -> Option<(AttachFault, bool)>
-    requires sound { IsCounterSound ⟦<PeripheralBox as HasState>⟧ counter.old }
-    requires unparked { (⟦<PeripheralBox as HasState>⟧.state drawer).is_parked ≡ false }
-    ensures { IsCounterSound ⟦<PeripheralBox as HasState>⟧ counter.new }
+    requires sound { IsCounterSound ⟦<PeripheralBox as Peripheral>⟧ counter.old }
+    requires unparked { (⟦<PeripheralBox as Peripheral>⟧.state drawer).is_parked ≡ false }
+    ensures { IsCounterSound ⟦<PeripheralBox as Peripheral>⟧ counter.new }
 {
     match counter.attach(name, drawer) {
         Ok(()) => None,
@@ -32,9 +32,12 @@ fn offer<D: Disk>(
 }
 
 /// Detaches a peripheral: why it isn't handed out, or whether it is mute.
-fn detach<D: Disk>(counter: &mut Counter<D>, name: &[u8]) -> Result<bool, DetachFault>
-    requires { IsCounterSound ⟦<PeripheralBox as HasState>⟧ counter.old }
-    ensures { IsCounterSound ⟦<PeripheralBox as HasState>⟧ counter.new }
+fn detach<D: Disk>(
+    counter: &mut Counter<D, PeripheralBox>,
+    name: &[u8],
+) -> Result<bool, DetachFault>
+    requires { IsCounterSound ⟦<PeripheralBox as Peripheral>⟧ counter.old }
+    ensures { IsCounterSound ⟦<PeripheralBox as Peripheral>⟧ counter.new }
 {
     match counter.detach(name) {
         Ok(peripheral) => Ok(peripheral.snapshot().is_err()),
@@ -43,7 +46,7 @@ fn detach<D: Disk>(counter: &mut Counter<D>, name: &[u8]) -> Result<bool, Detach
 }
 
 /// Whether the peripheral of the device at a place is mute, if there is one.
-fn is_mute(entries: &[Slot], place: usize) -> Option<bool> {
+fn is_mute(entries: &[Slot<PeripheralBox>], place: usize) -> Option<bool> {
     let peripheral = entries.get(place)?.peripheral.as_ref()?;
     Some(peripheral.snapshot().is_err())
 }

@@ -7,7 +7,7 @@ use pos_disk::{Disk, MemDisk};
 use pos_image::Images;
 use pos_profile::{Profile, Slot};
 use pos_run::{Spares, run};
-use pos_service::{HasState, PeripheralBox};
+use pos_service::{Peripheral, PeripheralBox};
 use std::alloc::{AllocError, Global};
 use std::test::Fail;
 
@@ -18,8 +18,8 @@ pub fn formatted(alloc: Global) -> Result<MemDisk, AllocError> {
 }
 
 /// A counter over a disk and the devices of the built profile, each of them vacant.
-pub fn vacant<D: Disk + Drop>(alloc: Global, disk: D) -> Result<Counter<D>, Fail>
-    ensures { IfOk result (λ counter. IsCounterSound ⟦<PeripheralBox as HasState>⟧ counter) }
+pub fn vacant<D: Disk + Drop, P: Peripheral>(alloc: Global, disk: D) -> Result<Counter<D, P>, Fail>
+    ensures { IfOk result (λ counter. IsCounterSound P.Peripheral counter) }
 {
     let profile = Profile::built(alloc)?;
     match Counter::new(alloc, &profile, Vec::new(alloc), disk) {
@@ -29,10 +29,14 @@ pub fn vacant<D: Disk + Drop>(alloc: Global, disk: D) -> Result<Counter<D>, Fail
 }
 
 /// Has a peripheral serve a device. One that is refused is ended.
-pub fn serve<D: Disk>(counter: &mut Counter<D>, name: &[u8], peripheral: PeripheralBox)
-    requires sound { IsCounterSound ⟦<PeripheralBox as HasState>⟧ counter.old }
-    requires unparked { (⟦<PeripheralBox as HasState>⟧.state peripheral).is_parked ≡ false }
-    ensures { IsCounterSound ⟦<PeripheralBox as HasState>⟧ counter.new }
+pub fn serve<D: Disk>(
+    counter: &mut Counter<D, PeripheralBox>,
+    name: &[u8],
+    peripheral: PeripheralBox,
+)
+    requires sound { IsCounterSound ⟦<PeripheralBox as Peripheral>⟧ counter.old }
+    requires unparked { (⟦<PeripheralBox as Peripheral>⟧.state peripheral).is_parked ≡ false }
+    ensures { IsCounterSound ⟦<PeripheralBox as Peripheral>⟧ counter.new }
 {
     if let Err((_, refused)) = counter.attach(name, peripheral) {
         refused.end();
@@ -40,9 +44,13 @@ pub fn serve<D: Disk>(counter: &mut Counter<D>, name: &[u8], peripheral: Periphe
 }
 
 /// What a script prints over a counter.
-pub fn text_of<D: Disk>(alloc: Global, counter: &mut Counter<D>, script: &[u8]) -> Vec<u8>
-    requires { IsCounterSound ⟦<PeripheralBox as HasState>⟧ counter.old }
-    ensures { IsCounterSound ⟦<PeripheralBox as HasState>⟧ counter.new }
+pub fn text_of<D: Disk>(
+    alloc: Global,
+    counter: &mut Counter<D, PeripheralBox>,
+    script: &[u8],
+) -> Vec<u8>
+    requires { IsCounterSound ⟦<PeripheralBox as Peripheral>⟧ counter.old }
+    ensures { IsCounterSound ⟦<PeripheralBox as Peripheral>⟧ counter.new }
 {
     let mut spares = Spares::new(Vec::new(alloc));
     let mut text = Vec::new(alloc);
@@ -53,7 +61,7 @@ pub fn text_of<D: Disk>(alloc: Global, counter: &mut Counter<D>, script: &[u8]) 
 }
 
 /// Ends devices and their peripherals: how many had one that was out of service.
-pub fn end_all(mut entries: Vec<Slot>) -> usize
+pub fn end_all(mut entries: Vec<Slot<PeripheralBox>>) -> usize
     requires { Unit {0} }
 {
     let mut parked: usize = 0;
@@ -75,8 +83,8 @@ pub fn end_all(mut entries: Vec<Slot>) -> usize
 }
 
 /// Ends a counter: its disk.
-pub fn end<D: Disk>(counter: Counter<D>) -> D
-    requires { IsCounterSound ⟦<PeripheralBox as HasState>⟧ counter }
+pub fn end<D: Disk>(counter: Counter<D, PeripheralBox>) -> D
+    requires { IsCounterSound ⟦<PeripheralBox as Peripheral>⟧ counter }
 {
     let Ended { disk, entries } = counter.shutdown();
     end_all(entries);

@@ -2,13 +2,13 @@ ghost use Rattle.std.specs.Prelude.{◌≡◌, false, IfOk};
 ghost use Rattle.pos_profile.specs.Registries.{IsRegistrySound};
 
 use pos_profile::{Profile, Registry, Slot};
-use pos_service::{HasState, NoMemory, Peripheral, PeripheralBox};
+use pos_service::{NoMemory, Peripheral, PeripheralBox};
 use pos_sims::PlainDrawer;
 use std::alloc::Global;
 
 /// The registry of the built profile, each device vacant. Where it finds no memory it is made once more.
-fn built(alloc: Global) -> Result<Registry, NoMemory>
-    ensures { IfOk result (λ registry. IsRegistrySound ⟦<PeripheralBox as HasState>⟧ registry) }
+fn built<P: Peripheral>(alloc: Global) -> Result<Registry<P>, NoMemory>
+    ensures { IfOk result (λ registry. IsRegistrySound P.Peripheral registry) }
 {
     let profile = Profile::built(alloc)?;
     match Registry::new(alloc, &profile, Vec::new(alloc)) {
@@ -18,10 +18,10 @@ fn built(alloc: Global) -> Result<Registry, NoMemory>
 }
 
 /// Whether a device gets its peripheral.
-fn attaches(registry: &mut Registry, name: &[u8], peripheral: PeripheralBox) -> bool
-    requires sound { IsRegistrySound ⟦<PeripheralBox as HasState>⟧ registry.old }
-    requires unparked { (⟦<PeripheralBox as HasState>⟧.state peripheral).is_parked ≡ false }
-    ensures { IsRegistrySound ⟦<PeripheralBox as HasState>⟧ registry.new }
+fn attaches(registry: &mut Registry<PeripheralBox>, name: &[u8], peripheral: PeripheralBox) -> bool
+    requires sound { IsRegistrySound ⟦<PeripheralBox as Peripheral>⟧ registry.old }
+    requires unparked { (⟦<PeripheralBox as Peripheral>⟧.state peripheral).is_parked ≡ false }
+    ensures { IsRegistrySound ⟦<PeripheralBox as Peripheral>⟧ registry.new }
 {
     match registry.attach(name, peripheral) {
         Ok(()) => true,
@@ -33,9 +33,9 @@ fn attaches(registry: &mut Registry, name: &[u8], peripheral: PeripheralBox) -> 
 }
 
 /// Whether a device hands out its peripheral, which ends.
-fn detaches(registry: &mut Registry, name: &[u8]) -> bool
-    requires { IsRegistrySound ⟦<PeripheralBox as HasState>⟧ registry.old }
-    ensures { IsRegistrySound ⟦<PeripheralBox as HasState>⟧ registry.new }
+fn detaches(registry: &mut Registry<PeripheralBox>, name: &[u8]) -> bool
+    requires { IsRegistrySound ⟦<PeripheralBox as Peripheral>⟧ registry.old }
+    ensures { IsRegistrySound ⟦<PeripheralBox as Peripheral>⟧ registry.new }
 {
     match registry.detach(name, false) {
         Ok(peripheral) => {
@@ -47,7 +47,7 @@ fn detaches(registry: &mut Registry, name: &[u8]) -> bool
 }
 
 /// Ends slots and their peripherals: how many had one, each out of service.
-fn end_all(mut slots: Vec<Slot>) -> usize
+fn end_all(mut slots: Vec<Slot<PeripheralBox>>) -> usize
     requires { Unit {0} }
 {
     let mut parked: usize = 0;
@@ -70,9 +70,9 @@ fn end_all(mut slots: Vec<Slot>) -> usize
 fn a_drawer_is_exchanged(rt: HostRuntime) {
     let mut registry = built(rt.alloc()).expect(&rt, "ample memory");
     let first = Box::new(rt.alloc(), PlainDrawer::new()).expect(&rt, "ample memory");
-    let first: Box<dyn Peripheral> = first;
+    let first: Box<dyn Peripheral + Drop> = first;
     let second = Box::new(rt.alloc(), PlainDrawer::new()).expect(&rt, "ample memory");
-    let second: Box<dyn Peripheral> = second;
+    let second: Box<dyn Peripheral + Drop> = second;
     let attached = attaches(&mut registry, b"d1", PeripheralBox::new(first));
     let detached = detaches(&mut registry, b"d1");
     let attached_then = attaches(&mut registry, b"d1", PeripheralBox::new(second));

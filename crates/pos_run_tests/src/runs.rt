@@ -75,7 +75,7 @@ const ATTACHING: &[u8] =
 /// so many bytes. Tells whether the run ended with its fault, and whether `d1` is open.
 fn drawer_after(alloc: Global, size: usize) -> Result<(bool, Option<bool>), Fail> {
     let profile = Profile::built(alloc)?;
-    let drawer: Box<dyn Peripheral> = Box::new(alloc, PlainDrawer::new())?;
+    let drawer: Box<dyn Peripheral + Drop> = Box::new(alloc, PlainDrawer::new())?;
     let disk = formatted(alloc)?;
     let mut boxes = Vec::with_capacity(alloc, 1)?;
     let Ok(mut counter) = Counter::new(alloc, &profile, Vec::new(alloc), disk) else {
