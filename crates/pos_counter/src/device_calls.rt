@@ -40,8 +40,8 @@ pub(crate) fn call<D: Disk, P: Peripheral>(
     requires sound { AreDevicesSound P.Peripheral devices.old }
     requires covers { length claims.old ≡ length (devices_in P.Peripheral devices.old) }
     ensures serves { Serves D.Disk controls.old claims.old (devices_in P.Peripheral devices.old) totals.old
-        (CallOf number call.now) (answered result) controls.new claims.new (devices_in P.Peripheral devices.new)
-        totals.new }
+        (CallOf number call.now) (answered result)
+        controls.new claims.new (devices_in P.Peripheral devices.new) totals.new }
     ensures sound { AreDevicesSound P.Peripheral devices.new }
 {
     if number >= controls.len() {
@@ -176,8 +176,8 @@ pub(crate) fn input<P: Peripheral>(
 ) -> Result<(), InputFault>
     requires parts { ArePartsSound controls.old (devices_in P.Peripheral devices.old) }
     requires sound { AreDevicesSound P.Peripheral devices.old }
-    ensures serves { ServesBeside controls.old (devices_in P.Peripheral devices.old) (InputTo name.now input.now)
-        (taken_in result)
+    ensures serves { ServesBeside controls.old (devices_in P.Peripheral devices.old)
+        (InputTo name.now input.now) (taken_in result)
         controls.new (devices_in P.Peripheral devices.new) }
     ensures sound { AreDevicesSound P.Peripheral devices.new }
 {

@@ -9,8 +9,8 @@ ghost use Rattle.pos_common.specs.Held.{controls_of};
 
 use pos_common::{Claims, Control};
 use pos_service::{
-    Answer, Call, Category, ErrorReply, Event, Finding, HasState, Input, Kind, NoMemory,
-    Peripheral, PeripheralBox, Property, Snapshot, Value, Worked,
+    Answer, Call, Category, ErrorReply, Event, Finding, Input, Kind, NoMemory, Peripheral,
+    PeripheralBox, Property, Snapshot, Value, Worked,
 };
 use std::alloc::Global;
 use std::test::Fail;
@@ -45,7 +45,7 @@ pub fn control(alloc: Global, category: Category) -> Control {
 pub fn played(
     alloc: Global,
     category: Category,
-    device: Box<dyn Peripheral>,
+    device: Box<dyn Peripheral + Drop>,
     steps: &[Step],
     events: &[Event],
 ) -> Result<Snapshot, Fail>
@@ -66,10 +66,10 @@ pub fn played(
 }
 
 /// The first of these steps that isn't done.
-fn first_wrong(
+fn first_wrong<P: Peripheral>(
     alloc: Global,
     controls: &mut [Control],
-    device: &mut PeripheralBox,
+    device: &mut P,
     steps: &[Step],
 ) -> Result<Option<usize>, NoMemory> {
     let mut claims = Claims::new(alloc, 1)?;
@@ -85,11 +85,11 @@ fn first_wrong(
 }
 
 /// Whether a step is done.
-fn does(
+fn does<P: Peripheral>(
     alloc: Global,
     controls: &mut [Control],
     claims: &Claims,
-    device: &mut PeripheralBox,
+    device: &mut P,
     step: &Step,
 ) -> bool {
     match step {
@@ -109,11 +109,11 @@ fn does(
 }
 
 /// What a call is answered; a call that can't be made finds no memory.
-fn answer(
+fn answer<P: Peripheral>(
     alloc: Global,
     controls: &mut [Control],
     claims: &Claims,
-    device: &mut PeripheralBox,
+    device: &mut P,
     asked: &Call,
 ) -> Result<Answer, NoMemory> {
     let kind = device.kind();
@@ -160,10 +160,10 @@ fn has_cursor(controls: &[Control], kind: Kind) -> bool
 }
 
 /// Whether an input fits the device, and is taken.
-fn takes(
+fn takes<P: Peripheral>(
     alloc: Global,
     controls: &mut [Control],
-    device: &mut PeripheralBox,
+    device: &mut P,
     input: &Input,
 ) -> bool {
     let kind = device.kind();
