@@ -5,8 +5,8 @@ use Rattle.std.specs.List.{AllByRecursion}
 use Rattle.pos_service.specs.declared.input.Input.{Input}
 use Rattle.pos_service.specs.Peripherals.{PeripheralState, input_fits}
 use Rattle.pos_service.specs.Stations.{station_of}
-use Rattle.pos_profile.specs.Registries.{Device as Registered, IsServed, kind_at, standing_at, with_peripheral}
-use Rattle.pos_counter.specs.Machine.{Device, kind_in, station_in}
+use Rattle.pos_profile.specs.Registries.{Device as Registered, IsServed, standing_at, with_peripheral}
+use Rattle.pos_counter.specs.Machine.{Device, station_in}
 use Rattle.pos_counter.specs.Steps.{FindsFit}
 use Rattle.pos_counter.specs.KeptDevices.{device_of, devices_of}
 
