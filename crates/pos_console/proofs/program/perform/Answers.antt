@@ -1,8 +1,6 @@
-use Rattle.std.proofs.Common.{List, Option, Result, Err, ℕ, refl, sym, subst}
+use Rattle.std.proofs.Common.{Err, refl, sym, subst}
 use Rattle.std.proofs.KnownBytes.{Keeps-refl}
-use Rattle.std.specs.Prelude.{Vec}
 use Rattle.std.specs.Io.Buffered.{writer_contents}
-use Rattle.pos_program.specs.declared.choice_fault.ChoiceFault.{ChoiceFault}
 use Rattle.pos_program.specs.declared.fault.Fault.TheVariants as fault
 use Rattle.pos_console.specs.Program.{DoesAsRead}
 use Rattle.pos_console.proofs.program.perform.Goals as goal
