@@ -8,7 +8,7 @@ use std::test::Fail;
 
 #[test]
 fn a_drawer_opens_and_is_shut(rt: HostRuntime) -> Result<(), Fail> {
-    let drawer = Box::new(rt.alloc(), PlainDrawer::new())?;
+    let mut drawer = PlainDrawer::new();
     let steps = [
         Step::Asked(Call::OpenDrawer),
         Step::Fed(Input::DrawerMoved(false)),
@@ -16,7 +16,13 @@ fn a_drawer_opens_and_is_shut(rt: HostRuntime) -> Result<(), Fail> {
     ];
     let (opened, shut) = (Event::StatusUpdate(1), Event::StatusUpdate(0));
     let events = [opened, shut, opened];
-    let shown = played(rt.alloc(), Category::CashDrawer, drawer, &steps, &events)?;
+    let shown = played(
+        rt.alloc(),
+        Category::CashDrawer,
+        &mut drawer,
+        &steps,
+        &events,
+    )?;
     assert!(rt; matches!(shown, Snapshot(Plant::Drawer(true))));
     Ok(())
 }
@@ -35,12 +41,12 @@ fn scanner_steps(alloc: Global) -> Result<[Step; 3], NoMemory> {
 #[test]
 fn a_scan_and_a_fault_reach_the_control(rt: HostRuntime) -> Result<(), Fail> {
     let steps = scanner_steps(rt.alloc())?;
-    let scanner = Box::new(rt.alloc(), PlainScanner::new())?;
+    let mut scanner = PlainScanner::new();
     let events = [
         Event::Error(Code::Failure, 0, Locus::InputData),
         Event::Data,
     ];
-    let shown = played(rt.alloc(), Category::Scanner, scanner, &steps, &events)?;
+    let shown = played(rt.alloc(), Category::Scanner, &mut scanner, &steps, &events)?;
     assert!(rt; matches!(shown, Snapshot(Plant::Scanner)));
     Ok(())
 }
@@ -72,8 +78,8 @@ fn has_characters(display: &Snapshot, characters: &[u8]) -> bool {
 #[test]
 fn a_display_shows_what_is_asked(rt: HostRuntime) -> Result<(), Fail> {
     let steps = display_steps(rt.alloc())?;
-    let display = Box::new(rt.alloc(), PlainDisplay::new(rt.alloc(), 2, 4)?)?;
-    let shown = played(rt.alloc(), Category::LineDisplay, display, &steps, &[])?;
+    let mut display = PlainDisplay::new(rt.alloc(), 2, 4)?;
+    let shown = played(rt.alloc(), Category::LineDisplay, &mut display, &steps, &[])?;
     assert!(rt; has_characters(&shown, b" EJG I  "));
     Ok(())
 }
@@ -118,8 +124,14 @@ const EVENTS: [Event; 6] = [
 #[test]
 fn a_printer_prints_what_is_asked_and_queued(rt: HostRuntime) -> Result<(), Fail> {
     let steps = printer_steps(rt.alloc())?;
-    let printer = Box::new(rt.alloc(), RollPrinter::new(rt.alloc(), 8, 5, 2))?;
-    let shown = played(rt.alloc(), Category::PosPrinter, printer, &steps, &EVENTS)?;
+    let mut printer = RollPrinter::new(rt.alloc(), 8, 5, 2);
+    let shown = played(
+        rt.alloc(),
+        Category::PosPrinter,
+        &mut printer,
+        &steps,
+        &EVENTS,
+    )?;
     let (full, centred) = (
         Mark::Line(Alignment::Left, 8),
         Mark::Line(Alignment::Center, 1),

@@ -1,16 +1,16 @@
 //! Tables of steps: what happens at a simulated device, which the control with the number 0 holds. Where a step finds
 //! no memory it is taken once more: a refused growth has changed nothing, so with one refused all is as with none.
-ghost use Rattle.std.specs.Prelude.{◌≡◌, true, false};
-ghost use Rattle.pos_service.specs.declared.category.Category.{Category};
-ghost use Rattle.pos_service.specs.declared.kind.Kind.{Kind};
-ghost use Rattle.pos_service.specs.DisplayCalls.{HasCursor};
-ghost use Rattle.pos_service.specs.Stations.{IsOpen};
-ghost use Rattle.pos_common.specs.Held.{controls_of};
+ghost use Rattle.std.specs.Prelude.{◌≡◌, false, IfOk, Some};
+ghost use Rattle.pos_service.specs.Deeds.{DeedFits};
+ghost use Rattle.pos_service.specs.Displays.{is_cursor_place};
+ghost use Rattle.pos_service.specs.Kinds.{columns_of, rows_of};
+ghost use Rattle.pos_service.specs.Peripherals.{IsInRange};
 
-use pos_common::{Claims, Control};
+use pos_common::{Claims, Control, carry_out, take_input};
+use pos_service::display_text::Place;
 use pos_service::{
-    Answer, Call, Category, ErrorReply, Event, Finding, Input, Kind, NoMemory, Peripheral,
-    PeripheralBox, Property, Snapshot, Value, Worked,
+    Answer, Call, Category, Code, Deed, ErrorReply, Event, Finding, Input, Kind, NoMemory,
+    Peripheral, Property, Snapshot, Value, Worked, columns_of, rows_of,
 };
 use std::alloc::Global;
 use std::test::Fail;
@@ -42,27 +42,21 @@ pub fn control(alloc: Global, category: Category) -> Control {
 
 /// What a peripheral is after these steps. It fails where one of them isn't done, or where the control delivers other
 /// events than these.
-pub fn played(
+pub fn played<P: Peripheral>(
     alloc: Global,
     category: Category,
-    device: Box<dyn Peripheral + Drop>,
+    device: &mut P,
     steps: &[Step],
     events: &[Event],
-) -> Result<Snapshot, Fail>
-    requires { (state device).is_parked ≡ false }
-{
+) -> Result<Snapshot, Fail> {
     let mut controls = [control(alloc, category)];
-    let mut device = PeripheralBox::new(device);
-    let wrong = first_wrong(alloc, &mut controls, &mut device, steps);
-    let shown = device.snapshot();
-    device.end();
-    if let Some(number) = wrong? {
+    if let Some(number) = first_wrong(alloc, &mut controls, device, steps)? {
         return Err(Fail::new(format_args!("step {number} is not done")));
     }
     if !tells(&mut controls[0], events) {
         return Err(Fail::new(format_args!("the control delivers other events")));
     }
-    Ok(shown?)
+    Ok(device.snapshot()?)
 }
 
 /// The first of these steps that isn't done.
@@ -93,87 +87,72 @@ fn does<P: Peripheral>(
     step: &Step,
 ) -> bool {
     match step {
+        _ if device.is_parked() => false,
         Step::Asked(asked) => {
-            let answer = answer(alloc, controls, claims, device, asked);
+            let answer = answer(alloc, controls, device, asked);
             matches!(answer, Ok(Answer::Done(Value::Empty)))
         }
-        Step::Fed(input) => takes(alloc, controls, device, input),
-        Step::Worked if device.is_parked() || !device.kind().is_printer() => false,
-        Step::Worked => {
+        Step::Fed(input) if input.fits(device.kind()) => {
+            take_input(alloc, controls, 0, device, input).is_ok()
+        }
+        Step::Worked if device.kind().is_printer() => {
             matches!(
                 pos_printer::work(controls, 0, claims, device),
                 Ok(Worked::Done(_))
             )
         }
-    }
-}
-
-/// What a call is answered; a call that can't be made finds no memory.
-fn answer<P: Peripheral>(
-    alloc: Global,
-    controls: &mut [Control],
-    claims: &Claims,
-    device: &mut P,
-    asked: &Call,
-) -> Result<Answer, NoMemory> {
-    let kind = device.kind();
-    match kind {
-        _ if device.is_parked() => Err(NoMemory),
-        Kind::Drawer if is_open(controls, Category::CashDrawer) => {
-            pos_drawer::call(controls, 0, claims, device, asked)
-        }
-        Kind::Scanner if is_open(controls, Category::Scanner) => {
-            pos_scanner::call(controls, 0, claims, device, asked)
-        }
-        Kind::Display { .. }
-            if is_open(controls, Category::LineDisplay) && has_cursor(controls, kind) => {
-            pos_display::call(alloc, controls, 0, claims, device, asked)
-        }
-        Kind::Printer { .. } if is_open(controls, Category::PosPrinter) => {
-            pos_printer::call(alloc, controls, 0, claims, device, asked)
-        }
-        _ => Err(NoMemory),
-    }
-}
-
-/// Whether the control with the number 0 is of a category, and open.
-fn is_open(controls: &[Control], category: Category) -> bool
-    ensures { result ≡ true → IsOpen category (controls_of controls.now) 0 }
-{
-    match controls.first() {
-        Some(control) => control.category() == category && control.device().is_some(),
-        None => false,
-    }
-}
-
-/// Whether the cursor of the control with the number 0 is at a place of the display of a kind.
-fn has_cursor(controls: &[Control], kind: Kind) -> bool
-    ensures { result ≡ true → HasCursor kind (controls_of controls.now) 0 }
-{
-    match (kind, controls.first()) {
-        (Kind::Display { rows, columns }, Some(control)) => {
-            let place = control.cursor().place;
-            place.row < rows && place.column <= columns
-        }
         _ => false,
     }
 }
 
-/// Whether an input fits the device, and is taken.
-fn takes<P: Peripheral>(
+/// What a call is answered: what it comes to is carried out.
+fn answer<P: Peripheral>(
     alloc: Global,
     controls: &mut [Control],
     device: &mut P,
-    input: &Input,
-) -> bool {
-    let kind = device.kind();
-    match kind {
-        _ if device.is_parked() || !input.fits(kind) => false,
-        Kind::Drawer => pos_drawer::take_input(controls, 0, device, input).is_ok(),
-        Kind::Scanner => pos_scanner::take_input(alloc, controls, 0, device, input).is_ok(),
-        Kind::Display { .. } => false,
-        Kind::Printer { .. } => pos_printer::take_input(controls, 0, device, input).is_ok(),
+    asked: &Call,
+) -> Result<Answer, NoMemory>
+    requires { (P.Peripheral.state device.old).is_parked ≡ false }
+{
+    if controls.is_empty() {
+        return Ok(Answer::Refused(Code::Illegal, 0));
     }
+    match plan(alloc, &controls[0], device.kind(), asked)? {
+        Ok(deed) => carry_out(controls, 0, 0, device, deed),
+        Err(code) => Ok(Answer::Refused(code, 0)),
+    }
+}
+
+/// What a call of a control comes to at a device of this kind, which its category serves.
+fn plan(
+    alloc: Global,
+    control: &Control,
+    kind: Kind,
+    asked: &Call,
+) -> Result<Result<Deed, Code>, NoMemory>
+    requires { IsInRange kind }
+    ensures { IfOk result (λ found. IfOk found (λ deed. DeedFits kind deed)) }
+{
+    let category = control.category();
+    if !asked.needs(category).is_there || !category.serves(Some(kind)) {
+        return Ok(Err(Code::Illegal));
+    }
+    match category {
+        Category::CashDrawer => Ok(Ok(pos_drawer::plan(asked))),
+        Category::Scanner => Ok(Ok(pos_scanner::plan(asked))),
+        Category::LineDisplay if is_cursor_place(kind, control.cursor().place) => {
+            pos_display::plan(alloc, kind, control.cursor(), asked)
+        }
+        Category::PosPrinter => pos_printer::plan(alloc, control, asked),
+        _ => Ok(Err(Code::Illegal)),
+    }
+}
+
+/// Whether a cursor may be at a place of a display of this kind.
+fn is_cursor_place(kind: Kind, place: Place) -> bool
+    ensures { result ≡ is_cursor_place (rows_of (Some kind)) (columns_of (Some kind)) place }
+{
+    place.row < rows_of(Some(kind)) && place.column <= columns_of(Some(kind))
 }
 
 /// Whether the control delivers these events, and then none.
