@@ -161,6 +161,12 @@ sed 's/rows = 2/rows = 9/' sound.toml > profile.toml
 refuses_profile 'a number out of its range' 'device 2: rows must be 1 to 8'
 sed '/columns/d' sound.toml > profile.toml
 refuses_profile 'a number that is missing' 'device 2: columns must be 1 to 80'
+sed '/columns/a ring = "true"' sound.toml > profile.toml
+refuses_profile 'an optional truth value that is none' 'device 2: ring must be true or false'
+sed '/columns/a flaky = [1, 1000001]' sound.toml > profile.toml
+refuses_profile 'an optional number out of its range' 'device 2: flaky must be an array of two numbers, each 0 to 1000000'
+sed '/"d1"/a ring = true' sound.toml > profile.toml
+refuses_profile "another category's optional key" 'device 1: unknown key: ring'
 sed 's/"p1"/"p 1"/' sound.toml > profile.toml
 refuses_profile 'a name that is none' 'device 2: name must be 1 to 16 letters, digits or hyphens'
 { cat sound.toml; printf '[[spare]]\ncategory = "LineDisplay"\nrows = 2\ncolumns = 0\n'; } > profile.toml

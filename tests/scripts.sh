@@ -6,6 +6,8 @@
 #   NAME.disk     the disks that it runs over in place of a formatted one, each a paragraph: places and the bytes that stand
 #                 from there on, in hex, among zero bytes. It has to print the same over each. HEX*N stands for HEX N times;
 #   NAME.left     places and the bytes that have to stand there in the end, written likewise.
+# Each runs four times: as a file, and through a pipe that gives the program pieces of 1, 2 and 7 bytes. One without a
+# profile runs once more over the built profile with each optional key, where no ask fails: it has to print the same.
 # Usage: tests/scripts.sh [PROGRAM]. Without a word it takes the program that was built in crates/pos_console/out. Its
 # last line is 'N passed, M failed'; it ends with 0 where none failed.
 set -u
@@ -55,7 +57,7 @@ tell_left() {
 run_script() {
   local name=$1 script=$2 wanted=$3 left=$4 status
   shift 4
-  "$program" "$@" < "$script" > out 2> err
+  "${cut[@]}" "$program" "$@" < "$script" > out 2> err
   status=$?
   {
     [ "$status" -eq 0 ] || echo "it ended with $status"
@@ -65,58 +67,110 @@ run_script() {
   } > wrong
   if [ -s wrong ]; then
     failed=$((failed + 1))
-    echo "failed: $name (< is wanted)"
+    echo "failed: $name, $how (< is wanted)"
     sed 's/^/  /' wrong
   else
     passed=$((passed + 1))
   fi
 }
 
-for script in "$scripts"/*; do
-  case $script in
-    *.stdout | *.profile | *.disk | *.left) continue ;;
-  esac
-  name=${script##*/}
-  left=$script.left
-  [ -f "$left" ] || left=
-  over=(run --profile "$script.profile" --disk disk)
-  if [ ! -f "$script.profile" ]; then
-    run_script "$name" "$script" "$script.stdout" ''
-  elif [ ! -f "$script.disk" ]; then
-    rm -f disk
-    "$program" format --disk disk
-    run_script "$name" "$script" "$script.stdout" "$left" "${over[@]}"
-  else
-    rm -f paragraph-*
-    awk -v RS= '{ print > sprintf("paragraph-%02d", NR) }' "$script.disk"
-    for paragraph in paragraph-*; do
-      lay_disk "$paragraph"
-      run_script "$name over its ${paragraph/-/ }" "$script" "$script.stdout" "$left" "${over[@]}"
-    done
+# The built profile, with a ring, and with a line that never fails and a recorder round each device.
+wrappers='flaky = [1, 0]
+record = true'
+cat > wrapped.profile << EOF
+[[device]]
+name = "d1"
+category = "CashDrawer"
+$wrappers
+[[device]]
+name = "s1"
+category = "Scanner"
+$wrappers
+[[device]]
+name = "p1"
+category = "LineDisplay"
+rows = 2
+columns = 4
+ring = true
+$wrappers
+[[device]]
+name = "r1"
+category = "POSPrinter"
+chars = 8
+lines = 5
+near = 2
+$wrappers
+[[device]]
+name = "t1"
+category = "HardTotals"
+[[spare]]
+category = "CashDrawer"
+$wrappers
+EOF
+
+# format_disk: makes the file `disk` anew, formatted
+format_disk() {
+  rm -f disk
+  "$program" format --disk disk
+}
+
+for pieces in whole 1 2 7; do
+  how="read in pieces of $pieces"
+  cut=(python3 "$top/tests/cut.py" "$pieces")
+  if [ "$pieces" = whole ]; then
+    how='read as a file'
+    cut=()
   fi
+
+  for script in "$scripts"/*; do
+    case $script in
+      *.stdout | *.profile | *.disk | *.left) continue ;;
+    esac
+    name=${script##*/}
+    left=$script.left
+    [ -f "$left" ] || left=
+    over=(run --profile "$script.profile" --disk disk)
+    if [ ! -f "$script.profile" ]; then
+      run_script "$name" "$script" "$script.stdout" ''
+      if [ "$pieces" = whole ]; then
+        format_disk
+        run_script "$name over wrappers" "$script" "$script.stdout" '' run --profile wrapped.profile --disk disk
+      fi
+    elif [ ! -f "$script.disk" ]; then
+      format_disk
+      run_script "$name" "$script" "$script.stdout" "$left" "${over[@]}"
+    else
+      rm -f paragraph-*
+      awk -v RS= '{ print > sprintf("paragraph-%02d", NR) }' "$script.disk"
+      for paragraph in paragraph-*; do
+        lay_disk "$paragraph"
+        run_script "$name over its ${paragraph/-/ }" "$script" "$script.stdout" "$left" "${over[@]}"
+      done
+    fi
+  done
+
+  # Lines at their greatest length and behind it, with each end of a line, and as many controls as there may be: too long to
+  # be kept.
+  {
+    printf 'show d1%139993s\n'
+    printf 'show d1%139993s\r\n'
+    printf 'show d1%139994s\n'
+    printf 'show d1%139994s\r\n'
+    printf '#%140000s\n%140001s\nshow s1\n'
+  } > script
+  printf 'ok closed\nok closed\nbad line\nbad line\nok\n' > stdout
+  run_script 'lines of the greatest length' script stdout ''
+
+  {
+    seq -f 'new c%g CashDrawer' 4097
+    printf 'new c1 CashDrawer\nget c4096 State\nget c4097 State\nopen c1 d1\nclose c1\nnew c4097 CashDrawer\n'
+  } > script
+  {
+    seq 4096 | sed 's/.*/ok/'
+    printf 'refused Full\nbad control\nok 1\nbad control\nok\nok\nrefused Full\n'
+  } > stdout
+  run_script 'as many controls as there may be' script stdout ''
 done
-
-# Lines at their greatest length and behind it, with each end of a line, and as many controls as there may be: too long to
-# be kept.
-{
-  printf 'show d1%139993s\n'
-  printf 'show d1%139993s\r\n'
-  printf 'show d1%139994s\n'
-  printf 'show d1%139994s\r\n'
-  printf '#%140000s\n%140001s\nshow s1\n'
-} > script
-printf 'ok closed\nok closed\nbad line\nbad line\nok\n' > stdout
-run_script 'lines of the greatest length' script stdout ''
-
-{
-  seq -f 'new c%g CashDrawer' 4097
-  printf 'new c1 CashDrawer\nget c4096 State\nget c4097 State\nopen c1 d1\nclose c1\nnew c4097 CashDrawer\n'
-} > script
-{
-  seq 4096 | sed 's/.*/ok/'
-  printf 'refused Full\nbad control\nok 1\nbad control\nok\nok\nrefused Full\n'
-} > stdout
-run_script 'as many controls as there may be' script stdout ''
 
 echo "$passed passed, $failed failed"
 [ "$failed" -eq 0 ]

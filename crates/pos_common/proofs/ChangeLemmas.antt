@@ -8,7 +8,8 @@ use Rattle.pos_common.specs.Held.{Held, controls_of}
 use Rattle.pos_common.proofs.HeldLemmas.{control_at}
 
 -- a held control that has changed is a change of the machine's control there
-pub changed_at : (f : Control → Control) (hs : List Held) (i : ℕ) (d g : Held) → i < length hs → g.control ≡ f (get_or hs i d).control → MatchOption (slice_get (controls_of hs) i) ⊥ (λ control. controls_of (set hs i g) ≡ slice_set (controls_of hs) i (f control))
+pub changed_at : (f : Control → Control) (hs : List Held) (i : ℕ) (d g : Held) → i < length hs → g.control ≡ f (get_or hs i d).control
+    → MatchOption (slice_get (controls_of hs) i) ⊥ (λ control. controls_of (set hs i g) ≡ slice_set (controls_of hs) i (f control))
 changed_at f hs i d g lt s =
     let within : i < length (controls_of hs) = omega (arith, length-map hs (λ (h : Held). h.control)) in
     rw (slice_get-get_or (controls_of hs) i d.control within)

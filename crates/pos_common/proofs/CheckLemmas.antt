@@ -21,24 +21,29 @@ pub refused : (rows : List Row) (refusal : Answer) (Same Done : Type 0) → firs
 refused rows refusal Same Done is same = record { outcome = rw is (refl, same) }
 
 -- a table that decides as its rest does
-pub decided_by_rest : (rows rest : List Row) (result : Answer) (Same Done : Type 0) → first_refusal rows ≡ first_refusal rest → Decided rest result Same Done → Decided rows result Same Done
+pub decided_by_rest : (rows rest : List Row) (result : Answer) (Same Done : Type 0) → first_refusal rows ≡ first_refusal rest
+    → Decided rest result Same Done → Decided rows result Same Done
 decided_by_rest rows rest result Same Done is decided = record { outcome = rw is decided.outcome }
 
 -- a property is told so
-pub gets_by_rest : (rows rest : List Row) (p : Property) (v : Value) (outcome : Result Answer NoMemory) → first_refusal rows ≡ first_refusal rest → Gets rest p v outcome → Gets rows p v outcome
+pub gets_by_rest : (rows rest : List Row) (p : Property) (v : Value) (outcome : Result Answer NoMemory) → first_refusal rows ≡ first_refusal rest
+    → Gets rest p v outcome → Gets rows p v outcome
 gets_by_rest rows rest p v (Ok result) is gets = decided_by_rest rows rest result _ _ is gets
 gets_by_rest rows rest p v (Err want) is gets = (gets.0, is ∙ gets.1)
 
 -- the check refuses
-pub check_refuses : (number : ℕ) (holder : Option ℕ) (control : Control) (needs asked : Needs) (code : Code) (rest : List Row) (Same Done : Type 0) → needs ≡ asked → Checks number holder control needs (Err code) → Same → Decided (table number holder control asked rest) (answer.Refused code 0) Same Done
+pub check_refuses : (number : ℕ) (holder : Option ℕ) (control : Control) (needs asked : Needs) (code : Code) (rest : List Row) (Same Done : Type 0)
+    → needs ≡ asked → Checks number holder control needs (Err code) → Same → Decided (table number holder control asked rest) (answer.Refused code 0) Same Done
 check_refuses number holder control needs asked code rest Same Done is checks same =
     refused (table number holder control asked rest) (answer.Refused code 0) Same Done (rw is at (checks rest)) same
 
 -- it refuses nothing
-pub check_lets : (number : ℕ) (holder : Option ℕ) (control : Control) (needs asked : Needs) (rest : List Row) → needs ≡ asked → Checks number holder control needs (Ok tt) → first_refusal (table number holder control asked rest) ≡ first_refusal rest
+pub check_lets : (number : ℕ) (holder : Option ℕ) (control : Control) (needs asked : Needs) (rest : List Row) → needs ≡ asked
+    → Checks number holder control needs (Ok tt) → first_refusal (table number holder control asked rest) ≡ first_refusal rest
 check_lets number holder control needs asked rest is checks = rw is at (checks rest)
 
-lets_there : (closed is_there : Bool) (rows : List Row) → first_refusal (when closed code.Closed ∷ when (not is_there) code.Illegal ∷ rows) ≡ None → is_there ≡ true
+lets_there : (closed is_there : Bool) (rows : List Row) → first_refusal (when closed code.Closed ∷ when (not is_there) code.Illegal ∷ rows) ≡ None
+    → is_there ≡ true
 lets_there true is_there rows none = absurd cc
 lets_there false true rows none = refl
 lets_there false false rows none = absurd cc
@@ -55,26 +60,36 @@ second true b is = is
 second false b is = absurd cc
 
 -- what is asked of a category of which two things are, has the second
-pub asks_second : (number : ℕ) (holder : Option ℕ) (control : Control) (needs : Needs) (a b : Bool) → needs.is_there ≡ (a && b) → Checks number holder control needs (Ok tt) → b ≡ true
-asks_second number holder control needs a b is checks = second a b (sym is ∙ lets_there (needs.is_open && is_none control.device) needs.is_there (claim_rows number holder control needs) (checks []))
+pub asks_second : (number : ℕ) (holder : Option ℕ) (control : Control) (needs : Needs) (a b : Bool) → needs.is_there ≡ (a && b)
+    → Checks number holder control needs (Ok tt) → b ≡ true
+asks_second number holder control needs a b is checks =
+    second a b (sym is ∙ lets_there (needs.is_open && is_none control.device) needs.is_there (claim_rows number holder control needs) (checks []))
 
 -- what a control is that its check lets through: open, where it has to be
-pub lets_open : (number : ℕ) (holder : Option ℕ) (control : Control) (needs : Needs) → needs.is_open ≡ true → first_refusal (table number holder control needs []) ≡ None → is_none control.device ≡ false
+pub lets_open : (number : ℕ) (holder : Option ℕ) (control : Control) (needs : Needs) → needs.is_open ≡ true
+    → first_refusal (table number holder control needs []) ≡ None → is_none control.device ≡ false
 lets_open number holder control needs is none = by needs.is_open (is_none control.device) is none
   where
-    by : (asked closed : Bool) → asked ≡ true → first_refusal (when (asked && closed) code.Closed ∷ when (not needs.is_there) code.Illegal ∷ claim_rows number holder control needs) ≡ None → closed ≡ false
+    by : (asked closed : Bool) → asked ≡ true
+        → first_refusal (when (asked && closed) code.Closed ∷ when (not needs.is_there) code.Illegal ∷ claim_rows number holder control needs) ≡ None
+        → closed ≡ false
     by true true is none = absurd cc
     by true false is none = refl
     by false closed is none = absurd cc
 
 -- one of a category that has what is asked
-pub lets_own : (number : ℕ) (holder : Option ℕ) (control : Control) (needs : Needs) → first_refusal (table number holder control needs []) ≡ None → needs.is_there ≡ true
+pub lets_own : (number : ℕ) (holder : Option ℕ) (control : Control) (needs : Needs) → first_refusal (table number holder control needs []) ≡ None
+    → needs.is_there ≡ true
 lets_own number holder control needs none = lets_there (needs.is_open && is_none control.device) needs.is_there (claim_rows number holder control needs) none
 
 -- the check has let a control through: the rest of each table decides
-pub let_through : (number : ℕ) (holder holds : Option ℕ) (control : Control) (needs asked : Needs) (outcome : Result (Unit {0}) Code) (u : Unit {0}) → outcome ≡ Ok u → holder ≡ holds → needs ≡ asked → Checks number holder control needs outcome → (rest : List Row) → first_refusal (table number holds control asked rest) ≡ first_refusal rest
+pub let_through : (number : ℕ) (holder holds : Option ℕ) (control : Control) (needs asked : Needs) (outcome : Result (Unit {0}) Code) (u : Unit {0})
+    → outcome ≡ Ok u → holder ≡ holds → needs ≡ asked → Checks number holder control needs outcome → (rest : List Row)
+    → first_refusal (table number holds control asked rest) ≡ first_refusal rest
 let_through number holder holds control needs asked outcome u ok is are checks rest = rw (ok, is, are) at (checks rest)
 
 -- it has refused it, whatever the rest
-pub kept_out : (number : ℕ) (holder holds : Option ℕ) (control : Control) (needs asked : Needs) (outcome : Result (Unit {0}) Code) (code : Code) → outcome ≡ Err code → holder ≡ holds → needs ≡ asked → Checks number holder control needs outcome → (rest : List Row) → first_refusal (table number holds control asked rest) ≡ Some (answer.Refused code 0)
+pub kept_out : (number : ℕ) (holder holds : Option ℕ) (control : Control) (needs asked : Needs) (outcome : Result (Unit {0}) Code) (code : Code)
+    → outcome ≡ Err code → holder ≡ holds → needs ≡ asked → Checks number holder control needs outcome → (rest : List Row)
+    → first_refusal (table number holds control asked rest) ≡ Some (answer.Refused code 0)
 kept_out number holder holds control needs asked outcome code err is are checks rest = rw (err, is, are) at (checks rest)

@@ -10,49 +10,61 @@ use Rattle.pos_common.specs.Held.{Held, AreCopies, controls_of}
 use Rattle.pos_common.proofs.HeldLemmas.{control_at}
 
 -- one more copy is enough for one more control that listens
-pub copies_more : (scan copy : Scan) (place : ℕ) (cs : List Control) (copies : List Scan) (i : ℕ) (d : Control) → i < length cs → listens place (get_or cs i d) ≡ true → copy ≡ scan → AreCopies scan place (take i cs) copies → AreCopies scan place (take (i + 1) cs) (copies ++ copy ∷ [])
+pub copies_more : (scan copy : Scan) (place : ℕ) (cs : List Control) (copies : List Scan) (i : ℕ) (d : Control) → i < length cs
+    → listens place (get_or cs i d) ≡ true → copy ≡ scan → AreCopies scan place (take i cs) copies
+    → AreCopies scan place (take (i + 1) cs) (copies ++ copy ∷ [])
 copies_more scan copy place cs copies i d lt yes' same are = record {
   enough = omega (arith, count_by_more_yes (listens place) cs i d lt yes', length-append copies (copy ∷ []), are.enough);
   each = All-push (λ c. c ≡ scan) copies copy are.each same;
 }
 
 -- the copies are enough for one more control that doesn't listen
-pub copies_same : (scan : Scan) (place : ℕ) (cs : List Control) (copies : List Scan) (i : ℕ) (d : Control) → i < length cs → listens place (get_or cs i d) ≡ false → AreCopies scan place (take i cs) copies → AreCopies scan place (take (i + 1) cs) copies
+pub copies_same : (scan : Scan) (place : ℕ) (cs : List Control) (copies : List Scan) (i : ℕ) (d : Control) → i < length cs
+    → listens place (get_or cs i d) ≡ false → AreCopies scan place (take i cs) copies → AreCopies scan place (take (i + 1) cs) copies
 copies_same scan place cs copies i d lt no' are = record {
   enough = omega (arith, count_by_more_no (listens place) cs i d lt no', are.enough);
   each = are.each;
 }
 
 -- how many of the controls from a place on listen: the one there, and those behind it
-counted_next : (place : ℕ) (cs : List Control) (i : ℕ) (d : Control) → i < length cs → count_by (listens place) (drop i cs) ≡ count_by (listens place) (get_or cs i d ∷ []) + count_by (listens place) (drop (i + 1) cs)
+counted_next : (place : ℕ) (cs : List Control) (i : ℕ) (d : Control) → i < length cs
+    → count_by (listens place) (drop i cs) ≡ count_by (listens place) (get_or cs i d ∷ []) + count_by (listens place) (drop (i + 1) cs)
 counted_next place cs i d lt =
     ap (count_by (listens place)) (drop_more cs i d lt) ∙ sum_by-append (λ c. cond (listens place c) 1 0) (get_or cs i d ∷ []) (drop (i + 1) cs)
 
 -- copies for the controls from a place on are copies for the one there
-pub copies_next : (scan : Scan) (place : ℕ) (cs : List Control) (copies : List Scan) (i : ℕ) (d : Control) → i < length cs → AreCopies scan place (drop i cs) copies → AreCopies scan place (get_or cs i d ∷ []) copies
+pub copies_next : (scan : Scan) (place : ℕ) (cs : List Control) (copies : List Scan) (i : ℕ) (d : Control) → i < length cs
+    → AreCopies scan place (drop i cs) copies → AreCopies scan place (get_or cs i d ∷ []) copies
 copies_next scan place cs copies i d lt are = record {
   enough = omega (arith, counted_next place cs i d lt, are.enough);
   each = are.each;
 }
 
 -- those that it leaves are copies for the controls behind it
-pub copies_left : (scan : Scan) (place : ℕ) (cs : List Control) (copies left : List Scan) (i : ℕ) (d : Control) → i < length cs → length copies ≤ length left + count_by (listens place) (get_or cs i d ∷ []) → All (λ c. c ≡ scan) left → AreCopies scan place (drop i cs) copies → AreCopies scan place (drop (i + 1) cs) left
+pub copies_left : (scan : Scan) (place : ℕ) (cs : List Control) (copies left : List Scan) (i : ℕ) (d : Control) → i < length cs
+    → length copies ≤ length left + count_by (listens place) (get_or cs i d ∷ []) → All (λ c. c ≡ scan) left
+    → AreCopies scan place (drop i cs) copies → AreCopies scan place (drop (i + 1) cs) left
 copies_left scan place cs copies left i d lt few all are = record {
   enough = omega (arith, counted_next place cs i d lt, few, are.enough);
   each = all;
 }
 
 -- copies for the held controls from a place on are copies for the one there
-pub copies_at : (scan : Scan) (place : ℕ) (hs : List Held) (copies : List Scan) (i : ℕ) (d : Held) → i < length hs → AreCopies scan place (drop i (controls_of hs)) copies → AreCopies scan place ((get_or hs i d).control ∷ []) copies
+pub copies_at : (scan : Scan) (place : ℕ) (hs : List Held) (copies : List Scan) (i : ℕ) (d : Held) → i < length hs
+    → AreCopies scan place (drop i (controls_of hs)) copies → AreCopies scan place ((get_or hs i d).control ∷ []) copies
 copies_at scan place hs copies i d lt are =
     let within : i < length (controls_of hs) = omega (arith, length-map hs (λ (h : Held). h.control)) in
-    subst (λ (c : Control). AreCopies scan place (c ∷ []) copies) (sym (control_at hs i d d.control lt)) (copies_next scan place (controls_of hs) copies i d.control within are)
+    subst (λ (c : Control). AreCopies scan place (c ∷ []) copies) (sym (control_at hs i d d.control lt))
+    (copies_next scan place (controls_of hs) copies i d.control within are)
 
 -- those that it leaves are copies for the held controls behind it, once it has changed
-pub copies_behind : (scan : Scan) (place : ℕ) (hs : List Held) (copies left : List Scan) (i : ℕ) (d g : Held) → i < length hs → length copies ≤ length left + count_by (listens place) ((get_or hs i d).control ∷ []) → All (λ c. c ≡ scan) left → AreCopies scan place (drop i (controls_of hs)) copies → AreCopies scan place (drop (i + 1) (controls_of (set hs i g))) left
+pub copies_behind : (scan : Scan) (place : ℕ) (hs : List Held) (copies left : List Scan) (i : ℕ) (d g : Held) → i < length hs
+    → length copies ≤ length left + count_by (listens place) ((get_or hs i d).control ∷ []) → All (λ c. c ≡ scan) left
+    → AreCopies scan place (drop i (controls_of hs)) copies → AreCopies scan place (drop (i + 1) (controls_of (set hs i g))) left
 copies_behind scan place hs copies left i d g lt few all are =
     let within : i < length (controls_of hs) = omega (arith, length-map hs (λ (h : Held). h.control)) in
     let few_here = subst (λ (c : Control). length copies ≤ length left + count_by (listens place) (c ∷ [])) (control_at hs i d d.control lt) few in
     let behind : drop (i + 1) (controls_of (set hs i g)) ≡ drop (i + 1) (controls_of hs) =
     ap (drop (i + 1)) (map-set (λ (h : Held). h.control) hs i g) ∙ drop-set-lt (i + 1) (controls_of hs) i g.control (omega arith) in
-    subst (λ (cs : List Control). AreCopies scan place cs left) (sym behind) (copies_left scan place (controls_of hs) copies left i d.control within few_here all are)
+    subst (λ (cs : List Control). AreCopies scan place cs left) (sym behind)
+    (copies_left scan place (controls_of hs) copies left i d.control within few_here all are)

@@ -16,9 +16,12 @@ same_control hs i d g lt s =
     map-set (λ (f : Held). f.control) hs i g ∙ ap (set (controls_of hs) i) (s ∙ control_at hs i d g.control lt) ∙ set-get_or (controls_of hs) i g.control
 
 -- one more control is mapped
-pub mapped_more : (f : Control → Control) (xs : List Control) (hs : List Held) (i : ℕ) (d g : Held) → i < length hs → g.control ≡ f (get_or hs i d).control → controls_of hs ≡ map f (take i xs) ++ drop i xs → length xs ≡ length hs → controls_of (set hs i g) ≡ map f (take (i + 1) xs) ++ drop (i + 1) xs
+pub mapped_more : (f : Control → Control) (xs : List Control) (hs : List Held) (i : ℕ) (d g : Held) → i < length hs
+    → g.control ≡ f (get_or hs i d).control → controls_of hs ≡ map f (take i xs) ++ drop i xs → length xs ≡ length hs
+    → controls_of (set hs i g) ≡ map f (take (i + 1) xs) ++ drop (i + 1) xs
 mapped_more f xs hs i d g lt s m n =
-    map-set (λ (x : Held). x.control) hs i g ∙ ap (set (controls_of hs) i) s ∙ map_over_more f xs (controls_of hs) i (get_or hs i d).control (omega arith) m (control_at hs i d (get_or hs i d).control lt)
+    map-set (λ (x : Held). x.control) hs i g ∙ ap (set (controls_of hs) i) s
+    ∙ map_over_more f xs (controls_of hs) i (get_or hs i d).control (omega arith) m (control_at hs i d (get_or hs i d).control lt)
 
 -- what each element from a place on has, the element there has
 pub first_of_rest : (P : Held → Type 0) (hs : List Held) (i : ℕ) (d : Held) → i < length hs → All P (drop i hs) → P (get_or hs i d)

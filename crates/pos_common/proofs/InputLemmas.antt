@@ -14,7 +14,8 @@ use Rattle.pos_service.specs.Statuses.{status_events}
 use Rattle.pos_common.specs.Held.{AreCopies, HasCopies}
 
 -- nothing but a scan is taken as a scan
-scans : (is : Kind) (i : Input) (p q : Plant) (Goal : Type 0) → ((number : ℕ) (bytes label : List ℕ) → i ≡ input.Scan number bytes label → Goal) → Takes is i p taken.Scan q → Goal
+scans : (is : Kind) (i : Input) (p q : Plant) (Goal : Type 0) → ((number : ℕ) (bytes label : List ℕ) → i ≡ input.Scan number bytes label → Goal)
+    → Takes is i p taken.Scan q → Goal
 scans is (input.Scan number bytes label) p q Goal goal h = goal number bytes label refl
 scans is other (plant.Drawer o) q Goal goal h = absurd h
 scans is other plant.Scanner q Goal goal h = absurd h
@@ -22,7 +23,10 @@ scans is other (plant.Display o) q Goal goal h = absurd h
 scans is other (plant.Printer o) q Goal goal h = absurd h
 
 -- each control that listens has read it
-pub scan_taken : (before after : PeripheralState) (i : Input) (place : ℕ) (old mid new : List Control) (copies : List Scan) → input_fits before.kind i ≡ true → Fed before i (Ok taken.Scan) after → mid ≡ old → HasCopies i place mid copies → ((scan : Scan) → AreCopies scan place mid copies → new ≡ all_listening place (read scan) mid) → TakesIn i place old (station_of before) new (station_of after)
+pub scan_taken : (before after : PeripheralState) (i : Input) (place : ℕ) (old mid new : List Control) (copies : List Scan)
+    → input_fits before.kind i ≡ true → Fed before i (Ok taken.Scan) after → mid ≡ old → HasCopies i place mid copies
+    → ((scan : Scan) → AreCopies scan place mid copies → new ≡ all_listening place (read scan) mid)
+    → TakesIn i place old (station_of before) new (station_of after)
 scan_taken before after i place old mid new copies fits fed same has all =
     scans before.kind i before.plant after.plant _ by fed.answer
   where
@@ -36,5 +40,6 @@ scan_taken before after i place old mid new copies fits fed same has all =
           fits = fits;
           plant = fed.answer;
           station = rw (fed.kind, fed.failures) refl;
-          controls = subst (λ (j : Input). new ≡ all_listening place (reaction j taken.Scan statuses) old) (sym is) (read_now ∙ ap (all_listening place (read scan)) same);
+          controls = subst (λ (j : Input). new ≡ all_listening place (reaction j taken.Scan statuses) old) (sym is)
+              (read_now ∙ ap (all_listening place (read scan)) same);
         }

@@ -21,8 +21,10 @@ weaker (Some x) P R Q S f g h = g x h
 
 -- what a held control says of a request is what the machine's control does
 pub says_at : (given : Order) (hs : List Held) (i : ℕ) (d g : Held) (outcome : Result Answer NoMemory) (at : Station) → i < length hs
-    → MatchResult outcome (λ result. TurnsInto (id_rows (get_or hs i d).control) result (get_or hs i d) g (queued given (get_or hs i d).control)) (λ want. g ≡ get_or hs i d)
-    → MatchResult outcome (λ result. QueuesOrder given i result (controls_of hs) at (controls_of (set hs i g)) at) (λ want. SameStation (controls_of hs) at (controls_of (set hs i g)) at)
+    → MatchResult outcome (λ result. TurnsInto (id_rows (get_or hs i d).control) result (get_or hs i d) g (queued given (get_or hs i d).control))
+    (λ want. g ≡ get_or hs i d)
+    → MatchResult outcome (λ result. QueuesOrder given i result (controls_of hs) at (controls_of (set hs i g)) at)
+    (λ want. SameStation (controls_of hs) at (controls_of (set hs i g)) at)
 says_at given hs i d g (Ok result) at lt turns =
     let within : i < length (controls_of hs) = omega (arith, length-map hs (λ (x : Held). x.control)) in
     rw (slice_get-get_or (controls_of hs) i d.control within, ← control_at hs i d d.control lt)
@@ -35,6 +37,9 @@ says_at given hs i d g (Ok result) at lt turns =
 says_at given hs i d g (Err want) at lt same = record { controls = same_control hs i d g lt (ap (λ (h : Held). h.control) same); station = refl }
 
 -- as what a call comes to
-pub queued_of : (given : Order) (number place : ℕ) (outcome : Result Answer NoMemory) (old new : List Control) (at : Station) → MatchResult outcome (λ result. QueuesOrder given number result old at new at) (λ want. SameStation old at new at) → MatchResult outcome (λ result. Does (deed.Queues given) number place result old at new at) (λ want. IsTrue (may_want (deed.Queues given)) × SameStation old at new at)
+pub queued_of : (given : Order) (number place : ℕ) (outcome : Result Answer NoMemory) (old new : List Control) (at : Station)
+    → MatchResult outcome (λ result. QueuesOrder given number result old at new at) (λ want. SameStation old at new at)
+    → MatchResult outcome (λ result. Does (deed.Queues given) number place result old at new at)
+    (λ want. IsTrue (may_want (deed.Queues given)) × SameStation old at new at)
 queued_of given number place (Ok result) old new at h = h
 queued_of given number place (Err want) old new at h = (refl, h)

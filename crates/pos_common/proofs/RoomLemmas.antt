@@ -11,7 +11,8 @@ still_listens true place events c = refl
 still_listens false place events c = refl
 
 -- what is left of the room of a control that has heard a change of signs
-pub room_left : (place count : ℕ) (events : List Enqueued) (old new : Held) → new.control ≡ if_listening place (heard events) old.control → old.spare ≤ new.spare + sign_events → HasRoom place (sign_events + count) old → HasRoom place count new
+pub room_left : (place count : ℕ) (events : List Enqueued) (old new : Held) → new.control ≡ if_listening place (heard events) old.control
+    → old.spare ≤ new.spare + sign_events → HasRoom place (sign_events + count) old → HasRoom place count new
 room_left place count events old new is spare room = λ l.
     let same : listens place new.control ≡ listens place old.control =
     ap (listens place) is ∙ still_listens (listens place old.control) place events old.control in

@@ -1,6 +1,6 @@
 //! What a call comes to that nothing refuses, at a device with a peripheral.
 ghost use Rattle.std.specs.Prelude.{◌≡◌, ◌<◌, false, true, IsTrue, MatchResult, length};
-ghost use Rattle.pos_service.specs.Deeds.{ChangesOne, DeedFits, Does, GivesOrder, Ordered, QueuesOrder, changed, may_want};
+ghost use Rattle.pos_service.specs.Deeds.{ChangesOne, DeedFits, Does, GivesOne, GivesOrder, Ordered, OrdersBy, QueuesOrder, changed, may_want};
 ghost use Rattle.pos_service.specs.Peripherals.{PrintersTake, order_fits};
 ghost use Rattle.pos_service.specs.Stations.{SameStation, Station, StaysInService, station_of};
 ghost use Rattle.pos_common.specs.Held.{controls_of};
@@ -10,6 +10,7 @@ use crate::controls::{hear_all, room_all};
 use pos_service::{Answer, Change, Deed, NoMemory, Order, Peripheral, Reply, Value};
 
 /// Does what a call of the control with a number comes to, whose device is at a place. Want of memory changes nothing.
+/// The peripheral is given one order, or none where the call comes to none or there is no room for what it brings.
 ///
 /// Refused as the peripheral says to an order: with E_EXTENDED for an open cover or too little paper, E_FAILURE for a
 /// line that failed; and with E_FAILURE where no OutputID is left for an order that is to be queued.
@@ -28,6 +29,8 @@ pub fn carry_out<P: Peripheral>(
         (controls_of controls.new) (station_of (state peripheral.new)))
         (λ _. IsTrue (may_want deed) × SameStation (controls_of controls.old) (station_of (state peripheral.old))
         (controls_of controls.new) (station_of (state peripheral.new))) }
+    ensures orders { let state = P.Peripheral.state in
+        OrdersBy deed result (state peripheral.old).orders (state peripheral.new).orders }
     ensures in_service { let state = P.Peripheral.state in
         StaysInService (state peripheral.old) (state peripheral.new) }
 {
@@ -83,6 +86,8 @@ fn give<P: Peripheral>(
         (controls_of controls.new) (station_of (state peripheral.new)))
         (λ _. SameStation (controls_of controls.old) (station_of (state peripheral.old))
         (controls_of controls.new) (station_of (state peripheral.new))) }
+    ensures orders { let state = P.Peripheral.state in
+        GivesOne result (state peripheral.old).orders (state peripheral.new).orders }
     ensures in_service { let state = P.Peripheral.state in
         StaysInService (state peripheral.old) (state peripheral.new) }
 {
@@ -111,6 +116,8 @@ fn ask<P: Peripheral>(
         (λ _. SameStation (controls_of controls.old) (station_of (state peripheral.old))
         (controls_of controls.new) (station_of (state peripheral.new))) }
     ensures places { length controls.new ≡ length controls.old }
+    ensures orders { let state = P.Peripheral.state in
+        GivesOne result (state peripheral.old).orders (state peripheral.new).orders }
     ensures in_service { let state = P.Peripheral.state in
         StaysInService (state peripheral.old) (state peripheral.new) }
 {

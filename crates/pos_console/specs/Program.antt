@@ -1,6 +1,5 @@
 -- What the program does for its words, and how it ends (docs/CONSOLE.md, "The program").
-use Rattle.std.specs.Prelude.{◌≡◌, ℕ, List, Option, Result, Ok, Err, Vec, map}
-use Rattle.std.specs.Io.KnownBytes.{Keeps}
+use Rattle.std.specs.Prelude.{◌≡◌, ℕ, List, Result, Ok, Err, Vec, map}
 use Rattle.pos_disk.specs.declared.device.Disk.{Ghosts as DiskGhosts}
 use Rattle.pos_profile.specs.Entries.{Contents}
 use Rattle.pos_program.specs.Choices.{Chooses}
@@ -15,7 +14,9 @@ use Rattle.pos_program.specs.declared.words.Task.{Task}
 use Rattle.pos_program.specs.declared.words.Task.TheVariants.{Demo, Run, Format}
 use Rattle.pos_run.specs.declared.scripts.RunFault.{RunFault}
 use Rattle.pos_run.specs.declared.scripts.RunFault.TheVariants as run
-use Rattle.pos_console.specs.Serving.{ProfileServes, Serves}
+use Rattle.pos_run.specs.Simulating.{ProfileLeaves}
+use Rattle.pos_run.specs.Streams.{AreUntouched, Streams}
+use Rattle.pos_console.specs.Serving.{Serves}
 
 -- what the end of a run is to the program
 abbrev pub fault_of_run : Result (Unit {0}) RunFault → Result (Unit {0}) Fault
@@ -29,18 +30,18 @@ abbrev pub EndsRun : (Result (Unit {0}) RunFault → Type 0) → Result (Unit {0
 EndsRun Serving result = (outcome : Result (Unit {0}) RunFault) × Serving outcome × (result ≡ fault_of_run outcome)
 
 -- what the program does with a script over what a run's two files gave: nothing where one of them is at fault
-abbrev pub RunsOpened : {D : Type 0} → DiskGhosts D → Result (Contents × D) Fault → Option (List ℕ) → Option (List ℕ)
-    → Option (List ℕ) → Result (Unit {0}) Fault → Type 0
-RunsOpened disks (Ok opened) unread before after result =
-    EndsRun (ProfileServes opened.0 (disks.honest opened.1) (disks.state opened.1) unread before after) result
-RunsOpened disks (Err why) unread before after result = (result ≡ Err why) × Keeps before after
+abbrev pub RunsOpened : {D : Type 0} → DiskGhosts D → Result (Contents × D) Fault → Streams → Result (Unit {0}) Fault
+    → Type 0
+RunsOpened disks (Ok opened) streams result =
+    EndsRun (ProfileLeaves opened.0 (disks.honest opened.1) (disks.state opened.1) streams) result
+RunsOpened disks (Err why) streams result = (result ≡ Err why) × AreUntouched streams
 
 -- what it does with a script over the files at these paths
-abbrev pub RunsFiles : {F D : Type 0} → Ghosts F D → DiskGhosts D → F → List ℕ → List ℕ → Option (List ℕ)
-    → Option (List ℕ) → Option (List ℕ) → Result (Unit {0}) Fault → Type 0
-RunsFiles {F} {D} files disks them profile disk unread before after result =
+abbrev pub RunsFiles : {F D : Type 0} → Ghosts F D → DiskGhosts D → F → List ℕ → List ℕ → Streams
+    → Result (Unit {0}) Fault → Type 0
+RunsFiles {F} {D} files disks them profile disk streams result =
     (opened : Result (Contents × D) Fault) × OpensRun files them profile disk opened
-    × RunsOpened disks opened unread before after result
+    × RunsOpened disks opened streams result
 
 -- what formatting the disk in the file at a path is to the program
 abbrev pub EndsFormat : List ℕ → Result (Unit {0}) FileFault → Result (Unit {0}) Fault → Type 0
@@ -53,43 +54,42 @@ abbrev pub FormatsFile : {F D : Type 0} → Ghosts F D → F → List ℕ → Re
 FormatsFile files them path result =
     (answer : Result (Unit {0}) FileFault) × files.formats them path answer × EndsFormat path answer result
 
--- what it does for a task, over these files: by what the reader had left and what the writer had and has
-abbrev pub Does : {F D : Type 0} → Ghosts F D → DiskGhosts D → F → Task → Option (List ℕ) → Option (List ℕ)
-    → Option (List ℕ) → Result (Unit {0}) Fault → Type 0
-Does files disks them Demo unread before after result = EndsRun (Serves unread before after) result
-Does files disks them (Run profile disk) unread before after result =
-    RunsFiles files disks them profile.now disk.now unread before after result
-Does files disks them (Format disk) unread before after result =
-    FormatsFile files them disk.now result × Keeps before after
+-- what it does for a task, over these files: by how its reader and its writer stood before, and after
+abbrev pub Does : {F D : Type 0} → Ghosts F D → DiskGhosts D → F → Task → Streams → Result (Unit {0}) Fault
+    → Type 0
+Does files disks them Demo streams result = EndsRun (Serves streams) result
+Does files disks them (Run profile disk) streams result =
+    RunsFiles files disks them profile.now disk.now streams result
+Does files disks them (Format disk) streams result =
+    FormatsFile files them disk.now result × AreUntouched streams
 
 -- what it does for what the words ask for: nothing where they ask for nothing
-abbrev pub DoesChosen : {F D : Type 0} → Ghosts F D → DiskGhosts D → F → Result Task ChoiceFault → Option (List ℕ)
-    → Option (List ℕ) → Option (List ℕ) → Result (Unit {0}) Fault → Type 0
-DoesChosen files disks them (Ok task) unread before after result =
-    Does files disks them task unread before after result
-DoesChosen files disks them (Err why) unread before after result =
-    (result ≡ Err (fault.Words why)) × Keeps before after
+abbrev pub DoesChosen : {F D : Type 0} → Ghosts F D → DiskGhosts D → F → Result Task ChoiceFault → Streams
+    → Result (Unit {0}) Fault → Type 0
+DoesChosen files disks them (Ok task) streams result =
+    Does files disks them task streams result
+DoesChosen files disks them (Err why) streams result =
+    (result ≡ Err (fault.Words why)) × AreUntouched streams
 
 -- what it does for words
-abbrev pub DoesAsAsked : {F D : Type 0} → Ghosts F D → DiskGhosts D → F → List (List ℕ) → Option (List ℕ)
-    → Option (List ℕ) → Option (List ℕ) → Result (Unit {0}) Fault → Type 0
-DoesAsAsked files disks them words unread before after result =
+abbrev pub DoesAsAsked : {F D : Type 0} → Ghosts F D → DiskGhosts D → F → List (List ℕ) → Streams
+    → Result (Unit {0}) Fault → Type 0
+DoesAsAsked files disks them words streams result =
     (chosen : Result Task ChoiceFault) × Chooses words chosen
-    × DoesChosen files disks them chosen unread before after result
+    × DoesChosen files disks them chosen streams result
 
 -- what it does for words that were read, or not
 abbrev pub DoesAsRead : {F D S A : Type 0} → Ghosts F D → DiskGhosts D → F → (S → List ℕ)
-    → Result (Vec S A) ChoiceFault → Option (List ℕ) → Option (List ℕ) → Option (List ℕ)
-    → Result (Unit {0}) Fault → Type 0
-DoesAsRead files disks them text (Ok words) unread before after result =
-    DoesAsAsked files disks them (map text words.items) unread before after result
-DoesAsRead files disks them text (Err why) unread before after result =
-    (result ≡ Err (fault.Words why)) × Keeps before after
+    → Result (Vec S A) ChoiceFault → Streams → Result (Unit {0}) Fault → Type 0
+DoesAsRead files disks them text (Ok words) streams result =
+    DoesAsAsked files disks them (map text words.items) streams result
+DoesAsRead files disks them text (Err why) streams result =
+    (result ≡ Err (fault.Words why)) × AreUntouched streams
 
--- The whole program, by its words, its files, what its reader had left, what its writer had and has, and the status
+-- The whole program, by its words, its files, how its reader and its writer stood before and after, and the status
 -- that it ends with.
 pub record Performs {F D S A : Type 0} (files : Ghosts F D) (disks : DiskGhosts D) (them : F) (text : S → List ℕ)
-    (words : Result (Vec S A) ChoiceFault) (unread before after : Option (List ℕ)) (status : ℕ) : Type 0 where
+    (words : Result (Vec S A) ChoiceFault) (streams : Streams) (status : ℕ) : Type 0 where
   pub outcome : Result (Unit {0}) Fault
-  pub done : DoesAsRead files disks them text words unread before after outcome
+  pub done : DoesAsRead files disks them text words streams outcome
   pub ends : status ≡ status_of outcome

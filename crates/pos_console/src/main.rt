@@ -7,13 +7,13 @@ mod program;
 mod scripts;
 
 use pos_program::{Fault, SystemFiles, read_words};
+use pos_run::{AnswerWriter, ScriptReader};
 use program::{end, perform};
-use std::io::BufWriter;
 use std::process::ExitCode;
 
 fn main(rt: HostRuntime) -> ExitCode {
     let alloc = rt.alloc();
-    let Ok(mut writer) = BufWriter::new(alloc, rt.stdout()) else {
+    let Ok(mut writer) = AnswerWriter::new(alloc, rt.stdout()) else {
         return end(&rt, Err(Fault::NoMemory));
     };
     let words = read_words(&rt);
@@ -21,7 +21,7 @@ fn main(rt: HostRuntime) -> ExitCode {
         alloc,
         &SystemFiles::of(&rt),
         &rt,
-        &mut rt.stdin(),
+        &mut ScriptReader::new(rt.stdin()),
         &mut writer,
         words,
     )

@@ -1,17 +1,17 @@
 //! What the program does for its words, and the status that it ends with.
-ghost use Rattle.std.specs.Prelude.{◌≡◌, [], OnOk, map};
-ghost use Rattle.std.specs.Io.Buffered.{writer_buffer, writer_contents};
+ghost use Rattle.std.specs.Prelude.{◌≡◌, map};
 ghost use Rattle.std.specs.Process.{exit_status};
 ghost use Rattle.pos_program.specs.Faults.{status_of};
+ghost use Rattle.pos_run.specs.Streams.{streams_of};
 ghost use Rattle.pos_console.specs.Program.{Does, DoesAsAsked, FormatsFile, Performs, RunsFiles, fault_of_run};
 
-use crate::scripts::{serve, serve_built};
+use crate::scripts::serve_built;
 use pos_disk::Disk;
 use pos_program::{ChoiceFault, Fault, NamedFiles, Task, choice, open_run, status_of};
-use pos_run::RunFault;
+use pos_run::{AnswerWriter, RunFault, ScriptReader, run_over_profile};
 use std::alloc::Global;
 use std::convert::AsStr;
-use std::io::{BufWriter, Eprint, Read, Write};
+use std::io::{Eprint, Read, Write};
 use std::process::ExitCode;
 
 /// What a run's end is to the program.
@@ -27,20 +27,19 @@ fn ended<'a>(outcome: Result<(), RunFault>) -> Result<(), Fault<'a>>
 }
 
 /// Runs the script over the profile in one file and the disk in another.
-fn run_files<'a, F: NamedFiles, R: Read, W: Write + Drop>(
+fn run_files<'a, F: NamedFiles, R: Read, W: Write>(
     alloc: Global,
     files: &F,
-    reader: &mut R,
-    writer: &mut BufWriter<W>,
+    reader: &mut ScriptReader<R>,
+    writer: &mut AnswerWriter<W>,
     profile: &'a str,
     disk: &'a str,
 ) -> Result<(), Fault<'a>>
     ensures { RunsFiles F.NamedFiles ⟦<F::Disk as Disk>⟧ files.now profile.entry.now disk.entry.now
-        (R.remaining reader.old) (writer_contents W.contents writer.old) (writer_contents W.contents writer.new)
-        result }
+        (streams_of R.remaining reader.old reader.new W.contents writer.old writer.new) result }
 {
     let (profile, disk) = open_run(files, profile, disk)?;
-    ended(serve(alloc, reader, writer, &profile, disk))
+    ended(run_over_profile(alloc, reader, writer, &profile, disk))
 }
 
 /// Formats the disk in a file.
@@ -54,15 +53,15 @@ fn format<'a, F: NamedFiles>(files: &F, path: &'a str) -> Result<(), Fault<'a>>
 }
 
 /// Does what the words of the command line chose.
-fn carry_out<'a, F: NamedFiles, R: Read, W: Write + Drop>(
+fn carry_out<'a, F: NamedFiles, R: Read, W: Write>(
     alloc: Global,
     files: &F,
-    reader: &mut R,
-    writer: &mut BufWriter<W>,
+    reader: &mut ScriptReader<R>,
+    writer: &mut AnswerWriter<W>,
     task: Task<'a>,
 ) -> Result<(), Fault<'a>>
-    ensures { Does F.NamedFiles ⟦<F::Disk as Disk>⟧ files.now task.entry (R.remaining reader.old)
-        (writer_contents W.contents writer.old) (writer_contents W.contents writer.new) result }
+    ensures { Does F.NamedFiles ⟦<F::Disk as Disk>⟧ files.now task.entry
+        (streams_of R.remaining reader.old reader.new W.contents writer.old writer.new) result }
 {
     match task {
         Task::Demo => ended(serve_built(alloc, reader, writer)),
@@ -72,16 +71,15 @@ fn carry_out<'a, F: NamedFiles, R: Read, W: Write + Drop>(
 }
 
 /// Does what the words of the command line ask for.
-fn carry_out_words<'a, F: NamedFiles, S: AsStr, R: Read, W: Write + Drop>(
+fn carry_out_words<'a, F: NamedFiles, S: AsStr, R: Read, W: Write>(
     alloc: Global,
     files: &F,
-    reader: &mut R,
-    writer: &mut BufWriter<W>,
+    reader: &mut ScriptReader<R>,
+    writer: &mut AnswerWriter<W>,
     words: &'a [S],
 ) -> Result<(), Fault<'a>>
     ensures { DoesAsAsked F.NamedFiles ⟦<F::Disk as Disk>⟧ files.now (map S.text words.entry.now)
-        (R.remaining reader.old) (writer_contents W.contents writer.old) (writer_contents W.contents writer.new)
-        result }
+        (streams_of R.remaining reader.old reader.new W.contents writer.old writer.new) result }
 {
     match choice(alloc, words) {
         Ok(task) => carry_out(alloc, files, reader, writer, task),
@@ -103,16 +101,16 @@ pub fn end<E: Eprint>(errors: &E, outcome: Result<(), Fault<'_>>) -> ExitCode
 /// The program, over the files that its words name, a script to read, a writer for the answers and one for a fault. It
 /// does what the words ask for, if they could be read, and ends with the status of what became of it.
 /// docs/CONSOLE.md, "The program".
-pub fn perform<F: NamedFiles, E: Eprint, S: AsStr + Drop, R: Read, W: Write + Drop>(
+pub fn perform<F: NamedFiles, E: Eprint, S: AsStr + Drop, R: Read, W: Write>(
     alloc: Global,
     files: &F,
     errors: &E,
-    reader: &mut R,
-    writer: &mut BufWriter<W>,
+    reader: &mut ScriptReader<R>,
+    writer: &mut AnswerWriter<W>,
     words: Result<Vec<S>, ChoiceFault<'_>>,
 ) -> ExitCode
-    ensures { Performs F.NamedFiles ⟦<F::Disk as Disk>⟧ files.now S.text words.entry (R.remaining reader.old)
-        (writer_contents W.contents writer.old) (writer_contents W.contents writer.new) (exit_status result) }
+    ensures { Performs F.NamedFiles ⟦<F::Disk as Disk>⟧ files.now S.text words.entry
+        (streams_of R.remaining reader.old reader.new W.contents writer.old writer.new) (exit_status result) }
 {
     match words {
         Ok(words) => {

@@ -1,48 +1,22 @@
-//! What the program does with a script.
-ghost use Rattle.std.specs.Prelude.{◌≡◌, [], OnOk};
-ghost use Rattle.std.specs.Io.Buffered.{writer_buffer, writer_contents};
-ghost use Rattle.pos_console.specs.Serving.{ProfileServes, Serves};
+//! What the program without words does with a script.
+ghost use Rattle.pos_run.specs.Streams.{streams_of};
+ghost use Rattle.pos_console.specs.Serving.{Serves};
 
 use crate::disk::format_disk;
-use pos_disk::Disk;
 use pos_profile::Profile;
-use pos_run::{RunFault, run_over_profile};
+use pos_run::{AnswerWriter, RunFault, ScriptReader, run_over_profile};
 use std::alloc::Global;
-use std::io::{BufWriter, Read, Write};
-
-/// Runs a script over a counter of a profile's simulated devices and spares and a disk, and writes what the writer
-/// holds back of its text.
-pub fn serve<R: Read, W: Write + Drop, D: Disk + Drop>(
-    alloc: Global,
-    reader: &mut R,
-    writer: &mut BufWriter<W>,
-    profile: &Profile,
-    disk: D,
-) -> Result<(), RunFault>
-    ensures script { ProfileServes profile.now (D.honest disk) (D.state disk) (R.remaining reader.old)
-        (writer_contents W.contents writer.old) (writer_contents W.contents writer.new) result }
-    ensures flushed { OnOk result (writer_buffer writer.new ≡ []) }
-{
-    match run_over_profile(alloc, reader, writer, profile, disk) {
-        Ok(()) => match writer.flush() {
-            Ok(()) => Ok(()),
-            Err(_) => Err(RunFault::Write),
-        },
-        Err(fault) => Err(fault),
-    }
-}
+use std::io::{Read, Write};
 
 /// Runs a script over the built profile and a formatted disk in memory: a simulated cash drawer, `d1`, a simulated
 /// scanner, `s1`, a simulated line display of 2 rows of 4 columns, `p1`, a simulated receipt printer, `r1`, and Hard
 /// Totals, `t1`, with a simulated cash drawer as a spare.
-pub fn serve_built<R: Read, W: Write + Drop>(
+pub fn serve_built<R: Read, W: Write>(
     alloc: Global,
-    reader: &mut R,
-    writer: &mut BufWriter<W>,
+    reader: &mut ScriptReader<R>,
+    writer: &mut AnswerWriter<W>,
 ) -> Result<(), RunFault>
-    ensures script { Serves (R.remaining reader.old) (writer_contents W.contents writer.old)
-        (writer_contents W.contents writer.new) result }
-    ensures flushed { OnOk result (writer_buffer writer.new ≡ []) }
+    ensures { Serves (streams_of R.remaining reader.old reader.new W.contents writer.old writer.new) result }
 {
     let Ok(profile) = Profile::built(alloc) else {
         return Err(RunFault::NoMemory);
@@ -50,5 +24,5 @@ pub fn serve_built<R: Read, W: Write + Drop>(
     let Ok(disk) = format_disk(alloc) else {
         return Err(RunFault::NoMemory);
     };
-    serve(alloc, reader, writer, &profile, disk)
+    run_over_profile(alloc, reader, writer, &profile, disk)
 }

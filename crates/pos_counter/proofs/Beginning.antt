@@ -22,15 +22,18 @@ use Rattle.pos_counter.specs.Steps.{HasItsDevice, HasItsKind}
 
 -- no entry behind earlier ones is refused
 abbrev pub AreKept : List (Option Entry) → List Entry → Type 0
-AreKept earlier entries = (place : ℕ) → is_refused_after (earlier ++ take place (map (λ entry. Some entry) entries)) (slice_get (map (λ entry. Some entry) entries) place) ≡ false
+AreKept earlier entries = (place : ℕ)
+    → is_refused_after (earlier ++ take place (map (λ entry. Some entry) entries)) (slice_get (map (λ entry. Some entry) entries) place) ≡ false
 
 -- the same one entry later
 kept_later : (earlier : List (Option Entry)) (e : Entry) (es : List Entry) → AreKept earlier (e ∷ es) → AreKept (earlier ++ Some e ∷ []) es
 kept_later earlier e es kept place =
-    ap (λ xs. is_refused_after xs (slice_get (map (λ entry. Some entry) es) place)) (append_assoc earlier (Some e ∷ []) (take place (map (λ entry. Some entry) es))) ∙ kept (suc place)
+    ap (λ xs. is_refused_after xs (slice_get (map (λ entry. Some entry) es) place))
+    (append_assoc earlier (Some e ∷ []) (take place (map (λ entry. Some entry) es))) ∙ kept (suc place)
 
 -- behind an entry of Hard Totals none is another
-kept_after : (earlier : List (Option Entry)) (e : Entry) (es : List Entry) → list_any is_totals_entry earlier ≡ true → AreKept earlier (e ∷ es) → is_totals e.category ≡ false
+kept_after : (earlier : List (Option Entry)) (e : Entry) (es : List Entry) → list_any is_totals_entry earlier ≡ true → AreKept earlier (e ∷ es)
+    → is_totals e.category ≡ false
 kept_after earlier e es has kept = by (is_totals e.category) (kept 0)
   where
     by : (b : Bool) → (b && list_any is_totals_entry (earlier ++ [])) ≡ false → b ≡ false
@@ -38,17 +41,21 @@ kept_after earlier e es has kept = by (is_totals e.category) (kept 0)
     by false h = refl
 
 -- whether one of them is, with one more
-any_later : (earlier : List (Option Entry)) (e : Entry) (one : Bool) → is_totals e.category ≡ one → list_any is_totals_entry (earlier ++ Some e ∷ []) ≡ (list_any is_totals_entry earlier || (one || false))
+any_later : (earlier : List (Option Entry)) (e : Entry) (one : Bool) → is_totals e.category ≡ one
+    → list_any is_totals_entry (earlier ++ Some e ∷ []) ≡ (list_any is_totals_entry earlier || (one || false))
 any_later earlier e one is = list_any-append is_totals_entry earlier (Some e ∷ []) ∙ ap (λ b. list_any is_totals_entry earlier || (b || false)) is
 
 -- so each of them has a device with a peripheral
-count_after : (earlier : List (Option Entry)) (es : List Entry) → list_any is_totals_entry earlier ≡ true → AreKept earlier es → length (vacant_devices es) ≡ length es
+count_after : (earlier : List (Option Entry)) (es : List Entry) → list_any is_totals_entry earlier ≡ true → AreKept earlier es
+    → length (vacant_devices es) ≡ length es
 count_after earlier [] has kept = refl
 count_after earlier (e ∷ es) has kept =
     by e.category (kept_after earlier e es has kept)
-    (count_after (earlier ++ Some e ∷ []) es (any_later earlier e (is_totals e.category) refl ∙ ap (λ b. b || (is_totals e.category || false)) has) (kept_later earlier e es kept))
+    (count_after (earlier ++ Some e ∷ []) es (any_later earlier e (is_totals e.category) refl ∙ ap (λ b. b || (is_totals e.category || false)) has)
+    (kept_later earlier e es kept))
   where
-    by : (k : Category) → is_totals k ≡ false → length (vacant_devices es) ≡ length es → length (map vacant (cons_option (option_map (λ kind. record { name = e.name; kind = kind }) (kind_with k e)) (planned_of es))) ≡ suc (length es)
+    by : (k : Category) → is_totals k ≡ false → length (vacant_devices es) ≡ length es
+        → length (map vacant (cons_option (option_map (λ kind. record { name = e.name; kind = kind }) (kind_with k e)) (planned_of es))) ≡ suc (length es)
     by category.CashDrawer is rest = ap suc rest
     by category.Scanner is rest = ap suc rest
     by category.LineDisplay is rest = ap suc rest
@@ -56,7 +63,8 @@ count_after earlier (e ∷ es) has kept =
     by category.HardTotals is rest = absurd (false≢true (sym is))
 
 -- each entry of a profile has a device
-pub count_devices : (earlier : List (Option Entry)) (es : List Entry) → list_any is_totals_entry earlier ≡ false → AreKept earlier es → length (profile_devices es) ≡ length es
+pub count_devices : (earlier : List (Option Entry)) (es : List Entry) → list_any is_totals_entry earlier ≡ false → AreKept earlier es
+    → length (profile_devices es) ≡ length es
 count_devices earlier [] none kept = refl
 count_devices earlier (e ∷ es) none kept =
     by e.category
@@ -64,7 +72,9 @@ count_devices earlier (e ∷ es) none kept =
     (λ is. count_devices (earlier ++ Some e ∷ []) es (any_later earlier e false is ∙ ap (λ b. b || false) none) (kept_later earlier e es kept))
   where
     by : (k : Category) → (is_totals k ≡ true → length (vacant_devices es) ≡ length es) → (is_totals k ≡ false → length (profile_devices es) ≡ length es)
-        → length (map device_of (map vacant (cons_option (option_map (λ kind. record { name = e.name; kind = kind }) (kind_with k e)) (planned_of es))) ++ totals_devices (option_map (λ entry. entry.name) (cond (is_totals k) (Some e) (find (λ entry. is_totals entry.category) es)))) ≡ suc (length es)
+        → length (map device_of (map vacant
+        (cons_option (option_map (λ kind. record { name = e.name; kind = kind }) (kind_with k e)) (planned_of es))) ++ totals_devices
+        (option_map (λ entry. entry.name) (cond (is_totals k) (Some e) (find (λ entry. is_totals entry.category) es)))) ≡ suc (length es)
     by category.CashDrawer last more = ap suc (more refl)
     by category.Scanner last more = ap suc (more refl)
     by category.LineDisplay last more = ap suc (more refl)
@@ -77,17 +87,21 @@ count_devices earlier (e ∷ es) none kept =
 has_its_kind : (d : Registered) → HasKindInRange d → IsServed d → HasItsKind (device_of d)
 has_its_kind d range served = (range, by d.peripheral served)
   where
-    by : (o : Option PeripheralState) → IfSome o (λ state. (state.is_parked ≡ false) × (state.kind ≡ d.kind)) → IfSome (option_map station_of o) (λ (station : Station). Some d.kind ≡ Some station.kind)
+    by : (o : Option PeripheralState) → IfSome o (λ state. (state.is_parked ≡ false) × (state.kind ≡ d.kind))
+        → IfSome (option_map station_of o) (λ (station : Station). Some d.kind ≡ Some station.kind)
     by None h = tt
     by (Some state) h = ap Some (sym h.1)
 
-kinds_hold : (list : List Registered) (totals : Option (List ℕ)) → AllByRecursion HasKindInRange list → AllByRecursion IsServed list → All HasItsKind (devices_of list totals)
+kinds_hold : (list : List Registered) (totals : Option (List ℕ)) → AllByRecursion HasKindInRange list → AllByRecursion IsServed list
+    → All HasItsKind (devices_of list totals)
 kinds_hold [] None kinds served = All-nil HasItsKind
 kinds_hold [] (Some name) kinds served = All-cons HasItsKind (record { name = name; kind = None; station = None }) [] (tt, tt) (All-nil HasItsKind)
-kinds_hold (d ∷ list) totals kinds served = All-cons HasItsKind (device_of d) (devices_of list totals) (has_its_kind d kinds.0 served.0) (kinds_hold list totals kinds.1 served.1)
+kinds_hold (d ∷ list) totals kinds served =
+    All-cons HasItsKind (device_of d) (devices_of list totals) (has_its_kind d kinds.0 served.0) (kinds_hold list totals kinds.1 served.1)
 
 -- no control over the devices of a sound registry is sound
-pub begins_sound : (list : List Registered) (totals : Option (List ℕ)) → AllByRecursion HasKindInRange list → AllByRecursion IsServed list → ArePartsSound [] (devices_of list totals)
+pub begins_sound : (list : List Registered) (totals : Option (List ℕ)) → AllByRecursion HasKindInRange list → AllByRecursion IsServed list
+    → ArePartsSound [] (devices_of list totals)
 begins_sound list totals kinds served = record {
   machine = λ shared. record { kinds = kinds_hold list totals kinds served; places = All-nil (HasItsDevice (devices_of list totals)) };
 }

@@ -28,7 +28,8 @@ use Rattle.pos_counter.proofs.Sound.{Served}
 -- where there is a claim for each device, the device of each open control has one
 pub covered : (hs : List Held) (ds : List Device) (cl : List (Option ℕ)) (shared : Shared) → ArePartsSound hs ds → length cl ≡ length ds → AreCovered hs cl
 covered hs ds cl shared sound covers =
-    All-weaker (HasItsDevice ds) (λ control. IfSome control.device (λ place. place < length cl)) (λ control seat. by_place control control.device seat) (controls_of hs) (sound.machine shared).places
+    All-weaker (HasItsDevice ds) (λ control. IfSome control.device (λ place. place < length cl))
+    (λ control seat. by_place control control.device seat) (controls_of hs) (sound.machine shared).places
   where
     within : (control : Control) (place : ℕ) → Served control.category control.cursor.place (slice_get ds place) → place < length cl
     within control place served = elim (match_cases (slice_get ds place) _ _ served) [
@@ -36,14 +37,17 @@ covered hs ds cl shared sound covers =
       | inr x ↦ let there = slice_get_within ds place x.0 x.1 in omega (arith, there, covers)
     ]
 
-    by_place : (control : Control) (o : Option ℕ) → IfSome o (λ place. Served control.category control.cursor.place (slice_get ds place)) → IfSome o (λ place. place < length cl)
+    by_place : (control : Control) (o : Option ℕ) → IfSome o (λ place. Served control.category control.cursor.place (slice_get ds place))
+        → IfSome o (λ place. place < length cl)
     by_place control None seat = tt
     by_place control (Some place) seat = within control place seat
 
 -- the machine with one control in the place of another, and other claims
-pub claims_machine : (hs : List Held) (cl dl : List (Option ℕ)) (ds : List Device) (n : ℕ) (g : Held) (c : Control) (part : TotalsPart) → g.control ≡ c → machine_with (set hs n g) dl ds part ≡ record (with_control (machine_with hs cl ds part) n c) { claims = dl }
+pub claims_machine : (hs : List Held) (cl dl : List (Option ℕ)) (ds : List Device) (n : ℕ) (g : Held) (c : Control) (part : TotalsPart)
+    → g.control ≡ c → machine_with (set hs n g) dl ds part ≡ record (with_control (machine_with hs cl ds part) n c) { claims = dl }
 claims_machine hs cl dl ds n g c part e =
-    ap (λ (cs : List Control). let m : Machine = record { controls = cs; devices = ds; claims = dl; totals = part } in m) (map-set (λ (h : Held). h.control) hs n g ∙ ap (set (controls_of hs) n) e)
+    ap (λ (cs : List Control). let m : Machine = record { controls = cs; devices = ds; claims = dl; totals = part } in m)
+    (map-set (λ (h : Held). h.control) hs n g ∙ ap (set (controls_of hs) n) e)
 
 -- there is a claim for each device still
 pub length_released : (cl : List (Option ℕ)) (o : Option ℕ) (n : ℕ) → length (released_by cl o n) ≡ length cl
@@ -59,33 +63,38 @@ length_claimed cl None n = refl
 length_claimed cl (Some place) n = length-set cl place (Some n)
 
 -- a claim or a release that is decided on leaves a claim for each device
-pub claimed_covers : (rows : List Row) (r : Answer) (cl dl : List (Option ℕ)) (o : Option ℕ) (n : ℕ) → Decided rows r (dl ≡ cl) ((r ≡ answer.Done value.Empty) × (dl ≡ claimed_by cl o n)) → length dl ≡ length cl
+pub claimed_covers : (rows : List Row) (r : Answer) (cl dl : List (Option ℕ)) (o : Option ℕ) (n : ℕ)
+    → Decided rows r (dl ≡ cl) ((r ≡ answer.Done value.Empty) × (dl ≡ claimed_by cl o n)) → length dl ≡ length cl
 claimed_covers rows r cl dl o n d = elim (match_cases (first_refusal rows) _ _ d.outcome) [
   | inl x ↦ ap length x.1.1 ∙ length_claimed cl o n
   | inr x ↦ ap length x.2.1
 ]
 
-pub released_covers : (rows : List Row) (r : Answer) (cl dl : List (Option ℕ)) (o : Option ℕ) (n : ℕ) (Same Turns : Type 0) → Decided rows r (Same × (dl ≡ cl)) ((r ≡ answer.Done value.Empty) × Turns × (dl ≡ released_by cl o n)) → length dl ≡ length cl
+pub released_covers : (rows : List Row) (r : Answer) (cl dl : List (Option ℕ)) (o : Option ℕ) (n : ℕ) (Same Turns : Type 0)
+    → Decided rows r (Same × (dl ≡ cl)) ((r ≡ answer.Done value.Empty) × Turns × (dl ≡ released_by cl o n)) → length dl ≡ length cl
 released_covers rows r cl dl o n Same Turns d = elim (match_cases (first_refusal rows) _ _ d.outcome) [
   | inl x ↦ ap length x.1.2 ∙ length_released cl o n
   | inr x ↦ ap length x.2.1.1
 ]
 
 -- a claim of the area or its release leaves the mode
-pub area_claim_mode : (rows : List Row) (r : Answer) (old new : Totals) (area : Option ℕ) → Decided rows r (new ≡ old) ((r ≡ answer.Done value.Empty) × (new ≡ record old { area = area })) → new.mode ≡ old.mode
+pub area_claim_mode : (rows : List Row) (r : Answer) (old new : Totals) (area : Option ℕ)
+    → Decided rows r (new ≡ old) ((r ≡ answer.Done value.Empty) × (new ≡ record old { area = area })) → new.mode ≡ old.mode
 area_claim_mode rows r old new area d = elim (match_cases (first_refusal rows) _ _ d.outcome) [
   | inl x ↦ ap (λ (t : Totals). t.mode) x.1.1
   | inr x ↦ ap (λ (t : Totals). t.mode) x.2.1
 ]
 
-pub area_release_mode : (rows : List Row) (r : Answer) (old new : Totals) (area : Option ℕ) (Same Turns : Type 0) → Decided rows r (Same × (new ≡ old)) ((r ≡ answer.Done value.Empty) × Turns × (new ≡ record old { area = area })) → new.mode ≡ old.mode
+pub area_release_mode : (rows : List Row) (r : Answer) (old new : Totals) (area : Option ℕ) (Same Turns : Type 0)
+    → Decided rows r (Same × (new ≡ old)) ((r ≡ answer.Done value.Empty) × Turns × (new ≡ record old { area = area })) → new.mode ≡ old.mode
 area_release_mode rows r old new area Same Turns d = elim (match_cases (first_refusal rows) _ _ d.outcome) [
   | inl x ↦ ap (λ (t : Totals). t.mode) x.1.2
   | inr x ↦ ap (λ (t : Totals). t.mode) x.2.1.1
 ]
 
 -- the device of a control that is open has a claim
-pub covered_at : (hs : List Held) (cl : List (Option ℕ)) (n : ℕ) (c : Control) → slice_get (controls_of hs) n ≡ Some c → AreCovered hs cl → IfSome c.device (λ place. place < length cl)
+pub covered_at : (hs : List Held) (cl : List (Option ℕ)) (n : ℕ) (c : Control) → slice_get (controls_of hs) n ≡ Some c → AreCovered hs cl
+    → IfSome c.device (λ place. place < length cl)
 covered_at hs cl n c at all =
     let Covered : Control → Type 0 = λ control. IfSome control.device (λ place. place < length cl) in
     subst Covered (get_or_from_slice_get (controls_of hs) n c c at) (All-get_or Covered (controls_of hs) n c (slice_get_within (controls_of hs) n c at) all)
@@ -101,7 +110,8 @@ dropped_of : (k : Category) (m : Machine) (n : ℕ) (c : Control) → is_totals 
 dropped_of category.HardTotals m n c is = cc
 dropped_of k m n c is = refl
 
-released_of : (k : Category) (m : Machine) (n : ℕ) (c : Control) → is_totals k ≡ false → released k m n c ≡ record m { claims = released_by m.claims c.device n }
+released_of : (k : Category) (m : Machine) (n : ℕ) (c : Control) → is_totals k ≡ false
+    → released k m n c ≡ record m { claims = released_by m.claims c.device n }
 released_of category.HardTotals m n c is = cc
 released_of k m n c is = refl
 
@@ -136,19 +146,24 @@ is_none_as o u b test same tested is = ap is_none same ∙ by u tested ∙ is
         flip false e = refl
 
 -- a close of a closed control is refused
-pub close_refused : (m : Machine) (n : ℕ) (c : Control) → slice_get m.controls n ≡ Some c → is_none c.device ≡ true → Step m (CallOf n call.Close) (Answered (answer.Refused code.Closed 0)) m
+pub close_refused : (m : Machine) (n : ℕ) (c : Control) → slice_get m.controls n ≡ Some c → is_none c.device ≡ true
+    → Step m (CallOf n call.Close) (Answered (answer.Refused code.Closed 0)) m
 close_refused m n c at closed =
     match_at_some _ c _ _ at (record {
-      outcome = match_at_some (first_refusal (close_rows c)) (answer.Refused code.Closed 0) _ _ (ap (λ b. first_refusal (when b code.Closed ∷ [])) closed) (refl, refl);
+      outcome = match_at_some (first_refusal (close_rows c)) (answer.Refused code.Closed 0) _ _
+          (ap (λ b. first_refusal (when b code.Closed ∷ [])) closed) (refl, refl);
     })
 
 -- what a decided call does where nothing refuses it
-done_by : (rows : List Row) (r : Answer) (h g : Held) (c : Control) → first_refusal rows ≡ None → TurnsInto rows r h g c → (r ≡ answer.Done value.Empty) × (g.control ≡ c)
-done_by rows r h g c none turns = subst (λ o. MatchOption o ((r ≡ answer.Done value.Empty) × (g.control ≡ c)) (λ refusal. (r ≡ refusal) × (g ≡ h))) none turns.outcome
+done_by : (rows : List Row) (r : Answer) (h g : Held) (c : Control) → first_refusal rows ≡ None → TurnsInto rows r h g c
+    → (r ≡ answer.Done value.Empty) × (g.control ≡ c)
+done_by rows r h g c none turns =
+    subst (λ o. MatchOption o ((r ≡ answer.Done value.Empty) × (g.control ≡ c)) (λ refusal. (r ≡ refusal) × (g ≡ h))) none turns.outcome
 
 -- a close of a control of a device with a peripheral frees what it holds
 pub close_device : (hs : List Held) (cl dl : List (Option ℕ)) (ds : List Device) (part : TotalsPart) (n : ℕ) (c : Control) (h g : Held) (r : Answer)
-    → slice_get (controls_of hs) n ≡ Some c → is_totals c.category ≡ false → is_none c.device ≡ false → TurnsInto (close_rows c) r h g (closed c) → dl ≡ released_by cl c.device n
+    → slice_get (controls_of hs) n ≡ Some c → is_totals c.category ≡ false → is_none c.device ≡ false → TurnsInto (close_rows c) r h g (closed c)
+    → dl ≡ released_by cl c.device n
     → Step (machine_with hs cl ds part) (CallOf n call.Close) (Answered r) (machine_with (set hs n g) dl ds part)
 close_device hs cl dl ds part n c h g r at is there turns free =
     let none : first_refusal (close_rows c) ≡ None = ap (λ b. first_refusal (when b code.Closed ∷ [])) there in
@@ -166,7 +181,8 @@ close_device hs cl dl ds part n c h g r at is there turns free =
 -- a close of a control of Hard Totals frees what it holds, and drops its transaction
 pub close_area : (hs : List Held) (cl : List (Option ℕ)) (ds : List Device) (part : TotalsPart) (n : ℕ) (c : Control) (h g : Held) (r : Answer)
     → slice_get (controls_of hs) n ≡ Some c → c.category ≡ category.HardTotals → is_none c.device ≡ false → TurnsInto (close_rows c) r h g (closed c)
-    → Step (machine_with hs cl ds part) (CallOf n call.Close) (Answered r) (machine_with (set hs n g) cl ds (record part { totals = without_control part.totals n }))
+    → Step (machine_with hs cl ds part) (CallOf n call.Close) (Answered r)
+    (machine_with (set hs n g) cl ds (record part { totals = without_control part.totals n }))
 close_area hs cl ds part n c h g r at is there turns =
     let none : first_refusal (close_rows c) ≡ None = ap (λ b. first_refusal (when b code.Closed ∷ [])) there in
     let done = done_by (close_rows c) r h g (closed c) none turns in
@@ -175,7 +191,8 @@ close_area hs cl ds part n c h g r at is there turns =
     match_at_some _ c _ _ at (record {
       outcome = match_at_none (first_refusal (close_rows c)) _ _ none (
         done.0,
-        subst (λ k. machine_with (set hs n g) cl ds now ≡ dropped k (with_control m n (closed c)) n c) (sym is) (claims_machine hs cl cl ds n g (closed c) now done.1),
+        subst (λ k. machine_with (set hs n g) cl ds now ≡ dropped k (with_control m n (closed c)) n c) (sym is)
+            (claims_machine hs cl cl ds n g (closed c) now done.1),
       );
     })
 
@@ -200,7 +217,8 @@ claim_device hs cl dl ds part n c timeout r at is d =
 -- a release of a device with a peripheral
 pub release_device : (hs : List Held) (cl dl : List (Option ℕ)) (ds : List Device) (part : TotalsPart) (n : ℕ) (c : Control) (h g : Held) (r : Answer)
     → slice_get (controls_of hs) n ≡ Some c → is_totals c.category ≡ false → h ≡ get_or hs n h
-    → Decided (release_rows c (is_own n (holder_at cl c.device))) r ((g ≡ h) × (dl ≡ cl)) ((r ≡ answer.Done value.Empty) × (g.control ≡ after_release c.category c) × (dl ≡ released_by cl c.device n))
+    → Decided (release_rows c (is_own n (holder_at cl c.device))) r ((g ≡ h) × (dl ≡ cl))
+    ((r ≡ answer.Done value.Empty) × (g.control ≡ after_release c.category c) × (dl ≡ released_by cl c.device n))
     → Step (machine_with hs cl ds part) (CallOf n call.Release) (Answered r) (machine_with (set hs n g) dl ds part)
 release_device hs cl dl ds part n c h g r at is here d =
     let m : Machine = machine_with hs cl ds part in
@@ -214,14 +232,20 @@ release_device hs cl dl ds part n c h g r at is here d =
                 ∙ ap (λ claims. let o : Machine = record (with_control m n (after_release c.category c)) { claims = claims } in o) y.2
                 ∙ sym (released_of c.category (with_control m n (after_release c.category c)) n c is),
           ))
-          (λ refusal y. (y.0, ap (λ (ks : List Held). machine_with ks dl ds part) (ap (set hs n) (y.1.0 ∙ here) ∙ set-get_or hs n h) ∙ ap (λ claims. let o : Machine = record m { claims = claims } in o) y.1.1))
+          (λ refusal y. (
+            y.0,
+            ap (λ (ks : List Held). machine_with ks dl ds part) (ap (set hs n) (y.1.0 ∙ here) ∙ set-get_or hs n h)
+                ∙ ap (λ claims. let o : Machine = record m { claims = claims } in o) y.1.1,
+          ))
           d.outcome);
     })
 
 -- a claim of the area
-pub claim_area : (hs : List Held) (cl : List (Option ℕ)) (ds : List Device) (part : TotalsPart) (n : ℕ) (c : Control) (timeout : ℤ) (r : Answer) (totals : Totals)
+pub claim_area : (hs : List Held) (cl : List (Option ℕ)) (ds : List Device) (part : TotalsPart) (n : ℕ) (c : Control) (timeout : ℤ) (r : Answer)
+    (totals : Totals)
     → slice_get (controls_of hs) n ≡ Some c → c.category ≡ category.HardTotals
-    → Decided (claim_rows c (is_area_taken part.totals n) timeout) r (totals ≡ part.totals) ((r ≡ answer.Done value.Empty) × (totals ≡ record part.totals { area = Some n }))
+    → Decided (claim_rows c (is_area_taken part.totals n) timeout) r (totals ≡ part.totals)
+    ((r ≡ answer.Done value.Empty) × (totals ≡ record part.totals { area = Some n }))
     → Step (machine_with hs cl ds part) (CallOf n (call.Claim timeout)) (Answered r) (machine_with hs cl ds (record part { totals = totals }))
 claim_area hs cl ds part n c timeout r totals at is d =
     let m : Machine = machine_with hs cl ds part in
@@ -241,14 +265,17 @@ claim_area hs cl ds part n c timeout r totals at is d =
     over_totals t = machine_with hs cl ds (record part { totals = t })
 
 -- a release of the area
-pub release_area : (hs : List Held) (cl : List (Option ℕ)) (ds : List Device) (part : TotalsPart) (n : ℕ) (c : Control) (h g : Held) (r : Answer) (totals : Totals)
+pub release_area : (hs : List Held) (cl : List (Option ℕ)) (ds : List Device) (part : TotalsPart) (n : ℕ) (c : Control) (h g : Held) (r : Answer)
+    (totals : Totals)
     → slice_get (controls_of hs) n ≡ Some c → c.category ≡ category.HardTotals → h ≡ get_or hs n h
-    → Decided (release_rows c (is_own n part.totals.area)) r ((g ≡ h) × (totals ≡ part.totals)) ((r ≡ answer.Done value.Empty) × (g.control ≡ after_release c.category c) × (totals ≡ record part.totals { area = None }))
+    → Decided (release_rows c (is_own n part.totals.area)) r ((g ≡ h) × (totals ≡ part.totals))
+    ((r ≡ answer.Done value.Empty) × (g.control ≡ after_release c.category c) × (totals ≡ record part.totals { area = None }))
     → Step (machine_with hs cl ds part) (CallOf n call.Release) (Answered r) (machine_with (set hs n g) cl ds (record part { totals = totals }))
 release_area hs cl ds part n c h g r totals at is here d =
     let m : Machine = machine_with hs cl ds part in
     let now : TotalsPart = record part { totals = totals } in
-    let rows = subst (λ k. first_refusal (refusals m n c call.Release) ≡ first_refusal (release_rows c (is_own n (holder_in k cl part.totals.area c.device)))) is refl in
+    let rows = subst (λ k. first_refusal (refusals m n c call.Release) ≡ first_refusal
+    (release_rows c (is_own n (holder_in k cl part.totals.area c.device)))) is refl in
     match_at_some _ c _ _ at (record {
       outcome = match_by (first_refusal (refusals m n c call.Release)) _ _ _ rows
           (match_weaker (first_refusal (release_rows c (is_own n part.totals.area))) _ _ _ _
@@ -256,8 +283,13 @@ release_area hs cl ds part n c h g r totals at is here d =
             y.0,
             subst (λ k. machine_with (set hs n g) cl ds now ≡ released k (with_control m n (after_release c.category c)) n c) (sym is)
                 (claims_machine hs cl cl ds n g (after_release c.category c) now y.1
-                ∙ ap (λ (t : Totals). let o : Machine = record (with_control m n (after_release c.category c)) { totals = record part { totals = t } } in o) y.2),
+                ∙ ap (λ (t : Totals). let o : Machine = record
+                (with_control m n (after_release c.category c)) { totals = record part { totals = t } } in o) y.2),
           ))
-          (λ refusal y. (y.0, ap (λ (ks : List Held). machine_with ks cl ds now) (ap (set hs n) (y.1.0 ∙ here) ∙ set-get_or hs n h) ∙ ap (λ (t : Totals). machine_with hs cl ds (record part { totals = t })) y.1.1))
+          (λ refusal y. (
+            y.0,
+            ap (λ (ks : List Held). machine_with ks cl ds now) (ap (set hs n) (y.1.0 ∙ here) ∙ set-get_or hs n h)
+                ∙ ap (λ (t : Totals). machine_with hs cl ds (record part { totals = t })) y.1.1,
+          ))
           d.outcome);
     })

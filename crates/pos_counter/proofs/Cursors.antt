@@ -47,18 +47,23 @@ unless_not false is = cc
 abbrev pub IsPlace : ℕ → ℕ → Place → Type 0
 IsPlace rows columns place = is_cursor_place rows columns place ≡ true
 
-pub with_row : (rows columns : ℕ) (place : Place) (n : ℤ) → is_index rows n ≡ true → IsPlace rows columns place → IsPlace rows columns (record place { row = nat_abs n })
-with_row rows columns place (pos n) index is = and_from (nat_lt n rows) (nat_le place.column columns) index (and_parts (nat_lt place.row rows) (nat_le place.column columns) is).1
+pub with_row : (rows columns : ℕ) (place : Place) (n : ℤ) → is_index rows n ≡ true → IsPlace rows columns place
+    → IsPlace rows columns (record place { row = nat_abs n })
+with_row rows columns place (pos n) index is =
+    and_from (nat_lt n rows) (nat_le place.column columns) index (and_parts (nat_lt place.row rows) (nat_le place.column columns) is).1
 with_row rows columns place (negsuc n) index is = cc
 
-pub with_column : (rows columns : ℕ) (place : Place) (n : ℤ) → is_up_to columns n ≡ true → IsPlace rows columns place → IsPlace rows columns (record place { column = nat_abs n })
-with_column rows columns place (pos n) count is = and_from (nat_lt place.row rows) (nat_le n columns) (and_parts (nat_lt place.row rows) (nat_le place.column columns) is).0 count
+pub with_column : (rows columns : ℕ) (place : Place) (n : ℤ) → is_up_to columns n ≡ true → IsPlace rows columns place
+    → IsPlace rows columns (record place { column = nat_abs n })
+with_column rows columns place (pos n) count is =
+    and_from (nat_lt place.row rows) (nat_le n columns) (and_parts (nat_lt place.row rows) (nat_le place.column columns) is).0 count
 with_column rows columns place (negsuc n) count is = cc
 
 -- ---- properties
 
 -- a property that may be set leaves the cursor at a place
-pub place_set : (at : Option Kind) (c : Cursor) (p : Property) (v : Value) → takes at p v ≡ true → IsPlaceOn at c.place → IsPlaceOn at (cursor_after c p v).place
+pub place_set : (at : Option Kind) (c : Cursor) (p : Property) (v : Value) → takes at p v ≡ true → IsPlaceOn at c.place
+    → IsPlaceOn at (cursor_after c p v).place
 place_set None c p v may is = tt
 place_set (Some k) c p v may is = λ display. by p v may (is display)
   where
@@ -96,13 +101,15 @@ run_column columns (b ∷ run) strip some le =
     let below : (strip.place.column + length run) % columns < columns = mod_below (strip.place.column + length run) columns some in
     omega (arith, below)
 
-by_byte : (columns : ℕ) (feeds returns : Bool) (x y z : Strip) → x.place.column ≤ columns → y.place.column ≤ columns → z.place.column ≤ columns → (cond feeds x (cond returns y z)).place.column ≤ columns
+by_byte : (columns : ℕ) (feeds returns : Bool) (x y z : Strip) → x.place.column ≤ columns → y.place.column ≤ columns → z.place.column ≤ columns
+    → (cond feeds x (cond returns y z)).place.column ≤ columns
 by_byte columns true returns x y z p q r = p
 by_byte columns false true x y z p q r = q
 by_byte columns false false x y z p q r = r
 
 -- a text leaves the place on the strip at most one right of the last column
-text_column : (columns : ℕ) (run bytes : List ℕ) (strip : Strip) → 0 < columns → strip.place.column ≤ columns → (with_text columns run bytes strip).place.column ≤ columns
+text_column : (columns : ℕ) (run bytes : List ℕ) (strip : Strip) → 0 < columns → strip.place.column ≤ columns
+    → (with_text columns run bytes strip).place.column ≤ columns
 text_column columns run [] strip some le = run_column columns run strip some le
 text_column columns run (b ∷ bytes) strip some le =
     by_byte columns (b == 10) (b == 13) _ _ _
@@ -117,7 +124,8 @@ window_place rows columns place some le =
     and_from (nat_lt (place.row - (place.row + 1 - rows)) rows) (nat_le place.column columns) (grind (arith, nat_tests, row)) (grind (arith, nat_tests, le))
 
 -- a text leaves the cursor at a place
-pub text_place : (rows columns : ℕ) (update : Bool) (start : Place) (bytes : List ℕ) → 0 < rows → 0 < columns → IsPlace rows columns start → IsPlace rows columns (place_left rows columns update start bytes)
+pub text_place : (rows columns : ℕ) (update : Bool) (start : Place) (bytes : List ℕ) → 0 < rows → 0 < columns → IsPlace rows columns start
+    → IsPlace rows columns (place_left rows columns update start bytes)
 text_place rows columns false start bytes tall wide is = is
 text_place rows columns true start bytes tall wide is =
     let within : nat_le start.column columns ≡ true = (and_parts (nat_lt start.row rows) (nat_le start.column columns) is).1 in

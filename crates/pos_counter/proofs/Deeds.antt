@@ -55,20 +55,28 @@ one_of f None d P each is = absurd cc
 one_of f (Some a) d P each is = subst P (same_some (f a) d is) (each a)
 
 -- a text from a place of a display leaves the cursor at one
-text_stays : (rows columns : ℕ) (cursor : Cursor) (start : Place) (text : List ℕ) (style : Attribute) → 1 ≤ rows → 1 ≤ columns → (IsPlace rows columns cursor.place → IsPlace rows columns start) → DeedStaysOn (Some (kind.Display rows columns)) cursor.place (shows (Some (kind.Display rows columns)) cursor start text style)
-text_stays rows columns cursor start text style tall wide within = λ is display. text_place rows columns cursor.update start text (omega (arith, tall)) (omega (arith, wide)) (within (is display))
+text_stays : (rows columns : ℕ) (cursor : Cursor) (start : Place) (text : List ℕ) (style : Attribute) → 1 ≤ rows → 1 ≤ columns
+    → (IsPlace rows columns cursor.place → IsPlace rows columns start)
+    → DeedStaysOn (Some (kind.Display rows columns)) cursor.place (shows (Some (kind.Display rows columns)) cursor start text style)
+text_stays rows columns cursor start text style tall wide within =
+    λ is display. text_place rows columns cursor.update start text (omega (arith, tall)) (omega (arith, wide)) (within (is display))
 
 -- of a display
-display_stays : (rows columns : ℕ) (cursor : Cursor) (asked : Call) (d : Deed) → 1 ≤ rows → 1 ≤ columns → NoneApplies (display_rows (Some (kind.Display rows columns)) asked) → display_deed (Some (kind.Display rows columns)) cursor asked ≡ Some d → DeedStaysOn (Some (kind.Display rows columns)) cursor.place d
+display_stays : (rows columns : ℕ) (cursor : Cursor) (asked : Call) (d : Deed) → 1 ≤ rows → 1 ≤ columns
+    → NoneApplies (display_rows (Some (kind.Display rows columns)) asked) → display_deed (Some (kind.Display rows columns)) cursor asked ≡ Some d
+    → DeedStaysOn (Some (kind.Display rows columns)) cursor.place d
 display_stays rows columns cursor (call.DisplayText text attribute) d tall wide allowed is =
     let at : Option Kind = Some (kind.Display rows columns) in
-    one_of (shows at cursor cursor.place text) (attribute_of attribute) d (DeedStaysOn at cursor.place) (λ style. text_stays rows columns cursor cursor.place text style tall wide (λ i. i)) is
+    one_of (shows at cursor cursor.place text) (attribute_of attribute) d (DeedStaysOn at cursor.place)
+    (λ style. text_stays rows columns cursor cursor.place text style tall wide (λ i. i)) is
 display_stays rows columns cursor (call.DisplayTextAt row column text attribute) d tall wide allowed is =
     let at : Option Kind = Some (kind.Display rows columns) in
     let start : Place = record { row = nat_abs row; column = nat_abs column } in
-    let first : IsPlace rows columns (record { row = nat_abs row; column = 0 }) = with_row rows columns origin row (unless_not (is_index rows row) allowed.0) (first_place rows columns tall) in
+    let first : IsPlace rows columns (record { row = nat_abs row; column = 0 }) =
+    with_row rows columns origin row (unless_not (is_index rows row) allowed.0) (first_place rows columns tall) in
     let within = with_column rows columns (record { row = nat_abs row; column = 0 }) column (unless_not (is_up_to columns column) allowed.1.0) first in
-    one_of (shows at cursor start text) (attribute_of attribute) d (DeedStaysOn at cursor.place) (λ style. text_stays rows columns cursor start text style tall wide (λ i. within)) is
+    one_of (shows at cursor start text) (attribute_of attribute) d (DeedStaysOn at cursor.place)
+    (λ style. text_stays rows columns cursor start text style tall wide (λ i. within)) is
 display_stays rows columns cursor call.ClearText d tall wide allowed is =
     let at : Option Kind = Some (kind.Display rows columns) in
     subst (DeedStaysOn at cursor.place) (same_some _ d is) (λ i display. first_place rows columns tall)
@@ -91,8 +99,10 @@ no_display k was (deed.Changes what) flat = no_display_change k was what flat
 no_display k was (deed.Queues given) flat = tt
 
 -- a call whose arguments are allowed comes to what leaves the cursor at a place of the device, which serves the category
-pub deed_called : (k : Category) (is : Kind) (c : Control) (asked : Call) (d : Deed) → serves k (Some is) ≡ true → IsInRange is → NoneApplies (device_rows k (Some is) c asked) → device_deed k (Some is) c asked ≡ Some d → DeedStaysOn (Some is) c.cursor.place d
-deed_called category.LineDisplay (kind.Display rows columns) c asked d served range allowed e = display_stays rows columns c.cursor asked d range.0 range.2 allowed e
+pub deed_called : (k : Category) (is : Kind) (c : Control) (asked : Call) (d : Deed) → serves k (Some is) ≡ true → IsInRange is
+    → NoneApplies (device_rows k (Some is) c asked) → device_deed k (Some is) c asked ≡ Some d → DeedStaysOn (Some is) c.cursor.place d
+deed_called category.LineDisplay (kind.Display rows columns) c asked d served range allowed e =
+    display_stays rows columns c.cursor asked d range.0 range.2 allowed e
 deed_called category.LineDisplay is c asked d served range allowed e = absurd cc
 deed_called category.CashDrawer kind.Drawer c asked d served range allowed e = no_display kind.Drawer c.cursor.place d refl
 deed_called category.CashDrawer is c asked d served range allowed e = absurd cc
@@ -103,15 +113,28 @@ deed_called category.PosPrinter is c asked d served range allowed e = absurd cc
 deed_called category.HardTotals is c asked d served range allowed e = absurd cc
 
 -- a call that is refused by its arguments
-pub called_refused : (n place : ℕ) (asked : Call) (c : Control) (code : Code) (old : List Control) (before : Station) → slice_get old n ≡ Some c → first_refusal (device_rows c.category (Some before.kind) c asked) ≡ Some (answer.Refused code 0) → CallsAt n asked place (Ok (answer.Refused code 0)) old before old before
+pub called_refused : (n place : ℕ) (asked : Call) (c : Control) (code : Code) (old : List Control) (before : Station) → slice_get old n ≡ Some c
+    → first_refusal (device_rows c.category (Some before.kind) c asked) ≡ Some (answer.Refused code 0)
+    → CallsAt n asked place (Ok (answer.Refused code 0)) old before old before
 called_refused n place asked c code old before at refused =
-    match_at_some _ c _ _ at (record { outcome = match_at_some (first_refusal (device_rows c.category (Some before.kind) c asked)) (answer.Refused code 0) _ _ refused (refl, record { controls = refl; station = refl }) })
+    match_at_some _ c _ _ at (record {
+      outcome = match_at_some (first_refusal (device_rows c.category (Some before.kind) c asked))
+          (answer.Refused code 0) _ _ refused (refl, record { controls = refl; station = refl });
+    })
 
 -- one that comes to a deed
-pub called_done : (n place : ℕ) (asked : Call) (c : Control) (d : Deed) (outcome : Result Answer NoMemory) (old new : List Control) (before after : Station) → slice_get old n ≡ Some c → first_refusal (device_rows c.category (Some before.kind) c asked) ≡ None → device_deed c.category (Some before.kind) c asked ≡ Some d → MayWantFor asked d
-    → MatchResult outcome (λ result. CarriesOut d n place result old before new after) (λ want. IsTrue (may_want d) × SameStation old before new after) → CallsAt n asked place outcome old before new after
+pub called_done : (n place : ℕ) (asked : Call) (c : Control) (d : Deed) (outcome : Result Answer NoMemory) (old new : List Control)
+    (before after : Station) → slice_get old n ≡ Some c → first_refusal (device_rows c.category (Some before.kind) c asked) ≡ None
+    → device_deed c.category (Some before.kind) c asked ≡ Some d → MayWantFor asked d
+    → MatchResult outcome (λ result. CarriesOut d n place result old before new after)
+    (λ want. IsTrue (may_want d) × SameStation old before new after) → CallsAt n asked place outcome old before new after
 called_done n place asked c d outcome old new before after at none is wants done = match_at_some _ c _ _ at (by outcome done)
   where
-    by : (o : Result Answer NoMemory) → MatchResult o (λ result. CarriesOut d n place result old before new after) (λ want. IsTrue (may_want d) × SameStation old before new after) → CallsFor n asked place o c old before new after
-    by (Ok result) h = record { outcome = match_at_none (first_refusal (device_rows c.category (Some before.kind) c asked)) _ _ none (match_at_some _ d _ _ is h) }
+    by : (o : Result Answer NoMemory)
+        → MatchResult o (λ result. CarriesOut d n place result old before new after) (λ want. IsTrue (may_want d) × SameStation old before new after)
+        → CallsFor n asked place o c old before new after
+    by (Ok result) h = record {
+      outcome = match_at_none (first_refusal (device_rows c.category (Some before.kind) c asked)) _ _ none
+          (match_at_some _ d _ _ is h);
+    }
     by (Err want) h = (wants h.0, none, h.1)

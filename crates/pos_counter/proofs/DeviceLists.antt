@@ -11,7 +11,8 @@ use Rattle.pos_counter.specs.Steps.{FindsFit}
 use Rattle.pos_counter.specs.KeptDevices.{device_of, devices_of}
 
 -- what stands at it
-pub station_there : (list : List Registered) (totals : Option (List ℕ)) (place : ℕ) → station_in (slice_get (devices_of list totals) place) ≡ option_map station_of (standing_at list place)
+pub station_there : (list : List Registered) (totals : Option (List ℕ)) (place : ℕ)
+    → station_in (slice_get (devices_of list totals) place) ≡ option_map station_of (standing_at list place)
 station_there [] None zero = refl
 station_there [] None (suc place) = refl
 station_there [] (Some name) zero = refl
@@ -20,14 +21,17 @@ station_there (d ∷ list) totals zero = refl
 station_there (d ∷ list) totals (suc place) = station_there list totals place
 
 -- what is at a place of the registry is at that place of the machine
-pub registered_there : (list : List Registered) (totals : Option (List ℕ)) (place : ℕ) (d : Registered) → slice_get list place ≡ Some d → slice_get (devices_of list totals) place ≡ Some (device_of d)
+pub registered_there : (list : List Registered) (totals : Option (List ℕ)) (place : ℕ) (d : Registered) → slice_get list place ≡ Some d
+    → slice_get (devices_of list totals) place ≡ Some (device_of d)
 registered_there [] totals zero d at = cc
 registered_there [] totals (suc place) d at = cc
 registered_there (x ∷ list) totals zero d at = let same : x ≡ d = cc in ap (λ (y : Registered). Some (device_of y)) same
 registered_there (x ∷ list) totals (suc place) d at = registered_there list totals place d at
 
 -- another peripheral, or none, at a device is another station, or none
-pub devices_with : (list : List Registered) (totals : Option (List ℕ)) (place : ℕ) (d : Registered) (x : Option PeripheralState) → slice_get list place ≡ Some d → devices_of (with_peripheral list place x) totals ≡ set (devices_of list totals) place (record (device_of d) { station = option_map station_of x })
+pub devices_with : (list : List Registered) (totals : Option (List ℕ)) (place : ℕ) (d : Registered) (x : Option PeripheralState)
+    → slice_get list place ≡ Some d
+    → devices_of (with_peripheral list place x) totals ≡ set (devices_of list totals) place (record (device_of d) { station = option_map station_of x })
 devices_with [] totals zero d x at = cc
 devices_with [] totals (suc place) d x at = cc
 devices_with (y ∷ list) totals zero d x at =
@@ -41,12 +45,16 @@ pub record IsOut (list : List Registered) (totals : Option (List ℕ)) (place : 
   pub is_device : slice_get (devices_of list totals) place ≡ Some device
   pub is_attached : device.station ≡ Some (station_of was)
   pub kind : device.kind ≡ Some was.kind
-  pub back : (now : PeripheralState) → devices_of (with_peripheral (with_peripheral list place None) place (Some now)) totals ≡ set (devices_of list totals) place (record device { station = Some (station_of now) })
+  pub back : (now : PeripheralState)
+      → devices_of (with_peripheral (with_peripheral list place None) place (Some now)) totals ≡ set (devices_of list totals) place
+      (record device { station = Some (station_of now) })
 
 served_kind : (d : Registered) (was : PeripheralState) → IsServed d → Some was ≡ d.peripheral → d.kind ≡ was.kind
-served_kind d was served is = sym (subst (λ (o : Option PeripheralState). IfSome o (λ state. (state.is_parked ≡ false) × (state.kind ≡ d.kind))) (sym is) served).1
+served_kind d was served is = sym
+    (subst (λ (o : Option PeripheralState). IfSome o (λ state. (state.is_parked ≡ false) × (state.kind ≡ d.kind))) (sym is) served).1
 
-pub is_out : (list : List Registered) (totals : Option (List ℕ)) (place : ℕ) (was : PeripheralState) → AllByRecursion IsServed list → Some was ≡ standing_at list place → IsOut list totals place was
+pub is_out : (list : List Registered) (totals : Option (List ℕ)) (place : ℕ) (was : PeripheralState) → AllByRecursion IsServed list
+    → Some was ≡ standing_at list place → IsOut list totals place was
 is_out [] totals zero was served is = cc
 is_out [] totals (suc place) was served is = cc
 is_out (d ∷ list) totals zero was served is = record {
@@ -66,15 +74,18 @@ is_out (d ∷ list) totals (suc place) was served is =
     }
 
 -- a device whose peripheral isn't found has none
-pub vacant_there : {B : Type 0} (list : List Registered) (totals : Option (List ℕ)) (place : ℕ) (found : Option B) (f : B → PeripheralState) → option_map f found ≡ standing_at list place → is_some found ≡ false → station_in (slice_get (devices_of list totals) place) ≡ None
+pub vacant_there : {B : Type 0} (list : List Registered) (totals : Option (List ℕ)) (place : ℕ) (found : Option B) (f : B → PeripheralState)
+    → option_map f found ≡ standing_at list place → is_some found ≡ false → station_in (slice_get (devices_of list totals) place) ≡ None
 vacant_there list totals place None f is none = station_there list totals place ∙ ap (option_map station_of) (sym is)
 vacant_there list totals place (Some x) f is none = cc
 
-pub missing_there : (list : List Registered) (totals : Option (List ℕ)) (place : ℕ) → None ≡ standing_at list place → station_in (slice_get (devices_of list totals) place) ≡ None
+pub missing_there : (list : List Registered) (totals : Option (List ℕ)) (place : ℕ) → None ≡ standing_at list place
+    → station_in (slice_get (devices_of list totals) place) ≡ None
 missing_there list totals place none = station_there list totals place ∙ ap (option_map station_of) (sym none)
 
 -- an input fits what is found, or doesn't
-pub found_fit : (list : List Registered) (totals : Option (List ℕ)) (place : ℕ) (state : PeripheralState) (given : Input) (fits : Bool) → Some state ≡ standing_at list place → input_fits state.kind given ≡ fits → FindsFit (station_in (slice_get (devices_of list totals) place)) given fits
+pub found_fit : (list : List Registered) (totals : Option (List ℕ)) (place : ℕ) (state : PeripheralState) (given : Input) (fits : Bool)
+    → Some state ≡ standing_at list place → input_fits state.kind given ≡ fits → FindsFit (station_in (slice_get (devices_of list totals) place)) given fits
 found_fit list totals place state given fits is fit = record {
   before = station_of state;
   is_attached = station_there list totals place ∙ ap (option_map station_of) (sym is);
@@ -82,6 +93,7 @@ found_fit list totals place state given fits is fit = record {
 }
 
 -- one whose peripheral is found has one
-pub attached_there : {B : Type 0} (list : List Registered) (totals : Option (List ℕ)) (place : ℕ) (found : Option B) (f : B → PeripheralState) → option_map f found ≡ standing_at list place → is_some found ≡ true → IsSome (station_in (slice_get (devices_of list totals) place))
+pub attached_there : {B : Type 0} (list : List Registered) (totals : Option (List ℕ)) (place : ℕ) (found : Option B) (f : B → PeripheralState)
+    → option_map f found ≡ standing_at list place → is_some found ≡ true → IsSome (station_in (slice_get (devices_of list totals) place))
 attached_there list totals place None f is some = cc
 attached_there list totals place (Some x) f is some = subst IsSome (sym (station_there list totals place ∙ ap (option_map station_of) (sym is))) refl

@@ -1,14 +1,14 @@
 -- What the registry of a counter tells of an exchange, as steps of the machine.
 use Rattle.std.proofs.Common.{◌≡◌, ◌∙◌, ℕ, ◌+◌, ◌<◌, ◌≤◌, drop, get_or, List, Option, Some, None, Result, Ok, Err, Bool, false, ap, sym, subst, refl, length}
-use Rattle.std.specs.Prelude.{◌||◌, IsSome, slice_get, option_map, option_and_then}
+use Rattle.std.specs.Prelude.{◌||◌, IfErr, IsSome, slice_get, option_map, option_and_then}
 use Rattle.std.proofs.lemmas.List.{drop_all, drop_more, length-set}
 use Rattle.pos_service.specs.Peripherals.{PeripheralState}
 use Rattle.pos_service.specs.Stations.{station_of}
 use Rattle.pos_common.specs.Held.{Held, controls_of}
-use Rattle.pos_profile.specs.declared.registry_fault.AttachFault.{AttachFault}
-use Rattle.pos_profile.specs.declared.registry_fault.AttachFault.TheVariants as attach
-use Rattle.pos_profile.specs.declared.registry_fault.DetachFault.{DetachFault}
-use Rattle.pos_profile.specs.declared.registry_fault.DetachFault.TheVariants as detach
+use Rattle.pos_service.specs.declared.exchange_fault.AttachFault.{AttachFault}
+use Rattle.pos_service.specs.declared.exchange_fault.AttachFault.TheVariants as attach
+use Rattle.pos_service.specs.declared.exchange_fault.DetachFault.{DetachFault}
+use Rattle.pos_service.specs.declared.exchange_fault.DetachFault.TheVariants as detach
 use Rattle.pos_profile.specs.Places.{place_of as registered_place}
 use Rattle.pos_profile.specs.Registries.{Device as Registered, Attaches, Detaches, IsNamed, names_of, standing_at}
 use Rattle.pos_counter.specs.Machine.{Shared, device_at, kind_in, place_of, station_in}
@@ -22,11 +22,14 @@ use Rattle.pos_counter.proofs.Places.{found_first, kind_last}
 use Rattle.pos_counter.proofs.Serving.{step_serves}
 
 -- the device of a name that the registry has
-named_device : (list : List Registered) (totals : Option (List ℕ)) (name : List ℕ) (d : Registered) → IsNamed list name d → device_at (devices_of list totals) (place_of (devices_of list totals) name) ≡ Some (device_of d)
-named_device list totals name d is = ap (device_at (devices_of list totals)) (found_first name list totals is.place is.found) ∙ registered_there list totals is.place d is.at
+named_device : (list : List Registered) (totals : Option (List ℕ)) (name : List ℕ) (d : Registered) → IsNamed list name d
+    → device_at (devices_of list totals) (place_of (devices_of list totals) name) ≡ Some (device_of d)
+named_device list totals name d is =
+    ap (device_at (devices_of list totals)) (found_first name list totals is.place is.found) ∙ registered_there list totals is.place d is.at
 
 -- whether a control has a device open: the next one has it, or not
-pub open_next : (place : ℕ) (hs : List Held) (i : ℕ) (h : Held) (b : Bool) → i < length hs → h ≡ get_or hs i h → has_open place h.control ≡ b → is_open_at place (controls_of (drop i hs)) ≡ (b || is_open_at place (controls_of (drop (i + 1) hs)))
+pub open_next : (place : ℕ) (hs : List Held) (i : ℕ) (h : Held) (b : Bool) → i < length hs → h ≡ get_or hs i h → has_open place h.control ≡ b
+    → is_open_at place (controls_of (drop i hs)) ≡ (b || is_open_at place (controls_of (drop (i + 1) hs)))
 open_next place hs i h b lt is has =
     ap (λ xs. is_open_at place (controls_of xs)) (drop_more hs i h lt)
     ∙ ap (λ (x : Held). has_open place x.control || is_open_at place (controls_of (drop (i + 1) hs))) (sym is)
@@ -45,17 +48,22 @@ module _ (hs : List Held) (list new : List Registered) (totals : Option (List �
   same_machine shared is = ap (λ xs. over hs xs shared) (same_devices is)
 
   -- what stands at a place of the registry
-  registered_at : (place : ℕ) (was : PeripheralState) → standing_at list place ≡ Some was → (d : Registered) × (slice_get list place ≡ Some d) × (d.peripheral ≡ Some was)
+  registered_at : (place : ℕ) (was : PeripheralState) → standing_at list place ≡ Some was
+      → (d : Registered) × (slice_get list place ≡ Some d) × (d.peripheral ≡ Some was)
   registered_at place was stood = by (slice_get list place) refl stood
     where
-      by : (o : Option Registered) → slice_get list place ≡ o → option_and_then (λ d. d.peripheral) o ≡ Some was → (d : Registered) × (slice_get list place ≡ Some d) × (d.peripheral ≡ Some was)
+      by : (o : Option Registered) → slice_get list place ≡ o → option_and_then (λ d. d.peripheral) o ≡ Some was
+          → (d : Registered) × (slice_get list place ≡ Some d) × (d.peripheral ≡ Some was)
       by None at stood = cc
       by (Some d) at stood = (d, at, stood)
 
-  pub attach_serves : {B : Type 0} (state : PeripheralState) (result : Result (Unit {0}) (AttachFault × B)) → Attaches list name state result new → ServesBeside hs (devices_of list totals) (Attach name (station_of state)) (attached result) hs (devices_of new totals)
-  attach_serves state (Ok u) h =
-      let changed = ap (λ xs. devices_of xs totals) h.served ∙ devices_with list totals h.place h.may.device (Some state) h.may.at in
-      step_serves hs hs (devices_of list totals) (devices_of new totals) _ _ sound (ap length changed ∙ length-set (devices_of list totals) h.place _) (λ shared. record {
+  pub attach_serves : {B : Type 0} (state : B → PeripheralState) (peripheral : B) (result : Result (Unit {0}) (AttachFault × B))
+      → IfErr result (λ refusal. refusal.1 ≡ peripheral) → Attaches list name (state peripheral) result new
+      → ServesBeside hs (devices_of list totals) (Attach name (station_of (state peripheral))) (attached state result) hs (devices_of new totals)
+  attach_serves state peripheral (Ok u) back h =
+      let changed = ap (λ xs. devices_of xs totals) h.served ∙ devices_with list totals h.place h.may.device (Some (state peripheral)) h.may.at in
+      step_serves hs hs (devices_of list totals) (devices_of new totals) _ _ sound
+      (ap length changed ∙ length-set (devices_of list totals) h.place _) (λ shared. record {
         place = h.place;
         device = device_of h.may.device;
         is_at = found_first name list totals h.place h.found;
@@ -64,14 +72,16 @@ module _ (hs : List Held) (list new : List Registered) (totals : Option (List �
         kind = ap Some (sym h.may.kind);
         machine = ap (λ xs. over hs xs shared) changed;
       })
-  attach_serves state (Err (attach.Unknown, given)) h =
-      step_serves hs hs (devices_of list totals) (devices_of new totals) _ _ sound (ap length (same_devices h.1)) (λ shared. (kind_last name list totals h.0, same_machine shared h.1))
-  attach_serves state (Err (attach.InUse, given)) h =
+  attach_serves state peripheral (Err (attach.Unknown, given)) back h =
+      step_serves hs hs (devices_of list totals) (devices_of new totals) _ _ sound (ap length (same_devices h.1))
+      (λ shared. (kind_last name list totals h.0, ap (λ b. station_of (state b)) back, same_machine shared h.1))
+  attach_serves state peripheral (Err (attach.InUse, given)) back h =
       step_serves hs hs (devices_of list totals) (devices_of new totals) _ _ sound (ap length (same_devices h.1)) (λ shared. (
         subst IsSome (sym (ap station_in (named_device list totals name h.0.device h.0.named) ∙ ap (option_map station_of) h.0.served)) refl,
+        ap (λ b. station_of (state b)) back,
         same_machine shared h.1,
       ))
-  attach_serves state (Err (attach.KindDiffers, given)) h =
+  attach_serves state peripheral (Err (attach.KindDiffers, given)) back h =
       let there = named_device list totals name h.0.device h.0.named in
       step_serves hs hs (devices_of list totals) (devices_of new totals) _ _ sound (ap length (same_devices h.1)) (λ shared. (
         record {
@@ -80,15 +90,19 @@ module _ (hs : List Held) (list new : List Registered) (totals : Option (List �
           is_vacant = ap station_in there ∙ ap (option_map station_of) h.0.vacant;
           differs = h.0.kind;
         },
+        ap (λ b. station_of (state b)) back,
         same_machine shared h.1,
       ))
 
-  pub detach_serves : {B : Type 0} (state : B → PeripheralState) (is_open : Bool) (result : Result B DetachFault) → ((place : ℕ) → registered_place (names_of list) name ≡ Some place → is_open ≡ is_open_at place (controls_of hs)) → Detaches state list name is_open result new
+  pub detach_serves : {B : Type 0} (state : B → PeripheralState) (is_open : Bool) (result : Result B DetachFault)
+      → ((place : ℕ) → registered_place (names_of list) name ≡ Some place → is_open ≡ is_open_at place (controls_of hs))
+      → Detaches state list name is_open result new
       → ServesBeside hs (devices_of list totals) (Detach name) (detached state result) hs (devices_of new totals)
   detach_serves state is_open (Ok peripheral) told h =
       let d = registered_at h.0.place h.0.was h.0.stood in
       let changed = ap (λ xs. devices_of xs totals) h.0.vacated ∙ devices_with list totals h.0.place d.0 None d.1 in
-      step_serves hs hs (devices_of list totals) (devices_of new totals) _ _ sound (ap length changed ∙ length-set (devices_of list totals) h.0.place _) (λ shared. record {
+      step_serves hs hs (devices_of list totals) (devices_of new totals) _ _ sound
+      (ap length changed ∙ length-set (devices_of list totals) h.0.place _) (λ shared. record {
         place = h.0.place;
         device = device_of d.0;
         is_at = found_first name list totals h.0.place h.0.found;
@@ -98,7 +112,8 @@ module _ (hs : List Held) (list new : List Registered) (totals : Option (List �
         machine = ap (λ xs. over hs xs shared) changed;
       })
   detach_serves state is_open (Err detach.Unknown) told h =
-      step_serves hs hs (devices_of list totals) (devices_of new totals) _ _ sound (ap length (same_devices h.1)) (λ shared. (kind_last name list totals h.0, same_machine shared h.1))
+      step_serves hs hs (devices_of list totals) (devices_of new totals) _ _ sound (ap length (same_devices h.1))
+      (λ shared. (kind_last name list totals h.0, same_machine shared h.1))
   detach_serves state is_open (Err detach.Vacant) told h =
       let there = named_device list totals name h.0.device h.0.named in
       step_serves hs hs (devices_of list totals) (devices_of new totals) _ _ sound (ap length (same_devices h.1)) (λ shared. (

@@ -19,3 +19,4 @@ pub mod PrefixSteps
 pub mod PrefixRuns
 pub mod PrefixCounters
 pub mod PrefixExamples
+pub mod Reopening

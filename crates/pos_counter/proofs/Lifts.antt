@@ -53,7 +53,9 @@ over_same : (cs ds : List Control) (devices : List Device) (shared : Shared) →
 over_same cs ds devices shared e = ap (λ (c : List Control). with_controls c devices shared) e
 
 -- a call that is decided on one control is decided on the machine
-pub decided_at : (hs : List Held) (ds : List Device) (shared : Shared) (n : ℕ) (g h : Held) (rows : List Row) (r : Answer) (Done : Type 0) (c : Control) → h ≡ get_or hs n h → Decided rows r (g ≡ h) (Done × (g.control ≡ c)) → Decided rows r (over (set hs n g) ds shared ≡ over hs ds shared) (Done × (over (set hs n g) ds shared ≡ with_control (over hs ds shared) n c))
+pub decided_at : (hs : List Held) (ds : List Device) (shared : Shared) (n : ℕ) (g h : Held) (rows : List Row) (r : Answer) (Done : Type 0)
+    (c : Control) → h ≡ get_or hs n h → Decided rows r (g ≡ h) (Done × (g.control ≡ c))
+    → Decided rows r (over (set hs n g) ds shared ≡ over hs ds shared) (Done × (over (set hs n g) ds shared ≡ with_control (over hs ds shared) n c))
 decided_at hs ds shared n g h rows r Done c e x = record {
   outcome = match_weaker (first_refusal rows) _ _ _ _
       (λ y. (y.0, over_same _ _ ds shared (map-set (λ (k : Held). k.control) hs n g ∙ ap (set (controls_of hs) n) y.1)))
@@ -62,13 +64,16 @@ decided_at hs ds shared n g h rows r Done c e x = record {
 }
 
 -- a delivery to a control is a step
-pub deliver_step : (hs : List Held) (ds : List Device) (shared : Shared) (n : ℕ) (reply : ErrorReply) (event : Option Event) (g h : Held) → n < length hs → h ≡ get_or hs n h → event ≡ deliverable h.control → g.control ≡ delivered reply h.control → Step (over hs ds shared) (Deliver n reply) (Delivered event) (over (set hs n g) ds shared)
+pub deliver_step : (hs : List Held) (ds : List Device) (shared : Shared) (n : ℕ) (reply : ErrorReply) (event : Option Event) (g h : Held)
+    → n < length hs → h ≡ get_or hs n h → event ≡ deliverable h.control → g.control ≡ delivered reply h.control
+    → Step (over hs ds shared) (Deliver n reply) (Delivered event) (over (set hs n g) ds shared)
 deliver_step hs ds shared n reply event g h lt is first rest =
     match_at_some _ h.control _ _ (control_at hs n h lt ∙ ap (λ (k : Held). Some k.control) (sym is))
     (first, over_same _ _ ds shared (map-set (λ (k : Held). k.control) hs n g ∙ ap (set (controls_of hs) n) rest))
 
 -- a property that is told, or for which there is no memory, is a step
-pub get_step : (m : Machine) (n : ℕ) (c : Control) (p : Property) (r : Result Answer NoMemory) → slice_get m.controls n ≡ Some c → Gets (get_rows n (holder_of m c) c (facts_of m n c) p) p (property_of c (facts_of m n c) p) r → Step m (CallOf n (call.Get p)) (answered r) m
+pub get_step : (m : Machine) (n : ℕ) (c : Control) (p : Property) (r : Result Answer NoMemory) → slice_get m.controls n ≡ Some c
+    → Gets (get_rows n (holder_of m c) c (facts_of m n c) p) p (property_of c (facts_of m n c) p) r → Step m (CallOf n (call.Get p)) (answered r) m
 get_step m n c p (Ok result) at d = match_at_some _ c _ _ at (record {
   outcome = match_weaker (first_refusal (get_rows n (holder_of m c) c (facts_of m n c) p)) _ _ _ _ (λ y. (y, refl)) (λ refusal y. (y.0, refl)) d.outcome;
 })

@@ -30,4 +30,5 @@ out_of_service None = tt
 out_of_service (Some state) = refl
 
 pub all_parked : (list : List Registered) → All (λ (d : Registered). IfSome d.peripheral (λ state. state.is_parked ≡ true)) (map parked list)
-all_parked list = All-map (λ (d : Registered). IfSome d.peripheral (λ state. state.is_parked ≡ true)) parked list (λ k d lt. out_of_service (get_or list k d).peripheral)
+all_parked list = All-map (λ (d : Registered). IfSome d.peripheral (λ state. state.is_parked ≡ true)) parked list
+    (λ k d lt. out_of_service (get_or list k d).peripheral)

@@ -26,7 +26,8 @@ module _ {D P : Type 0} (bound : DiskGhosts D) (peripherals : Ghosts P) (start :
     is_settled = refl;
   })
 
-  begins_with : (counter : Counter D P) → BeginsOver bound peripherals start sequence counter → StartsWith start sequence (part_of bound counter.totals (Stands start sequence ∷ []))
+  begins_with : (counter : Counter D P) → BeginsOver bound peripherals start sequence counter
+      → StartsWith start sequence (part_of bound counter.totals (Stands start sequence ∷ []))
   begins_with counter is = record { off = ap (λ (v : TotalsView D). v.totals.mode) is.begins.totals; left = refl }
 
   -- it has run through nothing
@@ -37,14 +38,16 @@ module _ {D P : Type 0} (bound : DiskGhosts D) (peripherals : Ghosts P) (start :
   }
 
   -- the history of what a counter has run through fits its totals
-  past_fits : (steps : List (Request × Response)) (counter : Counter D P) (past : HasRun bound peripherals start sequence steps counter) → Fits (history_until past) (part_of bound counter.totals past.left)
+  past_fits : (steps : List (Request × Response)) (counter : Counter D P) (past : HasRun bound peripherals start sequence steps counter)
+      → Fits (history_until past) (part_of bound counter.totals past.left)
   past_fits steps counter past =
       let from = part_of bound past.first.totals (Stands start sequence ∷ []) in
       run_fits (begun start) (machine peripherals past.first from) steps (machine_now past) past.run
       (fits_begun start sequence from (begins_with past.first past.begins))
 
   -- one more request
-  pub keeps_prefix : (steps : List (Request × Response)) (old new : Counter D P) (past : HasRun bound peripherals start sequence steps old) (q : Request) (r : Response) → IsStep bound peripherals old q r new → KeepsPrefix bound peripherals start sequence steps old past q r new
+  pub keeps_prefix : (steps : List (Request × Response)) (old new : Counter D P) (past : HasRun bound peripherals start sequence steps old)
+      (q : Request) (r : Response) → IsStep bound peripherals old q r new → KeepsPrefix bound peripherals start sequence steps old past q r new
   keeps_prefix steps old new past q r next =
       let s = next.steps past.left past.leaves in
       let A = machine peripherals past.first (part_of bound past.first.totals (Stands start sequence ∷ [])) in
@@ -53,17 +56,26 @@ module _ {D P : Type 0} (bound : DiskGhosts D) (peripherals : Ghosts P) (start :
       let fits = past_fits steps old past in
       let same = history_append (begun start) A B C steps ((q, r) ∷ []) past.run (C, s.step, refl) in
       record {
-        next = record { first = past.first; begins = past.begins; left = s.after; leaves = s.leaves; run = run_append A B C steps ((q, r) ∷ []) past.run (C, s.step, refl) };
+        next = record {
+          first = past.first;
+          begins = past.begins;
+          left = s.after;
+          leaves = s.leaves;
+          run = run_append A B C steps
+              ((q, r) ∷ []) past.run (C, s.step, refl);
+        };
         step = s.step;
         history = same;
         any_moment = λ bytes left. subst (λ (h : History). StandsForSome (IsPrefixInside (history_until past) h) bytes) (sym same)
             (bytes_inside (history_until past) B q r C bytes fits s.step (s.any_moment.each bytes left));
         now = λ bytes may. subst (λ (h : History). StandsForSome (IsPrefixOf h) bytes) (sym same)
-            (bytes_after (history_with (history_until past) B q r C) C.totals bytes (run_fits (history_until past) B ((q, r) ∷ []) C (C, s.step, refl) fits) (s.leaves.leaves bytes may));
+            (bytes_after (history_with (history_until past) B q r C) C.totals bytes
+            (run_fits (history_until past) B ((q, r) ∷ []) C (C, s.step, refl) fits) (s.leaves.leaves bytes may));
       }
 
   -- a list of requests
-  pub keeps_prefixes : (steps more : List (Request × Response)) (old new : Counter D P) (past : HasRun bound peripherals start sequence steps old) (run : IsRun bound peripherals old more new) → KeepsPrefixes bound peripherals start sequence steps old past more new run
+  pub keeps_prefixes : (steps more : List (Request × Response)) (old new : Counter D P) (past : HasRun bound peripherals start sequence steps old)
+      (run : IsRun bound peripherals old more new) → KeepsPrefixes bound peripherals start sequence steps old past more new run
   keeps_prefixes steps [] old new past run = tt
   keeps_prefixes steps (s ∷ more) old new past run =
       let one = keeps_prefix steps old run.0 past s.0 s.1 run.1 in

@@ -95,7 +95,8 @@ abbrev recovered : List PlainFile → ℕ → Machine
 recovered files sequence =
     with_one (one_set one_disabled true) (part_with (Ready (numbered 1 files) sequence) (1 + length files) (Stands (plain (numbered 1 files)) sequence ∷ []) 1)
 
-out_of_doubt : (files : List PlainFile) (sequence : ℕ) → IsOneOf both (Stands files sequence) → AreLeft 1 (length files) → Run in_doubt (sets_enabled false ∷ sets_enabled true ∷ []) (recovered files sequence)
+out_of_doubt : (files : List PlainFile) (sequence : ℕ) → IsOneOf both (Stands files sequence) → AreLeft 1 (length files)
+    → Run in_doubt (sets_enabled false ∷ sets_enabled true ∷ []) (recovered files sequence)
 out_of_doubt files sequence found handles = (
   with_one one_disabled (part_with Off 1 both 1),
   record { outcome = (refl, refl) },
@@ -126,7 +127,8 @@ pub may_keep : MayHave new_machine [] steps_through_doubt (record { start = []; 
 unfolding into_doubt out_of_doubt run_append
 may_keep = record {
   last = recovered (a_file ∷ []) 2;
-  run = run_append new_machine in_doubt (recovered (a_file ∷ []) 2) steps_into_doubt (sets_enabled false ∷ sets_enabled true ∷ []) into_doubt (out_of_doubt (a_file ∷ []) 2 (inr (inr (inl refl))) (omega arith));
+  run = run_append new_machine in_doubt (recovered (a_file ∷ []) 2) steps_into_doubt (sets_enabled false ∷ sets_enabled true ∷ []) into_doubt
+      (out_of_doubt (a_file ∷ []) 2 (inr (inr (inl refl))) (omega arith));
   is = refl;
 }
 
@@ -135,6 +137,7 @@ pub may_drop : MayHave new_machine [] steps_through_doubt (begun [])
 unfolding into_doubt out_of_doubt run_append
 may_drop = record {
   last = recovered [] 1;
-  run = run_append new_machine in_doubt (recovered [] 1) steps_into_doubt (sets_enabled false ∷ sets_enabled true ∷ []) into_doubt (out_of_doubt [] 1 (inl refl) (omega arith));
+  run = run_append new_machine in_doubt (recovered [] 1) steps_into_doubt (sets_enabled false ∷ sets_enabled true ∷ []) into_doubt
+      (out_of_doubt [] 1 (inl refl) (omega arith));
   is = refl;
 }

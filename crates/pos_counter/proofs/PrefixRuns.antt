@@ -6,12 +6,11 @@ use Rattle.pos_disk.specs.State.{Rises}
 use Rattle.pos_service.specs.declared.answer.Answer.{Answer}
 use Rattle.pos_service.specs.declared.answer.Answer.TheVariants as answer
 use Rattle.pos_service.specs.declared.code.Code.TheVariants as code
-use Rattle.pos_store.specs.Standing.{Standing, Unformatted, Damaged, IsOneOf, StandsForOneOf}
+use Rattle.pos_store.specs.Standing.{Standing, Unformatted, Damaged, IsOneOf, StandsForOneOf, StandsForEither}
 use Rattle.pos_totals.specs.Recoveries.{HasTooMany}
 use Rattle.pos_counter.specs.Counters.{IsLeftDuring}
 use Rattle.pos_counter.specs.History.{History, begun, event_of, history_with, history_along, history_of}
 use Rattle.pos_counter.specs.Machine.{Machine}
-use Rattle.pos_counter.specs.Leaving.{IsLeft}
 use Rattle.pos_counter.specs.Prefixes.{IsFiles, IsPrefixInside, IsPrefixOf, IsPrefixAlong, LeavesPrefix, LeavesPrefixInside, StandsForSome, StartsWith}
 use Rattle.pos_counter.specs.Steps.{Request, Response, Step, Run}
 use Rattle.pos_counter.specs.Totals.{TotalsPart, Recovers}
@@ -20,16 +19,21 @@ use Rattle.pos_counter.proofs.PrefixSteps.{step_told}
 use Rattle.pos_counter.proofs.Runs.{run_append}
 
 -- a step keeps the history fitting
-step_fits : (history : History) (old : Machine) (q : Request) (r : Response) (new : Machine) → Fits history old.totals → Step old q r new → Fits (history_with history old q r new) new.totals
-step_fits history old q r new fits step = fits_next history old.totals (event_of old q r new) new.totals fits (step_told old q r new (fits_settled history old.totals fits) step)
+step_fits : (history : History) (old : Machine) (q : Request) (r : Response) (new : Machine) → Fits history old.totals → Step old q r new
+    → Fits (history_with history old q r new) new.totals
+step_fits history old q r new fits step =
+    fits_next history old.totals (event_of old q r new) new.totals fits (step_told old q r new (fits_settled history old.totals fits) step)
 
 -- and so does a run
-pub run_fits : (history : History) (old : Machine) (steps : List (Request × Response)) (new : Machine) (run : Run old steps new) → Fits history old.totals → Fits (history_along history old steps new run) new.totals
+pub run_fits : (history : History) (old : Machine) (steps : List (Request × Response)) (new : Machine) (run : Run old steps new)
+    → Fits history old.totals → Fits (history_along history old steps new run) new.totals
 run_fits history old [] new run fits = subst (λ (m : Machine). Fits history m.totals) (sym run) fits
-run_fits history old (s ∷ steps) new run fits = run_fits (history_with history old s.0 s.1 run.0) run.0 steps new run.2 (step_fits history old s.0 s.1 run.0 fits run.1)
+run_fits history old (s ∷ steps) new run fits =
+    run_fits (history_with history old s.0 s.1 run.0) run.0 steps new run.2 (step_fits history old s.0 s.1 run.0 fits run.1)
 
 -- bytes that stand for one of the standings
-some_left : (P : Standing → Type 0) (left : List Standing) (bytes : List ℕ) → ((standing : Standing) → IsOneOf left standing → P standing) → StandsForOneOf left bytes → StandsForSome P bytes
+some_left : (P : Standing → Type 0) (left : List Standing) (bytes : List ℕ) → ((standing : Standing) → IsOneOf left standing → P standing)
+    → StandsForOneOf left bytes → StandsForSome P bytes
 some_left P [] bytes each is = absurd is
 some_left P (standing ∷ left) bytes each (inl is) = record { standing = standing; stands = is; has = each standing (inl refl) }
 some_left P (standing ∷ left) bytes each (inr is) = some_left P left bytes (λ other one. each other (inr one)) is
@@ -38,21 +42,25 @@ some_weaker : (P Q : Standing → Type 0) (bytes : List ℕ) → ((standing : St
 some_weaker P Q bytes to is = record { standing = is.standing; stands = is.stands; has = to is.standing is.has }
 
 -- what bytes that are left stand for is a prefix
-pub bytes_after : (history : History) (totals : TotalsPart) (bytes : List ℕ) → Fits history totals → StandsForOneOf totals.left bytes → StandsForSome (IsPrefixOf history) bytes
+pub bytes_after : (history : History) (totals : TotalsPart) (bytes : List ℕ) → Fits history totals → StandsForOneOf totals.left bytes
+    → StandsForSome (IsPrefixOf history) bytes
 bytes_after history totals bytes fits is = some_left (IsPrefixOf history) totals.left bytes (fits_leaves history totals fits) is
 
 -- each moment of a run lies in one step
-pub bytes_along : (history : History) (old : Machine) (steps : List (Request × Response)) (new : Machine) (run : Run old steps new) → Fits history old.totals → (bytes : List ℕ) → IsLeftDuring old steps new run bytes → StandsForSome (IsPrefixAlong history old steps new run) bytes
+pub bytes_along : (history : History) (old : Machine) (steps : List (Request × Response)) (new : Machine) (run : Run old steps new)
+    → Fits history old.totals → (bytes : List ℕ) → IsLeftDuring old steps new run bytes → StandsForSome (IsPrefixAlong history old steps new run) bytes
 bytes_along history old [] new run fits bytes is = bytes_after history old.totals bytes fits is
 bytes_along history old (s ∷ steps) new run fits bytes (inl is) =
-    some_left (IsPrefixAlong history old (s ∷ steps) new run) old.totals.left bytes (λ standing one. inl (inl (fits_leaves history old.totals fits standing one))) is
+    some_left (IsPrefixAlong history old (s ∷ steps) new run) old.totals.left bytes
+    (λ standing one. inl (inl (fits_leaves history old.totals fits standing one))) is
 bytes_along history old (s ∷ steps) new run fits bytes (inr is) =
     let next = history_with history old s.0 s.1 run.0 in
     some_weaker (IsPrefixAlong next run.0 steps new run.2) (IsPrefixAlong history old (s ∷ steps) new run) bytes (λ standing has. inr has)
     (bytes_along next run.0 steps new run.2 (step_fits history old s.0 s.1 run.0 fits run.1) bytes is)
 
 -- what bytes that are left before a step or after it stand for
-pub bytes_inside : (history : History) (old : Machine) (q : Request) (r : Response) (new : Machine) (bytes : List ℕ) → Fits history old.totals → Step old q r new → IsLeft old.totals.left new.totals.left bytes → StandsForSome (IsPrefixInside history (history_with history old q r new)) bytes
+pub bytes_inside : (history : History) (old : Machine) (q : Request) (r : Response) (new : Machine) (bytes : List ℕ) → Fits history old.totals
+    → Step old q r new → StandsForEither old.totals.left new.totals.left bytes → StandsForSome (IsPrefixInside history (history_with history old q r new)) bytes
 bytes_inside history old q r new bytes fits step h =
     let inside = fits_inside history old.totals (event_of old q r new) new.totals fits (step_told old q r new (fits_settled history old.totals fits) step) in
     elim h [
@@ -62,7 +70,8 @@ bytes_inside history old q r new bytes fits step h =
 
 -- ---- the law
 
-module _ (start : List PlainFile) (sequence : ℕ) (first last : Machine) (steps : List (Request × Response)) (run : Run first steps last) (is : StartsWith start sequence first.totals) where
+module _ (start : List PlainFile) (sequence : ℕ) (first last : Machine) (steps : List (Request × Response)) (run : Run first steps last)
+    (is : StartsWith start sequence first.totals) where
   fits_last : Fits (history_of start first steps last run) last.totals
   fits_last = run_fits (begun start) first steps last run (fits_begun start sequence first.totals is)
 
@@ -71,7 +80,8 @@ module _ (start : List PlainFile) (sequence : ℕ) (first last : Machine) (steps
   law_after = fits_leaves (history_of start first steps last run) last.totals fits_last
 
   -- inside one more step
-  pub law_inside : (q : Request) (r : Response) (new : Machine) → Step last q r new → LeavesPrefixInside (history_of start first steps last run) last.totals (history_with (history_of start first steps last run) last q r new) new.totals
+  pub law_inside : (q : Request) (r : Response) (new : Machine) → Step last q r new
+      → LeavesPrefixInside (history_of start first steps last run) last.totals (history_with (history_of start first steps last run) last q r new) new.totals
   law_inside q r new step =
       let history = history_of start first steps last run in
       fits_inside history last.totals (event_of last q r new) new.totals fits_last (step_told last q r new (fits_settled history last.totals fits_last) step)
@@ -83,14 +93,16 @@ module _ (start : List PlainFile) (sequence : ℕ) (first last : Machine) (steps
       prefix_files history history.settled left (law_after left one)
 
   -- what a recovery answers that recovers nothing
-  pub law_recovers : (result : Answer) (new : TotalsPart) → Recovers last.totals result new → (result ≡ answer.Refused code.Failure 0) × (HasTooMany (IsOneOf last.totals.left) last.totals.totals.next ⊎ Rises last.totals.failures new.failures)
+  pub law_recovers : (result : Answer) (new : TotalsPart) → Recovers last.totals result new
+      → (result ≡ answer.Refused code.Failure 0) × (HasTooMany (IsOneOf last.totals.left) last.totals.totals.next ⊎ Rises last.totals.failures new.failures)
   law_recovers result new (inl h) = absurd (law_files Unformatted h.1)
   law_recovers result new (inr (failed, inl (inl damaged, same))) = absurd (law_files Damaged damaged)
   law_recovers result new (inr (failed, inl (inr many, same))) = (failed, inl many)
   law_recovers result new (inr (failed, inr disk)) = (failed, inr disk.rises)
 
 -- the history of one run after another
-pub history_append : (history : History) (a b c : Machine) (steps more : List (Request × Response)) (run : Run a steps b) (rest : Run b more c) → history_along history a (steps ++ more) c (run_append a b c steps more run rest) ≡ history_along (history_along history a steps b run) b more c rest
+pub history_append : (history : History) (a b c : Machine) (steps more : List (Request × Response)) (run : Run a steps b) (rest : Run b more c)
+    → history_along history a (steps ++ more) c (run_append a b c steps more run rest) ≡ history_along (history_along history a steps b run) b more c rest
 unfolding run_append
 history_append history a b c [] more run rest =
     path_j (λ m e. history_along history m more c (subst (λ n. Run n more c) e rest) ≡ history_along history b more c rest)

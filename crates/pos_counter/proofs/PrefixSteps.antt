@@ -33,7 +33,7 @@ use Rattle.pos_totals.specs.TotalsCalls.{FileCall, Arranges, Asks, Commits, Make
 use Rattle.pos_disk.specs.State.{Rises}
 use Rattle.pos_store.specs.Modes.{Ready as StoreReady}
 use Rattle.pos_store.specs.Standing.{Stands, IsOneOf}
-use Rattle.pos_totals.specs.Changes.{IsOneGroup}
+use Rattle.pos_totals.specs.Changes.{IsOneGroup, in_doubt}
 use Rattle.pos_totals.specs.Groups.{group_of}
 use Rattle.pos_totals.specs.Recoveries.{numbered}
 use Rattle.pos_totals.specs.Views.{plain, stored}
@@ -41,7 +41,7 @@ use Rattle.pos_counter.specs.DiskUse.{IsUndone}
 use Rattle.pos_counter.specs.History.{NothingDone, changes_asked, event_between, event_of}
 use Rattle.pos_counter.specs.Machine.{Machine, holder_of, with_control}
 use Rattle.pos_counter.specs.Steps.{Request, NewControl, CallOf, InputTo, WorkOn, Deliver, Snapshot, Attach, Detach, Response, Made, Full, Answered, TakenIn, NoDevice, WrongInput, Worked, Delivered, Shown, Attached, NotAttached, Detached, NotDetached, OutOfMemory, OnStation, Step, Called, Does, CategoryDoes, Sets, SetsByRecovery, category_rows, refusals, claimed, dropped, released}
-use Rattle.pos_counter.specs.Totals.{TotalsPart, ChangesTotals, CommitsTotals, TotalsDo, Recovered, asks_recovery, in_doubt, is_totals, left_after, put_at_once, recovers, settled}
+use Rattle.pos_counter.specs.Totals.{TotalsPart, ChangesTotals, CommitsTotals, TotalsDo, Recovered, asks_recovery, is_totals, left_after, put_at_once, recovers, settled}
 use Rattle.pos_counter.proofs.FileCalls.{kept_left, plain_claimed}
 use Rattle.pos_counter.proofs.Cursors.{none_applies, unless_not}
 use Rattle.pos_counter.proofs.Lifts.{match_cases}
@@ -53,10 +53,12 @@ abbrev Told : List Change → TotalsPart → Response → TotalsPart → Type 0
 Told changes old response new = Happens old (event_between changes old.totals.mode response new.totals.mode) new
 
 -- by what the modes and the response are
-told_at : (changes : List Change) (old new : TotalsPart) (early late : Mode) (response same : Response) → old.totals.mode ≡ early → new.totals.mode ≡ late → response ≡ same → Happens old (event_between changes early same late) new → Told changes old response new
+told_at : (changes : List Change) (old new : TotalsPart) (early late : Mode) (response same : Response) → old.totals.mode ≡ early
+    → new.totals.mode ≡ late → response ≡ same → Happens old (event_between changes early same late) new → Told changes old response new
 told_at changes old new early late response same o n r h =
     subst (λ m. Happens old (event_between changes m response new.totals.mode) new) (sym o)
-    (subst (λ m. Happens old (event_between changes early response m) new) (sym n) (subst (λ a. Happens old (event_between changes early a late) new) (sym r) h))
+    (subst (λ m. Happens old (event_between changes early response m) new) (sym n)
+    (subst (λ a. Happens old (event_between changes early a late) new) (sym r) h))
 
 -- ---- where nothing is done
 
@@ -66,7 +68,8 @@ unasked Off Off response same = refl
 unasked Off (Ready files sequence) response same = absurd cc
 unasked (Ready files sequence) Off response same = absurd cc
 
-undone : (changes : List Change) (early late : Mode) (response : Response) → IsUndone response → stored late ≡ stored early → event_between changes early response late ≡ NothingDone
+undone : (changes : List Change) (early late : Mode) (response : Response) → IsUndone response → stored late ≡ stored early
+    → event_between changes early response late ≡ NothingDone
 undone [] early late response is same = unasked early late response same
 undone (change ∷ changes) (Ready files sequence) (Ready others next) (Answered (answer.Done given)) is same = absurd is
 undone (change ∷ changes) (Ready files sequence) (Ready others next) response is same = refl
@@ -75,7 +78,9 @@ undone (change ∷ changes) Off (Ready files sequence) response is same = absurd
 undone (change ∷ changes) (Ready files sequence) Off response is same = absurd cc
 
 -- totals that rest
-rest : (changes : List Change) (old new : TotalsPart) (response : Response) → event_between changes old.totals.mode response new.totals.mode ≡ NothingDone → stored new.totals.mode ≡ stored old.totals.mode → new.left ≡ old.left → Told changes old response new
+rest : (changes : List Change) (old new : TotalsPart) (response : Response)
+    → event_between changes old.totals.mode response new.totals.mode ≡ NothingDone → stored new.totals.mode ≡ stored old.totals.mode
+    → new.left ≡ old.left → Told changes old response new
 rest changes old new response nothing mode left = subst (λ e. Happens old e new) (sym nothing) (record { mode = mode; left = left })
 
 -- where no change is asked: the files are what they were
@@ -98,7 +103,7 @@ stored_claimed test claim (Ready files sequence) = ap (λ fs. StoreReady fs sequ
 -- ---- refusals
 
 -- what a table refuses acknowledges no change
-refused_undone : (rows : List Row) (refusal result : Answer) → first_refusal rows ≡ Some refusal → result ≡ refusal
+pub refused_undone : (rows : List Row) (refusal result : Answer) → first_refusal rows ≡ Some refusal → result ≡ refusal
     → IsUndone (Answered result)
 refused_undone [] refusal result is same = absurd cc
 refused_undone (row ∷ rows) refusal result is same = by row.applies is (λ rest. refused_undone rows refusal result rest same)
@@ -110,13 +115,18 @@ refused_undone (row ∷ rows) refusal result is same = by row.applies is (λ res
 
 -- ---- changes
 
-module _ (old new : TotalsPart) (result : Answer) (is : old.left ≡ settled old.totals.mode old.left) (ended : Totals) (mode : ended.mode ≡ old.totals.mode) (next : ended.next ≡ old.totals.next) (change : Change) (changes : List Change) (group : IsOneGroup old.totals (change ∷ changes)) (left : new.left ≡ left_after old (change ∷ changes) new.totals.mode) where
+module _ (old new : TotalsPart) (result : Answer) (is : old.left ≡ settled old.totals.mode old.left) (ended : Totals)
+    (mode : ended.mode ≡ old.totals.mode) (next : ended.next ≡ old.totals.next) (change : Change) (changes : List Change)
+    (group : IsOneGroup old.totals (change ∷ changes)) (left : new.left ≡ left_after old (change ∷ changes) new.totals.mode) where
   abbrev all : List Change
   all = change ∷ changes
 
   -- what a group makes of the files
-  made_at : (files : List File) (sequence : ℕ) → old.totals.mode ≡ Ready files sequence → outcome_of_all LAYOUT_1 (plain files) (group_of files all) ≡ Ok (plain (files_after_all old.totals.next files all))
-  made_at files sequence ready = subst (λ m. outcome_of_all LAYOUT_1 (plain (files_of m)) (group_of (files_of m) all) ≡ Ok (plain (files_after_all old.totals.next (files_of m) all))) ready group
+  made_at : (files : List File) (sequence : ℕ) → old.totals.mode ≡ Ready files sequence
+      → outcome_of_all LAYOUT_1 (plain files) (group_of files all) ≡ Ok (plain (files_after_all old.totals.next files all))
+  made_at files sequence ready =
+      subst (λ m. outcome_of_all LAYOUT_1 (plain (files_of m)) (group_of (files_of m) all) ≡ Ok
+      (plain (files_after_all old.totals.next (files_of m) all))) ready group
 
   -- a group that was done
   done_told : (given : Value) → DoesTogether ended all new.totals → Told all old (Answered (answer.Done given)) new
@@ -126,7 +136,9 @@ module _ (old new : TotalsPart) (result : Answer) (is : old.left ≡ settled old
       by Off off = absurd (subst (λ (m : Mode). IsAmong h.sequence (sequences_after m)) (mode ∙ off) h.follows)
       by (Ready files sequence) ready =
           let now = files_after_all old.totals.next files all in
-          let still : new.totals.mode ≡ Ready now h.sequence = ap (λ (t : Totals). t.mode) h.totals ∙ ap (λ m. mode_after ended.next m all h.sequence) (mode ∙ ready) ∙ ap (λ k. Ready (files_after_all k files all) h.sequence) next in
+          let still : new.totals.mode ≡ Ready now h.sequence =
+          ap (λ (t : Totals). t.mode) h.totals ∙ ap (λ m. mode_after ended.next m all h.sequence) (mode ∙ ready)
+          ∙ ap (λ k. Ready (files_after_all k files all) h.sequence) next in
           told_at all old new (Ready files sequence) (Ready now h.sequence) (Answered (answer.Done given)) (Answered (answer.Done given)) ready still refl
           (record {
             before = files;
@@ -149,7 +161,7 @@ module _ (old new : TotalsPart) (result : Answer) (is : old.left ≡ settled old
       by : (m : Mode) → old.totals.mode ≡ m → Told all old (Answered result) new
       by Off was =
           told_at all old new Off Off (Answered result) (Answered result) was off refl
-          (record { mode = ap stored (off ∙ sym was); left = left ∙ ap (left_after old all) off ∙ ap (in_doubt old all) was })
+          (record { mode = ap stored (off ∙ sym was); left = left ∙ ap (left_after old all) off ∙ ap (in_doubt old.totals.next old.left all) was })
       by (Ready files sequence) ready =
           told_at all old new (Ready files sequence) Off (Answered result) (Answered (answer.Refused code.Failure 0)) ready off (ap (λ a. Answered a) failed)
           (record {
@@ -159,7 +171,7 @@ module _ (old new : TotalsPart) (result : Answer) (is : old.left ≡ settled old
             ready = ready;
             made = made_at files sequence ready;
             off = off;
-            left = left ∙ ap (left_after old all) off ∙ ap (in_doubt old all) ready;
+            left = left ∙ ap (left_after old all) off ∙ ap (in_doubt old.totals.next old.left all) ready;
           })
 
   -- a group that is refused
@@ -171,7 +183,8 @@ module _ (old new : TotalsPart) (result : Answer) (is : old.left ≡ settled old
       (ap stored mode) (left ∙ ap (left_after old all) mode ∙ kept_left all old is)
 
   -- a group for which the sequences have run out, that is done, or in which the disk fails
-  group_told : (failed : Type 0) (given : Value) → RunsOut old.totals result new.totals ⊎ Done failed ended all given result new.totals → Told all old (Answered result) new
+  group_told : (failed : Type 0) (given : Value) → RunsOut old.totals result new.totals ⊎ Done failed ended all given result new.totals
+      → Told all old (Answered result) new
   group_told failed given h =
       elim h [
         | inl out ↦ refused_told (answer.Refused code.Failure 0) tt out.1 out.2
@@ -182,14 +195,17 @@ module _ (old new : TotalsPart) (result : Answer) (is : old.left ≡ settled old
       ]
 
 -- totals whose files are as they were, and in which nothing is put on the disk
-still_told : (old new : TotalsPart) (response : Response) → old.left ≡ settled old.totals.mode old.left → new.left ≡ left_after old [] new.totals.mode → new.totals.mode ≡ old.totals.mode → Told [] old response new
+still_told : (old new : TotalsPart) (response : Response) → old.left ≡ settled old.totals.mode old.left
+    → new.left ≡ left_after old [] new.totals.mode → new.totals.mode ≡ old.totals.mode → Told [] old response new
 still_told old new response is left mode = rest_beside old new response (ap stored mode) (left ∙ ap (left_after old []) mode ∙ kept_left [] old is)
 
-changed_told : (change : Change) (old new : TotalsPart) (number : ℕ) (result : Answer) → old.left ≡ settled old.totals.mode old.left → ChangesTotals old number change result new → Told (put_at_once (in_transaction old.totals number) change) old (Answered result) new
+changed_told : (change : Change) (old new : TotalsPart) (number : ℕ) (result : Answer) → old.left ≡ settled old.totals.mode old.left
+    → ChangesTotals old number change result new → Told (put_at_once (in_transaction old.totals number) change) old (Answered result) new
 changed_told change old new number result is h =
     elim (match_cases (transaction_of old.totals number) _ _ h.does) [
       | inl x ↦
-          let out : put_at_once (in_transaction old.totals number) change ≡ change ∷ [] = ap (λ (o : Option (List Change)). put_at_once (is_some o) change) x.0 in
+          let out : put_at_once (in_transaction old.totals number) change ≡ change ∷ [] =
+          ap (λ (o : Option (List Change)). put_at_once (is_some o) change) x.0 in
           subst (λ changes. Told changes old (Answered result) new) (sym out)
           (unbuffered (subst (λ changes. IsOneGroup old.totals changes) out h.group) (h.left ∙ ap (λ changes. left_after old changes new.totals.mode) out) x.1)
       | inr x ↦
@@ -202,7 +218,8 @@ changed_told change old new number result is h =
     given = given_by old.totals.next change
 
     unbuffered : IsOneGroup old.totals (change ∷ []) → new.left ≡ left_after old (change ∷ []) new.totals.mode
-        → Decided (number_rows old.totals change) result (new.totals ≡ old.totals) (RunsOut old.totals result new.totals ⊎ Done (Rises old.failures new.failures) old.totals (change ∷ []) given result new.totals)
+        → Decided (number_rows old.totals change) result (new.totals ≡ old.totals)
+        (RunsOut old.totals result new.totals ⊎ Done (Rises old.failures new.failures) old.totals (change ∷ []) given result new.totals)
         → Told (change ∷ []) old (Answered result) new
     unbuffered group left d =
         elim (match_cases (first_refusal (number_rows old.totals change)) _ _ d.outcome) [
@@ -211,13 +228,15 @@ changed_told change old new number result is h =
               (refused_undone (number_rows old.totals change) x.0 x.0 x.1 refl) x.2.0 x.2.1
         ]
 
-commit_told : (old new : TotalsPart) (number : ℕ) (result : Answer) → old.left ≡ settled old.totals.mode old.left → CommitsTotals old number result new → Told (changes_in (transaction_of old.totals number)) old (Answered result) new
+commit_told : (old new : TotalsPart) (number : ℕ) (result : Answer) → old.left ≡ settled old.totals.mode old.left
+    → CommitsTotals old number result new → Told (changes_in (transaction_of old.totals number)) old (Answered result) new
 commit_told old new number result is h = by (changes_in (transaction_of old.totals number)) h.group h.left h.does
   where
     ended : Totals
     ended = with_transaction old.totals number None
 
-    by : (changes : List Change) → IsOneGroup old.totals changes → new.left ≡ left_after old changes new.totals.mode → DoesCommit (Rises old.failures new.failures) old.totals ended changes result new.totals → Told changes old (Answered result) new
+    by : (changes : List Change) → IsOneGroup old.totals changes → new.left ≡ left_after old changes new.totals.mode
+        → DoesCommit (Rises old.failures new.failures) old.totals ended changes result new.totals → Told changes old (Answered result) new
     by [] group left does = still_told old new (Answered result) is left (ap (λ (t : Totals). t.mode) does.1)
     by (change ∷ changes) group left does = group_told old new result is ended refl refl change changes group left _ _ does
 
@@ -228,17 +247,20 @@ stored_arranged old number (ReleaseFile handle) = stored_claimed (is_called hand
 stored_arranged old number BeginTrans = refl
 stored_arranged old number Rollback = refl
 
-files_told : (asked : FileCall) (old new : TotalsPart) (number : ℕ) (result : Answer) → old.left ≡ settled old.totals.mode old.left → TotalsDo asked old number result new → Told (changes_asked old.totals number asked) old (Answered result) new
+files_told : (asked : FileCall) (old new : TotalsPart) (number : ℕ) (result : Answer) → old.left ≡ settled old.totals.mode old.left
+    → TotalsDo asked old number result new → Told (changes_asked old.totals number asked) old (Answered result) new
 files_told (Asks question) old new number result is h = rest_unasked old new (Answered result) h.1
 files_told (Makes change) old new number result is h = changed_told change old new number result is h
 files_told (Arranges arrangement) old new number result is h =
-    rest_beside old new (Answered result) (ap (λ (t : TotalsPart). stored t.totals.mode) h.1 ∙ stored_arranged old.totals number arrangement) (ap (λ (t : TotalsPart). t.left) h.1)
+    rest_beside old new (Answered result) (ap (λ (t : TotalsPart). stored t.totals.mode) h.1 ∙ stored_arranged old.totals number arrangement)
+    (ap (λ (t : TotalsPart). t.left) h.1)
 files_told Commits old new number result is h = commit_told old new number result is h
 files_told Nothing old new number result is h = absurd h
 
 -- ---- recoveries
 
-plain_numbered : (next : ℕ) (files : List PlainFile) → plain (numbered next files) ≡ files
+-- numbered files are what they were
+pub plain_numbered : (next : ℕ) (files : List PlainFile) → plain (numbered next files) ≡ files
 plain_numbered next [] = refl
 plain_numbered next (file ∷ files) = ap (λ fs. file ∷ fs) (plain_numbered (next + 1) files)
 
@@ -266,14 +288,16 @@ recovers_off part c p v e = by part.totals.mode (and_parts (asks_recovery c p v)
     by Off e = refl
     by (Ready files sequence) e = absurd cc
 
-set_told : (old new : Machine) (n : ℕ) (c : Control) (p : Property) (v : Value) (result : Answer) (b : Bool) → recovers old.totals c p v ≡ b → MatchBool b (SetsByRecovery old n c p v result new) (Sets old n c p v result new) → Told [] old.totals (Answered result) new.totals
+set_told : (old new : Machine) (n : ℕ) (c : Control) (p : Property) (v : Value) (result : Answer) (b : Bool) → recovers old.totals c p v ≡ b
+    → MatchBool b (SetsByRecovery old n c p v result new) (Sets old n c p v result new) → Told [] old.totals (Answered result) new.totals
 set_told old new n c p v result false e h = rest_unasked old.totals new.totals (Answered result) (ap (λ (m : Machine). m.totals) h.1)
 set_told old new n c p v result true e (inl h) = found_told old.totals new.totals (Answered result) (recovers_off old.totals c p v e) h.1
 set_told old new n c p v result true e (inr (h, is)) = elim h [
   | inl x ↦ rest_unasked old.totals new.totals (Answered result) x.2
   | inr x ↦ elim x.1 [
     | inl y ↦ rest_unasked old.totals new.totals (Answered result) y.1
-    | inr y ↦ rest_beside old.totals new.totals (Answered result) (ap (λ (t : TotalsPart). stored t.totals.mode) y.else_same) (ap (λ (t : TotalsPart). t.left) y.else_same)
+    | inr y ↦ rest_beside old.totals new.totals (Answered result) (ap (λ (t : TotalsPart). stored t.totals.mode) y.else_same)
+        (ap (λ (t : TotalsPart). t.left) y.else_same)
   ]
 ]
 
@@ -307,29 +331,41 @@ one_category (Some category.HardTotals) category.HardTotals other is = cc
 one_category (Some category.HardTotals) k other is = absurd cc
 one_category (Some c) k other is = refl
 
-at_device_told : (k : Category) (old new : Machine) (n : ℕ) (c : Control) (own : Call) (result : Answer) → is_totals k ≡ false → has_call k own ≡ true → new.totals ≡ old.totals → Told (changes_asked old.totals.totals n (file_call own)) old.totals (Answered result) new.totals
+at_device_told : (k : Category) (old new : Machine) (n : ℕ) (c : Control) (own : Call) (result : Answer) → is_totals k ≡ false
+    → has_call k own ≡ true → new.totals ≡ old.totals → Told (changes_asked old.totals.totals n (file_call own)) old.totals (Answered result) new.totals
 at_device_told k old new n c own result other has same =
-    subst (λ asked. Told (changes_asked old.totals.totals n asked) old.totals (Answered result) new.totals) (sym (asks_nothing own (one_category (row_of own).category k other has))) (rest_unasked old.totals new.totals (Answered result) same)
+    subst (λ asked. Told (changes_asked old.totals.totals n asked) old.totals (Answered result) new.totals)
+    (sym (asks_nothing own (one_category (row_of own).category k other has))) (rest_unasked old.totals new.totals (Answered result) same)
 
-category_told : (k : Category) (old new : Machine) (n : ℕ) (c : Control) (own : Call) (result : Answer) → old.totals.left ≡ settled old.totals.totals.mode old.totals.left → has_call k own ≡ true → CategoryDoes k old n c own result new → Told (changes_asked old.totals.totals n (file_call own)) old.totals (Answered result) new.totals
+category_told : (k : Category) (old new : Machine) (n : ℕ) (c : Control) (own : Call) (result : Answer)
+    → old.totals.left ≡ settled old.totals.totals.mode old.totals.left → has_call k own ≡ true → CategoryDoes k old n c own result new
+    → Told (changes_asked old.totals.totals n (file_call own)) old.totals (Answered result) new.totals
 category_told category.HardTotals old new n c own result is has h = files_told (file_call own) old.totals new.totals n result is h.0
 category_told k old new n c own result is has h = at_device_told k old new n c own result refl has (station_same old new c.device _ h)
 
 -- what a control's claim, its release and its end leave of the files
 claimed_told : (k : Category) (old new : Machine) (n : ℕ) (c : Control) (response : Response) → new ≡ claimed k old n c → Told [] old.totals response new.totals
-claimed_told category.HardTotals old new n c response h = rest_beside old.totals new.totals response (ap (λ (m : Machine). stored m.totals.totals.mode) h) (ap (λ (m : Machine). m.totals.left) h)
+claimed_told category.HardTotals old new n c response h =
+    rest_beside old.totals new.totals response (ap (λ (m : Machine). stored m.totals.totals.mode) h) (ap (λ (m : Machine). m.totals.left) h)
 claimed_told k old new n c response h = rest_unasked old.totals new.totals response (ap (λ (m : Machine). m.totals) h)
 
-released_told : (k : Category) (old new : Machine) (n : ℕ) (c : Control) (response : Response) → new ≡ released k (with_control old n (after_release k c)) n c → Told [] old.totals response new.totals
-released_told category.HardTotals old new n c response h = rest_beside old.totals new.totals response (ap (λ (m : Machine). stored m.totals.totals.mode) h) (ap (λ (m : Machine). m.totals.left) h)
+released_told : (k : Category) (old new : Machine) (n : ℕ) (c : Control) (response : Response)
+    → new ≡ released k (with_control old n (after_release k c)) n c → Told [] old.totals response new.totals
+released_told category.HardTotals old new n c response h =
+    rest_beside old.totals new.totals response (ap (λ (m : Machine). stored m.totals.totals.mode) h) (ap (λ (m : Machine). m.totals.left) h)
 released_told k old new n c response h = rest_unasked old.totals new.totals response (ap (λ (m : Machine). m.totals) h)
 
-dropped_told : (k : Category) (old new : Machine) (n : ℕ) (c : Control) (response : Response) → new ≡ dropped k (with_control old n (closed c)) n c → Told [] old.totals response new.totals
+dropped_told : (k : Category) (old new : Machine) (n : ℕ) (c : Control) (response : Response) → new ≡ dropped k (with_control old n (closed c)) n c
+    → Told [] old.totals response new.totals
 dropped_told category.HardTotals old new n c response h =
-    rest_beside old.totals new.totals response (ap (λ (m : Machine). stored m.totals.totals.mode) h ∙ stored_claimed (is_own_claim n) None old.totals.totals.mode) (ap (λ (m : Machine). m.totals.left) h)
+    rest_beside old.totals new.totals response
+    (ap (λ (m : Machine). stored m.totals.totals.mode) h ∙ stored_claimed (is_own_claim n) None old.totals.totals.mode)
+    (ap (λ (m : Machine). m.totals.left) h)
 dropped_told k old new n c response h = rest_unasked old.totals new.totals response (ap (λ (m : Machine). m.totals) h)
 
-does_told : (old new : Machine) (n : ℕ) (c : Control) (asked : Call) (result : Answer) → old.totals.left ≡ settled old.totals.totals.mode old.totals.left → (is_common asked ≡ false → has_call c.category asked ≡ true) → Does old n c asked result new → Told (changes_asked old.totals.totals n (file_call asked)) old.totals (Answered result) new.totals
+does_told : (old new : Machine) (n : ℕ) (c : Control) (asked : Call) (result : Answer)
+    → old.totals.left ≡ settled old.totals.totals.mode old.totals.left → (is_common asked ≡ false → has_call c.category asked ≡ true)
+    → Does old n c asked result new → Told (changes_asked old.totals.totals n (file_call asked)) old.totals (Answered result) new.totals
 does_told old new n c (call.Open name) result is has h = rest_unasked old.totals new.totals (Answered result) (ap (λ (m : Machine). m.totals) h.1)
 does_told old new n c call.Close result is has h = dropped_told c.category old new n c (Answered result) h.1
 does_told old new n c (call.Claim timeout) result is has h = claimed_told c.category old new n c (Answered result) h.1
@@ -339,10 +375,15 @@ does_told old new n c (call.Get p) result is has h = rest_unasked old.totals new
 does_told old new n c own result is has h = category_told c.category old new n c own result is (has refl) h
 
 -- a call of a category's own that nothing refuses is one of its control's category
-own_of : (m : Machine) (n : ℕ) (c : Control) (asked : Call) → is_common asked ≡ false → first_refusal (refusals m n c asked) ≡ None → has_call c.category asked ≡ true
-own_of m n c asked own none = unless_not (has_call c.category asked) (none_applies (table n (holder_of m c) c (needs_of c.category asked) (category_rows c.category m n c asked)) (ap first_refusal (sym (own_refusals m n c asked own)) ∙ none)).1.0
+own_of : (m : Machine) (n : ℕ) (c : Control) (asked : Call) → is_common asked ≡ false → first_refusal (refusals m n c asked) ≡ None
+    → has_call c.category asked ≡ true
+own_of m n c asked own none = unless_not (has_call c.category asked)
+    (none_applies (table n (holder_of m c) c (needs_of c.category asked) (category_rows c.category m n c asked))
+    (ap first_refusal (sym (own_refusals m n c asked own)) ∙ none)).1.0
 
-called_told : (old new : Machine) (n : ℕ) (c : Control) (asked : Call) (result : Answer) → old.totals.left ≡ settled old.totals.totals.mode old.totals.left → Called old n c asked result new → Told (changes_asked old.totals.totals n (file_call asked)) old.totals (Answered result) new.totals
+called_told : (old new : Machine) (n : ℕ) (c : Control) (asked : Call) (result : Answer)
+    → old.totals.left ≡ settled old.totals.totals.mode old.totals.left → Called old n c asked result new
+    → Told (changes_asked old.totals.totals n (file_call asked)) old.totals (Answered result) new.totals
 called_told old new n c asked result is h =
     elim (match_cases (first_refusal (refusals old n c asked)) _ _ h.outcome) [
       | inl x ↦ does_told old new n c asked result is (λ own. own_of old n c asked own x.0) x.1
@@ -356,13 +397,16 @@ same_machine : (old new then : Machine) (response : Response) → new ≡ then �
 same_machine old new then response is same = rest_unasked old.totals new.totals response (ap (λ (m : Machine). m.totals) is ∙ same)
 
 -- Each step of the machine is what its event says.
-pub step_told : (old : Machine) (q : Request) (r : Response) (new : Machine) → old.totals.left ≡ settled old.totals.totals.mode old.totals.left → Step old q r new → Happens old.totals (event_of old q r new) new.totals
-step_told old (NewControl k) (Made number) new is h = rest_beside old.totals new.totals (Made number) (ap (λ (m : Machine). stored m.totals.totals.mode) h.2) (ap (λ (m : Machine). m.totals.left) h.2)
-step_told old (NewControl k) Full new is h = same_machine old new old Full h.1 refl
-step_told old (NewControl k) OutOfMemory new is h = same_machine old new old OutOfMemory h.1 refl
+pub step_told : (old : Machine) (q : Request) (r : Response) (new : Machine) → old.totals.left ≡ settled old.totals.totals.mode old.totals.left
+    → Step old q r new → Happens old.totals (event_of old q r new) new.totals
+step_told old (NewControl u k) (Made number) new is h =
+    rest_beside old.totals new.totals (Made number) (ap (λ (m : Machine). stored m.totals.totals.mode) h.2) (ap (λ (m : Machine). m.totals.left) h.2)
+step_told old (NewControl u k) Full new is h = same_machine old new old Full h.1 refl
+step_told old (NewControl u k) OutOfMemory new is h = same_machine old new old OutOfMemory h.1 refl
 step_told old (CallOf n asked) (Answered result) new is h =
     elim (match_cases (slice_get old.controls n) _ _ h) [
-      | inl x ↦ rest_undone (changes_asked old.totals.totals n (file_call asked)) old.totals new.totals (Answered result) (subst (λ a. IsUndone (Answered a)) (sym x.1.0) tt) (ap (λ (m : Machine). m.totals) x.1.1)
+      | inl x ↦ rest_undone (changes_asked old.totals.totals n (file_call asked)) old.totals new.totals (Answered result)
+          (subst (λ a. IsUndone (Answered a)) (sym x.1.0) tt) (ap (λ (m : Machine). m.totals) x.1.1)
       | inr x ↦ called_told old new n x.0 asked result is x.2
     ]
 step_told old (CallOf n asked) OutOfMemory new is h =
@@ -382,11 +426,11 @@ step_told old (Deliver n reply) (Delivered event) new is h =
       | inl x ↦ same_machine old new old (Delivered event) x.1.1 refl
       | inr x ↦ same_machine old new _ (Delivered event) x.2.1 refl
     ]
-step_told old (Snapshot name) (Shown plant) new is h = same_machine old new old (Shown plant) h.2 refl
+step_told old (Snapshot name) (Shown shown) new is h = same_machine old new old (Shown shown) h.2 refl
 step_told old (Snapshot name) NoDevice new is h = same_machine old new old NoDevice h.1 refl
 step_told old (Snapshot name) OutOfMemory new is h = same_machine old new old OutOfMemory h.1 refl
 step_told old (Attach name station) Attached new is h = same_machine old new _ Attached h.machine refl
-step_told old (Attach name station) (NotAttached fault) new is h = same_machine old new old (NotAttached fault) h.1 refl
+step_told old (Attach name station) (NotAttached fault given) new is h = same_machine old new old (NotAttached fault given) h.2 refl
 step_told old (Detach name) (Detached station) new is h = same_machine old new _ (Detached station) h.machine refl
 step_told old (Detach name) (NotDetached fault) new is h = same_machine old new old (NotDetached fault) h.1 refl
 step_told old q r new is h = absurd h

@@ -20,7 +20,8 @@ use Rattle.pos_counter.specs.Totals.{TotalsPart, settled}
 
 -- ---- files
 
-one_file : (name named bytes others : List ℕ) → name ≡ named → bytes ≡ others → ◌≡◌ {A = PlainFile} (record { name = name; bytes = bytes }) (record { name = named; bytes = others })
+one_file : (name named bytes others : List ℕ) → name ≡ named → bytes ≡ others
+    → ◌≡◌ {A = PlainFile} (record { name = name; bytes = bytes }) (record { name = named; bytes = others })
 one_file name named bytes others n b = ap (λ x. record { name = x; bytes = bytes }) n ∙ ap (λ x. record { name = named; bytes = x }) b
 
 -- the test of two files decides
@@ -28,9 +29,12 @@ file_decides : (file other : PlainFile) → (is_same file other ≡ true → fil
 file_decides file other = (
   λ same.
       let parts = and_parts (bytes_eq file.name other.name) (bytes_eq file.bytes other.bytes) same in
-      one_file file.name other.name file.bytes other.bytes ((bytes_eq-Decides file.name other.name).0 parts.0) ((bytes_eq-Decides file.bytes other.bytes).0 parts.1),
+      one_file file.name other.name file.bytes other.bytes ((bytes_eq-Decides file.name other.name).0 parts.0)
+      ((bytes_eq-Decides file.bytes other.bytes).0 parts.1),
   λ same.
-      and_from (bytes_eq file.name other.name) (bytes_eq file.bytes other.bytes) ((bytes_eq-Decides file.name other.name).1 (ap (λ (f : PlainFile). f.name) same)) ((bytes_eq-Decides file.bytes other.bytes).1 (ap (λ (f : PlainFile). f.bytes) same)),
+      and_from (bytes_eq file.name other.name) (bytes_eq file.bytes other.bytes)
+      ((bytes_eq-Decides file.name other.name).1 (ap (λ (f : PlainFile). f.name) same))
+      ((bytes_eq-Decides file.bytes other.bytes).1 (ap (λ (f : PlainFile). f.bytes) same)),
 )
 
 -- the test of what groups make
@@ -41,11 +45,12 @@ these_files (Ok files) found is = ap (λ (fs : List PlainFile). Ok fs) ((pointwi
 are_these : (made : Result (List PlainFile) DirectoryFault) (found : List PlainFile) → made ≡ Ok found → has_made made found ≡ true
 are_these made found is = ap (λ o. has_made o found) is ∙ (pointwise_decides file_decides found found).1 refl
 
-same_Ok : (files others : List PlainFile) → ◌≡◌ {A = Result (List PlainFile) DirectoryFault} (Ok files) (Ok others) → files ≡ others
+pub same_Ok : (files others : List PlainFile) → ◌≡◌ {A = Result (List PlainFile) DirectoryFault} (Ok files) (Ok others) → files ≡ others
 same_Ok files others same = cc
 
 -- the files after groups, and then after one more
-one_more : (start before : List PlainFile) (groups : List Group) (group : Group) → after_groups start groups ≡ Ok before → after_groups start (groups ++ group ∷ []) ≡ outcome_of_all LAYOUT_1 before group
+one_more : (start before : List PlainFile) (groups : List Group) (group : Group) → after_groups start groups ≡ Ok before
+    → after_groups start (groups ++ group ∷ []) ≡ outcome_of_all LAYOUT_1 before group
 one_more start before [] group made = last (outcome_of_all LAYOUT_1 start group) ∙ ap (λ files. outcome_of_all LAYOUT_1 files group) (same_Ok start before made)
   where
     last : (o : Result (List PlainFile) DirectoryFault) → and_then o (λ next. Ok next) ≡ o
@@ -132,7 +137,8 @@ abbrev pub Fits : History → TotalsPart → Type 0
 Fits history totals = FitsIn history totals.totals.mode totals.left
 
 -- by what they are
-fits_at : (history : History) (totals : TotalsPart) (mode : Mode) (left : List Standing) → totals.totals.mode ≡ mode → totals.left ≡ left → FitsIn history mode left → Fits history totals
+fits_at : (history : History) (totals : TotalsPart) (mode : Mode) (left : List Standing) → totals.totals.mode ≡ mode → totals.left ≡ left
+    → FitsIn history mode left → Fits history totals
 fits_at history totals mode left m l fits = subst (λ n. FitsIn history n totals.left) (sym m) (subst (FitsIn history mode) (sym l) fits)
 
 fits_from : (history : History) (totals : TotalsPart) (mode : Mode) → totals.totals.mode ≡ mode → Fits history totals → FitsIn history mode totals.left
@@ -146,17 +152,20 @@ fits_settled history totals fits = by totals.totals.mode totals.left fits
     by Off left fits = refl
     by (Ready files sequence) left fits = fits.2
 
-same_stands : (files others : List PlainFile) (m n : ℕ) → Stands files m ≡ Stands others n → files ≡ others
+pub same_stands : (files others : List PlainFile) (m n : ℕ) → Stands files m ≡ Stands others n → files ≡ others
 same_stands files others m n same = cc
 
 -- files with one of the sequences
-with_some : (files : List PlainFile) (sequences : List ℕ) (left : Standing) → IsOneOf (map (λ n. Stands files n) sequences) left → (n : ℕ) × (left ≡ Stands files n)
+with_some : (files : List PlainFile) (sequences : List ℕ) (left : Standing) → IsOneOf (map (λ n. Stands files n) sequences) left
+    → (n : ℕ) × (left ≡ Stands files n)
 with_some files [] left is = absurd is
 with_some files (n ∷ sequences) left (inl is) = (n, is)
 with_some files (n ∷ sequences) left (inr is) = with_some files sequences left is
 
-in_doubt_fits : (before : List PlainFile) (sequence : ℕ) (group : Group) (files : List PlainFile) (left : Standing) → outcome_of_all LAYOUT_1 before group ≡ Ok files
-    → IsOneOf (Stands before sequence ∷ map (λ next. Stands files next) (next_sequences sequence)) left → IsWithout before left ⊎ IsWith before (Some group) left
+in_doubt_fits : (before : List PlainFile) (sequence : ℕ) (group : Group) (files : List PlainFile) (left : Standing)
+    → outcome_of_all LAYOUT_1 before group ≡ Ok files
+    → IsOneOf (Stands before sequence ∷ map (λ next. Stands files next) (next_sequences sequence)) left
+    → IsWithout before left ⊎ IsWith before (Some group) left
 in_doubt_fits before sequence group files left made (inl is) = inl (sequence, is)
 in_doubt_fits before sequence group files left made (inr is) =
     let found = with_some files (next_sequences sequence) left is in
@@ -167,20 +176,26 @@ decided_fits : (history : History) (doubt : Option Group) (before found : List P
     → history.doubt ≡ doubt → after_groups history.start history.settled ≡ Ok before → plain now ≡ found
     → IsWithout before (Stands found sequence) ⊎ IsWith before doubt (Stands found sequence)
     → FitsIn (decided history doubt found) (Ready now sequence) (Stands found sequence ∷ [])
-decided_fits history None before found now sequence none made is (inl w) =
-    (made ∙ ap (λ (fs : List PlainFile). Ok fs) (sym (same_stands found before sequence w.0 w.1) ∙ sym is), none, ap (λ (fs : List PlainFile). Stands fs sequence ∷ []) (sym is))
+decided_fits history None before found now sequence none made is (inl w) = (
+  made ∙ ap (λ (fs : List PlainFile). Ok fs) (sym (same_stands found before sequence w.0 w.1) ∙ sym is),
+  none,
+  ap (λ (fs : List PlainFile). Stands fs sequence ∷ []) (sym is),
+)
 decided_fits history None before found now sequence none made is (inr w) = absurd (let no = w.doubted in cc)
-decided_fits history (Some group) before found now sequence some made is one = by (has_made (after_groups history.start (history.settled ++ group ∷ [])) found) refl
+decided_fits history (Some group) before found now sequence some made is one =
+    by (has_made (after_groups history.start (history.settled ++ group ∷ [])) found) refl
   where
     here : Stands found sequence ∷ [] ≡ Stands (plain now) sequence ∷ []
     here = ap (λ (fs : List PlainFile). Stands fs sequence ∷ []) (sym is)
 
-    by : (b : Bool) → has_made (after_groups history.start (history.settled ++ group ∷ [])) found ≡ b → FitsIn (cond b (with_settled history group) (without_doubt history)) (Ready now sequence) (Stands found sequence ∷ [])
+    by : (b : Bool) → has_made (after_groups history.start (history.settled ++ group ∷ [])) found ≡ b
+        → FitsIn (cond b (with_settled history group) (without_doubt history)) (Ready now sequence) (Stands found sequence ∷ [])
     by true test = (these_files _ found test ∙ ap (λ (fs : List PlainFile). Ok fs) (sym is), refl, here)
     by false test = elim one [
       | inl w ↦ (made ∙ ap (λ (fs : List PlainFile). Ok fs) (sym (same_stands found before sequence w.0 w.1) ∙ sym is), refl, here)
       | inr w ↦ absurd (
-          let after = one_more history.start before history.settled group made ∙ ap (outcome_of_all LAYOUT_1 before) (same_Some group w.group w.doubted) ∙ w.made
+          let after = one_more history.start before history.settled group made
+          ∙ ap (outcome_of_all LAYOUT_1 before) (same_Some group w.group w.doubted) ∙ w.made
           ∙ ap (λ (fs : List PlainFile). Ok fs) (sym (same_stands found w.files sequence w.sequence w.stands)) in
           let yes = are_these _ found after in
           cc)
@@ -192,7 +207,8 @@ decided_fits history (Some group) before found now sequence some made is one = b
 pub fits_leaves : (history : History) (totals : TotalsPart) → Fits history totals → LeavesPrefix history totals
 fits_leaves history totals fits standing is = by totals.totals.mode totals.left fits is
   where
-    all_settled : (files : List PlainFile) (sequence : ℕ) → after_groups history.start history.settled ≡ Ok files → standing ≡ Stands files sequence → IsPrefix history history.settled standing
+    all_settled : (files : List PlainFile) (sequence : ℕ) → after_groups history.start history.settled ≡ Ok files → standing ≡ Stands files sequence
+        → IsPrefix history history.settled standing
     all_settled files sequence made stands = record {
       prefix = history.settled;
       first = (listed history.doubt, refl);
@@ -243,14 +259,16 @@ fits_rest history (Ready files sequence) (Ready others next) left same fits =
     )
 
 -- what happens keeps the history fitting
-pub fits_next : (history : History) (old : TotalsPart) (event : FilesEvent) (new : TotalsPart) → Fits history old → Happens old event new → Fits (told history event) new
+pub fits_next : (history : History) (old : TotalsPart) (event : FilesEvent) (new : TotalsPart) → Fits history old → Happens old event new
+    → Fits (told history event) new
 fits_next history old (GroupAccepted group) new fits h =
     let was = fits_from history old (Ready h.before h.sequence) h.ready fits in
     fits_at (with_settled history group) new (Ready h.now h.next) (Stands (plain h.now) h.next ∷ []) h.still h.left
     (one_more history.start (plain h.before) history.settled group was.0 ∙ h.made, refl, refl)
 fits_next history old (GroupInDoubt group) new fits h =
     let was = fits_from history old (Ready h.before h.sequence) h.ready fits in
-    fits_at (told history (GroupInDoubt group)) new Off (Stands (plain h.before) h.sequence ∷ map (λ next. Stands h.files next) (next_sequences h.sequence)) h.off h.left
+    fits_at (told history (GroupInDoubt group)) new Off
+    (Stands (plain h.before) h.sequence ∷ map (λ next. Stands h.files next) (next_sequences h.sequence)) h.off h.left
     (plain h.before, was.0, λ left is. in_doubt_fits (plain h.before) h.sequence group h.files left h.made is)
 fits_next history old (FilesFound found) new fits h =
     let was = fits_from history old Off h.off fits in
@@ -262,7 +280,8 @@ fits_next history old NothingDone new fits h =
 -- the history at the start fits
 pub fits_begun : (start : List PlainFile) (sequence : ℕ) (totals : TotalsPart) → StartsWith start sequence totals → Fits (begun start) totals
 fits_begun start sequence totals is =
-    fits_at (begun start) totals Off (Stands start sequence ∷ []) is.off is.left (start, refl, λ left one. elim one [ inl e ↦ inl (sequence, e) | inr e ↦ absurd e ])
+    fits_at (begun start) totals Off (Stands start sequence ∷ []) is.off is.left
+    (start, refl, λ left one. elim one [ inl e ↦ inl (sequence, e) | inr e ↦ absurd e ])
 
 decided_grows : (history : History) (doubt : Option Group) (found : List PlainFile) → BeginsWith (decided history doubt found).settled history.settled
 decided_grows history None found = ([], sym (append-nil history.settled))
@@ -279,7 +298,8 @@ grows history (GroupInDoubt group) = ([], sym (append-nil history.settled))
 grows history (FilesFound found) = decided_grows history history.doubt found
 grows history NothingDone = ([], sym (append-nil history.settled))
 
-holds_less : (held : List Group) (after : History) (left : Standing) → BeginsWith after.settled held → IsPrefix after after.settled left → IsPrefix after held left
+holds_less : (held : List Group) (after : History) (left : Standing) → BeginsWith after.settled held → IsPrefix after after.settled left
+    → IsPrefix after held left
 holds_less held after left begins is = record {
   prefix = is.prefix;
   first = is.first;
@@ -291,8 +311,10 @@ holds_less held after left begins is = record {
 }
 
 -- inside a step a crash leaves a prefix of the history before or after it
-pub fits_inside : (history : History) (old : TotalsPart) (event : FilesEvent) (new : TotalsPart) → Fits history old → Happens old event new → LeavesPrefixInside history old (told history event) new
+pub fits_inside : (history : History) (old : TotalsPart) (event : FilesEvent) (new : TotalsPart) → Fits history old → Happens old event new
+    → LeavesPrefixInside history old (told history event) new
 fits_inside history old event new fits h left is = elim is [
   | inl before ↦ inl (fits_leaves history old fits left before)
-  | inr after ↦ inr (holds_less history.settled (told history event) left (grows history event) (fits_leaves (told history event) new (fits_next history old event new fits h) left after))
+  | inr after ↦ inr (holds_less history.settled (told history event) left (grows history event)
+      (fits_leaves (told history event) new (fits_next history old event new fits h) left after))
 ]

@@ -5,7 +5,6 @@ use Rattle.std.specs.Prelude.{MatchOption, IsErrOf, IsSome, is_some, is_none, sl
 use Rattle.std.proofs.lemmas.List.{map-set}
 use Rattle.pos_disk.specs.State.{LeavesOnly}
 use Rattle.pos_disk.specs.declared.device.Disk.{Ghosts}
-use Rattle.pos_disk.proofs.Moments.{weaker}
 use Rattle.pos_service.specs.declared.answer.Answer.{Answer}
 use Rattle.pos_service.specs.declared.answer.Answer.TheVariants as answer
 use Rattle.pos_service.specs.declared.answer.Value.{Value}
@@ -25,18 +24,19 @@ use Rattle.pos_totals.specs.HardTotals.{Mode, Off, Ready, Totals, is_ready}
 use Rattle.pos_service.specs.Claims.{is_foreign}
 use Rattle.pos_service.specs.Refusals.{Row, first_refusal, when}
 use Rattle.pos_common.specs.Held.{Held, TurnsInto, controls_of}
-use Rattle.pos_store.specs.Standing.{Standing, LeavesOneOf, StandsForOneOf}
+use Rattle.pos_store.specs.Standing.{Standing, LeavesOneOf, StandsForEither}
 use Rattle.pos_totals.specs.declared.fault.RecoveryFault.{RecoveryFault}
 use Rattle.pos_totals.specs.declared.fault.RecoveryFault.TheVariants as fault
 use Rattle.pos_totals.specs.Recoveries.{Recovers as DiskRecovers, RecoversOneOf, FindsFiles, ReadsAs, code_of}
-use Rattle.pos_totals.specs.Views.{TotalsView, IsReady, WhenOff, LeavesTheirFiles}
+use Rattle.pos_totals.specs.Views.{TotalsView, IsReady, WhenOff}
 use Rattle.pos_counter.specs.Machine.{Device, Machine, device_at, holder_in, holder_of, kind_in, kind_of, with_control}
 use Rattle.pos_counter.specs.DiskUse.{SparesDisk}
 use Rattle.pos_counter.specs.Assembly.{over, machine_with, ArePartsSound}
-use Rattle.pos_counter.specs.Leaving.{part_of, IsLeft, Leaves}
+use Rattle.pos_counter.specs.Leaving.{part_of, Leaves}
 use Rattle.pos_counter.specs.Serving.{IsRecovering, Serves}
 use Rattle.pos_counter.specs.Steps.{CallOf, Answered, IsSound, Step, Sets, SetsByRecovery}
 use Rattle.pos_counter.specs.Totals.{TotalsPart, Recovers, asks_recovery, recovers, is_enabling, is_totals, settled}
+use Rattle.pos_counter.proofs.FileCalls.{settled_twice}
 use Rattle.pos_counter.proofs.Lifts.{control_at, decided_at, match_at_none, match_at_some, match_cases, match_weaker}
 use Rattle.pos_counter.proofs.Sound.{seated, set_seat, with_control_sound}
 
@@ -49,7 +49,8 @@ and_right true b e = e
 and_right false b e = cc
 
 -- what asks for a recovery is DeviceEnabled set to true on an open control of Hard Totals
-asks_enabling : (c : Control) (p : Property) (v : Value) → asks_recovery c p v ≡ true → (p ≡ property.DeviceEnabled) × (v ≡ value.Truth true) × (is_some c.device ≡ true) × (c.category ≡ category.HardTotals)
+asks_enabling : (c : Control) (p : Property) (v : Value) → asks_recovery c p v ≡ true
+    → (p ≡ property.DeviceEnabled) × (v ≡ value.Truth true) × (is_some c.device ≡ true) × (c.category ≡ category.HardTotals)
 asks_enabling c p v e =
     let enabling = and_right (is_totals c.category && is_some c.device && not c.enabled) _ e in
     let rest = and_left (is_totals c.category && is_some c.device && not c.enabled) _ e in
@@ -71,12 +72,15 @@ asks_enabling c p v e =
     totals k e = cc
 
 -- nothing refuses it, whoever holds the area
-enabling_unrefused : (n : ℕ) (holder : Option ℕ) (at : Option Kind) (c : Control) (p : Property) (v : Value) → asks_recovery c p v ≡ true → first_refusal (set_rows n holder at c p v) ≡ None
+enabling_unrefused : (n : ℕ) (holder : Option ℕ) (at : Option Kind) (c : Control) (p : Property) (v : Value) → asks_recovery c p v ≡ true
+    → first_refusal (set_rows n holder at c p v) ≡ None
 enabling_unrefused n holder at c p v e =
     let asks = asks_enabling c p v e in
-    subst (λ q. first_refusal (set_rows n holder at c q v) ≡ None) (sym asks.0) (subst (λ u. first_refusal (set_rows n holder at c property.DeviceEnabled u) ≡ None) (sym asks.1) (open_one c asks.2 asks.3))
+    subst (λ q. first_refusal (set_rows n holder at c q v) ≡ None) (sym asks.0)
+    (subst (λ u. first_refusal (set_rows n holder at c property.DeviceEnabled u) ≡ None) (sym asks.1) (open_one c asks.2 asks.3))
   where
-    open_one : (c : Control) → is_some c.device ≡ true → c.category ≡ category.HardTotals → first_refusal (set_rows n holder at c property.DeviceEnabled (value.Truth true)) ≡ None
+    open_one : (c : Control) → is_some c.device ≡ true → c.category ≡ category.HardTotals
+        → first_refusal (set_rows n holder at c property.DeviceEnabled (value.Truth true)) ≡ None
     open_one c device is = by_parts c.device c.category device is
       where
         Rows : Option ℕ → Category → List Row
@@ -94,9 +98,11 @@ enabling_unrefused n holder at c p v e =
         by_parts (Some i) k d is = subst (λ (j : Category). first_refusal (Rows (Some i) j) ≡ None) (sym is) refl
 
 -- the machine with one control in the place of another, and other totals
-set_machine : (hs : List Held) (cl : List (Option ℕ)) (ds : List Device) (n : ℕ) (g : Held) (c : Control) (old new : TotalsPart) → g.control ≡ c → machine_with (set hs n g) cl ds new ≡ record (with_control (machine_with hs cl ds old) n c) { totals = new }
+set_machine : (hs : List Held) (cl : List (Option ℕ)) (ds : List Device) (n : ℕ) (g : Held) (c : Control) (old new : TotalsPart) → g.control ≡ c
+    → machine_with (set hs n g) cl ds new ≡ record (with_control (machine_with hs cl ds old) n c) { totals = new }
 set_machine hs cl ds n g c old new e =
-    ap (λ (cs : List Control). let m : Machine = record { controls = cs; devices = ds; claims = cl; totals = new } in m) (map-set (λ (h : Held). h.control) hs n g ∙ ap (set (controls_of hs) n) e)
+    ap (λ (cs : List Control). let m : Machine = record { controls = cs; devices = ds; claims = cl; totals = new } in m)
+    (map-set (λ (h : Held). h.control) hs n g ∙ ap (set (controls_of hs) n) e)
 
 -- and DeviceEnabled takes it
 enabling_taken : (at : Option Kind) (c : Control) (p : Property) (v : Value) → asks_recovery c p v ≡ true → takes at p v ≡ true
@@ -105,25 +111,30 @@ enabling_taken at c p v e =
     subst (λ q. takes at q v ≡ true) (sym asks.0) (subst (λ u. takes at property.DeviceEnabled u ≡ true) (sym asks.1) refl)
 
 -- a control that is to be enabled keeps the parts sound
-set_sound : (hs : List Held) (ds : List Device) (n : ℕ) (g : Held) (c : Control) (p : Property) (v : Value) → slice_get (controls_of hs) n ≡ Some c → asks_recovery c p v ≡ true → g.control ≡ after_set c p v → ArePartsSound hs ds → ArePartsSound (set hs n g) ds
+set_sound : (hs : List Held) (ds : List Device) (n : ℕ) (g : Held) (c : Control) (p : Property) (v : Value) → slice_get (controls_of hs) n ≡ Some c
+    → asks_recovery c p v ≡ true → g.control ≡ after_set c p v → ArePartsSound hs ds → ArePartsSound (set hs n g) ds
 set_sound hs ds n g c p v at asks e sound = record {
   machine = λ shared.
       let m = over hs ds shared in
       let seat = set_seat m.devices c p v (enabling_taken (kind_of m c) c p v asks) (seated m n c (sound.machine shared) at) in
       let there = with_control_sound m n (after_set c p v) seat (sound.machine shared) in
-      subst IsSound (sym (set_machine hs shared.claims ds n g (after_set c p v) shared.totals shared.totals e)) (record { kinds = there.kinds; places = there.places });
+      subst IsSound (sym (set_machine hs shared.claims ds n g (after_set c p v) shared.totals shared.totals e))
+      (record { kinds = there.kinds; places = there.places });
 }
 
 -- a property is set, and nothing is recovered
-pub plain_set : (hs : List Held) (cl : List (Option ℕ)) (ds : List Device) (part : TotalsPart) (n : ℕ) (g h : Held) (p : Property) (v : Value) (r : Answer) → n < length hs → h ≡ get_or hs n h → recovers part h.control p v ≡ false
-    → TurnsInto (set_rows n (holder_in h.control.category cl part.totals.area h.control.device) (kind_in (device_at ds h.control.device)) h.control p v) r h g (after_set h.control p v)
+pub plain_set : (hs : List Held) (cl : List (Option ℕ)) (ds : List Device) (part : TotalsPart) (n : ℕ) (g h : Held) (p : Property) (v : Value)
+    (r : Answer) → n < length hs → h ≡ get_or hs n h → recovers part h.control p v ≡ false
+    → TurnsInto (set_rows n (holder_in h.control.category cl part.totals.area h.control.device)
+    (kind_in (device_at ds h.control.device)) h.control p v) r h g (after_set h.control p v)
     → Step (machine_with hs cl ds part) (CallOf n (call.Set p v)) (Answered r) (machine_with (set hs n g) cl ds part)
 plain_set hs cl ds part n g h p v r lt is plain turns =
     let rows = set_rows n (holder_in h.control.category cl part.totals.area h.control.device) (kind_in (device_at ds h.control.device)) h.control p v in
     let d = decided_at hs ds (record { claims = cl; totals = part }) n g h rows r _ (after_set h.control p v) is turns in
     match_at_some _ h.control _ _ (control_at hs n h lt ∙ ap (λ (k : Held). Some k.control) (sym is)) (record {
       outcome = match_weaker (first_refusal rows) _ _ _ _
-          (λ y. subst (λ b. MatchBool b (SetsByRecovery (machine_with hs cl ds part) n h.control p v r (machine_with (set hs n g) cl ds part)) (Sets (machine_with hs cl ds part) n h.control p v r (machine_with (set hs n g) cl ds part))) (sym plain) y)
+          (λ y. subst (λ b. MatchBool b (SetsByRecovery (machine_with hs cl ds part) n h.control p v r (machine_with (set hs n g) cl ds part))
+          (Sets (machine_with hs cl ds part) n h.control p v r (machine_with (set hs n g) cl ds part))) (sym plain) y)
           (λ refusal y. y)
           d.outcome;
     })
@@ -132,27 +143,20 @@ plain_set hs cl ds part n g h p v r lt is plain turns =
 
 module _ {D : Type 0} (bound : Ghosts D) (old new : TotalsView D) (off : old.totals.mode ≡ Off) where
   -- for all that the disk may leave, one of it is found
-  found_one : (r : Result (Unit {0}) RecoveryFault) (left : List Standing) → DiskRecovers bound old r new → Leaves bound old left → RecoversOneOf left (bound.state old.disk) (bound.state new.disk) old.totals r new.totals
-  found_one r left recovers leaves = subst (λ m. WhenOff m ((candidates : List Standing) → LeavesOneOf candidates (bound.state old.disk) → RecoversOneOf candidates (bound.state old.disk) (bound.state new.disk) old.totals r new.totals)) off (recovers.one_of leaves.honest) left leaves.leaves
+  found_one : (r : Result (Unit {0}) RecoveryFault) (left : List Standing) → DiskRecovers bound old r new → Leaves bound old left
+      → RecoversOneOf left (bound.state old.disk) (bound.state new.disk) old.totals r new.totals
+  found_one r left recovers leaves =
+      subst (λ m. WhenOff m ((candidates : List Standing) → LeavesOneOf candidates (bound.state old.disk)
+      → RecoversOneOf candidates (bound.state old.disk) (bound.state new.disk) old.totals r new.totals)) off (recovers.one_of leaves.honest) left leaves.leaves
 
-  -- a recovery that fails leaves what it was
-  failed_leaves : (r : Result (Unit {0}) RecoveryFault) (left : List Standing) → DiskRecovers bound old r new → Leaves bound old left → new.totals ≡ old.totals → Leaves bound new left
-  failed_leaves r left recovers leaves same = record {
+  -- a recovery leaves the files that were found, and else what it was
+  recovered_leaves : (r : Result (Unit {0}) RecoveryFault) (left : List Standing) → DiskRecovers bound old r new → Leaves bound old left
+      → Leaves bound new (settled new.totals.mode left)
+  recovered_leaves r left recovers leaves = record {
     honest = recovers.kept.honest.0 leaves.honest;
-    leaves = (found_one r left recovers leaves).still;
-    is_settled = subst (λ (t : Totals). left ≡ settled t.mode left) (sym same) leaves.is_settled;
+    leaves = (found_one r left recovers leaves).passes.now;
+    is_settled = settled_twice left new.totals.mode;
   }
-
-  failed_moments : (r : Result (Unit {0}) RecoveryFault) (left : List Standing) → DiskRecovers bound old r new → Leaves bound old left → LeavesOnly (bound.state old.disk) (bound.state new.disk) (IsLeft left left)
-  failed_moments r left recovers leaves = weaker (bound.state old.disk) (bound.state new.disk) (StandsForOneOf left) (IsLeft left left) (λ c p. inl p) (found_one r left recovers leaves).any_moment
-
-  moved_leaves : (left : List Standing) (m : Mode) → new.totals.mode ≡ m → LeavesOneOf left (bound.state new.disk) → LeavesTheirFiles m (bound.state new.disk) → LeavesOneOf (settled m left) (bound.state new.disk)
-  moved_leaves left Off is still there = still
-  moved_leaves left (Ready files q) is still there = there
-
-  settled_twice : (left : List Standing) (m : Mode) → settled m left ≡ settled m (settled m left)
-  settled_twice left Off = refl
-  settled_twice left (Ready files q) = refl
 
   -- a recovery that fails keeps the totals
   kept_totals : (x : RecoveryFault) → DiskRecovers bound old (Err x) new → new.totals ≡ old.totals
@@ -165,23 +169,33 @@ module _ {D : Type 0} (bound : Ghosts D) (old new : TotalsView D) (off : old.tot
       by_fault fault.NoMemory h = h
       by_fault fault.Device h = h
 
+  failed_left : (x : RecoveryFault) (left : List Standing) → DiskRecovers bound old (Err x) new → Leaves bound old left → settled new.totals.mode left ≡ left
+  failed_left x left recovers leaves = ap (λ (t : Totals). settled t.mode left) (kept_totals x recovers) ∙ sym leaves.is_settled
+
   -- unless the disk's fault is answered, it hasn't failed
-  never_failed : (r : Result (Unit {0}) RecoveryFault) → DiskRecovers bound old r new → bound.honest old.disk → (IsErrOf r fault.Device → ⊥) → (bound.state new.disk).failures ≡ (bound.state old.disk).failures
+  never_failed : (r : Result (Unit {0}) RecoveryFault) → DiskRecovers bound old r new → bound.honest old.disk → (IsErrOf r fault.Device → ⊥)
+      → (bound.state new.disk).failures ≡ (bound.state old.disk).failures
   never_failed r recovers honest other = elim (recovers.counts honest) [
     | inl failed ↦ absurd (other failed)
     | inr same ↦ same
   ]
 
   -- a recovery that fails leaves all but the count of failures as it was
-  same_else : (x : RecoveryFault) (left : List Standing) → DiskRecovers bound old (Err x) new → part_of bound new left ≡ record (part_of bound old left) { failures = (bound.state new.disk).failures }
-  same_else x left recovers = ap (λ (t : Totals). let part : TotalsPart = record { totals = t; left = left; failures = (bound.state new.disk).failures } in part) (kept_totals x recovers)
+  same_else : (x : RecoveryFault) (left : List Standing) → DiskRecovers bound old (Err x) new
+      → part_of bound new left ≡ record (part_of bound old left) { failures = (bound.state new.disk).failures }
+  same_else x left recovers = ap
+      (λ (t : Totals). let part : TotalsPart = record { totals = t; left = left; failures = (bound.state new.disk).failures } in part) (kept_totals x recovers)
 
   -- and the count too, where the disk's fault isn't answered
-  same_part : (x : RecoveryFault) (left : List Standing) → DiskRecovers bound old (Err x) new → bound.honest old.disk → (IsErrOf {T = Unit {0}} (Err x) fault.Device → ⊥) → part_of bound new left ≡ part_of bound old left
+  same_part : (x : RecoveryFault) (left : List Standing) → DiskRecovers bound old (Err x) new → bound.honest old.disk
+      → (IsErrOf {T = Unit {0}} (Err x) fault.Device → ⊥) → part_of bound new left ≡ part_of bound old left
   same_part x left recovers honest other =
-      same_else x left recovers ∙ ap (λ (k : ℕ). let part : TotalsPart = record { totals = old.totals; left = left; failures = k } in part) (never_failed (Err x) recovers honest other)
+      same_else x left recovers ∙ ap (λ (k : ℕ). let part : TotalsPart = record { totals = old.totals; left = left; failures = k } in part)
+      (never_failed (Err x) recovers honest other)
 
-  module _ (hs : List Held) (cl : List (Option ℕ)) (ds : List Device) (sound : ArePartsSound hs ds) (n : ℕ) (c : Control) (p : Property) (v : Value) (at : slice_get (controls_of hs) n ≡ Some c) (asks : asks_recovery c p v ≡ true) (recovering : (asks_recovery c p v && not (is_ready old.totals.mode)) ≡ true) where
+  module _ (hs : List Held) (cl : List (Option ℕ)) (ds : List Device) (sound : ArePartsSound hs ds) (n : ℕ) (c : Control) (p : Property) (v : Value)
+      (at : slice_get (controls_of hs) n ≡ Some c) (asks : asks_recovery c p v ≡ true)
+      (recovering : (asks_recovery c p v && not (is_ready old.totals.mode)) ≡ true) where
     abbrev before : List Standing → Machine
     before left = machine_with hs cl ds (part_of bound old left)
 
@@ -193,7 +207,8 @@ module _ {D : Type 0} (bound : Ghosts D) (old new : TotalsView D) (off : old.tot
     uses left spares = by_row (subst (λ (o : Option Control). MatchOption o ⊤ Spares) at spares)
       where
         Spares : Control → Type 0
-        Spares k = IsSome (first_refusal (set_rows n (holder_of (before left) k) (kind_of (before left) k) k p v)) ⊎ ((asks_recovery k p v && not (is_ready old.totals.mode)) ≡ false)
+        Spares k = IsSome (first_refusal (set_rows n (holder_of (before left) k) (kind_of (before left) k) k p v)) ⊎
+            ((asks_recovery k p v && not (is_ready old.totals.mode)) ≡ false)
 
         by_row : Spares c → ⊥
         by_row (inl refused) =
@@ -207,24 +222,27 @@ module _ {D : Type 0} (bound : Ghosts D) (old new : TotalsView D) (off : old.tot
     was_off ready = subst IsReady off ready
 
     -- the totals are recovered, and the control is enabled
-    pub recovered_serves : (g : Held) (r : Answer) → DiskRecovers bound old (Ok tt) new → r ≡ answer.Done value.Empty → g.control ≡ after_set c p v → Serves bound hs cl ds old (CallOf n (call.Set p v)) (Answered r) (set hs n g) cl ds new
+    pub recovered_serves : (g : Held) (r : Answer) → DiskRecovers bound old (Ok tt) new → r ≡ answer.Done value.Empty → g.control ≡ after_set c p v
+        → Serves bound hs cl ds old (CallOf n (call.Set p v)) (Answered r) (set hs n g) cl ds new
     recovered_serves g r recovers done is = record {
       steps = λ left leaves.
           let f = found_one (Ok tt) left recovers leaves in
           let after = settled new.totals.mode left in
           record {
             after = after;
-            leaves = record {
-              honest = recovers.kept.honest.0 leaves.honest;
-              leaves = moved_leaves left new.totals.mode refl f.still (recovers.now leaves.honest);
-              is_settled = settled_twice left new.totals.mode;
-            };
+            leaves = recovered_leaves (Ok tt) left recovers leaves;
             step = match_at_some _ c _ _ at (record {
-              outcome = match_at_none (first_refusal (set_rows n (holder left) (kind_of (before left) c) c p v)) _ _ (enabling_unrefused n (holder left) (kind_of (before left) c) c p v asks)
-                  (subst (λ b. MatchBool b (SetsByRecovery (before left) n c p v r (machine_with (set hs n g) cl ds (part_of bound new after))) (Sets (before left) n c p v r (machine_with (set hs n g) cl ds (part_of bound new after)))) (sym recovering)
-                  (inl (done, record { found = f.found; left = refl; counts = never_failed (Ok tt) recovers leaves.honest (λ failed. cc) }, set_machine hs cl ds n g (after_set c p v) (part_of bound old left) (part_of bound new after) is)));
+              outcome = match_at_none (first_refusal (set_rows n (holder left) (kind_of (before left) c) c p v)) _ _
+                  (enabling_unrefused n (holder left) (kind_of (before left) c) c p v asks)
+                  (subst (λ b. MatchBool b (SetsByRecovery (before left) n c p v r (machine_with (set hs n g) cl ds (part_of bound new after)))
+                  (Sets (before left) n c p v r (machine_with (set hs n g) cl ds (part_of bound new after)))) (sym recovering)
+                  (inl (
+                    done,
+                    record { found = f.found; left = refl; counts = never_failed (Ok tt) recovers leaves.honest (λ failed. cc) },
+                    set_machine hs cl ds n g (after_set c p v) (part_of bound old left) (part_of bound new after) is,
+                  )));
             });
-            any_moment = weaker (bound.state old.disk) (bound.state new.disk) (StandsForOneOf left) (IsLeft left after) (λ b q. inl q) f.any_moment;
+            any_moment = f.passes.any_moment;
           };
       sound = set_sound hs ds n g c p v at asks is sound;
       covers = refl;
@@ -235,35 +253,59 @@ module _ {D : Type 0} (bound : Ghosts D) (old new : TotalsView D) (off : old.tot
     }
 
     -- why a recovery has failed
-    why : (left : List Standing) (x : RecoveryFault) (k : Code) → DiskRecovers bound old (Err x) new → Leaves bound old left → Some k ≡ code_of x → Recovers (part_of bound old left) (answer.Refused k 0) (part_of bound new left)
+    why : (left : List Standing) (x : RecoveryFault) (k : Code) → DiskRecovers bound old (Err x) new → Leaves bound old left → Some k ≡ code_of x
+        → Recovers (part_of bound old left) (answer.Refused k 0) (part_of bound new left)
     why left fault.Unformatted k recovers leaves is =
         let code : k ≡ code.NoHardware = cc in
-        inl (ap (λ j. answer.Refused j 0) code, (found_one (Err fault.Unformatted) left recovers leaves).found.0, same_part fault.Unformatted left recovers leaves.honest (λ failed. cc))
+        inl (
+          ap (λ j. answer.Refused j 0) code,
+          (found_one (Err fault.Unformatted) left recovers leaves).found.0,
+          same_part fault.Unformatted left recovers leaves.honest (λ failed. cc),
+        )
     why left fault.Damaged k recovers leaves is =
         let code : k ≡ code.Failure = cc in
-        inr (ap (λ j. answer.Refused j 0) code, inl (inl (found_one (Err fault.Damaged) left recovers leaves).found.0, same_part fault.Damaged left recovers leaves.honest (λ failed. cc)))
+        inr (
+          ap (λ j. answer.Refused j 0) code,
+          inl (inl (found_one (Err fault.Damaged) left recovers leaves).found.0, same_part fault.Damaged left recovers leaves.honest (λ failed. cc)),
+        )
     why left fault.Handles k recovers leaves is =
         let code : k ≡ code.Failure = cc in
-        inr (ap (λ j. answer.Refused j 0) code, inl (inr (found_one (Err fault.Handles) left recovers leaves).found.0, same_part fault.Handles left recovers leaves.honest (λ failed. cc)))
+        inr (
+          ap (λ j. answer.Refused j 0) code,
+          inl (inr (found_one (Err fault.Handles) left recovers leaves).found.0, same_part fault.Handles left recovers leaves.honest (λ failed. cc)),
+        )
     why left fault.NoMemory k recovers leaves is = let bad : ⊥ = cc in absurd bad
     why left fault.Device k recovers leaves is =
         let code : k ≡ code.Failure = cc in
-        inr (ap (λ j. answer.Refused j 0) code, inr (record { rises = recovers.device refl leaves.honest; later = recovers.kept.later leaves.honest; else_same = same_else fault.Device left recovers }))
+        inr (
+          ap (λ j. answer.Refused j 0) code,
+          inr (record {
+            rises = recovers.device refl leaves.honest;
+            later = recovers.kept.later leaves.honest;
+            else_same = same_else fault.Device
+                left recovers;
+          }),
+        )
 
     -- the recovery fails, and the control stays as it is
-    pub failed_serves : (x : RecoveryFault) (k : Code) → DiskRecovers bound old (Err x) new → Some k ≡ code_of x → Serves bound hs cl ds old (CallOf n (call.Set p v)) (Answered (answer.Refused k 0)) hs cl ds new
+    pub failed_serves : (x : RecoveryFault) (k : Code) → DiskRecovers bound old (Err x) new → Some k ≡ code_of x
+        → Serves bound hs cl ds old (CallOf n (call.Set p v)) (Answered (answer.Refused k 0)) hs cl ds new
     failed_serves x k recovers is = record {
       steps = λ left leaves.
-          let same = kept_totals x recovers in
+          let same = failed_left x left recovers leaves in
           record {
             after = left;
-            leaves = failed_leaves (Err x) left recovers leaves same;
+            leaves = subst (Leaves bound new) same (recovered_leaves (Err x) left recovers leaves);
             step = match_at_some _ c _ _ at (record {
-              outcome = match_at_none (first_refusal (set_rows n (holder left) (kind_of (before left) c) c p v)) _ _ (enabling_unrefused n (holder left) (kind_of (before left) c) c p v asks)
-                  (subst (λ b. MatchBool b (SetsByRecovery (before left) n c p v (answer.Refused k 0) (machine_with hs cl ds (part_of bound new left))) (Sets (before left) n c p v (answer.Refused k 0) (machine_with hs cl ds (part_of bound new left)))) (sym recovering)
+              outcome = match_at_none (first_refusal (set_rows n (holder left) (kind_of (before left) c) c p v)) _ _
+                  (enabling_unrefused n (holder left) (kind_of (before left) c) c p v asks)
+                  (subst (λ b. MatchBool b (SetsByRecovery (before left) n c p v (answer.Refused k 0)
+                  (machine_with hs cl ds (part_of bound new left)))
+                  (Sets (before left) n c p v (answer.Refused k 0) (machine_with hs cl ds (part_of bound new left)))) (sym recovering)
                   (inr (why left x k recovers leaves is, refl)));
             });
-            any_moment = failed_moments (Err x) left recovers leaves;
+            any_moment = subst (λ after. LeavesOnly (bound.state old.disk) (bound.state new.disk) (StandsForEither left after)) same
+                (found_one (Err x) left recovers leaves).passes.any_moment;
           };
       sound = sound;
       covers = refl;
@@ -295,11 +337,14 @@ asks_there hs n p v mode h =
     is_off (Ready files q) e = cc
 
 -- nothing refuses to set the property
-pub done_set : (hs : List Held) (n : ℕ) (holder : Option ℕ) (kind : Option Kind) (h g : Held) (c : Control) (p : Property) (v : Value) (r : Answer) → n < length hs → h ≡ get_or hs n h → slice_get (controls_of hs) n ≡ Some c → asks_recovery c p v ≡ true → TurnsInto (set_rows n holder kind h.control p v) r h g (after_set h.control p v) → (r ≡ answer.Done value.Empty) × (g.control ≡ after_set c p v)
+pub done_set : (hs : List Held) (n : ℕ) (holder : Option ℕ) (kind : Option Kind) (h g : Held) (c : Control) (p : Property) (v : Value) (r : Answer)
+    → n < length hs → h ≡ get_or hs n h → slice_get (controls_of hs) n ≡ Some c → asks_recovery c p v ≡ true
+    → TurnsInto (set_rows n holder kind h.control p v) r h g (after_set h.control p v) → (r ≡ answer.Done value.Empty) × (g.control ≡ after_set c p v)
 done_set hs n holder kind h g c p v r lt is at asks turns =
     let same : h.control ≡ c = some_same h.control c (sym (control_at hs n h lt ∙ ap (λ (k : Held). Some k.control) (sym is)) ∙ at) in
     let none = subst (λ (k : Control). first_refusal (set_rows n holder kind k p v) ≡ None) (sym same) (enabling_unrefused n holder kind c p v asks) in
-    let done = subst (λ o. MatchOption o ((r ≡ answer.Done value.Empty) × (g.control ≡ after_set h.control p v)) (λ refusal. (r ≡ refusal) × (g ≡ h))) none turns.outcome in
+    let done = subst (λ o. MatchOption o ((r ≡ answer.Done value.Empty) × (g.control ≡ after_set h.control p v))
+    (λ refusal. (r ≡ refusal) × (g ≡ h))) none turns.outcome in
     (done.0, done.1 ∙ ap (λ (k : Control). after_set k p v) same)
   where
     some_same : (a b : Control) → Some a ≡ Some b → a ≡ b

@@ -1,42 +1,38 @@
 -- A run goes on by one more step.
-use Rattle.std.proofs.Common.{inl, inr, sym, ◌≡◌, ℕ, ◌+◌, ◌<◌, ◌∷◌, ◌++◌, [], List, zero, suc, Result, length, take, get_or, ap, ◌∙◌, subst, refl, arith}
+use Rattle.std.proofs.Common.{inl, inr, sym, ◌≡◌, ℕ, ◌∷◌, ◌++◌, [], List, Result, length, ap, ◌∙◌, subst, refl, arith}
 use Rattle.pos_counter.specs.Machine.{Machine}
 use Rattle.pos_counter.specs.Steps as machine
 use Rattle.pos_disk.specs.State.{MayLeave}
 use Rattle.pos_disk.specs.declared.device.Disk.{Ghosts as DiskGhosts}
 use Rattle.pos_disk.proofs.Moments.{started, followed_by, weaker}
 use Rattle.pos_service.specs.declared.peripheral.Peripheral.{Ghosts}
-use Rattle.pos_store.specs.Standing.{Standing, StandsForOneOf}
+use Rattle.pos_store.specs.Standing.{Standing, StandsForOneOf, StandsForEither}
 use Rattle.pos_disk.specs.Keeps.{KeepsDisk}
 use Rattle.pos_totals.specs.Views.{TotalsView}
 use Rattle.pos_counter.specs.declared.counter.Counter.{Counter}
 use Rattle.pos_counter.specs.Counters.{machine as machine_of_counter, IsLeftDuring, IsRun, IsStep, IsStepBeside, RunsFrom}
 use Rattle.pos_counter.specs.KeptDevices.{devices_in}
 use Rattle.pos_counter.specs.Assembly.{machine_with}
-use Rattle.pos_counter.specs.Leaving.{part_of, IsLeft, Leaves, Stepped}
+use Rattle.pos_counter.specs.Leaving.{part_of, Leaves, Stepped}
 use Rattle.pos_counter.specs.Serving.{MakesControl}
-use Rattle.pos_counter.specs.Steps.{Step, Run}
-use Rattle.pos_counter.specs.declared.request.Request.{Request}
-use Rattle.pos_counter.specs.declared.request.Response.{Response}
+use Rattle.pos_counter.specs.Steps.{NewControl, Step, Run}
+use Rattle.pos_service.specs.declared.request.Request.{Request}
+use Rattle.pos_service.specs.declared.request.Response.{Response}
 use Rattle.pos_counter.specs.Responses.{made, request_of, response_of, steps_of}
 use Rattle.pos_service.specs.declared.category.Category.{Category}
 use Rattle.pos_counter.specs.declared.faults.ControlFault.{ControlFault}
 use Rattle.pos_counter.specs.Totals.{TotalsPart, settled}
 use Rattle.pos_counter.proofs.Serving.{arranges_stepped, kept_disk, rests_stepped, same_view}
 
--- the steps with one more request and its response
-steps_suc : (qs : List Request) (rs : List Response) (i : ℕ) (d : Request) (r : Response) → i < length qs → length rs ≡ i → steps_of (take (suc i) qs) (rs ++ r ∷ []) ≡ steps_of (take i qs) rs ++ (request_of (get_or qs i d), response_of r) ∷ []
-steps_suc [] rs i d r lt same = absurd (omega arith)
-steps_suc (q ∷ qs) [] zero d r lt same = refl
-steps_suc (q ∷ qs) [] (suc i) d r lt same = absurd (omega arith)
-steps_suc (q ∷ qs) (s ∷ rs) zero d r lt same = absurd (omega arith)
-steps_suc (q ∷ qs) (s ∷ rs) (suc i) d r lt same = ap (λ steps. (request_of q, response_of s) ∷ steps) (steps_suc qs rs i d r (omega arith) (omega arith))
-
 -- one more request and its response are one more step
-pub steps_push : (qs : List Request) (rs : List Response) (i : ℕ) (d : Request) (r : Response) → i < length qs → length rs ≡ i → steps_of (take (i + 1) qs) (rs ++ r ∷ []) ≡ steps_of (take i qs) rs ++ (request_of (get_or qs i d), response_of r) ∷ []
-steps_push qs rs i d r lt same =
-    let next : i + 1 ≡ suc i = omega arith in
-    ap (λ k. steps_of (take k qs) (rs ++ r ∷ [])) next ∙ steps_suc qs rs i d r lt same
+pub steps_push : {P : Type 0} (peripherals : Ghosts P) (qs : List (Request (Unit {0}) ℕ P)) (rs : List (Response P)) (q : Request (Unit {0}) ℕ P)
+    (r : Response P) → length rs ≡ length qs
+    → steps_of peripherals (qs ++ q ∷ []) (rs ++ r ∷ []) ≡ steps_of peripherals qs rs ++ (request_of peripherals q, response_of peripherals r) ∷ []
+steps_push peripherals [] [] q r same = refl
+steps_push peripherals [] (s ∷ rs) q r same = cc
+steps_push peripherals (p ∷ qs) [] q r same = cc
+steps_push peripherals (p ∷ qs) (s ∷ rs) q r same =
+    ap (λ steps. (request_of peripherals p, response_of peripherals s) ∷ steps) (steps_push peripherals qs rs q r (omega arith))
 
 -- one run after another
 unfoldable pub run_append : (a b c : Machine) (steps more : List (machine.Request × machine.Response)) → Run a steps b → Run b more c → Run a (steps ++ more) c
@@ -44,38 +40,54 @@ run_append a b c [] more run rest = subst (λ m. Run m more c) run rest
 run_append a b c (s ∷ steps) more run rest = (run.0, run.1, run_append run.0 b c steps more run.2 rest)
 
 -- what is left before a run is left during it
-left_first : (a c : Machine) (more : List (machine.Request × machine.Response)) (run : Run a more c) (bytes : List ℕ) → StandsForOneOf a.totals.left bytes → IsLeftDuring a more c run bytes
+left_first : (a c : Machine) (more : List (machine.Request × machine.Response)) (run : Run a more c) (bytes : List ℕ)
+    → StandsForOneOf a.totals.left bytes → IsLeftDuring a more c run bytes
 left_first a c [] run bytes h = h
 left_first a c (s ∷ more) run bytes h = inl h
 
 -- and so is what is left before or after its first step
-left_beside : (a b c : Machine) (s : machine.Request × machine.Response) (more : List (machine.Request × machine.Response)) (step : Step a s.0 s.1 b) (run : Run b more c) (bytes : List ℕ) → IsLeft a.totals.left b.totals.left bytes → IsLeftDuring a (s ∷ more) c (b, step, run) bytes
+left_beside : (a b c : Machine) (s : machine.Request × machine.Response) (more : List (machine.Request × machine.Response)) (step : Step a s.0 s.1 b)
+    (run : Run b more c) (bytes : List ℕ) → StandsForEither a.totals.left b.totals.left bytes → IsLeftDuring a (s ∷ more) c (b, step, run) bytes
 left_beside a b c s more step run bytes (inl h) = inl h
 left_beside a b c s more step run bytes (inr h) = inr (left_first b c more run bytes h)
 
 module _ {D P : Type 0} (bound : DiskGhosts D) (peripherals : Ghosts P) where
   -- a step in which the totals have no part is a step for all that the disk may leave
-  pub beside_is_step : (old new : Counter D P) (q : machine.Request) (r : machine.Response) → ((bytes : List ℕ) → bound.honest old.totals.disk → (bound.state old.totals.disk).left_since (bound.state old.totals.disk).moment bytes → MayLeave (bound.state old.totals.disk) bytes) → IsStepBeside peripherals old q r new → IsStep bound peripherals old q r new
+  pub beside_is_step : (old new : Counter D P) (q : machine.Request) (r : machine.Response)
+      → ((bytes : List ℕ) → bound.honest old.totals.disk → (bound.state old.totals.disk).left_since (bound.state old.totals.disk).moment bytes
+      → MayLeave (bound.state old.totals.disk) bytes) → IsStepBeside peripherals old q r new → IsStep bound peripherals old q r new
   beside_is_step old new q r only beside = record {
-    steps = λ left leaves. subst (λ (v : TotalsView D). Stepped bound left (machine_of_counter peripherals old) old.totals q r (machine_of_counter peripherals new) v) (sym beside.totals)
-        (rests_stepped bound old.totals (machine_of_counter peripherals old) (machine_of_counter peripherals new) q r left only leaves (beside.step (part_of bound old.totals left)));
+    steps = λ left leaves. subst (λ (v : TotalsView D). Stepped bound left (machine_of_counter peripherals old) old.totals q r
+        (machine_of_counter peripherals new) v) (sym beside.totals)
+        (rests_stepped bound old.totals (machine_of_counter peripherals old) (machine_of_counter peripherals new) q r left only leaves
+        (beside.step (part_of bound old.totals left)));
     untouched = λ left spares. ap (λ (v : TotalsView D). v.disk) beside.totals;
     unchanged = λ undone was is. ap (λ (v : TotalsView D). v.disk) beside.totals;
     kept = subst (λ (v : TotalsView D). KeepsDisk bound old.totals.disk v.disk) (sym beside.totals) (kept_disk bound old.totals.disk);
   }
 
   -- the same by another name of the request and of the response
-  pub beside_step_as : (old new : Counter D P) (q : machine.Request) (r : machine.Response) (asked : machine.Request) (answered : machine.Response) → ((bytes : List ℕ) → bound.honest old.totals.disk → (bound.state old.totals.disk).left_since (bound.state old.totals.disk).moment bytes → MayLeave (bound.state old.totals.disk) bytes) → asked ≡ q → answered ≡ r → IsStepBeside peripherals old q r new → IsStep bound peripherals old asked answered new
+  pub beside_step_as : (old new : Counter D P) (q : machine.Request) (r : machine.Response) (asked : machine.Request) (answered : machine.Response)
+      → ((bytes : List ℕ) → bound.honest old.totals.disk → (bound.state old.totals.disk).left_since (bound.state old.totals.disk).moment bytes
+      → MayLeave (bound.state old.totals.disk) bytes) → asked ≡ q → answered ≡ r → IsStepBeside peripherals old q r new
+      → IsStep bound peripherals old asked answered new
   beside_step_as old new q r asked answered only is gives beside =
-      subst (λ s. IsStep bound peripherals old asked s new) (sym gives) (subst (λ p. IsStep bound peripherals old p r new) (sym is) (beside_is_step old new q r only beside))
+      subst (λ s. IsStep bound peripherals old asked s new) (sym gives)
+      (subst (λ p. IsStep bound peripherals old p r new) (sym is) (beside_is_step old new q r only beside))
 
   -- a new control is a step for all that the disk may leave
-  pub control_is_step : (old new : Counter D P) (k : Category) (outcome : Result ℕ ControlFault) → ((bytes : List ℕ) → bound.honest old.totals.disk → (bound.state old.totals.disk).left_since (bound.state old.totals.disk).moment bytes → MayLeave (bound.state old.totals.disk) bytes)
-      → MakesControl old.desk old.totals k outcome new.desk new.totals → ((part : TotalsPart) → machine_of_counter peripherals new part ≡ machine_with new.desk old.claims (devices_in peripherals old.devices) part) → IsStep bound peripherals old (machine.NewControl k) (made outcome) new
+  pub control_is_step : (old new : Counter D P) (k : Category) (outcome : Result ℕ ControlFault)
+      → ((bytes : List ℕ) → bound.honest old.totals.disk → (bound.state old.totals.disk).left_since (bound.state old.totals.disk).moment bytes
+      → MayLeave (bound.state old.totals.disk) bytes)
+      → MakesControl old.desk old.totals k outcome new.desk new.totals
+      → ((part : TotalsPart) → machine_of_counter peripherals new part ≡ machine_with new.desk old.claims
+      (devices_in peripherals old.devices) part) → IsStep bound peripherals old (NewControl tt k) (made outcome) new
   control_is_step old new k outcome only makes same = record {
-    steps = λ left leaves. subst (λ (v : TotalsView D). Stepped bound left (machine_of_counter peripherals old) old.totals (machine.NewControl k) (made outcome) (machine_of_counter peripherals new) v) (sym (same_view old.totals new.totals new.totals.totals makes.disk refl))
-        (arranges_stepped bound old.totals new.totals.totals (machine_of_counter peripherals old) (machine_of_counter peripherals new) (machine.NewControl k) (made outcome) left only (ap (λ mode. settled mode left) makes.mode) leaves
-        (subst (λ m. Step (machine_of_counter peripherals old (part_of bound old.totals left)) (machine.NewControl k) (made outcome) m) (sym (same (now left)))
+    steps = λ left leaves. subst (λ (v : TotalsView D). Stepped bound left (machine_of_counter peripherals old) old.totals (NewControl tt k)
+        (made outcome) (machine_of_counter peripherals new) v) (sym (same_view old.totals new.totals new.totals.totals makes.disk refl))
+        (arranges_stepped bound old.totals new.totals.totals (machine_of_counter peripherals old) (machine_of_counter peripherals new)
+        (NewControl tt k) (made outcome) left only (ap (λ mode. settled mode left) makes.mode) leaves
+        (subst (λ m. Step (machine_of_counter peripherals old (part_of bound old.totals left)) (NewControl tt k) (made outcome) m) (sym (same (now left)))
         (makes.step (devices_in peripherals old.devices) old.claims left (bound.state old.totals.disk).failures)));
     untouched = λ left spares. makes.disk;
     unchanged = λ undone was is. makes.disk;
@@ -86,11 +98,14 @@ module _ {D P : Type 0} (bound : DiskGhosts D) (peripherals : Ghosts P) where
       now left = record { totals = new.totals.totals; left = left; failures = (bound.state old.totals.disk).failures }
 
   -- a step by another name of the request and of the response
-  pub step_as : (old new : Counter D P) (q : machine.Request) (r : machine.Response) (asked : machine.Request) (answered : machine.Response) → asked ≡ q → answered ≡ r → IsStep bound peripherals old q r new → IsStep bound peripherals old asked answered new
-  step_as old new q r asked answered is gives step = subst (λ s. IsStep bound peripherals old asked s new) (sym gives) (subst (λ p. IsStep bound peripherals old p r new) (sym is) step)
+  pub step_as : (old new : Counter D P) (q : machine.Request) (r : machine.Response) (asked : machine.Request) (answered : machine.Response)
+      → asked ≡ q → answered ≡ r → IsStep bound peripherals old q r new → IsStep bound peripherals old asked answered new
+  step_as old new q r asked answered is gives step =
+      subst (λ s. IsStep bound peripherals old asked s new) (sym gives) (subst (λ p. IsStep bound peripherals old p r new) (sym is) step)
 
   -- a run with one step more
-  pub runs_more : (a b c : Counter D P) (steps : List (machine.Request × machine.Response)) (q : machine.Request) (r : machine.Response) → IsRun bound peripherals a steps b → IsStep bound peripherals b q r c → IsRun bound peripherals a (steps ++ (q, r) ∷ []) c
+  pub runs_more : (a b c : Counter D P) (steps : List (machine.Request × machine.Response)) (q : machine.Request) (r : machine.Response)
+      → IsRun bound peripherals a steps b → IsStep bound peripherals b q r c → IsRun bound peripherals a (steps ++ (q, r) ∷ []) c
   runs_more a b c [] q r run next = (c, subst (λ m. IsStep bound peripherals m q r c) run next, refl)
   runs_more a b c (s ∷ steps) q r run next = (run.0, run.1, runs_more run.0 b c steps q r run.2 next)
 
@@ -99,7 +114,8 @@ module _ {D P : Type 0} (bound : DiskGhosts D) (peripherals : Ghosts P) where
   one_step a b q r next = (b, next, refl)
 
   -- one run after another is a run
-  pub runs_join : (a b c : Counter D P) (steps more : List (machine.Request × machine.Response)) → IsRun bound peripherals a steps b → IsRun bound peripherals b more c → IsRun bound peripherals a (steps ++ more) c
+  pub runs_join : (a b c : Counter D P) (steps more : List (machine.Request × machine.Response)) → IsRun bound peripherals a steps b
+      → IsRun bound peripherals b more c → IsRun bound peripherals a (steps ++ more) c
   runs_join a b c [] more first second = subst (λ m. IsRun bound peripherals m more c) first second
   runs_join a b c (s ∷ steps) more first second = (first.0, first.1, runs_join first.0 b c steps more first.2 second)
 
@@ -109,7 +125,8 @@ module _ {D P : Type 0} (bound : DiskGhosts D) (peripherals : Ghosts P) where
       (after : List Standing) × Leaves bound b.totals after
       × Run (machine_of_counter peripherals a (part_of bound a.totals left)) steps (machine_of_counter peripherals b (part_of bound b.totals after))
 
-  pub machine_runs : (a b : Counter D P) (steps : List (machine.Request × machine.Response)) (left : List Standing) → Leaves bound a.totals left → IsRun bound peripherals a steps b → MachineRuns left a steps b
+  pub machine_runs : (a b : Counter D P) (steps : List (machine.Request × machine.Response)) (left : List Standing) → Leaves bound a.totals left
+      → IsRun bound peripherals a steps b → MachineRuns left a steps b
   machine_runs a b [] left leaves run = subst (λ n. MachineRuns left a [] n) (sym run) (left, leaves, refl)
   machine_runs a b (s ∷ steps) left leaves run =
       let first = run.1.steps left leaves in
@@ -117,7 +134,9 @@ module _ {D P : Type 0} (bound : DiskGhosts D) (peripherals : Ghosts P) where
       (rest.0, rest.1, (machine_of_counter peripherals run.0 (part_of bound run.0.totals first.after), first.step, rest.2))
 
   -- what a run does, by what the disk may leave before it: each moment of it is one of a step
-  pub runs_from : (a b : Counter D P) (steps : List (machine.Request × machine.Response)) (left : List Standing) → ((disk : D) (bytes : List ℕ) → bound.honest disk → (bound.state disk).left_since (bound.state disk).moment bytes → MayLeave (bound.state disk) bytes) → Leaves bound a.totals left → IsRun bound peripherals a steps b → RunsFrom bound peripherals left a steps b
+  pub runs_from : (a b : Counter D P) (steps : List (machine.Request × machine.Response)) (left : List Standing)
+      → ((disk : D) (bytes : List ℕ) → bound.honest disk → (bound.state disk).left_since (bound.state disk).moment bytes
+      → MayLeave (bound.state disk) bytes) → Leaves bound a.totals left → IsRun bound peripherals a steps b → RunsFrom bound peripherals left a steps b
   runs_from a b [] left only leaves run = subst (λ n. RunsFrom bound peripherals left a [] n) (sym run) (record {
     after = left;
     leaves = leaves;
@@ -137,10 +156,13 @@ module _ {D P : Type 0} (bound : DiskGhosts D) (peripherals : Ghosts P) where
         leaves = rest.leaves;
         run = (B, first.step, rest.run);
         any_moment = followed_by (bound.state a.totals.disk) (bound.state b.totals.disk) (bound.state c.totals.disk) P
-            (weaker (bound.state a.totals.disk) (bound.state b.totals.disk) (IsLeft left first.after) P (left_beside A B C s steps first.step rest.run) first.any_moment)
+            (weaker (bound.state a.totals.disk) (bound.state b.totals.disk) (StandsForEither left first.after) P
+            (left_beside A B C s steps first.step rest.run) first.any_moment)
             (weaker (bound.state b.totals.disk) (bound.state c.totals.disk) (IsLeftDuring B steps C rest.run) P (λ bytes h. inr h) rest.any_moment);
       }
 
   -- so is one in which the totals have no part
-  pub one_beside : (a b : Counter D P) (q : machine.Request) (r : machine.Response) → ((bytes : List ℕ) → bound.honest a.totals.disk → (bound.state a.totals.disk).left_since (bound.state a.totals.disk).moment bytes → MayLeave (bound.state a.totals.disk) bytes) → IsStepBeside peripherals a q r b → IsRun bound peripherals a ((q, r) ∷ []) b
+  pub one_beside : (a b : Counter D P) (q : machine.Request) (r : machine.Response)
+      → ((bytes : List ℕ) → bound.honest a.totals.disk → (bound.state a.totals.disk).left_since (bound.state a.totals.disk).moment bytes
+      → MayLeave (bound.state a.totals.disk) bytes) → IsStepBeside peripherals a q r b → IsRun bound peripherals a ((q, r) ∷ []) b
   one_beside a b q r only beside = one_step a b q r (beside_is_step a b q r only beside)

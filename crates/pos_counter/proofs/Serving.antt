@@ -1,16 +1,16 @@
 -- A step from sound parts of a counter leads to sound ones.
-use Rattle.std.proofs.Common.{◌≡◌, ◌∙◌, ℕ, List, [], Option, inl, length, ap, sym, subst, refl, arith}
+use Rattle.std.proofs.Common.{◌≡◌, ◌∙◌, ℕ, List, [], Option, length, ap, sym, subst, refl, arith}
 use Rattle.pos_disk.specs.State.{MayLeave}
 use Rattle.pos_disk.specs.declared.device.Disk.{Ghosts}
-use Rattle.pos_disk.proofs.Moments.{started}
 use Rattle.pos_common.specs.Held.{Held}
+use Rattle.pos_store.proofs.Passing.{stays}
 use Rattle.pos_store.specs.Standing.{Standing}
 use Rattle.pos_disk.specs.Keeps.{KeepsDisk}
 use Rattle.pos_totals.specs.HardTotals.{Totals}
 use Rattle.pos_totals.specs.Views.{TotalsView}
 use Rattle.pos_counter.specs.Machine.{Device, Machine, Shared}
 use Rattle.pos_counter.specs.Assembly.{over, machine_with, ArePartsSound}
-use Rattle.pos_counter.specs.Leaving.{part_of, IsLeft, Leaves, Stepped}
+use Rattle.pos_counter.specs.Leaving.{part_of, Leaves, Stepped}
 use Rattle.pos_counter.specs.Serving.{Serves, ServesBeside, ServesUnder}
 use Rattle.pos_counter.specs.Steps.{Request, Response, Step, IsSound}
 use Rattle.pos_counter.specs.Totals.{TotalsPart, settled}
@@ -21,7 +21,8 @@ pub any_shared : (hs : List Held) (ds : List Device) (one other : Shared) → Is
 any_shared hs ds one other sound = record { kinds = sound.kinds; places = sound.places }
 
 -- a step is one that claims and totals have no part in
-pub step_serves : (hs gs : List Held) (ds es : List Device) (q : Request) (r : Response) → ArePartsSound hs ds → length es ≡ length ds → ((shared : Shared) → Step (over hs ds shared) q r (over gs es shared)) → ServesBeside hs ds q r gs es
+pub step_serves : (hs gs : List Held) (ds es : List Device) (q : Request) (r : Response) → ArePartsSound hs ds → length es ≡ length ds
+    → ((shared : Shared) → Step (over hs ds shared) q r (over gs es shared)) → ServesBeside hs ds q r gs es
 step_serves hs gs ds es q r sound places step = record {
   step = λ claims part. step (record { claims = claims; totals = part });
   sound = record { machine = λ shared. step_sound (over hs ds shared) (over gs es shared) q r (step shared) (sound.machine shared) };
@@ -29,11 +30,13 @@ step_serves hs gs ds es q r sound places step = record {
 }
 
 -- where the controls alone have changed
-pub controls_serve : (hs gs : List Held) (ds : List Device) (q : Request) (r : Response) → ArePartsSound hs ds → ((shared : Shared) → Step (over hs ds shared) q r (over gs ds shared)) → ServesBeside hs ds q r gs ds
+pub controls_serve : (hs gs : List Held) (ds : List Device) (q : Request) (r : Response) → ArePartsSound hs ds
+    → ((shared : Shared) → Step (over hs ds shared) q r (over gs ds shared)) → ServesBeside hs ds q r gs ds
 controls_serve hs gs ds q r sound step = step_serves hs gs ds ds q r sound refl step
 
 -- the same under claims that have a part in it
-pub step_serves_under : (cl : List (Option ℕ)) (hs gs : List Held) (ds es : List Device) (q : Request) (r : Response) → ArePartsSound hs ds → length es ≡ length ds → ((part : TotalsPart) → Step (machine_with hs cl ds part) q r (machine_with gs cl es part)) → ServesUnder cl hs ds q r gs es
+pub step_serves_under : (cl : List (Option ℕ)) (hs gs : List Held) (ds es : List Device) (q : Request) (r : Response) → ArePartsSound hs ds
+    → length es ≡ length ds → ((part : TotalsPart) → Step (machine_with hs cl ds part) q r (machine_with gs cl es part)) → ServesUnder cl hs ds q r gs es
 step_serves_under cl hs gs ds es q r sound places step = record {
   step = step;
   sound = record {
@@ -53,41 +56,52 @@ abbrev pub OnlyNow : {D : Type 0} → Ghosts D → D → Type 0
 OnlyNow bound disk = (bytes : List ℕ) → bound.honest disk → (bound.state disk).left_since (bound.state disk).moment bytes → MayLeave (bound.state disk) bytes
 
 -- a step in which the disk has no part, over totals that know the same files
-pub arranges_stepped : {D : Type 0} (bound : Ghosts D) (view : TotalsView D) (totals : Totals) (old new : TotalsPart → Machine) (q : Request) (r : Response) (left : List Standing) → OnlyNow bound view.disk
-    → settled totals.mode left ≡ settled view.totals.mode left → Leaves bound view left → Step (old (part_of bound view left)) q r (new (part_of bound (record { disk = view.disk; totals = totals }) left))
+pub arranges_stepped : {D : Type 0} (bound : Ghosts D) (view : TotalsView D) (totals : Totals) (old new : TotalsPart → Machine) (q : Request)
+    (r : Response) (left : List Standing) → OnlyNow bound view.disk
+    → settled totals.mode left ≡ settled view.totals.mode left → Leaves bound view left
+    → Step (old (part_of bound view left)) q r (new (part_of bound (record { disk = view.disk; totals = totals }) left))
     → Stepped bound left old view q r new (record { disk = view.disk; totals = totals })
 arranges_stepped bound view totals old new q r left only same leaves step = record {
   after = left;
   leaves = record { honest = leaves.honest; leaves = leaves.leaves; is_settled = leaves.is_settled ∙ sym same };
   step = step;
-  any_moment = started (bound.state view.disk) (IsLeft left left) (λ bytes since. inl (leaves.leaves bytes (only bytes leaves.honest since)));
+  any_moment = (stays (bound.state view.disk) left (λ bytes since. only bytes leaves.honest since) leaves.leaves).any_moment;
 }
 
 -- a step in which the totals have no part, over totals that rest
-pub rests_stepped : {D : Type 0} (bound : Ghosts D) (view : TotalsView D) (old new : TotalsPart → Machine) (q : Request) (r : Response) (left : List Standing) → OnlyNow bound view.disk
+pub rests_stepped : {D : Type 0} (bound : Ghosts D) (view : TotalsView D) (old new : TotalsPart → Machine) (q : Request) (r : Response)
+    (left : List Standing) → OnlyNow bound view.disk
     → Leaves bound view left → Step (old (part_of bound view left)) q r (new (part_of bound view left)) → Stepped bound left old view q r new view
 rests_stepped bound view old new q r left only leaves step = arranges_stepped bound view view.totals old new q r left only refl leaves step
 
 -- totals on the same disk
-pub same_view : {D : Type 0} (old new : TotalsView D) (totals : Totals) → new.disk ≡ old.disk → new.totals ≡ totals → new ≡ record { disk = old.disk; totals = totals }
-same_view {D = D} old new totals d t = ap (λ (x : D). let v : TotalsView D = record { disk = x; totals = new.totals } in v) d ∙ ap (λ (x : Totals). let v : TotalsView D = record { disk = old.disk; totals = x } in v) t
+pub same_view : {D : Type 0} (old new : TotalsView D) (totals : Totals) → new.disk ≡ old.disk → new.totals ≡ totals
+    → new ≡ record { disk = old.disk; totals = totals }
+same_view {D = D} old new totals d t =
+    ap (λ (x : D). let v : TotalsView D = record { disk = x; totals = new.totals } in v) d
+    ∙ ap (λ (x : Totals). let v : TotalsView D = record { disk = old.disk; totals = x } in v) t
 
 -- parts are sound after a step in which the peripherals stay
-pub stepped_sound : (hs gs : List Held) (ds : List Device) (one other : Shared) (q : Request) (r : Response) → ArePartsSound hs ds → Step (over hs ds one) q r (over gs ds other) → ArePartsSound gs ds
+pub stepped_sound : (hs gs : List Held) (ds : List Device) (one other : Shared) (q : Request) (r : Response) → ArePartsSound hs ds
+    → Step (over hs ds one) q r (over gs ds other) → ArePartsSound gs ds
 stepped_sound hs gs ds one other q r sound step = record {
   machine = λ shared. any_shared gs ds other shared (step_sound (over hs ds one) (over gs ds other) q r step (sound.machine one));
 }
 
 -- parts that serve a request in which the disk has no part, over totals that know the same files
-pub arranges_serve : {D : Type 0} (bound : Ghosts D) (view new : TotalsView D) (totals : Totals) (hs gs : List Held) (cl dl : List (Option ℕ)) (ds : List Device) (q : Request) (r : Response) → OnlyNow bound view.disk
-    → new.disk ≡ view.disk → new.totals ≡ totals → ((left : List Standing) → settled totals.mode left ≡ settled view.totals.mode left) → ArePartsSound hs ds → length dl ≡ length cl
-    → ((left : List Standing) → Step (machine_with hs cl ds (part_of bound view left)) q r (machine_with gs dl ds (part_of bound (record { disk = view.disk; totals = totals }) left)))
+pub arranges_serve : {D : Type 0} (bound : Ghosts D) (view new : TotalsView D) (totals : Totals) (hs gs : List Held) (cl dl : List (Option ℕ))
+    (ds : List Device) (q : Request) (r : Response) → OnlyNow bound view.disk
+    → new.disk ≡ view.disk → new.totals ≡ totals → ((left : List Standing) → settled totals.mode left ≡ settled view.totals.mode left)
+    → ArePartsSound hs ds → length dl ≡ length cl
+    → ((left : List Standing) → Step (machine_with hs cl ds (part_of bound view left)) q r
+    (machine_with gs dl ds (part_of bound (record { disk = view.disk; totals = totals }) left)))
     → Serves bound hs cl ds view q r gs dl ds new
 arranges_serve {D = D} bound view new totals hs gs cl dl ds q r only disk is same sound covers step =
     let after : TotalsView D = record { disk = view.disk; totals = totals } in
     subst (λ (v : TotalsView D). Serves bound hs cl ds view q r gs dl ds v) (sym (same_view view new totals disk is)) (record {
       steps = λ left leaves. arranges_stepped bound view totals (machine_with hs cl ds) (machine_with gs dl ds) q r left only (same left) leaves (step left);
-      sound = stepped_sound hs gs ds (record { claims = cl; totals = part_of bound view [] }) (record { claims = dl; totals = part_of bound after [] }) q r sound (step []);
+      sound = stepped_sound hs gs ds (record { claims = cl; totals = part_of bound view [] })
+          (record { claims = dl; totals = part_of bound after [] }) q r sound (step []);
       covers = covers;
       places = refl;
       untouched = λ left spares. refl;
@@ -96,7 +110,8 @@ arranges_serve {D = D} bound view new totals hs gs cl dl ds q r only disk is sam
     })
 
 -- a step in which the totals have no part is one for all that the disk may leave
-pub under_serves : {D : Type 0} (bound : Ghosts D) (view : TotalsView D) (hs gs : List Held) (cl : List (Option ℕ)) (ds es : List Device) (q : Request) (r : Response) → OnlyNow bound view.disk
+pub under_serves : {D : Type 0} (bound : Ghosts D) (view : TotalsView D) (hs gs : List Held) (cl : List (Option ℕ)) (ds es : List Device)
+    (q : Request) (r : Response) → OnlyNow bound view.disk
     → ServesUnder cl hs ds q r gs es → Serves bound hs cl ds view q r gs cl es view
 under_serves bound view hs gs cl ds es q r only serves = record {
   steps = λ left leaves. rests_stepped bound view (machine_with hs cl ds) (machine_with gs cl es) q r left only leaves (serves.step (part_of bound view left));
@@ -109,14 +124,18 @@ under_serves bound view hs gs cl ds es q r only serves = record {
 }
 
 -- nor the claims
-pub beside_serves : {D : Type 0} (bound : Ghosts D) (view : TotalsView D) (hs gs : List Held) (cl : List (Option ℕ)) (ds es : List Device) (q : Request) (r : Response) → OnlyNow bound view.disk
+pub beside_serves : {D : Type 0} (bound : Ghosts D) (view : TotalsView D) (hs gs : List Held) (cl : List (Option ℕ)) (ds es : List Device)
+    (q : Request) (r : Response) → OnlyNow bound view.disk
     → ServesBeside hs ds q r gs es → Serves bound hs cl ds view q r gs cl es view
 beside_serves bound view hs gs cl ds es q r only serves =
     under_serves bound view hs gs cl ds es q r only (record { step = λ part. serves.step cl part; sound = serves.sound; places = serves.places })
 
 -- the same where nothing changes
-pub looks_serve : {D : Type 0} (bound : Ghosts D) (view : TotalsView D) (hs : List Held) (cl : List (Option ℕ)) (ds : List Device) (q : Request) (r : Response) → OnlyNow bound view.disk
-    → ArePartsSound hs ds → ((left : List Standing) → Step (machine_with hs cl ds (part_of bound view left)) q r (machine_with hs cl ds (part_of bound view left))) → Serves bound hs cl ds view q r hs cl ds view
+pub looks_serve : {D : Type 0} (bound : Ghosts D) (view : TotalsView D) (hs : List Held) (cl : List (Option ℕ)) (ds : List Device) (q : Request)
+    (r : Response) → OnlyNow bound view.disk
+    → ArePartsSound hs ds → ((left : List Standing)
+    → Step (machine_with hs cl ds (part_of bound view left)) q r (machine_with hs cl ds (part_of bound view left)))
+    → Serves bound hs cl ds view q r hs cl ds view
 looks_serve bound view hs cl ds q r only sound step = record {
   steps = λ left leaves. rests_stepped bound view (machine_with hs cl ds) (machine_with hs cl ds) q r left only leaves (step left);
   sound = sound;

@@ -68,7 +68,9 @@ same_seat ds c d k e p h =
     (subst (λ (cursor : Cursor). Seat ds c.category cursor.place d.device) (sym p) (subst (Seat ds c.category c.cursor.place) (sym e) h))
 
 -- the cursor has moved to another place of the device
-moved_seat : (ds : List Device) (category : Category) (was now : Place) (device : Option ℕ) → (IsPlaceOn (kind_in (device_at ds device)) was → IsPlaceOn (kind_in (device_at ds device)) now) → Seat ds category was device → Seat ds category now device
+moved_seat : (ds : List Device) (category : Category) (was now : Place) (device : Option ℕ)
+    → (IsPlaceOn (kind_in (device_at ds device)) was → IsPlaceOn (kind_in (device_at ds device)) now) → Seat ds category was device
+    → Seat ds category now device
 moved_seat ds category was now None moves h = tt
 moved_seat ds category was now (Some i) moves h = by (slice_get ds i) moves h
   where
@@ -91,7 +93,8 @@ with_control_sound m n c h s = record {
 }
 
 -- a decided call that changes its control keeps the machine sound where the new control has its device
-decided_sound : (rows : List Row) (r : Answer) (m m' : Machine) (n : ℕ) (c : Control) (Done : Type 0) → ((first_refusal rows ≡ None) → HasItsDevice m.devices c) → Decided rows r (m' ≡ m) (Done × (m' ≡ with_control m n c)) → IsSound m → IsSound m'
+decided_sound : (rows : List Row) (r : Answer) (m m' : Machine) (n : ℕ) (c : Control) (Done : Type 0)
+    → ((first_refusal rows ≡ None) → HasItsDevice m.devices c) → Decided rows r (m' ≡ m) (Done × (m' ≡ with_control m n c)) → IsSound m → IsSound m'
 decided_sound rows r m m' n c Done h d s =
     elim (match_cases (first_refusal rows) _ _ d.outcome) [
       | inl x ↦ same_machine (with_control m n c) m' x.1.1 (with_control_sound m n c (h x.0) s)
@@ -103,11 +106,14 @@ pub kind_of_device : (ds : List Device) (i : ℕ) (d : Device) → slice_get ds 
 kind_of_device ds i d e all = subst HasItsKind (get_or_from_slice_get ds i d d e) (All-get_or HasItsKind ds i d (slice_get_within ds i d e) all)
 
 -- what a control finds to open is there, and serves it at the first place
-found_seat : (ds : List Device) (category : Category) (place : Option ℕ) → All HasItsKind ds → Seat ds category origin (place_found (found_at category place (device_at ds place)))
+found_seat : (ds : List Device) (category : Category) (place : Option ℕ) → All HasItsKind ds
+    → Seat ds category origin (place_found (found_at category place (device_at ds place)))
 found_seat ds category None kinds = tt
 found_seat ds category (Some i) kinds = there (slice_get ds i) refl
   where
-    pick : (d : Device) → slice_get ds i ≡ Some d → (served attached : Bool) → serves category d.kind ≡ served → (is_none d.kind || is_some d.station) ≡ attached → Seat ds category origin (place_found (cond served (cond attached (finding.At i) finding.Vacant) finding.NotThere))
+    pick : (d : Device) → slice_get ds i ≡ Some d → (served attached : Bool) → serves category d.kind ≡ served
+        → (is_none d.kind || is_some d.station) ≡ attached
+        → Seat ds category origin (place_found (cond served (cond attached (finding.At i) finding.Vacant) finding.NotThere))
     pick d e true true s a = subst (Served category origin) (sym e) (s, a, place_opened d.kind (kind_of_device ds i d e kinds).0)
     pick d e true false s a = tt
     pick d e false true s a = tt
@@ -130,16 +136,23 @@ listening_seat : (ds : List Device) (b : Bool) (c d : Control) → HasItsDevice 
 listening_seat ds true c d h g = g
 listening_seat ds false c d h g = h
 
-all_listening_keep : (ds : List Device) (place : ℕ) (change : Control → Control) (cs : List Control) → KeepsDevice change → All (HasItsDevice ds) cs → All (HasItsDevice ds) (all_listening place change cs)
+all_listening_keep : (ds : List Device) (place : ℕ) (change : Control → Control) (cs : List Control) → KeepsDevice change → All (HasItsDevice ds) cs
+    → All (HasItsDevice ds) (all_listening place change cs)
 all_listening_keep ds place change cs keeps all =
     All-map (HasItsDevice ds) (if_listening place change) cs
-    (All-weaker (HasItsDevice ds) (λ c. HasItsDevice ds (if_listening place change c)) (λ c h. listening_seat ds (listens place c) c (change c) h (changed_seat ds change c keeps h)) cs all)
+    (All-weaker (HasItsDevice ds) (λ c. HasItsDevice ds (if_listening place change c))
+    (λ c h. listening_seat ds (listens place c) c (change c) h (changed_seat ds change c keeps h)) cs all)
 
 heard_keeps : (statuses : List Enqueued) → KeepsDevice (heard statuses)
 heard_keeps statuses = record { category = λ c. refl; device = λ c. refl; cursor = λ c. refl }
 
 read_keeps : (scan : Scan) → KeepsDevice (read scan)
-read_keeps scan = record { category = λ c. category c.list.in_error c _ _; device = λ c. device c.list.in_error c _ _; cursor = λ c. cursor c.list.in_error c _ _ }
+read_keeps scan = record {
+  category = λ c. category c.list.in_error c _ _;
+  device = λ c. device c.list.in_error c _ _;
+  cursor = λ c. cursor
+      c.list.in_error c _ _;
+}
   where
     category : (b : Bool) (c : Control) (list : EventList) (enabled : Bool) → (cond b c (record c { enabled = enabled; list = list })).category ≡ c.category
     category true c list enabled = refl
@@ -163,7 +176,8 @@ reaction_keeps i taken.Fault statuses = record { category = λ c. refl; device =
 abbrev with_after : Device → Station → Device
 with_after device after = record device { station = Some after }
 
-served_stays : (ds : List Device) (i k : ℕ) (d : Device) (after : Station) (category : Category) (cursor : Place) → slice_get ds i ≡ Some d → Served category cursor (slice_get ds k) → Served category cursor (slice_get (set ds i (with_after d after)) k)
+served_stays : (ds : List Device) (i k : ℕ) (d : Device) (after : Station) (category : Category) (cursor : Place) → slice_get ds i ≡ Some d
+    → Served category cursor (slice_get ds k) → Served category cursor (slice_get (set ds i (with_after d after)) k)
 served_stays [] i k d after category cursor is h = absurd h
 served_stays (x ∷ ds) zero zero d after category cursor is h =
     let same : x ≡ d = cc in
@@ -176,7 +190,8 @@ served_stays (x ∷ ds) zero (suc k) d after category cursor is h = h
 served_stays (x ∷ ds) (suc i) zero d after category cursor is h = h
 served_stays (x ∷ ds) (suc i) (suc k) d after category cursor is h = served_stays ds i k d after category cursor is h
 
-seat_stays : (ds : List Device) (i : ℕ) (d : Device) (after : Station) → slice_get ds i ≡ Some d → (c : Control) → HasItsDevice ds c → HasItsDevice (set ds i (with_after d after)) c
+seat_stays : (ds : List Device) (i : ℕ) (d : Device) (after : Station) → slice_get ds i ≡ Some d → (c : Control) → HasItsDevice ds c
+    → HasItsDevice (set ds i (with_after d after)) c
 seat_stays ds i d after is c h = by_place c.device h
   where
     by_place : (o : Option ℕ) → Seat ds c.category c.cursor.place o → Seat (set ds i (with_after d after)) c.category c.cursor.place o
@@ -193,10 +208,13 @@ pub record Keeps (ds : List Device) (before : Station) (old : List Control) (aft
   pub kind : after.kind ≡ before.kind
   pub seats : All (HasItsDevice ds) old → All (HasItsDevice ds) new
 
-on_station_sound : (m m' : Machine) (at : Option ℕ) (Does : ℕ → Effect) → ((place : ℕ) (before : Station) (new : List Control) (after : Station) → StandsAt m.devices at before → Does place m.controls before new after → Keeps m.devices before m.controls after new) → OnStation m at Does m' → IsSound m → IsSound m'
+on_station_sound : (m m' : Machine) (at : Option ℕ) (Does : ℕ → Effect)
+    → ((place : ℕ) (before : Station) (new : List Control) (after : Station) → StandsAt m.devices at before → Does place m.controls before new after
+    → Keeps m.devices before m.controls after new) → OnStation m at Does m' → IsSound m → IsSound m'
 on_station_sound m m' at Does keeps o s =
     let here : HasItsKind o.device = kind_of_device m.devices o.place o.device o.is_device s.kinds in
-    let kind : o.device.kind ≡ Some o.before.kind = subst (λ (st : Option Station). IfSome st (λ station. o.device.kind ≡ Some station.kind)) o.is_attached here.1 in
+    let kind : o.device.kind ≡ Some o.before.kind =
+    subst (λ (st : Option Station). IfSome st (λ station. o.device.kind ≡ Some station.kind)) o.is_attached here.1 in
     let stands : StandsAt m.devices at o.before = record {
       kind = ap (λ p. kind_in (device_at m.devices p)) o.is_at ∙ ap kind_in o.is_device ∙ kind;
       range = subst (λ (k : Option Kind). IfSome k IsInRange) kind here.0;
@@ -204,50 +222,59 @@ on_station_sound m m' at Does keeps o s =
     let kept = keeps o.place o.before o.controls o.after stands o.does in
     same_machine _ m' o.machine (record {
       kinds = All-set HasItsKind m.devices o.place (with_after o.device o.after) (here.0, kind ∙ ap Some (sym kept.kind)) s.kinds;
-      places = All-weaker (HasItsDevice m.devices) (HasItsDevice (set m.devices o.place (with_after o.device o.after))) (seat_stays m.devices o.place o.device o.after o.is_device) o.controls (kept.seats s.places);
+      places = All-weaker (HasItsDevice m.devices) (HasItsDevice (set m.devices o.place (with_after o.device o.after)))
+          (seat_stays m.devices o.place o.device o.after o.is_device) o.controls (kept.seats s.places);
     })
 
-failed_keeps : (ds : List Device) (old : List Control) (before : Station) (new : List Control) (after : Station) → LineFailed old before new after → Keeps ds before old after new
+failed_keeps : (ds : List Device) (old : List Control) (before : Station) (new : List Control) (after : Station) → LineFailed old before new after
+    → Keeps ds before old after new
 failed_keeps ds old before new after h = record {
   kind = ap (λ (s : Station). s.kind) h.station;
   seats = λ all. subst (All (HasItsDevice ds)) (sym h.controls) all;
 }
 
-takes_keeps : (ds : List Device) (i : Input) (place : ℕ) (old : List Control) (before : Station) (new : List Control) (after : Station) → TakesIn i place old before new after → Keeps ds before old after new
+takes_keeps : (ds : List Device) (i : Input) (place : ℕ) (old : List Control) (before : Station) (new : List Control) (after : Station)
+    → TakesIn i place old before new after → Keeps ds before old after new
 takes_keeps ds i place old before new after h = record {
   kind = ap (λ (s : Station). s.kind) h.station;
   seats = λ all. subst (All (HasItsDevice ds)) (sym h.controls) (all_listening_keep ds place _ old (reaction_keeps i h.taken _) all);
 }
 
 -- a control that changes keeps its device
-one_keeps : (ds : List Device) (change : Control → Control) (number : ℕ) (old new : List Control) → KeepsDevice change → ChangesOne change number old new → All (HasItsDevice ds) old → All (HasItsDevice ds) new
+one_keeps : (ds : List Device) (change : Control → Control) (number : ℕ) (old new : List Control) → KeepsDevice change
+    → ChangesOne change number old new → All (HasItsDevice ds) old → All (HasItsDevice ds) new
 one_keeps ds change number old new keeps h all = elim (match_cases (slice_get old number) _ _ h) [
   | inl x ↦ absurd x.1
-  | inr x ↦ subst (All (HasItsDevice ds)) (sym x.2) (All-set (HasItsDevice ds) old number (change x.0) (changed_seat ds change x.0 keeps (seat_of ds old number x.0 x.1 all)) all)
+  | inr x ↦ subst (All (HasItsDevice ds)) (sym x.2)
+      (All-set (HasItsDevice ds) old number (change x.0) (changed_seat ds change x.0 keeps (seat_of ds old number x.0 x.1 all)) all)
 ]
 
 -- where nothing has changed
-same_keeps : (ds : List Device) (old : List Control) (before : Station) (new : List Control) (after : Station) → SameStation old before new after → Keeps ds before old after new
+same_keeps : (ds : List Device) (old : List Control) (before : Station) (new : List Control) (after : Station) → SameStation old before new after
+    → Keeps ds before old after new
 same_keeps ds old before new after h = record {
   kind = ap (λ (s : Station). s.kind) h.station;
   seats = λ all. subst (All (HasItsDevice ds)) (sym h.controls) all;
 }
 
-carried_keeps : (ds : List Device) (given : Order) (place : ℕ) (old : List Control) (before : Station) (new : List Control) (after : Station) → CarriedOut given place old before new after → Keeps ds before old after new
+carried_keeps : (ds : List Device) (given : Order) (place : ℕ) (old : List Control) (before : Station) (new : List Control) (after : Station)
+    → CarriedOut given place old before new after → Keeps ds before old after new
 carried_keeps ds given place old before new after h = record {
   kind = ap (λ (s : Station). s.kind) h.station;
   seats = λ all. subst (All (HasItsDevice ds)) (sym h.controls) (all_listening_keep ds place _ old (heard_keeps _) all);
 }
 
 -- whatever a peripheral says to an order
-ordered_keeps : (ds : List Device) (given : Order) (place : ℕ) (told : Reply) (old : List Control) (before : Station) (new : List Control) (after : Station) → Ordered given place told old before new after → Keeps ds before old after new
+ordered_keeps : (ds : List Device) (given : Order) (place : ℕ) (told : Reply) (old : List Control) (before : Station) (new : List Control)
+    (after : Station) → Ordered given place told old before new after → Keeps ds before old after new
 ordered_keeps ds given place reply.Done old before new after h = carried_keeps ds given place old before new after h
 ordered_keeps ds given place reply.CoverOpen old before new after h = same_keeps ds old before new after h.same
 ordered_keeps ds given place reply.PaperEnd old before new after h = same_keeps ds old before new after h.same
 ordered_keeps ds given place reply.LineFault old before new after h = failed_keeps ds old before new after h
 
 -- a control that a call changes so has its device
-change_seat : (ds : List Device) (what : Change) (c : Control) → StaysOn (kind_in (device_at ds c.device)) c.cursor.place what → HasItsDevice ds c → HasItsDevice ds (changed what c)
+change_seat : (ds : List Device) (what : Change) (c : Control) → StaysOn (kind_in (device_at ds c.device)) c.cursor.place what → HasItsDevice ds c
+    → HasItsDevice ds (changed what c)
 change_seat ds change.Nothing c stays h = h
 change_seat ds (change.Cursor place) c stays h = moved_seat ds c.category c.cursor.place place c.device stays h
 change_seat ds change.Input c stays h = same_seat ds c (changed change.Input c) refl refl refl h
@@ -255,7 +282,9 @@ change_seat ds change.InputProperties c stays h = same_seat ds c (changed change
 change_seat ds change.Output c stays h = same_seat ds c (changed change.Output c) refl refl refl h
 
 -- a control that has heard is where it was
-heard_there : (place number : ℕ) (events : List Enqueued) (c : Control) (old : List Control) → slice_get old number ≡ Some c → (g : Control) × (slice_get (all_listening place (heard events) old) number ≡ Some g) × (g.category ≡ c.category) × (g.device ≡ c.device) × (g.cursor ≡ c.cursor)
+heard_there : (place number : ℕ) (events : List Enqueued) (c : Control) (old : List Control) → slice_get old number ≡ Some c
+    → (g : Control) × (slice_get (all_listening place (heard events) old) number ≡ Some g) × (g.category ≡ c.category) × (g.device ≡ c.device) ×
+    (g.cursor ≡ c.cursor)
 heard_there place number events c old at =
     let same = kept (listens place c) in (
       if_listening place (heard events) c,
@@ -270,23 +299,30 @@ heard_there place number events c old at =
     kept false = (refl, refl, refl)
 
 -- the control with a number, whose cursor a call leaves at a place of its device, keeps that
-changes_keep : (ds : List Device) (what : Change) (number : ℕ) (c : Control) (old new : List Control) → slice_get old number ≡ Some c → StaysOn (kind_in (device_at ds c.device)) c.cursor.place what → ChangesOne (changed what) number old new → All (HasItsDevice ds) old → All (HasItsDevice ds) new
+changes_keep : (ds : List Device) (what : Change) (number : ℕ) (c : Control) (old new : List Control) → slice_get old number ≡ Some c
+    → StaysOn (kind_in (device_at ds c.device)) c.cursor.place what → ChangesOne (changed what) number old new → All (HasItsDevice ds) old
+    → All (HasItsDevice ds) new
 changes_keep ds what number c old new at stays h all =
     let same : new ≡ slice_set old number (changed what c) = MatchOption-at_some ⊥ (λ control. new ≡ slice_set old number (changed what control)) c at h in
-    subst (All (HasItsDevice ds)) (sym same) (All-set (HasItsDevice ds) old number (changed what c) (change_seat ds what c stays (seat_of ds old number c at all)) all)
+    subst (All (HasItsDevice ds)) (sym same)
+    (All-set (HasItsDevice ds) old number (changed what c) (change_seat ds what c stays (seat_of ds old number c at all)) all)
 
 -- what a call comes to keeps each control's device
-deed_keeps : (ds : List Device) (d : Deed) (r : Answer) (number place : ℕ) (c : Control) (old : List Control) (before : Station) (new : List Control) (after : Station) → slice_get old number ≡ Some c → DeedStaysOn (kind_in (device_at ds c.device)) c.cursor.place d → CarriesOut d number place r old before new after → Keeps ds before old after new
+deed_keeps : (ds : List Device) (d : Deed) (r : Answer) (number place : ℕ) (c : Control) (old : List Control) (before : Station) (new : List Control)
+    (after : Station) → slice_get old number ≡ Some c → DeedStaysOn (kind_in (device_at ds c.device)) c.cursor.place d
+    → CarriesOut d number place r old before new after → Keeps ds before old after new
 deed_keeps ds (deed.Gives given what) r number place c old before new after at stays h =
     let told = ordered_keeps ds given place h.said old before h.heard after h.ordered in
     record { kind = told.kind; seats = λ all. by h.said h.ordered h.follows (told.seats all) }
   where
-    by : (said : Reply) → Ordered given place said old before h.heard after → Follows said what number h.heard new → All (HasItsDevice ds) h.heard → All (HasItsDevice ds) new
+    by : (said : Reply) → Ordered given place said old before h.heard after → Follows said what number h.heard new → All (HasItsDevice ds) h.heard
+        → All (HasItsDevice ds) new
     by reply.Done ordered follows all =
         let there = heard_there place number (status_events (signs_of before.kind before.plant) (signs_of after.kind after.plant)) c old at in
         let now = ap (λ (cs : List Control). slice_get cs number) ordered.controls ∙ there.1 in
         changes_keep ds what number there.0 h.heard new now
-        (subst (λ (o : Option ℕ). StaysOn (kind_in (device_at ds o)) there.0.cursor.place what) (sym there.3) (subst (λ (u : Cursor). StaysOn (kind_in (device_at ds c.device)) u.place what) (sym there.4) stays))
+        (subst (λ (o : Option ℕ). StaysOn (kind_in (device_at ds o)) there.0.cursor.place what) (sym there.3)
+        (subst (λ (u : Cursor). StaysOn (kind_in (device_at ds c.device)) u.place what) (sym there.4) stays))
         follows all
     by reply.CoverOpen ordered same all = subst (All (HasItsDevice ds)) (sym same) all
     by reply.PaperEnd ordered same all = subst (All (HasItsDevice ds)) (sym same) all
@@ -296,7 +332,9 @@ deed_keeps ds (deed.Changes what) r number place c old before new after at stays
   seats = changes_keep ds what number c old new at stays h.controls;
 }
 deed_keeps ds (deed.Queues given) r number place c old before new after at stays h =
-    elim (match_cases (first_refusal (id_rows c)) _ _ (MatchOption-at_some ⊥ (λ control. Decided (id_rows control) r (SameStation old before new after) (Queued given number r old before new after)) c at h).outcome) [
+    elim (match_cases (first_refusal (id_rows c)) _ _
+    (MatchOption-at_some ⊥ (λ control. Decided (id_rows control) r (SameStation old before new after)
+    (Queued given number r old before new after)) c at h).outcome) [
       | inl x ↦ record {
         kind = ap (λ (s : Station). s.kind) x.1.station;
         seats = one_keeps ds (queued given) number old new (record { category = λ c. refl; device = λ c. refl; cursor = λ c. refl }) x.1.controls;
@@ -311,7 +349,8 @@ work_keeps id reply.CoverOpen = record { category = λ c. refl; device = λ c. r
 work_keeps id reply.PaperEnd = record { category = λ c. refl; device = λ c. refl; cursor = λ c. refl }
 work_keeps id reply.LineFault = record { category = λ c. refl; device = λ c. refl; cursor = λ c. refl }
 
-worked_keeps : (ds : List Device) (work : DueRequest) (place : ℕ) (r : WorkResult) (old : List Control) (before : Station) (new : List Control) (after : Station) → WorksOn work place r old before new after → Keeps ds before old after new
+worked_keeps : (ds : List Device) (work : DueRequest) (place : ℕ) (r : WorkResult) (old : List Control) (before : Station) (new : List Control)
+    (after : Station) → WorksOn work place r old before new after → Keeps ds before old after new
 worked_keeps ds work place r old before new after h =
     let done = ordered_keeps ds work.given place h.said old before h.controls after h.ordered in record {
       kind = done.kind;
@@ -319,14 +358,20 @@ worked_keeps ds work place r old before new after h =
     }
 
 -- work, or nothing to do
-works_keep : (ds : List Device) (holder : Option ℕ) (place : ℕ) (outcome : Result WorkResult NoMemory) (old : List Control) (before : Station) (new : List Control) (after : Station) → WorksAt holder place outcome old before new after → Keeps ds before old after new
-works_keep ds holder place outcome old before new after h = elim (match_cases (due_request_at before.kind place holder old) _ _ h) [ inl x ↦ same_keeps ds old before new after x.1.1 | inr x ↦ by x.0 outcome x.2 ]
+works_keep : (ds : List Device) (holder : Option ℕ) (place : ℕ) (outcome : Result WorkResult NoMemory) (old : List Control) (before : Station)
+    (new : List Control) (after : Station) → WorksAt holder place outcome old before new after → Keeps ds before old after new
+works_keep ds holder place outcome old before new after h =
+    elim (match_cases (due_request_at before.kind place holder old) _ _ h) [ inl x ↦ same_keeps ds old before new after x.1.1 | inr x ↦ by x.0 outcome x.2 ]
   where
-    by : (work : DueRequest) (outcome : Result WorkResult NoMemory) → MatchResult outcome (λ r. WorksOn work place r old before new after) (λ want. SameStation old before new after) → Keeps ds before old after new
+    by : (work : DueRequest) (outcome : Result WorkResult NoMemory)
+        → MatchResult outcome (λ r. WorksOn work place r old before new after) (λ want. SameStation old before new after) → Keeps ds before old after new
     by work (Ok r) h = worked_keeps ds work place r old before new after h
     by work (Err want) h = same_keeps ds old before new after h
 
-device_keeps : (k : Category) (m : Machine) (asked : Call) (r : Answer) (n place : ℕ) (c : Control) (before : Station) (new : List Control) (after : Station) → slice_get m.controls n ≡ Some c → serves k (kind_of m c) ≡ true → NoneApplies (device_rows k (kind_of m c) c asked) → StandsAt m.devices c.device before → DeviceDoes k (kind_of m c) n c asked r place m.controls before new after → Keeps m.devices before m.controls after new
+device_keeps : (k : Category) (m : Machine) (asked : Call) (r : Answer) (n place : ℕ) (c : Control) (before : Station) (new : List Control)
+    (after : Station) → slice_get m.controls n ≡ Some c → serves k (kind_of m c) ≡ true → NoneApplies (device_rows k (kind_of m c) c asked)
+    → StandsAt m.devices c.device before → DeviceDoes k (kind_of m c) n c asked r place m.controls before new after
+    → Keeps m.devices before m.controls after new
 device_keeps k m asked r n place c before new after at served allowed stands h =
     elim (match_cases (device_deed k (kind_of m c) c asked) _ _ h) [
       | inl x ↦ absurd x.1
@@ -336,13 +381,16 @@ device_keeps k m asked r n place c before new after at served allowed stands h =
     stays : (d : Deed) → device_deed k (kind_of m c) c asked ≡ Some d → DeedStaysOn (kind_of m c) c.cursor.place d
     stays d is =
         subst (λ at. DeedStaysOn at c.cursor.place d) (sym stands.kind)
-        (deed_called k before.kind c asked d (subst (λ at. serves k at ≡ true) stands.kind served) stands.range (subst (λ at. NoneApplies (device_rows k at c asked)) stands.kind allowed) (subst (λ at. device_deed k at c asked ≡ Some d) stands.kind is))
+        (deed_called k before.kind c asked d (subst (λ at. serves k at ≡ true) stands.kind served) stands.range
+        (subst (λ at. NoneApplies (device_rows k at c asked)) stands.kind allowed) (subst (λ at. device_deed k at c asked ≡ Some d) stands.kind is))
 
 -- an open control's category serves its device
-served_by : (ds : List Device) (c : Control) (before : Station) → StandsAt ds c.device before → HasItsDevice ds c → serves c.category (kind_in (device_at ds c.device)) ≡ true
+served_by : (ds : List Device) (c : Control) (before : Station) → StandsAt ds c.device before → HasItsDevice ds c
+    → serves c.category (kind_in (device_at ds c.device)) ≡ true
 served_by ds c before stands h = by c.device stands.kind h
   where
-    by : (o : Option ℕ) → kind_in (device_at ds o) ≡ Some before.kind → Seat ds c.category c.cursor.place o → serves c.category (kind_in (device_at ds o)) ≡ true
+    by : (o : Option ℕ) → kind_in (device_at ds o) ≡ Some before.kind → Seat ds c.category c.cursor.place o
+        → serves c.category (kind_in (device_at ds o)) ≡ true
     by None kind h = absurd cc
     by (Some i) kind h = there (slice_get ds i) h
       where
@@ -355,15 +403,22 @@ other_totals : (m m' : Machine) → m' ≡ record m { totals = m'.totals } → I
 other_totals m m' e s = subst IsSound (sym e) (record { kinds = s.kinds; places = s.places })
 
 -- what a category's call does keeps the machine sound
-category_sound : (k : Category) (m m' : Machine) (n : ℕ) (c : Control) (own : Call) (r : Answer) → slice_get m.controls n ≡ Some c → ((before : Station) → StandsAt m.devices c.device before → serves k (kind_of m c) ≡ true) → NoneApplies (category_rows k m n c own) → CategoryDoes k m n c own r m' → IsSound m → IsSound m'
+category_sound : (k : Category) (m m' : Machine) (n : ℕ) (c : Control) (own : Call) (r : Answer) → slice_get m.controls n ≡ Some c
+    → ((before : Station) → StandsAt m.devices c.device before → serves k (kind_of m c) ≡ true) → NoneApplies (category_rows k m n c own)
+    → CategoryDoes k m n c own r m' → IsSound m → IsSound m'
 category_sound category.HardTotals m m' n c own r e served allowed h s = other_totals m m' h.1 s
-category_sound k m m' n c own r e served allowed h s = on_station_sound m m' c.device _ (λ place before new after stands. device_keeps k m own r n place c before new after e (served before stands) allowed stands) h s
+category_sound k m m' n c own r e served allowed h s =
+    on_station_sound m m' c.device _
+    (λ place before new after stands. device_keeps k m own r n place c before new after e (served before stands) allowed stands) h s
 
 -- a control with a property set to what it takes has its device
-pub set_seat : (ds : List Device) (c : Control) (p : Property) (v : Value) → takes (kind_in (device_at ds c.device)) p v ≡ true → HasItsDevice ds c → HasItsDevice ds (after_set c p v)
-set_seat ds c p v may h = moved_seat ds c.category c.cursor.place (cursor_after c.cursor p v).place c.device (place_set (kind_in (device_at ds c.device)) c.cursor p v may) h
+pub set_seat : (ds : List Device) (c : Control) (p : Property) (v : Value) → takes (kind_in (device_at ds c.device)) p v ≡ true → HasItsDevice ds c
+    → HasItsDevice ds (after_set c p v)
+set_seat ds c p v may h = moved_seat ds c.category c.cursor.place (cursor_after c.cursor p v).place c.device
+    (place_set (kind_in (device_at ds c.device)) c.cursor p v may) h
 
-set_sound : (m m' : Machine) (n : ℕ) (c : Control) (p : Property) (v : Value) (r : Answer) (b : Bool) → takes (kind_of m c) p v ≡ true → slice_get m.controls n ≡ Some c → MatchBool b (SetsByRecovery m n c p v r m') (Sets m n c p v r m') → IsSound m → IsSound m'
+set_sound : (m m' : Machine) (n : ℕ) (c : Control) (p : Property) (v : Value) (r : Answer) (b : Bool) → takes (kind_of m c) p v ≡ true
+    → slice_get m.controls n ≡ Some c → MatchBool b (SetsByRecovery m n c p v r m') (Sets m n c p v r m') → IsSound m → IsSound m'
 set_sound m m' n c p v r false may e h s = same_machine _ m' h.1 (with_control_sound m n (after_set c p v) (set_seat m.devices c p v may (seated m n c s e)) s)
 set_sound m m' n c p v r true may e (inl h) s =
     let there = with_control_sound m n (after_set c p v) (set_seat m.devices c p v may (seated m n c s e)) s in
@@ -407,7 +462,9 @@ called_sound m m' n c (call.Claim timeout) r e h s =
     ]
 called_sound m m' n c call.Release r e h s =
     elim (match_cases (first_refusal (refusals m n c call.Release)) _ _ h.outcome) [
-      | inl x ↦ same_machine _ m' x.1.1 (released_sound c.category (with_control m n (after_release c.category c)) n c (with_control_sound m n (after_release c.category c) (released_seat m.devices c.category c (seated m n c s e)) s))
+      | inl x ↦ same_machine _ m' x.1.1
+          (released_sound c.category (with_control m n (after_release c.category c)) n c
+          (with_control_sound m n (after_release c.category c) (released_seat m.devices c.category c (seated m n c s e)) s))
       | inr x ↦ same_machine m m' x.2.1 s
     ]
 called_sound m m' n c (call.Set p v) r e h s =
@@ -417,10 +474,13 @@ called_sound m m' n c (call.Set p v) r e h s =
           set_sound m m' n c p v r (recovers m.totals c p v) may e x.1 s
       | inr x ↦ same_machine m m' x.2.1 s
     ]
-called_sound m m' n c (call.Get p) r e h s = elim (match_cases (first_refusal (get_rows n (holder_of m c) c (facts_of m n c) p)) _ _ h.outcome) [ inl x ↦ same_machine m m' x.1.1 s | inr x ↦ same_machine m m' x.2.1 s ]
+called_sound m m' n c (call.Get p) r e h s =
+    elim (match_cases (first_refusal
+    (get_rows n (holder_of m c) c (facts_of m n c) p)) _ _ h.outcome) [ inl x ↦ same_machine m m' x.1.1 s | inr x ↦ same_machine m m' x.2.1 s ]
 called_sound m m' n c own r e h s =
     elim (match_cases (first_refusal (refusals m n c own)) _ _ h.outcome) [
-      | inl x ↦ category_sound c.category m m' n c own r e (λ before stands. served_by m.devices c before stands (seated m n c s e)) (none_applies (refusals m n c own) x.0).1.1.1.1.1 x.1 s
+      | inl x ↦ category_sound c.category m m' n c own r e (λ before stands. served_by m.devices c before stands (seated m n c s e))
+          (none_applies (refusals m n c own) x.0).1.1.1.1.1 x.1 s
       | inr x ↦ same_machine m m' x.2.1 s
     ]
 
@@ -430,7 +490,8 @@ attached_sound m m' name station o s =
     let here : HasItsKind o.device = kind_of_device m.devices o.place o.device o.is_device s.kinds in
     same_machine _ m' o.machine (record {
       kinds = All-set HasItsKind m.devices o.place (with_after o.device station) (here.0, o.kind) s.kinds;
-      places = All-weaker (HasItsDevice m.devices) (HasItsDevice (set m.devices o.place (with_after o.device station))) (seat_stays m.devices o.place o.device station o.is_device) m.controls s.places;
+      places = All-weaker (HasItsDevice m.devices) (HasItsDevice (set m.devices o.place (with_after o.device station)))
+          (seat_stays m.devices o.place o.device station o.is_device) m.controls s.places;
     })
 
 -- a device without its peripheral
@@ -438,23 +499,27 @@ abbrev emptied : Device → Device
 emptied device = record device { station = None }
 
 -- each other device serves whom it served
-served_elsewhere : (ds : List Device) (i k : ℕ) (d : Device) (category : Category) (cursor : Place) → (k ≡ i → ⊥) → Served category cursor (slice_get ds k) → Served category cursor (slice_get (set ds i (emptied d)) k)
+served_elsewhere : (ds : List Device) (i k : ℕ) (d : Device) (category : Category) (cursor : Place) → (k ≡ i → ⊥)
+    → Served category cursor (slice_get ds k) → Served category cursor (slice_get (set ds i (emptied d)) k)
 served_elsewhere [] i k d category cursor other h = absurd h
 served_elsewhere (x ∷ ds) zero zero d category cursor other h = absurd (other refl)
 served_elsewhere (x ∷ ds) zero (suc k) d category cursor other h = h
 served_elsewhere (x ∷ ds) (suc i) zero d category cursor other h = h
 served_elsewhere (x ∷ ds) (suc i) (suc k) d category cursor other h = served_elsewhere ds i k d category cursor (λ e. other (ap suc e)) h
 
-seat_elsewhere : (ds : List Device) (i : ℕ) (d : Device) (category : Category) (cursor : Place) (device : Option ℕ) → is_place i device ≡ false → Seat ds category cursor device → Seat (set ds i (emptied d)) category cursor device
+seat_elsewhere : (ds : List Device) (i : ℕ) (d : Device) (category : Category) (cursor : Place) (device : Option ℕ) → is_place i device ≡ false
+    → Seat ds category cursor device → Seat (set ds i (emptied d)) category cursor device
 seat_elsewhere ds i d category cursor None other h = tt
 seat_elsewhere ds i d category cursor (Some k) other h = served_elsewhere ds i k d category cursor (λ e. false≢true (sym other ∙ eq-eqb k i e)) h
 
 -- where no control has the device at a place open, each has another
-seats_elsewhere : (ds : List Device) (i : ℕ) (d : Device) (cs : List Control) → is_open_at i cs ≡ false → All (HasItsDevice ds) cs → All (HasItsDevice (set ds i (emptied d))) cs
+seats_elsewhere : (ds : List Device) (i : ℕ) (d : Device) (cs : List Control) → is_open_at i cs ≡ false → All (HasItsDevice ds) cs
+    → All (HasItsDevice (set ds i (emptied d))) cs
 seats_elsewhere ds i d [] none all = All-nil (HasItsDevice (set ds i (emptied d)))
 seats_elsewhere ds i d (c ∷ cs) none all =
     let each = neither (has_open i c) (is_open_at i cs) none in
-    All-cons (HasItsDevice (set ds i (emptied d))) c cs (seat_elsewhere ds i d c.category c.cursor.place c.device each.0 (all 0 c (omega arith))) (seats_elsewhere ds i d cs each.1 (λ k e lt. all (suc k) e (omega arith)))
+    All-cons (HasItsDevice (set ds i (emptied d))) c cs (seat_elsewhere ds i d c.category c.cursor.place c.device each.0 (all 0 c (omega arith)))
+    (seats_elsewhere ds i d cs each.1 (λ k e lt. all (suc k) e (omega arith)))
   where
     neither : (a b : Bool) → (a || b) ≡ false → (a ≡ false) × (b ≡ false)
     neither true b h = cc
@@ -471,21 +536,24 @@ detached_sound m m' name station o s =
 
 -- every step from a sound machine leads to a sound one
 pub step_sound : (m m' : Machine) (q : Request) (r : Response) → Step m q r m' → IsSound m → IsSound m'
-step_sound m m' (NewControl category) (Made number) h s =
+step_sound m m' (NewControl u category) (Made number) h s =
     same_machine (record (with_totals m (with_place m.totals.totals)) { controls = m.controls ++ new_control category ∷ [] }) m' h.2 (record {
       kinds = s.kinds;
       places = All-push (HasItsDevice m.devices) m.controls (new_control category) s.places tt;
     })
-step_sound m m' (NewControl category) Full h s = same_machine m m' h.1 s
-step_sound m m' (NewControl category) OutOfMemory h s = same_machine m m' h.1 s
+step_sound m m' (NewControl u category) Full h s = same_machine m m' h.1 s
+step_sound m m' (NewControl u category) OutOfMemory h s = same_machine m m' h.1 s
 step_sound m m' (CallOf n q) (Answered r) h s =
     elim (match_cases (slice_get m.controls n) _ _ h) [ inl x ↦ same_machine m m' x.1.1 s | inr x ↦ called_sound m m' n x.0 q r x.1 x.2 s ]
 step_sound m m' (CallOf n q) OutOfMemory h s = elim (match_cases (slice_get m.controls n) _ _ h) [ inl x ↦ absurd x.1 | inr x ↦ same_machine m m' x.2.2 s ]
-step_sound m m' (InputTo name input) TakenIn h s = on_station_sound m m' _ _ (λ place before new after stands. takes_keeps m.devices input place m.controls before new after) h s
+step_sound m m' (InputTo name input) TakenIn h s =
+    on_station_sound m m' _ _ (λ place before new after stands. takes_keeps m.devices input place m.controls before new after) h s
 step_sound m m' (InputTo name input) NoDevice h s = same_machine m m' h.1 s
 step_sound m m' (InputTo name input) WrongInput h s = same_machine m m' h.1 s
 step_sound m m' (InputTo name input) OutOfMemory h s = same_machine m m' h.1 s
-step_sound m m' (WorkOn name) (Worked result) h s = on_station_sound m m' _ _ (λ place before new after stands. works_keep m.devices (holder_at m.claims (Some place)) place (Ok result) m.controls before new after) h s
+step_sound m m' (WorkOn name) (Worked result) h s =
+    on_station_sound m m' _ _ (λ place before new after stands. works_keep m.devices (holder_at m.claims (Some place)) place
+    (Ok result) m.controls before new after) h s
 step_sound m m' (WorkOn name) NoDevice h s = same_machine m m' h.1 s
 step_sound m m' (WorkOn name) OutOfMemory h s = same_machine m m' h.1 s
 step_sound m m' (Deliver n reply) (Delivered event) h s =
@@ -493,11 +561,11 @@ step_sound m m' (Deliver n reply) (Delivered event) h s =
       | inl x ↦ same_machine m m' x.1.1 s
       | inr x ↦ same_machine (with_control m n (delivered reply x.0)) m' x.2.1 (with_control_sound m n (delivered reply x.0) (seated m n x.0 s x.1) s)
     ]
-step_sound m m' (Snapshot name) (Shown plant) h s = same_machine m m' h.2 s
+step_sound m m' (Snapshot name) (Shown shown) h s = same_machine m m' h.2 s
 step_sound m m' (Snapshot name) NoDevice h s = same_machine m m' h.1 s
 step_sound m m' (Snapshot name) OutOfMemory h s = same_machine m m' h.1 s
 step_sound m m' (Attach name station) Attached h s = attached_sound m m' name station h s
-step_sound m m' (Attach name station) (NotAttached fault) h s = same_machine m m' h.1 s
+step_sound m m' (Attach name station) (NotAttached fault given) h s = same_machine m m' h.2 s
 step_sound m m' (Detach name) (Detached station) h s = detached_sound m m' name station h s
 step_sound m m' (Detach name) (NotDetached fault) h s = same_machine m m' h.1 s
 step_sound m m' q r h s = absurd h

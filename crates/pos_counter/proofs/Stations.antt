@@ -30,7 +30,8 @@ use Rattle.pos_counter.proofs.Lifts.{match_cases, match_at_some, match_by, match
 use Rattle.pos_counter.proofs.Sound.{seated, Served}
 
 -- what stands at the device that a name finds
-pub named : (hs : List Held) (ds : List Device) (shared : Shared) (name : List ℕ) (place : ℕ) → Some place ≡ place_of ds name → station_named (over hs ds shared) name ≡ station_in (device_at ds (Some place))
+pub named : (hs : List Held) (ds : List Device) (shared : Shared) (name : List ℕ) (place : ℕ) → Some place ≡ place_of ds name
+    → station_named (over hs ds shared) name ≡ station_in (device_at ds (Some place))
 named hs ds shared name place finds = ap (λ o. station_in (device_at ds o)) (sym finds)
 
 -- a name that finds no device finds no station
@@ -38,7 +39,8 @@ pub unnamed : (hs : List Held) (ds : List Device) (shared : Shared) (name : List
 unnamed hs ds shared name finds = ap (λ o. station_in (device_at ds o)) (sym finds)
 
 -- what is done with what stands at a place is done at the device's station
-pub on_station : (hs gs : List Held) (ds es : List Device) (shared : Shared) (place : ℕ) (o : Option ℕ) (Does : ℕ → Effect) → o ≡ Some place → IsDoneAt ds place (Does place) hs gs es → OnStation (over hs ds shared) o Does (over gs es shared)
+pub on_station : (hs gs : List Held) (ds es : List Device) (shared : Shared) (place : ℕ) (o : Option ℕ) (Does : ℕ → Effect) → o ≡ Some place
+    → IsDoneAt ds place (Does place) hs gs es → OnStation (over hs ds shared) o Does (over gs es shared)
 on_station hs gs ds es shared place o Does is done = record {
   place = place;
   device = done.device;
@@ -57,7 +59,8 @@ pub done_places : {Does : Effect} {hs gs : List Held} {ds es : List Device} {pla
 done_places {ds = ds} {place = place} done = ap length done.changed ∙ length-set ds place _
 
 -- a device whose station is as it was
-same_device : (ds : List Device) (place : ℕ) (d : Device) (before after : Station) → slice_get ds place ≡ Some d → d.station ≡ Some before → after ≡ before → set ds place (record d { station = Some after }) ≡ ds
+same_device : (ds : List Device) (place : ℕ) (d : Device) (before after : Station) → slice_get ds place ≡ Some d → d.station ≡ Some before
+    → after ≡ before → set ds place (record d { station = Some after }) ≡ ds
 same_device [] place d before after at is same = refl
 same_device (x ∷ ds) zero d before after at is same =
     let here : x ≡ d = cc in
@@ -65,13 +68,17 @@ same_device (x ∷ ds) zero d before after at is same =
 same_device (x ∷ ds) (suc place) d before after at is same = ap (λ (xs : List Device). x ∷ xs) (same_device ds place d before after at is same)
 
 -- what did nothing leaves the machine as it was
-pub unchanged : (hs gs : List Held) (ds es : List Device) (shared : Shared) (place : ℕ) (d : Device) (before after : Station) → slice_get ds place ≡ Some d → d.station ≡ Some before → es ≡ set ds place (record d { station = Some after }) → SameStation (controls_of hs) before (controls_of gs) after → over gs es shared ≡ over hs ds shared
+pub unchanged : (hs gs : List Held) (ds es : List Device) (shared : Shared) (place : ℕ) (d : Device) (before after : Station)
+    → slice_get ds place ≡ Some d → d.station ≡ Some before → es ≡ set ds place (record d { station = Some after })
+    → SameStation (controls_of hs) before (controls_of gs) after → over gs es shared ≡ over hs ds shared
 unchanged hs gs ds es shared place d before after at is changed same =
     ap (λ (cs : List Control). let m : Machine = record { controls = cs; devices = es; claims = shared.claims; totals = shared.totals } in m) same.controls
     ∙ ap (λ xs. over hs xs shared) (changed ∙ same_device ds place d before after at is same.station)
 
 -- an open control's device has a peripheral, where its category serves no device without one, and may be called
-pub served_there : (hs : List Held) (ds : List Device) (shared : Shared) (n : ℕ) (c : Control) (place : ℕ) (asked : Call) → IsSound (over hs ds shared) → slice_get (controls_of hs) n ≡ Some c → c.device ≡ Some place → serves c.category None ≡ false → has_call c.category asked ≡ true → MayBeCalled ds place asked (controls_of hs) n
+pub served_there : (hs : List Held) (ds : List Device) (shared : Shared) (n : ℕ) (c : Control) (place : ℕ) (asked : Call)
+    → IsSound (over hs ds shared) → slice_get (controls_of hs) n ≡ Some c → c.device ≡ Some place → serves c.category None ≡ false
+    → has_call c.category asked ≡ true → MayBeCalled ds place asked (controls_of hs) n
 served_there hs ds shared n c place asked sound at is peripheral has =
     let seat = subst (λ (o : Option ℕ). IfSome o (λ k. Served c.category c.cursor.place (slice_get ds k))) is (seated (over hs ds shared) n c sound at) in
     elim (match_cases (slice_get ds place) _ _ seat) [
@@ -84,7 +91,8 @@ served_there hs ds shared n c place asked sound at is peripheral has =
     stands (Some k) None served attached = cc
     stands (Some k) (Some s) served attached = refl
 
-    by : (d : Device) → slice_get ds place ≡ Some d → serves c.category d.kind ≡ true → IsTrue (is_none d.kind || is_some d.station) → IsPlaceOn d.kind c.cursor.place → MayBeCalled ds place asked (controls_of hs) n
+    by : (d : Device) → slice_get ds place ≡ Some d → serves c.category d.kind ≡ true → IsTrue (is_none d.kind || is_some d.station)
+        → IsPlaceOn d.kind c.cursor.place → MayBeCalled ds place asked (controls_of hs) n
     by d there served attached on = record {
       attached = subst (λ (o : Option Device). IsSome (station_in o)) (sym there) (stands d.kind d.station served attached);
       may = match_at_some _ c _ _ at (record {
@@ -95,18 +103,23 @@ served_there hs ds shared n c place asked sound at is peripheral has =
     }
 
 -- a name finds a device whose peripheral has an input, or hasn't
-pub finds_fit : (hs : List Held) (ds : List Device) (shared : Shared) (name : List ℕ) (place : ℕ) (given : Input) (fits : Bool) → Some place ≡ place_of ds name → FindsFit (station_in (device_at ds (Some place))) given fits → FindsFit (station_named (over hs ds shared) name) given fits
+pub finds_fit : (hs : List Held) (ds : List Device) (shared : Shared) (name : List ℕ) (place : ℕ) (given : Input) (fits : Bool)
+    → Some place ≡ place_of ds name → FindsFit (station_in (device_at ds (Some place))) given fits
+    → FindsFit (station_named (over hs ds shared) name) given fits
 finds_fit hs ds shared name place given fits finds fit = subst (λ o. FindsFit o given fits) (sym (named hs ds shared name place finds)) fit
 
 -- where work finds no memory, there is a request that is to be done, and nothing has changed
-wants_work : (holder : Option ℕ) (place : ℕ) (want : NoMemory) (old : List Control) (before : Station) (new : List Control) (after : Station) → WorksAt holder place (Err want) old before new after → IsSome (due_request_at before.kind place holder old) × SameStation old before new after
+wants_work : (holder : Option ℕ) (place : ℕ) (want : NoMemory) (old : List Control) (before : Station) (new : List Control) (after : Station)
+    → WorksAt holder place (Err want) old before new after → IsSome (due_request_at before.kind place holder old) × SameStation old before new after
 wants_work holder place want old before new after h = elim (match_cases (due_request_at before.kind place holder old) _ _ h) [
   | inl x ↦ absurd (let no : Err want ≡ Ok worked.Idle = x.1.0 in cc)
   | inr x ↦ (subst IsSome (sym x.1) refl, x.2)
 ]
 
 -- so a name finds such a request, and the machine is as it was
-pub want_finds_work : (hs gs : List Held) (ds es : List Device) (shared : Shared) (name : List ℕ) (place : ℕ) (want : NoMemory) → Some place ≡ place_of ds name → IsDoneAt ds place (WorksAt (holder_at shared.claims (Some place)) place (Err want)) hs gs es → FindsWork (over hs ds shared) name × (over gs es shared ≡ over hs ds shared)
+pub want_finds_work : (hs gs : List Held) (ds es : List Device) (shared : Shared) (name : List ℕ) (place : ℕ) (want : NoMemory)
+    → Some place ≡ place_of ds name → IsDoneAt ds place (WorksAt (holder_at shared.claims (Some place)) place (Err want)) hs gs es
+    → FindsWork (over hs ds shared) name × (over gs es shared ≡ over hs ds shared)
 want_finds_work hs gs ds es shared name place want finds done =
     let wants = wants_work (holder_at shared.claims (Some place)) place want (controls_of hs) done.before (controls_of gs) done.after done.does in (
       record {
@@ -120,7 +133,8 @@ want_finds_work hs gs ds es shared name place want finds done =
     )
 
 -- what a call of a category's own is answered first, and what it does
-pub own_refusals : (m : Machine) (n : ℕ) (c : Control) (asked : Call) → is_common asked ≡ false → refusals m n c asked ≡ table n (holder_of m c) c (needs_of c.category asked) (category_rows c.category m n c asked)
+pub own_refusals : (m : Machine) (n : ℕ) (c : Control) (asked : Call) → is_common asked ≡ false
+    → refusals m n c asked ≡ table n (holder_of m c) c (needs_of c.category asked) (category_rows c.category m n c asked)
 own_refusals m n c (call.Open name) own = cc
 own_refusals m n c call.Close own = cc
 own_refusals m n c (call.Claim timeout) own = cc
@@ -129,7 +143,8 @@ own_refusals m n c (call.Set p v) own = cc
 own_refusals m n c (call.Get p) own = cc
 own_refusals m n c asked own = refl
 
-pub own_does : (m : Machine) (n : ℕ) (c : Control) (asked : Call) (r : Answer) (m' : Machine) → is_common asked ≡ false → CategoryDoes c.category m n c asked r m' → Does m n c asked r m'
+pub own_does : (m : Machine) (n : ℕ) (c : Control) (asked : Call) (r : Answer) (m' : Machine) → is_common asked ≡ false
+    → CategoryDoes c.category m n c asked r m' → Does m n c asked r m'
 own_does m n c (call.Open name) r m' own h = cc
 own_does m n c call.Close r m' own h = cc
 own_does m n c (call.Claim timeout) r m' own h = cc
@@ -152,26 +167,31 @@ abbrev pub IsLet : Machine → ℕ → Control → Call → Type 0
 IsLet m n c asked = (rest : List Row) → first_refusal (table n (holder_of m c) c (needs_of c.category asked) rest) ≡ first_refusal rest
 
 -- a call that is refused is a step
-pub refused_step : (m : Machine) (n : ℕ) (c : Control) (asked : Call) (refusal : Answer) → slice_get m.controls n ≡ Some c → first_refusal (refusals m n c asked) ≡ Some refusal → Step m (CallOf n asked) (Answered refusal) m
+pub refused_step : (m : Machine) (n : ℕ) (c : Control) (asked : Call) (refusal : Answer) → slice_get m.controls n ≡ Some c
+    → first_refusal (refusals m n c asked) ≡ Some refusal → Step m (CallOf n asked) (Answered refusal) m
 refused_step m n c asked refusal at refused =
     match_at_some _ c _ _ at (record { outcome = match_at_some (first_refusal (refusals m n c asked)) refusal _ _ refused (refl, refl) })
 
 -- behind the check the rest of the table decides
-pub let_refusals : (m : Machine) (n : ℕ) (c : Control) (asked : Call) → is_common asked ≡ false → IsLet m n c asked → first_refusal (refusals m n c asked) ≡ first_refusal (category_rows c.category m n c asked)
+pub let_refusals : (m : Machine) (n : ℕ) (c : Control) (asked : Call) → is_common asked ≡ false → IsLet m n c asked
+    → first_refusal (refusals m n c asked) ≡ first_refusal (category_rows c.category m n c asked)
 let_refusals m n c asked own lets = ap first_refusal (own_refusals m n c asked own) ∙ lets (category_rows c.category m n c asked)
 
 -- what the categories with a peripheral ask and do
-rows_at_device : (k : Category) (m : Machine) (n : ℕ) (c : Control) (asked : Call) → is_totals k ≡ false → category_rows k m n c asked ≡ device_rows k (kind_of m c) c asked
+rows_at_device : (k : Category) (m : Machine) (n : ℕ) (c : Control) (asked : Call) → is_totals k ≡ false
+    → category_rows k m n c asked ≡ device_rows k (kind_of m c) c asked
 rows_at_device category.HardTotals m n c asked is = cc
 rows_at_device k m n c asked is = refl
 
-does_at_device : (k : Category) (m m' : Machine) (n : ℕ) (c : Control) (asked : Call) (r : Answer) → is_totals k ≡ false → OnStation m c.device (DeviceDoes k (kind_of m c) n c asked r) m' → CategoryDoes k m n c asked r m'
+does_at_device : (k : Category) (m m' : Machine) (n : ℕ) (c : Control) (asked : Call) (r : Answer) → is_totals k ≡ false
+    → OnStation m c.device (DeviceDoes k (kind_of m c) n c asked r) m' → CategoryDoes k m n c asked r m'
 does_at_device category.HardTotals m m' n c asked r is h = cc
 does_at_device k m m' n c asked r is h = h
 
 -- a call of a category's own that its control may make, at its device's station, is a step
 pub device_step : (hs gs : List Held) (ds es : List Device) (shared : Shared) (n place : ℕ) (c : Control) (asked : Call) (r : Result Answer NoMemory)
-    → is_common asked ≡ false → slice_get (controls_of hs) n ≡ Some c → is_totals c.category ≡ false → c.device ≡ Some place → IsLet (over hs ds shared) n c asked
+    → is_common asked ≡ false → slice_get (controls_of hs) n ≡ Some c → is_totals c.category ≡ false → c.device ≡ Some place
+    → IsLet (over hs ds shared) n c asked
     → IsDoneAt ds place (CallsAt n asked place r) hs gs es → Step (over hs ds shared) (CallOf n asked) (answered r) (over gs es shared)
 device_step hs gs ds es shared n place c asked r own at is device lets done =
     by_outcome r (MatchOption-at_some ⊥ (λ control. CallsFor n asked place r control (controls_of hs) done.before (controls_of gs) done.after) c at done.does)
@@ -197,7 +217,9 @@ device_step hs gs ds es shared n place c asked r own at is device lets done =
     same : SameStation (controls_of hs) done.before (controls_of gs) done.after → m' ≡ m
     same s = unchanged hs gs ds es shared place done.device done.before done.after done.is_device done.is_attached done.changed s
 
-    at_station : (result : Answer) → DeviceDoes c.category (Some done.before.kind) n c asked result place (controls_of hs) done.before (controls_of gs) done.after → OnStation m c.device (DeviceDoes c.category (kind_of m c) n c asked result) m'
+    at_station : (result : Answer)
+        → DeviceDoes c.category (Some done.before.kind) n c asked result place (controls_of hs) done.before (controls_of gs) done.after
+        → OnStation m c.device (DeviceDoes c.category (kind_of m c) n c asked result) m'
     at_station result does = on_station hs gs ds es shared place c.device (DeviceDoes c.category (kind_of m c) n c asked result) device (record {
       device = done.device;
       before = done.before;
@@ -209,7 +231,8 @@ device_step hs gs ds es shared n place c asked r own at is device lets done =
       changed = done.changed;
     })
 
-    by_outcome : (o : Result Answer NoMemory) → CallsFor n asked place o c (controls_of hs) done.before (controls_of gs) done.after → Step m (CallOf n asked) (answered o) m'
+    by_outcome : (o : Result Answer NoMemory) → CallsFor n asked place o c (controls_of hs) done.before (controls_of gs) done.after
+        → Step m (CallOf n asked) (answered o) m'
     by_outcome (Ok result) h =
         match_at_some _ c _ _ at (record {
           outcome = match_by _ _ _ _ unrefused (

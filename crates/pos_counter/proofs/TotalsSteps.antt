@@ -30,17 +30,20 @@ use Rattle.pos_counter.proofs.Lifts.{match_at_some, match_by, match_weaker}
 use Rattle.pos_counter.proofs.Stations.{IsLet, let_refusals, own_does, own_takes}
 
 -- behind the check of an open control of Hard Totals, the totals' refusals decide
-totals_refusals : (m : Machine) (n : ℕ) (c : Control) (asked : Call) → is_common asked ≡ false → c.category ≡ category.HardTotals → IsLet m n c asked → first_refusal (refusals m n c asked) ≡ first_refusal (file_rows m.totals.totals n (file_call asked))
+totals_refusals : (m : Machine) (n : ℕ) (c : Control) (asked : Call) → is_common asked ≡ false → c.category ≡ category.HardTotals → IsLet m n c asked
+    → first_refusal (refusals m n c asked) ≡ first_refusal (file_rows m.totals.totals n (file_call asked))
 totals_refusals m n c asked own is lets = let_refusals m n c asked own lets ∙ ap (λ k. first_refusal (category_rows k m n c asked)) is
 
 -- what the totals do with a call on an enabled control is a step
-called_step : (m : Machine) (part : TotalsPart) (n : ℕ) (c : Control) (asked : Call) (outcome : Result Answer NoMemory) → is_common asked ≡ false → slice_get m.controls n ≡ Some c → c.category ≡ category.HardTotals → IsLet m n c asked
+called_step : (m : Machine) (part : TotalsPart) (n : ℕ) (c : Control) (asked : Call) (outcome : Result Answer NoMemory) → is_common asked ≡ false
+    → slice_get m.controls n ≡ Some c → c.category ≡ category.HardTotals → IsLet m n c asked
     → FilesCalled n asked m.totals outcome part → Step m (CallOf n asked) (answered outcome) (record m { totals = part })
 called_step m part n c asked (Ok result) own at is lets h =
     match_at_some _ c _ _ at (record {
       outcome = match_by _ _ _ _ (totals_refusals m n c asked own is lets)
           (match_weaker (first_refusal (file_rows m.totals.totals n (file_call asked))) _ _ _ _
-          (λ does. own_does m n c asked result (record m { totals = part }) own (subst (λ k. CategoryDoes k m n c asked result (record m { totals = part })) (sym is) (does, refl)))
+          (λ does. own_does m n c asked result (record m { totals = part }) own
+          (subst (λ k. CategoryDoes k m n c asked result (record m { totals = part })) (sym is) (does, refl)))
           (λ refusal y. (y.0, ap (λ (p : TotalsPart). let o : Machine = record m { totals = p } in o) y.1))
           h.outcome);
     })
@@ -52,12 +55,14 @@ called_step m part n c asked (Err want) own at is lets h =
     )
 
 -- a call of the totals' own that asks nothing of the disk has no changes
-asks_no_change : (part : TotalsPart) (n : ℕ) (c : Control) (asked : Call) → is_common asked ≡ false → AsksNothing part n c asked → changes_asked part.totals n (file_call asked) ≡ []
+asks_no_change : (part : TotalsPart) (n : ℕ) (c : Control) (asked : Call) → is_common asked ≡ false → AsksNothing part n c asked
+    → changes_asked part.totals n (file_call asked) ≡ []
 asks_no_change part n c (call.Set p v) own asks = cc
 asks_no_change part n c asked own asks = asks
 
 -- behind its control's check, it leaves the disk alone exactly where the totals do
-spares_own : (m : Machine) (n : ℕ) (c : Control) (asked : Call) → is_common asked ≡ false → slice_get m.controls n ≡ Some c → c.category ≡ category.HardTotals → IsLet m n c asked → SparesDisk m (CallOf n asked) → SparesFiles m.totals.totals n (file_call asked)
+spares_own : (m : Machine) (n : ℕ) (c : Control) (asked : Call) → is_common asked ≡ false → slice_get m.controls n ≡ Some c
+    → c.category ≡ category.HardTotals → IsLet m n c asked → SparesDisk m (CallOf n asked) → SparesFiles m.totals.totals n (file_call asked)
 spares_own m n c asked own at is lets spares = by_row (subst (λ (o : Option Control). MatchOption o ⊤ Spares) at spares)
   where
     Spares : Control → Type 0
@@ -79,8 +84,10 @@ still_ready old Off turns ready = ready
 still_ready old (Ready files sequence) turns ready = turns
 
 -- a call of the totals' own that its control may make
-pub files_serve : {D : Type 0} (bound : Ghosts D) (view new : TotalsView D) (hs : List Held) (cl : List (Option ℕ)) (ds : List Device) (n : ℕ) (c : Control) (asked : Call) (outcome : Result Answer NoMemory)
-    → is_common asked ≡ false → slice_get (controls_of hs) n ≡ Some c → c.category ≡ category.HardTotals → ((left : List Standing) → IsLet (machine_with hs cl ds (part_of bound view left)) n c asked)
+pub files_serve : {D : Type 0} (bound : Ghosts D) (view new : TotalsView D) (hs : List Held) (cl : List (Option ℕ)) (ds : List Device) (n : ℕ)
+    (c : Control) (asked : Call) (outcome : Result Answer NoMemory)
+    → is_common asked ≡ false → slice_get (controls_of hs) n ≡ Some c → c.category ≡ category.HardTotals
+    → ((left : List Standing) → IsLet (machine_with hs cl ds (part_of bound view left)) n c asked)
     → CallsFiles bound view n asked outcome new → ArePartsSound hs ds → Serves bound hs cl ds view (CallOf n asked) (answered outcome) hs cl ds new
 files_serve bound view new hs cl ds n c asked outcome own at is lets calls sound = record {
   steps = λ left leaves.

@@ -39,7 +39,7 @@ sets_enabled enabled =
 -- a control of Hard Totals is made, opened and enabled, and asks for a file of one byte, in which the disk fails
 abbrev pub steps_into_doubt : List (Request × Response)
 steps_into_doubt =
-    (NewControl category.HardTotals, Made 0)
+    (NewControl tt category.HardTotals, Made 0)
     ∷ (CallOf 0 (call.Open (116 ∷ 49 ∷ [])), Answered (answer.Done value.Empty))
     ∷ sets_enabled true
     ∷ (CallOf 0 (call.Create (97 ∷ []) (pos 1) false), Answered (answer.Refused code.Failure 0))

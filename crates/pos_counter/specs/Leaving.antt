@@ -1,8 +1,8 @@
 -- What a crash may leave of a counter's disk, before, in and after a step.
-use Rattle.std.specs.Prelude.{◌≡◌, ◌⊎◌, ℕ, List}
+use Rattle.std.specs.Prelude.{◌≡◌, List}
 use Rattle.pos_disk.specs.State.{LeavesOnly}
 use Rattle.pos_disk.specs.declared.device.Disk.{Ghosts}
-use Rattle.pos_store.specs.Standing.{Standing, LeavesOneOf, StandsForOneOf}
+use Rattle.pos_store.specs.Standing.{Standing, LeavesOneOf, StandsForEither}
 use Rattle.pos_totals.specs.Views.{TotalsView}
 use Rattle.pos_counter.specs.Machine.{Machine}
 use Rattle.pos_counter.specs.Steps.{Request, Response, Step}
@@ -19,10 +19,6 @@ pub record Leaves {D : Type 0} (bound : Ghosts D) (view : TotalsView D) (left : 
   pub leaves : LeavesOneOf left (bound.state view.disk)
   pub is_settled : left ≡ settled view.totals.mode left
 
--- the bytes stand for one of the standings before a step or of those after it
-abbrev pub IsLeft : List Standing → List Standing → List ℕ → Type 0
-IsLeft before after bytes = StandsForOneOf before bytes ⊎ StandsForOneOf after bytes
-
 -- A step, by what the disk may leave before it: a crash at any moment leaves what may be left before the step or after
 -- it, and a crash now what may be left after it.
 pub record Stepped {D : Type 0} (bound : Ghosts D) (left : List Standing) (old : TotalsPart → Machine)
@@ -31,4 +27,4 @@ pub record Stepped {D : Type 0} (bound : Ghosts D) (left : List Standing) (old :
   pub after : List Standing
   pub leaves : Leaves bound now after
   pub step : Step (old (part_of bound before left)) request response (new (part_of bound now after))
-  pub any_moment : LeavesOnly (bound.state before.disk) (bound.state now.disk) (IsLeft left after)
+  pub any_moment : LeavesOnly (bound.state before.disk) (bound.state now.disk) (StandsForEither left after)

@@ -9,6 +9,7 @@ pub mod KeptDevices
 pub mod Leaving
 pub mod Machine
 pub mod Prefixes
+pub mod Reopening
 pub mod Responses
 pub mod Serving
 pub mod Steps

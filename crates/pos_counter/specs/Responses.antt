@@ -1,13 +1,19 @@
 -- A counter's requests and what its calls answer, as requests and responses of the machine.
-use Rattle.std.specs.Prelude.{ℕ, List, Result, Ok, Err, map, zip}
+use Rattle.std.specs.Prelude.{◌≡◌, ℕ, true, false, List, Result, Ok, Err, map, zip, ⊤}
 use Rattle.pos_service.specs.declared.answer.Answer.{Answer}
 use Rattle.pos_service.specs.declared.memory.NoMemory.{NoMemory}
+use Rattle.pos_service.specs.declared.peripheral.Peripheral.{Ghosts}
 use Rattle.pos_service.specs.declared.plant.Snapshot.{Snapshot}
+use Rattle.pos_service.specs.declared.request.Request.{Request}
+use Rattle.pos_service.specs.declared.request.Request.TheVariants as request
+use Rattle.pos_service.specs.declared.request.Response.{Response}
+use Rattle.pos_service.specs.declared.request.Response.TheVariants as response
 use Rattle.pos_service.specs.declared.worked.Worked.{Worked}
-use Rattle.pos_profile.specs.declared.registry_fault.AttachFault.{AttachFault}
-use Rattle.pos_profile.specs.declared.registry_fault.DetachFault.{DetachFault}
+use Rattle.pos_service.specs.declared.exchange_fault.AttachFault.{AttachFault}
+use Rattle.pos_service.specs.declared.exchange_fault.DetachFault.{DetachFault}
 use Rattle.pos_service.specs.Peripherals.{PeripheralState}
-use Rattle.pos_service.specs.Stations.{station_of}
+use Rattle.pos_service.specs.Requests.{request_by, response_by}
+use Rattle.pos_service.specs.Stations.{Station, station_of}
 use Rattle.pos_counter.specs.Steps as machine
 use Rattle.pos_counter.specs.declared.faults.ControlFault.{ControlFault}
 use Rattle.pos_counter.specs.declared.faults.ControlFault.TheVariants as control_fault
@@ -17,73 +23,72 @@ use Rattle.pos_counter.specs.declared.faults.SnapshotFault.{SnapshotFault}
 use Rattle.pos_counter.specs.declared.faults.SnapshotFault.TheVariants as snapshot_fault
 use Rattle.pos_counter.specs.declared.faults.WorkFault.{WorkFault}
 use Rattle.pos_counter.specs.declared.faults.WorkFault.TheVariants as work_fault
-use Rattle.pos_counter.specs.declared.request.Request.{Request}
-use Rattle.pos_counter.specs.declared.request.Request.TheVariants as request
-use Rattle.pos_counter.specs.declared.request.Response.{Response}
-use Rattle.pos_counter.specs.declared.request.Response.TheVariants as response
 
 -- what `control` answers
 abbrev pub made : Result ℕ ControlFault → machine.Response
-made (Ok number) = machine.Made number
-made (Err control_fault.Full) = machine.Full
-made (Err control_fault.NoMemory) = machine.OutOfMemory
+made (Ok number) = response.Made number
+made (Err control_fault.Full) = response.Full
+made (Err control_fault.NoMemory) = response.OutOfMemory
 
 -- what `call` answers
 abbrev pub answered : Result Answer NoMemory → machine.Response
-answered (Ok answer) = machine.Answered answer
-answered (Err want) = machine.OutOfMemory
+answered (Ok answer) = response.Answered answer
+answered (Err want) = response.OutOfMemory
 
 -- what `input` answers
 abbrev pub taken_in : Result (Unit {0}) InputFault → machine.Response
-taken_in (Ok u) = machine.TakenIn
-taken_in (Err input_fault.NoDevice) = machine.NoDevice
-taken_in (Err input_fault.WrongInput) = machine.WrongInput
-taken_in (Err input_fault.NoMemory) = machine.OutOfMemory
+taken_in (Ok u) = response.TakenIn
+taken_in (Err input_fault.NoDevice) = response.NoDevice
+taken_in (Err input_fault.WrongInput) = response.WrongInput
+taken_in (Err input_fault.NoMemory) = response.OutOfMemory
 
 -- what `work` answers
 abbrev pub worked : Result Worked WorkFault → machine.Response
-worked (Ok result) = machine.Worked result
-worked (Err work_fault.NoDevice) = machine.NoDevice
-worked (Err work_fault.NoMemory) = machine.OutOfMemory
+worked (Ok result) = response.Worked result
+worked (Err work_fault.NoDevice) = response.NoDevice
+worked (Err work_fault.NoMemory) = response.OutOfMemory
 
 -- what `snapshot` answers
 abbrev pub shown : Result Snapshot SnapshotFault → machine.Response
-shown (Ok snapshot) = machine.Shown snapshot.0
-shown (Err snapshot_fault.NoDevice) = machine.NoDevice
-shown (Err snapshot_fault.NoMemory) = machine.OutOfMemory
+shown (Ok snapshot) = response.Shown snapshot
+shown (Err snapshot_fault.NoDevice) = response.NoDevice
+shown (Err snapshot_fault.NoMemory) = response.OutOfMemory
 
--- what `attach` answers
-abbrev pub attached : {B : Type 0} → Result (Unit {0}) (AttachFault × B) → machine.Response
-attached (Ok u) = machine.Attached
-attached (Err refusal) = machine.NotAttached refusal.0
+-- what `attach` answers, by what the peripheral is that it hands back
+abbrev pub attached : {P : Type 0} → (P → PeripheralState) → Result (Unit {0}) (AttachFault × P) → machine.Response
+attached state (Ok u) = response.Attached
+attached state (Err refusal) = response.NotAttached refusal.0 (station_of (state refusal.1))
 
 -- what `detach` answers, by what the peripheral is that it hands out
-abbrev pub detached : {B : Type 0} → (B → PeripheralState) → Result B DetachFault → machine.Response
-detached state (Ok peripheral) = machine.Detached (station_of (state peripheral))
-detached state (Err fault) = machine.NotDetached fault
+abbrev pub detached : {P : Type 0} → (P → PeripheralState) → Result P DetachFault → machine.Response
+detached state (Ok peripheral) = response.Detached (station_of (state peripheral))
+detached state (Err fault) = response.NotDetached fault
+
+-- what stands at a device, or would stand there, where a peripheral serves it
+abbrev pub stands_as : {P : Type 0} → Ghosts P → P → Station
+stands_as peripherals peripheral = station_of (peripherals.state peripheral)
 
 -- a request to the machine
-abbrev pub request_of : Request → machine.Request
-request_of (request.NewControl category) = machine.NewControl category
-request_of (request.CallOf number call) = machine.CallOf number call
-request_of (request.InputTo name input) = machine.InputTo name input
-request_of (request.WorkOn name) = machine.WorkOn name
-request_of (request.Deliver number reply) = machine.Deliver number reply
-request_of (request.Snapshot name) = machine.Snapshot name
+abbrev pub request_of : {P : Type 0} → Ghosts P → Request (Unit {0}) ℕ P → machine.Request
+request_of peripherals asked = request_by (stands_as peripherals) asked
 
 -- a response of the machine
-abbrev pub response_of : Response → machine.Response
-response_of (response.Made number) = machine.Made number
-response_of response.Full = machine.Full
-response_of (response.Answered answer) = machine.Answered answer
-response_of response.TakenIn = machine.TakenIn
-response_of response.NoDevice = machine.NoDevice
-response_of response.WrongInput = machine.WrongInput
-response_of (response.Worked result) = machine.Worked result
-response_of (response.Delivered event) = machine.Delivered event
-response_of (response.Shown snapshot) = machine.Shown snapshot.0
-response_of response.OutOfMemory = machine.OutOfMemory
+abbrev pub response_of : {P : Type 0} → Ghosts P → Response P → machine.Response
+response_of peripherals given = response_by (stands_as peripherals) given
 
 -- each request with its response, as steps of the machine
-abbrev pub steps_of : List Request → List Response → List (machine.Request × machine.Response)
-steps_of requests responses = zip (map request_of requests) (map response_of responses)
+abbrev pub steps_of : {P : Type 0} → Ghosts P → List (Request (Unit {0}) ℕ P) → List (Response P)
+    → List (machine.Request × machine.Response)
+steps_of peripherals requests responses =
+    zip (map (request_of peripherals) requests) (map (response_of peripherals) responses)
+
+-- a peripheral that is to be attached is in service
+abbrev pub OffersInService : {P : Type 0} → Ghosts P → Request (Unit {0}) ℕ P → Type 0
+OffersInService peripherals (request.Attach name peripheral) = (peripherals.state peripheral).is_parked ≡ false
+OffersInService peripherals other = ⊤
+
+-- a peripheral that was detached is out of service, and one that is handed back is in service
+abbrev pub HandsOut : {P : Type 0} → Ghosts P → Response P → Type 0
+HandsOut peripherals (response.Detached peripheral) = (peripherals.state peripheral).is_parked ≡ true
+HandsOut peripherals (response.NotAttached fault peripheral) = (peripherals.state peripheral).is_parked ≡ false
+HandsOut peripherals other = ⊤

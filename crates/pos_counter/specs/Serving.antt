@@ -8,7 +8,7 @@ use Rattle.pos_totals.specs.TotalsCalls.{file_call}
 use Rattle.pos_common.specs.Held.{Held, controls_of}
 use Rattle.pos_disk.specs.State.{LeavesOnly}
 use Rattle.pos_disk.specs.declared.device.Disk.{Ghosts}
-use Rattle.pos_store.specs.Standing.{Standing}
+use Rattle.pos_store.specs.Standing.{Standing, StandsForEither}
 use Rattle.pos_disk.specs.Keeps.{KeepsDisk}
 use Rattle.pos_totals.specs.Changes.{IsDone}
 use Rattle.pos_totals.specs.Views.{IsReady, TotalsView, TurnsOff}
@@ -22,7 +22,7 @@ use Rattle.pos_service.specs.declared.property.Property.{Property}
 use Rattle.pos_counter.specs.DiskUse.{IsUndone, SparesDisk, SparesFiles}
 use Rattle.pos_counter.specs.Totals.{TotalsPart, FilesCalled, asks_recovery}
 use Rattle.pos_counter.specs.Assembly.{over, machine_with, ArePartsSound}
-use Rattle.pos_counter.specs.Leaving.{part_of, Leaves, IsLeft, Stepped}
+use Rattle.pos_counter.specs.Leaving.{part_of, Leaves, Stepped}
 
 -- From some parts of a counter to others, the request gets this response, whatever the claims and totals, which have
 -- no part in it. The parts are sound again.
@@ -70,7 +70,7 @@ pub record MakesControl {D : Type 0} (helds : List Held) (before : TotalsView D)
   pub step : (devices : List Device) (claims : List (Option ℕ)) (left : List Standing) (failures : ℕ) →
       let old : TotalsPart = record { totals = before.totals; left = left; failures = failures } in
       let new : TotalsPart = record { totals = now.totals; left = left; failures = failures } in
-      Step (over helds devices (record { claims = claims; totals = old })) (NewControl category) (made outcome)
+      Step (over helds devices (record { claims = claims; totals = old })) (NewControl tt category) (made outcome)
       (over new_helds devices (record { claims = claims; totals = new }))
   pub mode : now.totals.mode ≡ before.totals.mode
   pub disk : now.disk ≡ before.disk
@@ -81,7 +81,7 @@ pub record FilesStepped {D : Type 0} (bound : Ghosts D) (left : List Standing) (
   pub after : List Standing
   pub leaves : Leaves bound now after
   pub answer : FilesCalled number asked (part_of bound before left) outcome (part_of bound now after)
-  pub any_moment : LeavesOnly (bound.state before.disk) (bound.state now.disk) (IsLeft left after)
+  pub any_moment : LeavesOnly (bound.state before.disk) (bound.state now.disk) (StandsForEither left after)
 
 -- What the totals do with a call of their own on an enabled control.
 pub record CallsFiles {D : Type 0} (bound : Ghosts D) (before : TotalsView D) (number : ℕ) (asked : Call)

@@ -9,15 +9,11 @@ use Rattle.pos_service.specs.declared.call.Call.TheVariants as call
 use Rattle.pos_service.specs.declared.display_text.Place.{Place}
 use Rattle.pos_service.specs.declared.input.Input.{Input}
 use Rattle.pos_service.specs.declared.kind.Kind.{Kind}
-use Rattle.pos_service.specs.declared.plant.Plant.{Plant}
-use Rattle.pos_service.specs.declared.event.Event.{Event}
-use Rattle.pos_service.specs.declared.event.ErrorReply.{ErrorReply}
 use Rattle.pos_service.specs.declared.answer.Answer.{Answer}
 use Rattle.pos_service.specs.declared.answer.Answer.TheVariants as answer
 use Rattle.pos_service.specs.declared.answer.Value.TheVariants as value
 use Rattle.pos_service.specs.declared.code.Code.TheVariants as code
 use Rattle.pos_service.specs.declared.deed.Deed.{Deed}
-use Rattle.pos_service.specs.declared.worked.Worked.{Worked as WorkResult}
 use Rattle.pos_service.specs.Displays.{is_cursor_place}
 use Rattle.pos_service.specs.Kinds.{is_display, rows_of, columns_of}
 use Rattle.pos_service.specs.Peripherals.{IsInRange, input_fits}
@@ -37,44 +33,28 @@ use Rattle.pos_service.specs.ScannerCalls.{scanner_deed}
 use Rattle.pos_service.specs.declared.property.Property.{Property}
 use Rattle.pos_service.specs.declared.answer.Value.{Value}
 use Rattle.pos_service.specs.declared.facts.Facts.{Facts}
-use Rattle.pos_profile.specs.declared.registry_fault.AttachFault.{AttachFault}
-use Rattle.pos_profile.specs.declared.registry_fault.AttachFault.TheVariants as attach
-use Rattle.pos_profile.specs.declared.registry_fault.DetachFault.{DetachFault}
-use Rattle.pos_profile.specs.declared.registry_fault.DetachFault.TheVariants as detach
+use Rattle.pos_service.specs.declared.request.Request.{Request as RequestOf}
+pub use Rattle.pos_service.specs.declared.request.Request.TheVariants.{NewControl, CallOf, InputTo, WorkOn, Deliver, Snapshot, Attach, Detach}
+use Rattle.pos_service.specs.declared.request.Response.{Response as ResponseOf}
+pub use Rattle.pos_service.specs.declared.request.Response.TheVariants.{Made, Full, Answered, TakenIn, NoDevice, WrongInput, Worked, Delivered, Shown, Attached, NotAttached, Detached, NotDetached, OutOfMemory}
+use Rattle.pos_service.specs.declared.exchange_fault.AttachFault.{AttachFault}
+use Rattle.pos_service.specs.declared.exchange_fault.AttachFault.TheVariants as attach
+use Rattle.pos_service.specs.declared.exchange_fault.DetachFault.{DetachFault}
+use Rattle.pos_service.specs.declared.exchange_fault.DetachFault.TheVariants as detach
 use Rattle.pos_totals.specs.HardTotals.{layout_1, in_transaction, with_control as with_place}
 use Rattle.pos_totals.specs.TotalsClaims.{is_area_taken, without_control}
 use Rattle.pos_totals.specs.TotalsCalls.{file_call, file_rows}
 use Rattle.pos_counter.specs.Totals.{TotalsDo, Recovered, Recovers, recovers, file_facts}
 use Rattle.pos_counter.specs.Machine.{Device, Machine, place_of, device_at, station_in, station_named, kind_named, found_under, holder_of, kind_of, with_control, with_station, with_standing, with_totals}
 
--- what may be asked of the machine: controls by their numbers, devices by their names; a peripheral that is to be
+-- what may be asked of the machine: a new control without a name, controls by their numbers; a peripheral that is to be
 -- attached by what would stand at the device
-pub data Request : Type 0 where
-  NewControl : Category → Request
-  CallOf : ℕ → Call → Request
-  InputTo : List ℕ → Input → Request
-  WorkOn : List ℕ → Request
-  Deliver : ℕ → ErrorReply → Request
-  Snapshot : List ℕ → Request
-  Attach : List ℕ → Station → Request
-  Detach : List ℕ → Request
+abbrev pub Request : Type 0
+Request = RequestOf (Unit {0}) ℕ Station
 
--- what it may answer
-pub data Response : Type 0 where
-  Made : ℕ → Response
-  Full : Response
-  Answered : Answer → Response
-  TakenIn : Response
-  NoDevice : Response
-  WrongInput : Response
-  Worked : WorkResult → Response
-  Delivered : Option Event → Response
-  Shown : Plant → Response
-  Attached : Response
-  NotAttached : AttachFault → Response
-  Detached : Station → Response
-  NotDetached : DetachFault → Response
-  OutOfMemory : Response
+-- what it may answer: a peripheral that it hands out by what stood there, or would have
+abbrev pub Response : Type 0
+Response = ResponseOf Station
 
 -- what is known of the control with a number and of its device, as properties tell it
 abbrev pub facts_of : Machine → ℕ → Control → Facts
@@ -309,13 +289,13 @@ IsNotDetachedFor machine name detach.InUse = IsOpenUnder machine name
 
 -- From old, the machine may give this response to the request, and is new then.
 abbrev pub Step : Machine → Request → Response → Machine → Type 0
-Step old (NewControl category) (Made number) new =
+Step old (NewControl u category) (Made number) new =
     (length old.controls < most_controls) × (number ≡ length old.controls)
     × (new ≡ record (with_totals old (with_place old.totals.totals)) {
       controls = old.controls ++ new_control category ∷ [];
     })
-Step old (NewControl category) Full new = (most_controls ≤ length old.controls) × (new ≡ old)
-Step old (NewControl category) OutOfMemory new = (length old.controls < most_controls) × (new ≡ old)
+Step old (NewControl u category) Full new = (most_controls ≤ length old.controls) × (new ≡ old)
+Step old (NewControl u category) OutOfMemory new = (length old.controls < most_controls) × (new ≡ old)
 -- a call on a control that isn't there is illegal
 Step old (CallOf number call) (Answered result) new =
     MatchOption (slice_get old.controls number) ((result ≡ answer.Refused code.Illegal 0) × (new ≡ old))
@@ -334,14 +314,15 @@ Step old (WorkOn name) OutOfMemory new = FindsWork old name × (new ≡ old)
 Step old (Deliver number reply) (Delivered event) new =
     MatchOption (slice_get old.controls number) ((event ≡ None) × (new ≡ old))
     (λ control. (event ≡ deliverable control) × (new ≡ with_control old number (delivered reply control)))
-Step old (Snapshot name) (Shown plant) new =
-    IfSome (station_named old name) (λ station. station.plant ≡ plant)
+Step old (Snapshot name) (Shown shown) new =
+    IfSome (station_named old name) (λ station. station.plant ≡ shown.0)
     × (is_some (station_named old name) ≡ true) × (new ≡ old)
 Step old (Snapshot name) NoDevice new = (station_named old name ≡ None) × (new ≡ old)
 Step old (Snapshot name) OutOfMemory new = (is_some (station_named old name) ≡ true) × (new ≡ old)
 Step old (Attach name station) Attached new = IsAttached old name station new
-Step old (Attach name station) (NotAttached fault) new =
-    IsNotAttachedFor old name station fault × (new ≡ old)
+-- a refusal hands the peripheral back as it is
+Step old (Attach name station) (NotAttached fault given) new =
+    IsNotAttachedFor old name station fault × (given ≡ station) × (new ≡ old)
 Step old (Detach name) (Detached station) new = IsDetached old name station new
 Step old (Detach name) (NotDetached fault) new = IsNotDetachedFor old name fault × (new ≡ old)
 -- no other response is given

@@ -26,7 +26,7 @@ use Rattle.pos_service.specs.Refusals.{Decided, first_refusal}
 use Rattle.pos_totals.specs.TotalsCalls.{FileCall, Asks, Makes, Arranges, Commits, Nothing, file_call, file_rows}
 use Rattle.pos_store.specs.Standing.{Standing, Unformatted, Damaged, IsOneOf}
 pub use Rattle.pos_totals.specs.Changes.{settled}
-use Rattle.pos_totals.specs.Changes.{IsOneGroup, before_or_after}
+use Rattle.pos_totals.specs.Changes.{IsOneGroup, left_after as left_after_group}
 use Rattle.pos_totals.specs.Recoveries.{HasFound, HasTooMany}
 use Rattle.pos_totals.specs.Views.{TurnsOff}
 
@@ -42,14 +42,9 @@ abbrev pub file_facts : Mode → Option FileFacts
 file_facts Off = None
 file_facts (Ready files sequence) = Some (record { free = free_data layout_1 files; count = length files })
 
--- what a crash leaves where the disk has failed while these changes were put on it as one group
-abbrev pub in_doubt : TotalsPart → List Change → Mode → List Standing
-in_doubt old changes Off = old.left
-in_doubt old changes (Ready files sequence) = before_or_after old.totals.next (Ready files sequence) changes
-
--- what a crash leaves after that: the files that the totals have; where they are off, those before or after the group
+-- what a crash leaves after changes were put on the disk as one group, by the mode then
 abbrev pub left_after : TotalsPart → List Change → Mode → List Standing
-left_after old changes now = settled now (in_doubt old changes old.totals.mode)
+left_after old changes now = left_after_group old.totals.next old.left old.totals.mode changes now
 
 -- the disk fails only where that turns the totals off: else the count of its failures is as it was
 abbrev pub FailsTurningOff : TotalsPart → TotalsPart → Type 0

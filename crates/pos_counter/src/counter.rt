@@ -1,25 +1,25 @@
-ghost use Rattle.std.specs.Prelude.{◌≡◌, [], false, true, length, IfOk, IfErr, OnErr};
+ghost use Rattle.std.specs.Prelude.{◌≡◌, [], false, true, length, All, IfOk, IfErr, OnErr};
 ghost use Rattle.pos_disk.specs.State.{IsAtRest};
 ghost use Rattle.pos_profile.specs.Registries.{devices_of as registered_in};
 ghost use Rattle.pos_service.specs.Stations.{station_of};
 ghost use Rattle.pos_totals.specs.Views.{WhenReady};
 ghost use Rattle.pos_counter.specs.Steps.{Attach, Detach, NewControl, CallOf, InputTo, WorkOn, Deliver, Delivered, Snapshot as SnapshotOf};
 ghost use Rattle.pos_counter.specs.KeptDevices.{HandsOver};
-ghost use Rattle.pos_counter.specs.Responses.{made, answered, attached, detached, taken_in, worked, shown, request_of, response_of, steps_of};
+ghost use Rattle.pos_counter.specs.Responses.{HandsOut, OffersInService, made, answered, attached, detached, taken_in, worked, shown, request_of, response_of, steps_of};
 ghost use Rattle.pos_counter.specs.Totals.{TotalsPart};
 ghost use Rattle.pos_counter.specs.Counters.{machine, Begins, IsStep, IsStepBeside, IsRun, Stays, IsCounterSound};
 
 use crate::desk::Desk;
 use crate::devices::Devices;
 use crate::faults::{ControlFault, InputFault, SnapshotFault, WorkFault};
-use crate::request::{Request, Response};
-use crate::{device_calls, exchange, working};
+use crate::{device_calls, exchange, responses, working};
 use pos_common::Claims;
 use pos_disk::Disk;
 use pos_profile::laws::is_profile;
-use pos_profile::{AttachFault, DetachFault, Profile, Slot};
+use pos_profile::{Profile, Slot};
 use pos_service::{
-    Answer, Call, Category, ErrorReply, Event, Input, NoMemory, Peripheral, Snapshot, Worked,
+    Answer, AttachFault, Call, Category, DetachFault, ErrorReply, Event, Input, NoMemory,
+    Peripheral, Request, Response, Snapshot, Worked,
 };
 use pos_totals::Totals;
 use std::alloc::Global;
@@ -88,7 +88,8 @@ impl<D: Disk, P: Peripheral> Counter<D, P> {
         requires sound { IsCounterSound P.Peripheral self.old }
         requires unparked { (P.Peripheral.state peripheral).is_parked ≡ false }
         ensures step { IsStepBeside P.Peripheral self.old
-            (Attach name.now (station_of (P.Peripheral.state peripheral))) (attached result) self.new }
+            (Attach name.now (station_of (P.Peripheral.state peripheral)))
+            (attached P.Peripheral.state result) self.new }
         ensures handed_back { IfErr result (λ refusal. refusal.1 ≡ peripheral) }
         ensures sound { IsCounterSound P.Peripheral self.new }
     {
@@ -115,7 +116,7 @@ impl<D: Disk, P: Peripheral> Counter<D, P> {
     /// Refused with Full where there are 4,096 controls, closed ones included. Want of memory changes nothing.
     pub fn control(&mut self, category: Category) -> Result<usize, ControlFault>
         requires sound { IsCounterSound P.Peripheral self.old }
-        ensures step { IsStep D.Disk P.Peripheral self.old (NewControl category) (made result) self.new }
+        ensures step { IsStep D.Disk P.Peripheral self.old (NewControl tt category) (made result) self.new }
         ensures sound { IsCounterSound P.Peripheral self.new }
     {
         self.desk.control(&mut self.totals, category)
@@ -202,40 +203,60 @@ impl<D: Disk, P: Peripheral> Counter<D, P> {
         device_calls::snapshot(&self.devices, device)
     }
 
-    /// Carries out requests one after another: what is answered to each, in order.
+    /// Carries out requests one after another: what is answered to each, in order. Each peripheral that is to be
+    /// attached is in service.
     ///
-    /// Want of memory for the list of answers changes nothing. A request that finds no memory is answered so.
-    pub fn perform(&mut self, requests: &[Request]) -> Result<Vec<Response>, NoMemory>
+    /// Want of memory for the list of answers changes nothing, and hands the requests back. A request that finds no
+    /// memory is answered so.
+    pub fn perform<'a>(
+        &mut self,
+        requests: Vec<Request<'a, (), usize, P>>,
+    ) -> Result<Vec<Response<P>>, (NoMemory, Vec<Request<'a, (), usize, P>>)>
         requires sound { IsCounterSound P.Peripheral self.old }
+        requires in_service { All (OffersInService P.Peripheral) requests.items }
         ensures run { IfOk result (λ responses.
-            IsRun D.Disk P.Peripheral self.old (steps_of requests.now responses.items) self.new) }
-        ensures whole { IfOk result (λ responses. length responses.items ≡ length requests.now) }
+            IsRun D.Disk P.Peripheral self.old (steps_of P.Peripheral requests.entry.items responses.items) self.new) }
+        ensures whole { IfOk result (λ responses. length responses.items ≡ length requests.entry.items) }
+        ensures handed_out { IfOk result (λ responses. All (HandsOut P.Peripheral) responses.items) }
+        ensures handed_back { IfErr result (λ refusal. refusal.1 ≡ requests.entry) }
         ensures unchanged { OnErr result (Stays P.Peripheral self.old self.new) }
         ensures sound { IsCounterSound P.Peripheral self.new }
     {
-        let mut responses = Vec::with_capacity(self.desk.allocator(), requests.len())?;
-        for request in requests {
+        let Ok(mut responses) = Vec::with_capacity(self.desk.allocator(), requests.len()) else {
+            return Err((NoMemory, requests));
+        };
+        let mut waiting = requests;
+        waiting.reverse();
+        while let Some(request) = waiting.pop() {
             let response = self.carry_out(request);
             responses.push_reserved(response);
         }
+        waiting.destroy_empty();
         Ok(responses)
     }
 
-    /// Carries out a request.
-    fn carry_out(&mut self, request: &Request) -> Response
+    /// Carries out a request. A peripheral that is to be attached is in service.
+    fn carry_out(&mut self, request: Request<'_, (), usize, P>) -> Response<P>
         requires sound { IsCounterSound P.Peripheral self.old }
-        ensures step { IsStep D.Disk P.Peripheral self.old (request_of request.now) (response_of result) self.new }
+        requires in_service { OffersInService P.Peripheral request }
+        ensures step { IsStep D.Disk P.Peripheral self.old (request_of P.Peripheral request.entry)
+            (response_of P.Peripheral result) self.new }
+        ensures handed_out { HandsOut P.Peripheral result }
         ensures sound { IsCounterSound P.Peripheral self.new }
     {
         match request {
-            Request::NewControl(category) => Response::of_control(self.control(*category)),
-            Request::CallOf(number, call) => Response::of_call(self.call(*number, call)),
+            Request::NewControl(_, category) => responses::of_control(self.control(category)),
+            Request::CallOf(number, call) => responses::of_call(self.call(number, &call)),
             Request::InputTo(device, input) => {
-                Response::of_input(self.input(device.as_slice(), input))
+                responses::of_input(self.input(device.as_slice(), &input))
             }
-            Request::WorkOn(device) => Response::of_work(self.work(device.as_slice())),
-            Request::Deliver(number, reply) => Response::Delivered(self.deliver(*number, *reply)),
-            Request::Snapshot(device) => Response::of_snapshot(self.snapshot(device.as_slice())),
+            Request::WorkOn(device) => responses::of_work(self.work(device.as_slice())),
+            Request::Deliver(number, reply) => Response::Delivered(self.deliver(number, reply)),
+            Request::Snapshot(device) => responses::of_snapshot(self.snapshot(device.as_slice())),
+            Request::Attach(device, peripheral) => {
+                responses::of_attach(self.attach(device.as_slice(), peripheral))
+            }
+            Request::Detach(device) => responses::of_detach(self.detach(device.as_slice())),
         }
     }
 

@@ -12,8 +12,7 @@ ghost use Rattle.pos_counter.specs.Steps.{Attach, Detach, has_open, is_open_at};
 
 use crate::devices::Devices;
 use pos_common::Control;
-use pos_profile::{AttachFault, DetachFault};
-use pos_service::Peripheral;
+use pos_service::{AttachFault, DetachFault, Peripheral};
 
 /// Has a peripheral serve the first device with a name.
 pub(crate) fn attach<P: Peripheral>(
@@ -26,7 +25,7 @@ pub(crate) fn attach<P: Peripheral>(
     requires sound { AreDevicesSound P.Peripheral devices.old }
     requires unparked { (P.Peripheral.state peripheral).is_parked ≡ false }
     ensures serves { ServesBeside controls.now (devices_in P.Peripheral devices.old)
-        (Attach name.now (station_of (P.Peripheral.state peripheral))) (attached result)
+        (Attach name.now (station_of (P.Peripheral.state peripheral))) (attached P.Peripheral.state result)
         controls.now (devices_in P.Peripheral devices.new) }
     ensures handed_back { IfErr result (λ refusal. refusal.1 ≡ peripheral) }
     ensures sound { AreDevicesSound P.Peripheral devices.new }

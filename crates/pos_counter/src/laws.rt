@@ -1,13 +1,18 @@
 //! Laws over the device machine, and what they say of a counter.
-ghost use Rattle.std.specs.Prelude.{◌≡◌, ◌⊎◌, List, [], ◌∷◌, ◌++◌, Some, None, ℕ};
+ghost use Rattle.std.specs.Prelude.{◌≡◌, ◌≤◌, ◌⊎◌, true, List, [], ◌∷◌, ◌++◌, Some, None, ℕ, length, slice_get};
 ghost use Rattle.pos_dir.specs.declared.file.File.{File};
-ghost use Rattle.pos_disk.specs.State.{Rises};
+ghost use Rattle.pos_dir.specs.declared.limits.TheConstants.{LAYOUT_1};
+ghost use Rattle.pos_disk.specs.State.{IsAtRest, Rises};
+ghost use Rattle.pos_profile.specs.declared.entry.Entry.{Entry};
 ghost use Rattle.pos_service.specs.declared.answer.Answer.{Answer};
 ghost use Rattle.pos_service.specs.declared.answer.Answer.TheVariants.{Refused};
+ghost use Rattle.pos_service.specs.declared.answer.Value.TheVariants.{Truth};
 ghost use Rattle.pos_service.specs.declared.code.Code.TheVariants.{Failure};
-ghost use Rattle.pos_store.specs.Standing.{Standing, IsOneOf};
+ghost use Rattle.pos_service.specs.declared.property.Property.TheVariants.{DeviceEnabled};
+ghost use Rattle.pos_service.specs.Controls.{Control};
+ghost use Rattle.pos_store.specs.Standing.{Standing, Stands, StandsFor, IsBytes, IsOneOf};
 ghost use Rattle.pos_totals.specs.Recoveries.{HasTooMany};
-ghost use Rattle.pos_counter.specs.Counters.{IsLeftDuring, IsRun, IsStep, IsStepBeside, RunsFrom};
+ghost use Rattle.pos_counter.specs.Counters.{Begins, IsLeftDuring, IsRun, IsStep, IsStepBeside, RunsFrom};
 ghost use Rattle.pos_counter.specs.Crashes.{BeginsOver, HasBegun, HasRun, KeepsPrefix, KeepsPrefixes};
 ghost use Rattle.pos_counter.specs.Examples.{MayHave, new_machine, steps_into_doubt, steps_through_doubt, a_group};
 ghost use Rattle.pos_counter.specs.History.{History, FilesEvent, begun, told, history_of, history_with};
@@ -15,8 +20,9 @@ ghost use Rattle.pos_counter.specs.Machine.{Machine};
 ghost use Rattle.pos_counter.specs.Leaving.{Leaves};
 ghost use Rattle.pos_counter.specs.Prefixes.{BeginsWith, IsFiles, IsPrefixAlong, StandsForSome, StartsWith};
 ghost use Rattle.pos_counter.specs.Prefixes.{LeavesPrefix, LeavesPrefixInside};
-ghost use Rattle.pos_counter.specs.Steps.{Request, Response, Step, Run};
-ghost use Rattle.pos_counter.specs.Totals.{Recovers, TotalsPart};
+ghost use Rattle.pos_counter.specs.Reopening.{FindsThem, enabling};
+ghost use Rattle.pos_counter.specs.Steps.{Request, CallOf, Response, Step, Run};
+ghost use Rattle.pos_counter.specs.Totals.{Recovers, TotalsPart, asks_recovery};
 
 use crate::counter::Counter;
 use pos_disk::Disk;
@@ -84,6 +90,35 @@ pub fn crash_leaves_a_prefix<D: Disk, P: Peripheral>(counter: &Counter<D, P>)
     ensures beside { (old : _) (request : Request) (response : Response)
         → IsStepBeside P.Peripheral old request response counter.now
         → IsStep D.Disk P.Peripheral old request response counter.now }
+{}
+
+/// Totals that are off over a disk that stands for some files, as each crash leaves it. An enabling of a control of
+/// Hard Totals finds these very files, and else it was refused by its table, or the disk failed, or there were too few
+/// handles, or no memory.
+pub fn enabling_finds_the_files()
+    ensures finds { (start : List File) (sequence : ℕ) (old new : Machine) (number : ℕ) (control : Control)
+        (response : Response)
+        → StartsWith start sequence old.totals → slice_get old.controls number ≡ Some control
+        → asks_recovery control DeviceEnabled (Truth true) ≡ true
+        → Step old (CallOf number enabling) response new
+        → FindsThem start sequence old number control response new }
+    // of a counter that has given no handle there are enough: so E_FAILURE of a recovery means that the disk failed
+    ensures failed { (start : List File) (sequence : ℕ) (first last : Machine) (steps : List (Request × Response))
+        → Run first steps last → StartsWith start sequence first.totals → length start ≤ LAYOUT_1.files
+        → last.totals.totals.next ≡ 1
+        → (result : Answer) (new : TotalsPart) → Recovers last.totals result new
+        → (result ≡ Refused Failure 0) × Rises last.totals.failures new.failures }
+    // a disk stands for so few files
+    ensures few { (files : List File) (sequence : ℕ) (bytes : List ℕ)
+        → StandsFor (Stands files sequence) bytes → length files ≤ LAYOUT_1.files }
+{}
+
+/// A new counter over an honest disk at rest: whatever the disk's bytes are, they stand for one thing, and a crash
+/// leaves that alone.
+pub fn new_counter_leaves_one_thing<D: Disk, P: Peripheral>(counter: &Counter<D, P>)
+    ensures { (entries : List Entry) (disk : D) → Begins P.Peripheral entries disk counter.now
+        → D.honest disk → IsAtRest (D.state disk) → IsBytes (D.state disk).reading
+        → (standing : Standing) × Leaves D.Disk counter.now.totals (standing ∷ []) }
 {}
 
 /// A run that is followed by a step is a run: so requests that are carried out as a list, and calls made one by one,

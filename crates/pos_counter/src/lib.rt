@@ -10,11 +10,9 @@ mod exchange;
 mod faults;
 pub mod laws;
 mod properties;
-mod request;
+mod responses;
 mod totals_calls;
 mod working;
 
 pub use counter::{Counter, Ended};
 pub use faults::{ControlFault, InputFault, SnapshotFault, WorkFault};
-pub use pos_profile::{AttachFault, DetachFault};
-pub use request::{Request, Response};

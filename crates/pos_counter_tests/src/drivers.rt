@@ -9,6 +9,7 @@ pub struct Wanting<P: Peripheral> {
     inner: P,
     wants: bool,
     is_mute: bool,
+    orders: u64,
 }
 
 impl<P: Peripheral> Wanting<P> {
@@ -19,12 +20,13 @@ impl<P: Peripheral> Wanting<P> {
             inner,
             wants: true,
             is_mute,
+            orders: 0,
         }
     }
 }
 
 impl<P: Peripheral> Peripheral for Wanting<P> {
-    ghost state = { λ w. P.state w.inner };
+    ghost state = { λ w. record (P.state w.inner) { orders = w.orders } };
 
     fn kind(&self) -> Kind {
         self.inner.kind()
@@ -35,6 +37,7 @@ impl<P: Peripheral> Peripheral for Wanting<P> {
     }
 
     fn ask(&mut self, order: &Order) -> Result<Reply, NoMemory> {
+        self.orders = self.orders.saturating_add(1);
         self.wants = !self.wants;
         if !self.wants {
             return Err(NoMemory);

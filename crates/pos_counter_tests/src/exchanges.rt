@@ -4,10 +4,10 @@ ghost use Rattle.pos_counter.specs.Counters.{IsCounterSound};
 
 use crate::drivers::Wanting;
 use crate::support::{end_all, formatted, serve, vacant};
-use pos_counter::{AttachFault, Counter, DetachFault, Ended};
+use pos_counter::{Counter, Ended};
 use pos_disk::Disk;
 use pos_profile::Slot;
-use pos_service::{Peripheral, PeripheralBox};
+use pos_service::{AttachFault, DetachFault, Peripheral, PeripheralBox};
 use pos_sims::{PlainDrawer, PlainScanner};
 use std::test::Fail;
 

@@ -3,7 +3,7 @@
 #![tactic(auto)]
 
 #[cfg(test)]
-mod crashes;
+mod bench;
 #[cfg(test)]
 mod drivers;
 #[cfg(test)]
@@ -11,4 +11,10 @@ mod exchanges;
 #[cfg(test)]
 mod requests;
 #[cfg(test)]
+mod rows;
+#[cfg(test)]
+mod stops;
+#[cfg(test)]
 mod support;
+#[cfg(test)]
+mod torn;

@@ -1,9 +1,10 @@
 //! Each kind of request over drivers that find no memory for each other order or input: it is refused, and done when
 //! it is made once more.
+
 use crate::drivers::Wanting;
 use crate::support::{end, formatted, serve, text_of, vacant};
-use pos_counter::{ControlFault, InputFault, Request, Response, SnapshotFault, WorkFault};
-use pos_service::{Category, PeripheralBox};
+use pos_counter::{ControlFault, InputFault, SnapshotFault, WorkFault};
+use pos_service::PeripheralBox;
 use pos_sims::{PlainDisplay, PlainDrawer, PlainScanner, RollPrinter};
 use std::test::Fail;
 
@@ -61,21 +62,6 @@ fn each_kind_of_request_is_refused_without_memory(rt: HostRuntime) -> Result<(),
     let text = text_of(alloc, &mut counter, SCRIPT);
     end(counter);
     assert_eq!(rt; text.as_slice(), TEXT);
-    Ok(())
-}
-
-#[test]
-fn requests_are_performed_up_to_the_last_control(rt: HostRuntime) -> Result<(), Fail> {
-    let mut requests = Vec::with_capacity(rt.alloc(), 4_097)?;
-    for _ in 0..4_097 {
-        requests.push(Request::NewControl(Category::CashDrawer))?;
-    }
-    let mut counter = vacant(rt.alloc(), formatted(rt.alloc())?)?;
-    let responses = counter.perform(&requests);
-    end(counter);
-    let responses = responses?;
-    assert!(rt; matches!(responses.get(4_095), Some(Response::Made(4_095))));
-    assert!(rt; matches!(responses.get(4_096), Some(Response::Full)) && responses.len() == 4_097);
     Ok(())
 }
 

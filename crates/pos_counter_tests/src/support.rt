@@ -6,7 +6,7 @@ use pos_counter::{Counter, Ended};
 use pos_disk::{Disk, MemDisk};
 use pos_image::Images;
 use pos_profile::{Profile, Slot};
-use pos_run::{Spares, run};
+use pos_run::{AnswerWriter, ScriptReader, Spares, run};
 use pos_service::{Peripheral, PeripheralBox};
 use std::alloc::{AllocError, Global};
 use std::test::Fail;
@@ -21,11 +21,33 @@ pub fn formatted(alloc: Global) -> Result<MemDisk, AllocError> {
 pub fn vacant<D: Disk + Drop, P: Peripheral>(alloc: Global, disk: D) -> Result<Counter<D, P>, Fail>
     ensures { IfOk result (λ counter. IsCounterSound P.Peripheral counter) }
 {
-    let profile = Profile::built(alloc)?;
-    match Counter::new(alloc, &profile, Vec::new(alloc), disk) {
+    over(alloc, &Profile::built(alloc)?, disk)
+}
+
+/// A counter over a disk and the devices of a profile, each of them vacant.
+pub fn over<D: Disk + Drop, P: Peripheral>(
+    alloc: Global,
+    profile: &Profile,
+    disk: D,
+) -> Result<Counter<D, P>, Fail>
+    ensures { IfOk result (λ counter. IsCounterSound P.Peripheral counter) }
+{
+    match Counter::new(alloc, profile, Vec::new(alloc), disk) {
         Ok(counter) => Ok(counter),
         Err(_) => Err(Fail::new("no memory for a counter")),
     }
+}
+
+/// What a counter over a disk and the devices of a profile prints of lines, with its disk.
+pub fn told<D: Disk + Drop>(
+    alloc: Global,
+    profile: &Profile,
+    disk: D,
+    lines: &[u8],
+) -> Result<(Vec<u8>, D), Fail> {
+    let mut counter = over(alloc, profile, disk)?;
+    let text = text_of(alloc, &mut counter, lines);
+    Ok((text, end(counter)))
 }
 
 /// Has a peripheral serve a device. One that is refused is ended.
@@ -54,8 +76,12 @@ pub fn text_of<D: Disk>(
 {
     let mut spares = Spares::new(Vec::new(alloc));
     let mut text = Vec::new(alloc);
-    let mut reader = script;
-    let _ = run(alloc, &mut reader, &mut text, counter, &mut spares);
+    let mut reader = ScriptReader::new(script);
+    let Ok(mut writer) = AnswerWriter::new(alloc, &mut text) else {
+        spares.park_all();
+        return text;
+    };
+    let _ = run(alloc, &mut reader, &mut writer, counter, &mut spares);
     spares.park_all();
     text
 }

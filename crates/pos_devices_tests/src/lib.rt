@@ -8,3 +8,5 @@ mod devices;
 mod growths;
 #[cfg(test)]
 mod steps;
+#[cfg(test)]
+mod wrappers;

@@ -23,14 +23,16 @@ pub items_take : {A : Type 0} (read : List ℕ → Option (A × List ℕ)) (spel
     → Takes bytes (flat_map spell xs) rest × (length xs ≡ count) × AllByRecursion Fits xs
 unfolding items_at
 items_take {A = A} read spell Fits reads zero bytes xs rest fits e =
-    subst (λ (y : List A × List ℕ). Takes bytes (flat_map spell y.0) y.1 × (length y.0 ≡ 0) × AllByRecursion Fits y.0) (some_is ([], bytes) (xs, rest) e) (record { parts = refl; rest_fits = fits }, refl, tt)
+    subst (λ (y : List A × List ℕ). Takes bytes (flat_map spell y.0) y.1 × (length y.0 ≡ 0) × AllByRecursion Fits y.0)
+    (some_is ([], bytes) (xs, rest) e) (record { parts = refl; rest_fits = fits }, refl, tt)
 items_take {A = A} read spell Fits reads (suc count) bytes xs rest fits e =
     let a = bind_some (read bytes) (λ first. items_at read count first.1 >>= λ others. Some (first.0 ∷ others.0, others.1)) (xs, rest) e in
     let b = bind_some (items_at read count a.0.1) (λ others. Some (a.0.0 ∷ others.0, others.1)) (xs, rest) a.2 in
     let first = reads.takes bytes a.0.0 a.0.1 fits a.1 in
     let second = items_take read spell Fits reads count a.0.1 b.0.0 b.0.1 first.0.rest_fits b.1 in
     let joined = Takes-then bytes (spell a.0.0) a.0.1 (flat_map spell b.0.0) b.0.1 first.0 second.0 in
-    subst (λ (y : List A × List ℕ). Takes bytes (flat_map spell y.0) y.1 × (length y.0 ≡ suc count) × AllByRecursion Fits y.0) (some_is (a.0.0 ∷ b.0.0, b.0.1) (xs, rest) b.2)
+    subst (λ (y : List A × List ℕ). Takes bytes (flat_map spell y.0) y.1 × (length y.0 ≡ suc count) × AllByRecursion Fits y.0)
+    (some_is (a.0.0 ∷ b.0.0, b.0.1) (xs, rest) b.2)
     (joined, ap suc second.1, (first.1, second.2))
 
 -- items that are spelled one behind the other are read
@@ -40,10 +42,12 @@ unfolding items_at
 items_again read spell Fits reads [] rest fits = refl
 items_again read spell Fits reads (x ∷ xs) rest fits =
     let regrouped : flat_map spell (x ∷ xs) ++ rest ≡ spell x ++ (flat_map spell xs ++ rest) = append_assoc (spell x) (flat_map spell xs) rest in
-    ap (items_at read (suc (length xs))) regrouped ∙ rw (reads.again x (flat_map spell xs ++ rest) fits.0, items_again read spell Fits reads xs rest fits.1) refl
+    ap (items_at read (suc (length xs))) regrouped
+    ∙ rw (reads.again x (flat_map spell xs ++ rest) fits.0, items_again read spell Fits reads xs rest fits.1) refl
 
 -- as many items are read as were asked for
-pub length_items : {A : Type 0} (read : List ℕ → Option (A × List ℕ)) (count : ℕ) (bytes : List ℕ) (x : List A × List ℕ) → items_at read count bytes ≡ Some x → length x.0 ≡ count
+pub length_items : {A : Type 0} (read : List ℕ → Option (A × List ℕ)) (count : ℕ) (bytes : List ℕ) (x : List A × List ℕ)
+    → items_at read count bytes ≡ Some x → length x.0 ≡ count
 unfolding items_at
 length_items {A = A} read zero bytes x e = ap (λ (y : List A × List ℕ). length y.0) (sym (some_is ([], bytes) x e))
 length_items {A = A} read (suc count) bytes x e =
@@ -54,7 +58,8 @@ length_items {A = A} read (suc count) bytes x e =
 -- ---- a loop over a count
 
 -- an item that is read is the first of those to come
-pub one_more : {A : Type 0} (read : List ℕ → Option (A × List ℕ)) (count i : ℕ) (bytes : List ℕ) (x : A) (after : List ℕ) → i < count → read bytes ≡ Some (x, after)
+pub one_more : {A : Type 0} (read : List ℕ → Option (A × List ℕ)) (count i : ℕ) (bytes : List ℕ) (x : A) (after : List ℕ) → i < count
+    → read bytes ≡ Some (x, after)
     → items_at read (count - i) bytes ≡ with_first x (items_at read (count - (i + 1)) after)
 unfolding items_at
 one_more read count i bytes x after lt e =
@@ -62,7 +67,8 @@ one_more read count i bytes x after lt e =
     rw (k, e) refl
 
 -- where no item is read, none are
-pub none_more : {A : Type 0} (read : List ℕ → Option (A × List ℕ)) (count i : ℕ) (bytes : List ℕ) → i < count → read bytes ≡ None → items_at read (count - i) bytes ≡ None
+pub none_more : {A : Type 0} (read : List ℕ → Option (A × List ℕ)) (count i : ℕ) (bytes : List ℕ) → i < count → read bytes ≡ None
+    → items_at read (count - i) bytes ≡ None
 unfolding items_at
 none_more read count i bytes lt e =
     let k : count - i ≡ suc (count - (i + 1)) = omega arith in
@@ -76,14 +82,16 @@ no_more read count i bytes le =
     rw k refl
 
 -- an item that was read first is the last of those in front
-pub front-first : {A : Type 0} (front : List A) (x : A) (read : Option (List A × List ℕ)) → with_front front (with_first x read) ≡ with_front (front ++ x ∷ []) read
+pub front-first : {A : Type 0} (front : List A) (x : A) (read : Option (List A × List ℕ))
+    → with_front front (with_first x read) ≡ with_front (front ++ x ∷ []) read
 front-first front x None = refl
 front-first {A = A} front x (Some others) = ap (λ (xs : List A). Some (xs, others.1)) (simp append_assoc)
 
 -- ---- a loop that keeps what it read
 
 -- one more item is kept in front of those that are left to read
-pub kept_more : {A : Type 0} (read : List ℕ → Option (A × List ℕ)) (front : List A) (count i : ℕ) (bytes : List ℕ) (x : A) (after : List ℕ) (total : Option (List A × List ℕ)) → i < count → Some (x, after) ≡ read bytes
+pub kept_more : {A : Type 0} (read : List ℕ → Option (A × List ℕ)) (front : List A) (count i : ℕ) (bytes : List ℕ) (x : A) (after : List ℕ)
+    (total : Option (List A × List ℕ)) → i < count → Some (x, after) ≡ read bytes
     → with_front front (items_at read (count - i) bytes) ≡ total → with_front (front ++ x ∷ []) (items_at read (count - (i + 1)) after) ≡ total
 kept_more read front count i bytes x after total lt e so_far =
     sym (front-first front x (items_at read (count - (i + 1)) after)) ∙ ap (with_front front) (sym (one_more read count i bytes x after lt (sym e))) ∙ so_far
@@ -93,7 +101,8 @@ not_none None never = absurd (never refl)
 not_none (Some x) never = refl
 
 -- where some items are to be read, the next is
-pub must_read : {A : Type 0} (read : List ℕ → Option (A × List ℕ)) (front : List A) (count i : ℕ) (bytes : List ℕ) (total : Option (List A × List ℕ)) → i < count
+pub must_read : {A : Type 0} (read : List ℕ → Option (A × List ℕ)) (front : List A) (count i : ℕ) (bytes : List ℕ) (total : Option (List A × List ℕ))
+    → i < count
     → with_front front (items_at read (count - i) bytes) ≡ total → IsSome total → IsSome (read bytes)
 must_read {A = A} read front count i bytes total lt so_far some = not_none (read bytes) (λ e.
     let none : with_front front (items_at read (count - i) bytes) ≡ None = ap (with_front front) (none_more read count i bytes lt (sym e)) in
@@ -108,5 +117,6 @@ kept_all {A = A} read front count i bytes total le so_far =
     subst (λ (o : Option (List A × List ℕ)). IfSome o (λ x. front ≡ x.0)) (sym all ∙ so_far) (sym (append-nil front))
 
 -- items equal to those that were read are these
-pub same_items : {A : Type 0} (read : Option (List A × List ℕ)) (xs ys : List A) (rest : List ℕ) → IfSome read (λ x. xs ≡ x.0) → read ≡ Some (ys, rest) → xs ≡ ys
+pub same_items : {A : Type 0} (read : Option (List A × List ℕ)) (xs ys : List A) (rest : List ℕ) → IfSome read (λ x. xs ≡ x.0)
+    → read ≡ Some (ys, rest) → xs ≡ ys
 same_items {A = A} read xs ys rest all e = subst (λ (o : Option (List A × List ℕ)). IfSome o (λ x. xs ≡ x.0)) e all

@@ -23,7 +23,8 @@ use Rattle.pos_dir.specs.Changes.{splice, with_file, outcome, and_then, outcome_
 
 -- ---- what a test or a lookup that led to Ok says
 
-chosen : {A : Type 0} (b : Bool) (fault : DirectoryFault) (x : A) (y : A) → ◌≡◌ {A = Result A DirectoryFault} (cond b (Ok x) (Err fault)) (Ok y) → (b ≡ true) × (x ≡ y)
+chosen : {A : Type 0} (b : Bool) (fault : DirectoryFault) (x : A) (y : A) → ◌≡◌ {A = Result A DirectoryFault} (cond b (Ok x) (Err fault)) (Ok y)
+    → (b ≡ true) × (x ≡ y)
 chosen true fault x y h = (refl, cc)
 chosen false fault x y h = absurd cc
 
@@ -48,19 +49,22 @@ same_file x y h = cc
 differs : (a b : List ℕ) → bytes_eq a b ≡ false → bytes_eq b a ≡ false
 differs a b h = false_from_ne_true (bytes_eq b a) (λ same. both_ways (bytes_eq a b) h ((bytes_eq-Decides a b).1 (sym ((bytes_eq-Decides b a).0 same))))
 
-has_name-append : (files : List File) (file : File) (name : List ℕ) → has_name files name ≡ false → bytes_eq file.name name ≡ false → has_name (files ++ file ∷ []) name ≡ false
+has_name-append : (files : List File) (file : File) (name : List ℕ) → has_name files name ≡ false → bytes_eq file.name name ≡ false
+    → has_name (files ++ file ∷ []) name ≡ false
 has_name-append [] file name old new = or_from (bytes_eq file.name name) false new refl
 has_name-append (f ∷ files) file name old new =
     let parts = or_parts (bytes_eq f.name name) (has_name files name) old in
     or_from (bytes_eq f.name name) (has_name (files ++ file ∷ []) name) parts.0 (has_name-append files file name parts.1 new)
 
-are_distinct-append : (files : List File) (file : File) → are_distinct files ≡ true → has_name files file.name ≡ false → are_distinct (files ++ file ∷ []) ≡ true
+are_distinct-append : (files : List File) (file : File) → are_distinct files ≡ true → has_name files file.name ≡ false
+    → are_distinct (files ++ file ∷ []) ≡ true
 are_distinct-append [] file distinct new = refl
 are_distinct-append (f ∷ files) file distinct new =
     let parts = and_parts (not (has_name files f.name)) (are_distinct files) distinct in
     let apart = or_parts (bytes_eq f.name file.name) (has_name files file.name) new in
     and_from (not (has_name (files ++ file ∷ []) f.name)) (are_distinct (files ++ file ∷ []))
-    (not_from_false (has_name (files ++ file ∷ []) f.name) (has_name-append files file f.name (not-true (has_name files f.name) parts.0) (differs f.name file.name apart.0)))
+    (not_from_false (has_name (files ++ file ∷ []) f.name)
+    (has_name-append files file f.name (not-true (has_name files f.name) parts.0) (differs f.name file.name apart.0)))
     (are_distinct-append files file parts.1 apart.1)
 
 has_name-remove : (files : List File) (i : ℕ) (name : List ℕ) → has_name files name ≡ false → has_name (remove files i) name ≡ false
@@ -79,15 +83,18 @@ are_distinct-remove (f ∷ files) (suc i) distinct =
     (not_from_false (has_name (remove files i) f.name) (has_name-remove files i f.name (not-true (has_name files f.name) parts.0)))
     (are_distinct-remove files i parts.1)
 
-has_name-set : (files : List File) (i : ℕ) (file : File) (name : List ℕ) → has_name files name ≡ false → bytes_eq file.name name ≡ false → has_name (set files i file) name ≡ false
+has_name-set : (files : List File) (i : ℕ) (file : File) (name : List ℕ) → has_name files name ≡ false → bytes_eq file.name name ≡ false
+    → has_name (set files i file) name ≡ false
 has_name-set [] i file name old new = refl
-has_name-set (f ∷ files) zero file name old new = or_from (bytes_eq file.name name) (has_name files name) new (or_parts (bytes_eq f.name name) (has_name files name) old).1
+has_name-set (f ∷ files) zero file name old new =
+    or_from (bytes_eq file.name name) (has_name files name) new (or_parts (bytes_eq f.name name) (has_name files name) old).1
 has_name-set (f ∷ files) (suc i) file name old new =
     let parts = or_parts (bytes_eq f.name name) (has_name files name) old in
     or_from (bytes_eq f.name name) (has_name (set files i file) name) parts.0 (has_name-set files i file name parts.1 new)
 
 -- a file with a new name
-are_distinct-set : (files : List File) (i : ℕ) (file : File) → are_distinct files ≡ true → has_name files file.name ≡ false → are_distinct (set files i file) ≡ true
+are_distinct-set : (files : List File) (i : ℕ) (file : File) → are_distinct files ≡ true → has_name files file.name ≡ false
+    → are_distinct (set files i file) ≡ true
 are_distinct-set [] i file distinct new = refl
 are_distinct-set (f ∷ files) zero file distinct new =
     let parts = and_parts (not (has_name files f.name)) (are_distinct files) distinct in
@@ -97,18 +104,21 @@ are_distinct-set (f ∷ files) (suc i) file distinct new =
     let parts = and_parts (not (has_name files f.name)) (are_distinct files) distinct in
     let apart = or_parts (bytes_eq f.name file.name) (has_name files file.name) new in
     and_from (not (has_name (set files i file) f.name)) (are_distinct (set files i file))
-    (not_from_false (has_name (set files i file) f.name) (has_name-set files i file f.name (not-true (has_name files f.name) parts.0) (differs f.name file.name apart.0)))
+    (not_from_false (has_name (set files i file) f.name)
+    (has_name-set files i file f.name (not-true (has_name files f.name) parts.0) (differs f.name file.name apart.0)))
     (are_distinct-set files i file parts.1 apart.1)
 
 -- a file with the name that it had
-has_name-same : (files : List File) (i : ℕ) (old new : File) (name : List ℕ) → slice_get files i ≡ Some old → new.name ≡ old.name → has_name (set files i new) name ≡ has_name files name
+has_name-same : (files : List File) (i : ℕ) (old new : File) (name : List ℕ) → slice_get files i ≡ Some old → new.name ≡ old.name
+    → has_name (set files i new) name ≡ has_name files name
 has_name-same [] i old new name at same = refl
 has_name-same (f ∷ files) zero old new name at same =
     let e : new.name ≡ f.name = same ∙ ap (λ (x : File). x.name) (sym (same_file f old at)) in
     ap (λ n. bytes_eq n name || has_name files name) e
 has_name-same (f ∷ files) (suc i) old new name at same = ap (λ b. bytes_eq f.name name || b) (has_name-same files i old new name at same)
 
-are_distinct-same : (files : List File) (i : ℕ) (old new : File) → slice_get files i ≡ Some old → new.name ≡ old.name → are_distinct (set files i new) ≡ are_distinct files
+are_distinct-same : (files : List File) (i : ℕ) (old new : File) → slice_get files i ≡ Some old → new.name ≡ old.name
+    → are_distinct (set files i new) ≡ are_distinct files
 are_distinct-same [] i old new at same = refl
 are_distinct-same (f ∷ files) zero old new at same =
     let e : new.name ≡ f.name = same ∙ ap (λ (x : File). x.name) (sym (same_file f old at)) in
@@ -140,7 +150,8 @@ list_all-at p (f ∷ files) (suc i) file at good = list_all-at p files i file at
 
 -- ---- a file that keeps its size
 
-total_size-set : (files : List File) (i : ℕ) (old new : File) → slice_get files i ≡ Some old → length new.bytes ≡ length old.bytes → total_size (set files i new) ≡ total_size files
+total_size-set : (files : List File) (i : ℕ) (old new : File) → slice_get files i ≡ Some old → length new.bytes ≡ length old.bytes
+    → total_size (set files i new) ≡ total_size files
 total_size-set files i old new at same =
     let within = slice_get_within files i old at in
     let e = sum_by-set (λ (x : File). length x.bytes) files i new old within in
@@ -151,7 +162,8 @@ total_size-remove : (files : List File) (i : ℕ) (old : File) → slice_get fil
 total_size-remove files i old at = omega (arith, sum_by-remove (λ (x : File). length x.bytes) files i old (slice_get_within files i old at))
 
 -- a file in the place of another: with its name and size
-replaced : (limits : Limits) (files : List File) (i : ℕ) (old new : File) → IsDirectory limits files → slice_get files i ≡ Some old → new.name ≡ old.name → length new.bytes ≡ length old.bytes → IsDirectory limits (set files i new)
+replaced : (limits : Limits) (files : List File) (i : ℕ) (old new : File) → IsDirectory limits files → slice_get files i ≡ Some old
+    → new.name ≡ old.name → length new.bytes ≡ length old.bytes → IsDirectory limits (set files i new)
 replaced limits files i old new was at name size = record {
   count = omega (arith, length-set files i new, was.count);
   size = omega (arith, total_size-set files i old new at size, was.size);
@@ -161,14 +173,23 @@ replaced limits files i old new was at name size = record {
 
 -- bytes put in the place of others within a file leave its size
 pub length-splice : (old : List ℕ) (at : ℕ) (bytes : List ℕ) → at + length bytes ≤ length old → length (splice old at bytes) ≡ length old
-length-splice old at bytes fits = omega (arith, length-append (take at old ++ bytes) (drop (at + length bytes) old), length-append (take at old) bytes, length-take at old, length-drop (at + length bytes) old)
+length-splice old at bytes fits =
+    omega (
+      arith,
+      length-append (take at old ++ bytes) (drop (at + length bytes) old),
+      length-append (take at old) bytes,
+      length-take at old,
+      length-drop (at + length bytes) old,
+    )
 
 -- ---- each change
 
-created : (limits : Limits) (files next : List File) (name : List ℕ) (size : ℕ) → IsDirectory limits files → is_name name ≡ true → outcome limits files (Create name size) ≡ Ok next → IsDirectory limits next
+created : (limits : Limits) (files next : List File) (name : List ℕ) (size : ℕ) → IsDirectory limits files → is_name name ≡ true
+    → outcome limits files (Create name size) ≡ Ok next → IsDirectory limits next
 created limits files next name size was good h =
     let file : File = record { name = name; bytes = replicate size 0 } in
-    let new = refused (has_name files name) Exists (cond (nat_lt (length files) limits.files && nat_le (total_size files + size) limits.bytes) (Ok (files ++ file ∷ [])) (Err NoRoom)) next h in
+    let new = refused (has_name files name) Exists
+    (cond (nat_lt (length files) limits.files && nat_le (total_size files + size) limits.bytes) (Ok (files ++ file ∷ [])) (Err NoRoom)) next h in
     let made = chosen (nat_lt (length files) limits.files && nat_le (total_size files + size) limits.bytes) NoRoom (files ++ file ∷ []) next new.1 in
     let room = and_parts (nat_lt (length files) limits.files) (nat_le (total_size files + size) limits.bytes) made.0 in
     let few = ltb-true (length files) limits.files room.0 in
@@ -176,11 +197,13 @@ created limits files next name size was good h =
     subst (λ (x : List File). IsDirectory limits x) made.1 (record {
       count = omega (arith, length-append files (file ∷ []), few);
       size = omega (arith, sum_by_push (λ (x : File). length x.bytes) files file, length-replicate {A = ℕ} size 0, small);
-      named = list_all-append (λ x. is_name x.name) files (file ∷ []) ∙ and_from (list_all (λ x. is_name x.name) files) (is_name name && true) was.named (and_from (is_name name) true good refl);
+      named = list_all-append (λ x. is_name x.name) files (file ∷ [])
+          ∙ and_from (list_all (λ x. is_name x.name) files) (is_name name && true) was.named (and_from (is_name name) true good refl);
       distinct = are_distinct-append files file was.distinct new.0;
     })
 
-deleted : (limits : Limits) (files next : List File) (index : ℕ) → IsDirectory limits files → outcome limits files (Delete index) ≡ Ok next → IsDirectory limits next
+deleted : (limits : Limits) (files next : List File) (index : ℕ) → IsDirectory limits files → outcome limits files (Delete index) ≡ Ok next
+    → IsDirectory limits next
 deleted limits files next index was h =
     let at = found (slice_get files index) (λ file. Ok (remove files index)) next h in
     let e : remove files index ≡ next = cc (at.2) in
@@ -191,9 +214,11 @@ deleted limits files next index was h =
       distinct = are_distinct-remove files index was.distinct;
     })
 
-renamed : (limits : Limits) (files next : List File) (index : ℕ) (name : List ℕ) → IsDirectory limits files → is_name name ≡ true → outcome limits files (Rename index name) ≡ Ok next → IsDirectory limits next
+renamed : (limits : Limits) (files next : List File) (index : ℕ) (name : List ℕ) → IsDirectory limits files → is_name name ≡ true
+    → outcome limits files (Rename index name) ≡ Ok next → IsDirectory limits next
 renamed limits files next index name was good h =
-    let at = found (slice_get files index) (λ file. cond (has_name files name) (Err Exists) (Ok (slice_set files index (record file { name = name })))) next h in
+    let at = found (slice_get files index)
+    (λ file. cond (has_name files name) (Err Exists) (Ok (slice_set files index (record file { name = name })))) next h in
     let file : File = record at.0 { name = name } in
     let new = refused (has_name files name) Exists (Ok (slice_set files index file)) next at.2 in
     let e : set files index file ≡ next = cc (new.1) in
@@ -204,15 +229,19 @@ renamed limits files next index name was good h =
       distinct = are_distinct-set files index file was.distinct new.0;
     })
 
-written : (limits : Limits) (files next : List File) (index offset : ℕ) (bytes : List ℕ) → IsDirectory limits files → outcome limits files (Write index offset bytes) ≡ Ok next → IsDirectory limits next
+written : (limits : Limits) (files next : List File) (index offset : ℕ) (bytes : List ℕ) → IsDirectory limits files
+    → outcome limits files (Write index offset bytes) ≡ Ok next → IsDirectory limits next
 written limits files next index offset bytes was h =
-    let at = found (slice_get files index) (λ file. cond (nat_le (offset + length bytes) (length file.bytes)) (Ok (slice_set files index (record file { bytes = splice file.bytes offset bytes }))) (Err Range)) next h in
+    let at = found (slice_get files index)
+    (λ file. cond (nat_le (offset + length bytes) (length file.bytes))
+    (Ok (slice_set files index (record file { bytes = splice file.bytes offset bytes }))) (Err Range)) next h in
     let file : File = record at.0 { bytes = splice at.0.bytes offset bytes } in
     let made = chosen (nat_le (offset + length bytes) (length at.0.bytes)) Range (set files index file) next at.2 in
     let fits = leb-true (offset + length bytes) (length at.0.bytes) made.0 in
     subst (λ (x : List File). IsDirectory limits x) made.1 (replaced limits files index at.0 file was at.1 refl (length-splice at.0.bytes offset bytes fits))
 
-all_set : (limits : Limits) (files next : List File) (index value : ℕ) → IsDirectory limits files → outcome limits files (SetAll index value) ≡ Ok next → IsDirectory limits next
+all_set : (limits : Limits) (files next : List File) (index value : ℕ) → IsDirectory limits files
+    → outcome limits files (SetAll index value) ≡ Ok next → IsDirectory limits next
 all_set limits files next index value was h =
     let at = found (slice_get files index) (λ file. Ok (slice_set files index (record file { bytes = replicate (length file.bytes) value }))) next h in
     let file : File = record at.0 { bytes = replicate (length at.0.bytes) value } in
@@ -220,19 +249,22 @@ all_set limits files next index value was h =
     subst (λ (x : List File). IsDirectory limits x) e (replaced limits files index at.0 file was at.1 refl (length-replicate {A = ℕ} (length at.0.bytes) value))
 
 -- A change that a group takes and that is applicable leaves the files of a directory.
-pub changed : (limits : Limits) (files next : List File) (change : Change) → IsDirectory limits files → IsChange change → outcome limits files change ≡ Ok next → IsDirectory limits next
+pub changed : (limits : Limits) (files next : List File) (change : Change) → IsDirectory limits files → IsChange change
+    → outcome limits files change ≡ Ok next → IsDirectory limits next
 changed limits files next (Create name size) was takes h = created limits files next name size was (good_name (is_name name) takes.flawless) h
 changed limits files next (Delete index) was takes h = deleted limits files next index was h
 changed limits files next (Rename index name) was takes h = renamed limits files next index name was (good_name (is_name name) takes.flawless) h
 changed limits files next (Write index offset bytes) was takes h = written limits files next index offset bytes was h
 changed limits files next (SetAll index value) was takes h = all_set limits files next index value was h
 
-went_on : (r : Result (List File) DirectoryFault) (step : List File → Result (List File) DirectoryFault) (next : List File) → and_then r step ≡ Ok next → (mid : List File) × (r ≡ Ok mid) × (step mid ≡ Ok next)
+went_on : (r : Result (List File) DirectoryFault) (step : List File → Result (List File) DirectoryFault) (next : List File)
+    → and_then r step ≡ Ok next → (mid : List File) × (r ≡ Ok mid) × (step mid ≡ Ok next)
 went_on (Ok mid) step next h = (mid, refl, h)
 went_on (Err fault) step next h = absurd cc
 
 -- So does a group.
-pub all_changed : (limits : Limits) (files next : List File) (changes : List Change) → IsDirectory limits files → AllByRecursion IsChange changes → outcome_of_all limits files changes ≡ Ok next → IsDirectory limits next
+pub all_changed : (limits : Limits) (files next : List File) (changes : List Change) → IsDirectory limits files → AllByRecursion IsChange changes
+    → outcome_of_all limits files changes ≡ Ok next → IsDirectory limits next
 all_changed limits files next [] was each h =
     let e : files ≡ next = cc in
     subst (λ (x : List File). IsDirectory limits x) e was
@@ -240,26 +272,80 @@ all_changed limits files next (change ∷ changes) was each h =
     let first = went_on (outcome limits files change) (λ mid. outcome_of_all limits mid changes) next h in
     all_changed limits first.0 next changes (changed limits files first.0 change was each.0 first.1) each.1 first.2
 
+-- ---- how many files there are, whatever their names and sizes
+
+few_after : (limits : Limits) (files next : List File) (change : Change) → length files ≤ limits.files → outcome limits files change ≡ Ok next
+    → length next ≤ limits.files
+few_after limits files next (Create name size) was h =
+    let file : File = record { name = name; bytes = replicate size 0 } in
+    let new = refused (has_name files name) Exists
+    (cond (nat_lt (length files) limits.files && nat_le (total_size files + size) limits.bytes) (Ok (files ++ file ∷ [])) (Err NoRoom)) next h in
+    let made = chosen (nat_lt (length files) limits.files && nat_le (total_size files + size) limits.bytes) NoRoom (files ++ file ∷ []) next new.1 in
+    let room = and_parts (nat_lt (length files) limits.files) (nat_le (total_size files + size) limits.bytes) made.0 in
+    let few = ltb-true (length files) limits.files room.0 in
+    subst (λ (x : List File). length x ≤ limits.files) made.1 (omega (arith, length-append files (file ∷ []), few))
+few_after limits files next (Delete index) was h =
+    let at = found (slice_get files index) (λ file. Ok (remove files index)) next h in
+    let e : remove files index ≡ next = cc (at.2) in
+    subst (λ (x : List File). length x ≤ limits.files) e (omega (arith, length-remove files index (slice_get_within files index at.0 at.1), was))
+few_after limits files next (Rename index name) was h =
+    let at = found (slice_get files index)
+    (λ file. cond (has_name files name) (Err Exists) (Ok (slice_set files index (record file { name = name })))) next h in
+    let file : File = record at.0 { name = name } in
+    let new = refused (has_name files name) Exists (Ok (slice_set files index file)) next at.2 in
+    let e : set files index file ≡ next = cc (new.1) in
+    subst (λ (x : List File). length x ≤ limits.files) e (omega (arith, length-set files index file, was))
+few_after limits files next (Write index offset bytes) was h =
+    let at = found (slice_get files index)
+    (λ file. cond (nat_le (offset + length bytes) (length file.bytes))
+    (Ok (slice_set files index (record file { bytes = splice file.bytes offset bytes }))) (Err Range)) next h in
+    let file : File = record at.0 { bytes = splice at.0.bytes offset bytes } in
+    let made = chosen (nat_le (offset + length bytes) (length at.0.bytes)) Range (set files index file) next at.2 in
+    subst (λ (x : List File). length x ≤ limits.files) made.1 (omega (arith, length-set files index file, was))
+few_after limits files next (SetAll index value) was h =
+    let at = found (slice_get files index) (λ file. Ok (slice_set files index (record file { bytes = replicate (length file.bytes) value }))) next h in
+    let file : File = record at.0 { bytes = replicate (length at.0.bytes) value } in
+    let e : set files index file ≡ next = cc (at.2) in
+    subst (λ (x : List File). length x ≤ limits.files) e (omega (arith, length-set files index file, was))
+
+-- Changes that are applicable leave no more files than the limits allow.
+pub few_after_all : (limits : Limits) (files next : List File) (changes : List Change) → length files ≤ limits.files
+    → outcome_of_all limits files changes ≡ Ok next → length next ≤ limits.files
+few_after_all limits files next [] was h =
+    let e : files ≡ next = cc in
+    subst (λ (x : List File). length x ≤ limits.files) e was
+few_after_all limits files next (change ∷ changes) was h =
+    let first = went_on (outcome limits files change) (λ mid. outcome_of_all limits mid changes) next h in
+    few_after_all limits first.0 next changes (few_after limits files first.0 change was first.1) first.2
+
 -- ---- a loop over the changes
 
 -- each change of a group is one that it takes
-pub takes_change : (changes : List Change) (i : ℕ) (change : Change) → AllByRecursion IsChange changes → i < length changes → change ≡ get_or changes i change → IsChange change
+pub takes_change : (changes : List Change) (i : ℕ) (change : Change) → AllByRecursion IsChange changes → i < length changes
+    → change ≡ get_or changes i change → IsChange change
 takes_change changes i change each lt at = rw at (All-from_recursion IsChange changes each i change lt)
 
 -- where a change is applicable, the rest makes of its files what the whole makes
-pub goes_on : (limits : Limits) (files next : List File) (changes : List Change) (i : ℕ) (change : Change) (total : Result (List File) DirectoryFault) → i < length changes → change ≡ get_or changes i change → outcome limits files change ≡ Ok next
+pub goes_on : (limits : Limits) (files next : List File) (changes : List Change) (i : ℕ) (change : Change)
+    (total : Result (List File) DirectoryFault) → i < length changes → change ≡ get_or changes i change → outcome limits files change ≡ Ok next
     → outcome_of_all limits files (drop i changes) ≡ total → outcome_of_all limits next (drop (i + 1) changes) ≡ total
 goes_on limits files next changes i change total lt at made so_far =
-    let one : outcome_of_all limits files (drop i changes) ≡ and_then (outcome limits files (get_or changes i change)) (λ x. outcome_of_all limits x (drop (i + 1) changes)) = at_drop_more (outcome_of_all limits files) changes i change lt in
-    let step : and_then (outcome limits files (get_or changes i change)) (λ x. outcome_of_all limits x (drop (i + 1) changes)) ≡ outcome_of_all limits next (drop (i + 1) changes) =
-    ap (λ x. and_then (outcome limits files x) (λ y. outcome_of_all limits y (drop (i + 1) changes))) (sym at) ∙ ap (λ x. and_then x (λ y. outcome_of_all limits y (drop (i + 1) changes))) made in
+    let one : outcome_of_all limits files (drop i changes) ≡ and_then (outcome limits files (get_or changes i change))
+    (λ x. outcome_of_all limits x (drop (i + 1) changes)) = at_drop_more (outcome_of_all limits files) changes i change lt in
+    let step : and_then (outcome limits files (get_or changes i change))
+    (λ x. outcome_of_all limits x (drop (i + 1) changes)) ≡ outcome_of_all limits next (drop (i + 1) changes) =
+    ap (λ x. and_then (outcome limits files x) (λ y. outcome_of_all limits y (drop (i + 1) changes))) (sym at)
+    ∙ ap (λ x. and_then x (λ y. outcome_of_all limits y (drop (i + 1) changes))) made in
     sym (one ∙ step) ∙ so_far
 
 -- where a change isn't applicable, the whole isn't
-pub stops : (limits : Limits) (files : List File) (changes : List Change) (i : ℕ) (change : Change) (fault : DirectoryFault) (total : Result (List File) DirectoryFault) → i < length changes → change ≡ get_or changes i change → outcome limits files change ≡ Err fault
+pub stops : (limits : Limits) (files : List File) (changes : List Change) (i : ℕ) (change : Change) (fault : DirectoryFault)
+    (total : Result (List File) DirectoryFault) → i < length changes → change ≡ get_or changes i change → outcome limits files change ≡ Err fault
     → outcome_of_all limits files (drop i changes) ≡ total → total ≡ Err fault
 stops limits files changes i change fault total lt at stopped so_far =
-    let one : outcome_of_all limits files (drop i changes) ≡ and_then (outcome limits files (get_or changes i change)) (λ x. outcome_of_all limits x (drop (i + 1) changes)) = at_drop_more (outcome_of_all limits files) changes i change lt in
+    let one : outcome_of_all limits files (drop i changes) ≡ and_then (outcome limits files (get_or changes i change))
+    (λ x. outcome_of_all limits x (drop (i + 1) changes)) = at_drop_more (outcome_of_all limits files) changes i change lt in
     let step : and_then (outcome limits files (get_or changes i change)) (λ x. outcome_of_all limits x (drop (i + 1) changes)) ≡ Err fault =
-    ap (λ x. and_then (outcome limits files x) (λ y. outcome_of_all limits y (drop (i + 1) changes))) (sym at) ∙ ap (λ x. and_then x (λ y. outcome_of_all limits y (drop (i + 1) changes))) stopped in
+    ap (λ x. and_then (outcome limits files x) (λ y. outcome_of_all limits y (drop (i + 1) changes))) (sym at)
+    ∙ ap (λ x. and_then x (λ y. outcome_of_all limits y (drop (i + 1) changes))) stopped in
     sym so_far ∙ one ∙ step

@@ -25,7 +25,8 @@ leb_less a b room le =
     ]
 
 -- a file that has room takes it from those behind it
-pub end_step : (room : ℕ) (file : File) (read : Read) → length file.bytes ≤ room → end_within room (with_first file read) ≡ end_within (room - length file.bytes) read
+pub end_step : (room : ℕ) (file : File) (read : Read) → length file.bytes ≤ room
+    → end_within room (with_first file read) ≡ end_within (room - length file.bytes) read
 end_step room file None le = refl
 end_step room file (Some x) le =
     ap (λ n. cond (leb n room) (Some x.1) None) (sum_by-cons (λ (f : File). length f.bytes) file x.0)
@@ -49,31 +50,37 @@ abbrev pub tell : (List File → Bool) → Read → Option Bool
 tell test read = option_map (λ files. test files.0) read
 
 -- a test of what is left to read, told of all files: it says the same of both
-pub told : (test : List File → Bool) (left known all : Read) (answer : Bool) → left ≡ known → tell test left ≡ tell test all → IfSome (tell test known) (λ b. answer ≡ b) → IfSome all (λ files. answer ≡ test files.0)
+pub told : (test : List File → Bool) (left known all : Read) (answer : Bool) → left ≡ known → tell test left ≡ tell test all
+    → IfSome (tell test known) (λ b. answer ≡ b) → IfSome all (λ files. answer ≡ test files.0)
 told test left known None answer is same h = tt
 told test left known (Some x) answer is same h = subst (λ (o : Option Bool). IfSome o (λ b. answer ≡ b)) (ap (tell test) (sym is) ∙ same) h
 
 -- what was answered is what the test says
-pub answered : (test : List File → Bool) (read : Read) (answer value : Bool) → answer ≡ value → IfSome read (λ files. answer ≡ test files.0) → IfSome read (λ files. value ≡ test files.0)
+pub answered : (test : List File → Bool) (read : Read) (answer value : Bool) → answer ≡ value → IfSome read (λ files. answer ≡ test files.0)
+    → IfSome read (λ files. value ≡ test files.0)
 answered test read answer value e h = subst (λ b. IfSome read (λ files. b ≡ test files.0)) e h
 
 -- a file with another name leaves open whether the name is used
-pub another_name : (file : File) (read : Read) (name : List ℕ) → bytes_eq file.name name ≡ false → tell (λ files. has_name files name) (with_first file read) ≡ tell (λ files. has_name files name) read
+pub another_name : (file : File) (read : Read) (name : List ℕ) → bytes_eq file.name name ≡ false
+    → tell (λ files. has_name files name) (with_first file read) ≡ tell (λ files. has_name files name) read
 another_name file None name h = refl
 another_name file (Some x) name h = ap (λ b. Some (b || has_name x.0 name)) h
 
 -- a file with the name uses it
-pub this_name : (file : File) (read : Read) (name : List ℕ) → bytes_eq file.name name ≡ true → IfSome (tell (λ files. has_name files name) (with_first file read)) (λ b. true ≡ b)
+pub this_name : (file : File) (read : Read) (name : List ℕ) → bytes_eq file.name name ≡ true
+    → IfSome (tell (λ files. has_name files name) (with_first file read)) (λ b. true ≡ b)
 this_name file None name h = tt
 this_name file (Some x) name h = ap (λ b. b || has_name x.0 name) (sym h)
 
 -- a file whose name none behind it has leaves open whether the names are distinct
-pub still_distinct : (file : File) (read : Read) → IfSome read (λ files. false ≡ has_name files.0 file.name) → tell are_distinct (with_first file read) ≡ tell are_distinct read
+pub still_distinct : (file : File) (read : Read) → IfSome read (λ files. false ≡ has_name files.0 file.name)
+    → tell are_distinct (with_first file read) ≡ tell are_distinct read
 still_distinct file None h = refl
 still_distinct file (Some x) h = ap (λ b. Some (not b && are_distinct x.0)) (sym h)
 
 -- a file whose name one behind it has makes the names the same
-pub not_distinct : (file : File) (read : Read) → IfSome read (λ files. true ≡ has_name files.0 file.name) → IfSome (tell are_distinct (with_first file read)) (λ b. false ≡ b)
+pub not_distinct : (file : File) (read : Read) → IfSome read (λ files. true ≡ has_name files.0 file.name)
+    → IfSome (tell are_distinct (with_first file read)) (λ b. false ≡ b)
 not_distinct file None h = tt
 not_distinct file (Some x) h = ap (λ b. not b && are_distinct x.0) h
 

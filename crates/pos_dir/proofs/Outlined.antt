@@ -12,7 +12,6 @@ use Rattle.std.proofs.lemmas.Option.{slice_get-map, slice_get_within}
 use Rattle.std.proofs.Math.Seq.{take-nil, drop-nil}
 use Rattle.pos_dir.specs.declared.file.File.{File}
 use Rattle.pos_dir.specs.declared.limits.Limits.{Limits}
-use Rattle.pos_dir.specs.declared.limits.TheConstants.{LAYOUT_1}
 use Rattle.pos_dir.specs.declared.outlines.Outline.{Outline}
 use Rattle.pos_dir.specs.declared.change.Change.{Change}
 use Rattle.pos_dir.specs.declared.change.Change.TheVariants.{Create, Delete, Rename, Write, SetAll}
@@ -60,7 +59,8 @@ name_of_files (file ∷ files) name = ap (λ b. bytes_eq file.name name || b) (n
 
 -- a name is taken among the files as among the outlines
 same_name : (outlines : List Outline) (files : List File) (name : List ℕ) → AreOutlines outlines files → has_name files name ≡ is_named outlines name
-same_name outlines files name same = sym (name_of_files files name) ∙ ap (λ (shapes : List Shape). is_taken shapes name) (sym same) ∙ name_of_outlines outlines name
+same_name outlines files name same =
+    sym (name_of_files files name) ∙ ap (λ (shapes : List Shape). is_taken shapes name) (sym same) ∙ name_of_outlines outlines name
 
 same_count : (outlines : List Outline) (files : List File) → AreOutlines outlines files → length files ≡ length outlines
 same_count outlines files same = omega (arith, length-map outlines shape_of, length-map files shape_of_file, ap (λ (shapes : List Shape). length shapes) same)
@@ -77,15 +77,18 @@ outline_at [] i lt = absurd (omega arith)
 outline_at (o ∷ outlines) zero lt = (o, refl)
 outline_at (o ∷ outlines) (suc i) lt = outline_at outlines i (omega arith)
 
-with_shape : (found : Option File) (shape : Shape) → option_map shape_of_file found ≡ Some shape → (file : File) × (found ≡ Some file) × (shape_of_file file ≡ shape)
+with_shape : (found : Option File) (shape : Shape) → option_map shape_of_file found ≡ Some shape
+    → (file : File) × (found ≡ Some file) × (shape_of_file file ≡ shape)
 with_shape None shape e = absurd cc
 with_shape (Some file) shape e = (file, refl, cc)
 
 -- the file at an index has the shape of its outline
-file_at : (outlines : List Outline) (files : List File) (i : ℕ) (o : Outline) → AreOutlines outlines files → slice_get outlines i ≡ Some o → (file : File) × (slice_get files i ≡ Some file) × (shape_of_file file ≡ shape_of o)
+file_at : (outlines : List Outline) (files : List File) (i : ℕ) (o : Outline) → AreOutlines outlines files → slice_get outlines i ≡ Some o
+    → (file : File) × (slice_get files i ≡ Some file) × (shape_of_file file ≡ shape_of o)
 file_at outlines files i o same at =
     with_shape (slice_get files i) (shape_of o)
-    (sym (slice_get-map shape_of_file files i) ∙ ap (λ (shapes : List Shape). slice_get shapes i) (sym same) ∙ slice_get-map shape_of outlines i ∙ ap (option_map shape_of) at)
+    (sym (slice_get-map shape_of_file files i) ∙ ap (λ (shapes : List Shape). slice_get shapes i) (sym same) ∙ slice_get-map shape_of outlines i
+    ∙ ap (option_map shape_of) at)
 
 none_past : (files : List File) (i : ℕ) → length files ≤ i → slice_get files i ≡ None
 none_past [] i le = refl
@@ -93,49 +96,61 @@ none_past (file ∷ files) zero le = absurd (omega arith)
 none_past (file ∷ files) (suc i) le = none_past files i (omega arith)
 
 -- behind the last outline there is no file
-pub no_file : (outlines : List Outline) (files : List File) (i : ℕ) (change : File → Result (List File) DirectoryFault) → AreOutlines outlines files → length outlines ≤ i → with_file (slice_get files i) change ≡ Err NoFile
+pub no_file : (outlines : List Outline) (files : List File) (i : ℕ) (change : File → Result (List File) DirectoryFault) → AreOutlines outlines files
+    → length outlines ≤ i → with_file (slice_get files i) change ≡ Err NoFile
 no_file outlines files i change same le = ap (λ o. with_file o change) (none_past files i (omega (arith, same_count outlines files same, le)))
 
 -- ---- a Create
 
 -- a name that an outline has is taken
-pub create_taken : (limits : Limits) (outlines : List Outline) (files : List File) (name : List ℕ) (size : ℕ) → AreOutlines outlines files → is_named outlines name ≡ true → outcome limits files (Create name size) ≡ Err Exists
+pub create_taken : (limits : Limits) (outlines : List Outline) (files : List File) (name : List ℕ) (size : ℕ) → AreOutlines outlines files
+    → is_named outlines name ≡ true → outcome limits files (Create name size) ≡ Err Exists
 create_taken limits outlines files name size same taken = cond-true (has_name files name) _ _ (same_name outlines files name same ∙ taken)
 
 -- where there are as many outlines as files may be there is no room
-pub create_many : (limits : Limits) (outlines : List Outline) (files : List File) (name : List ℕ) (size : ℕ) → AreOutlines outlines files → is_named outlines name ≡ false → limits.files ≤ length outlines → outcome limits files (Create name size) ≡ Err NoRoom
+pub create_many : (limits : Limits) (outlines : List Outline) (files : List File) (name : List ℕ) (size : ℕ) → AreOutlines outlines files
+    → is_named outlines name ≡ false → limits.files ≤ length outlines → outcome limits files (Create name size) ≡ Err NoRoom
 create_many limits outlines files name size same free many =
     let full : nat_lt (length files) limits.files ≡ false = le-ltb (length files) limits.files (omega (arith, same_count outlines files same, many)) in
     cond-false (has_name files name) _ _ (same_name outlines files name same ∙ free)
-    ∙ cond-false (nat_lt (length files) limits.files && nat_le (total_size files + size) limits.bytes) _ _ (and_left (nat_lt (length files) limits.files) (nat_le (total_size files + size) limits.bytes) full)
+    ∙ cond-false (nat_lt (length files) limits.files && nat_le (total_size files + size) limits.bytes) _ _
+    (and_left (nat_lt (length files) limits.files) (nat_le (total_size files + size) limits.bytes) full)
 
 -- where the sizes in sum leave too little there is no room
-pub create_large : (limits : Limits) (outlines : List Outline) (files : List File) (name : List ℕ) (size : ℕ) → AreOutlines outlines files → is_named outlines name ≡ false → limits.bytes < sum_by (λ outline. outline.size) outlines + size → outcome limits files (Create name size) ≡ Err NoRoom
+pub create_large : (limits : Limits) (outlines : List Outline) (files : List File) (name : List ℕ) (size : ℕ) → AreOutlines outlines files
+    → is_named outlines name ≡ false → limits.bytes < sum_by (λ outline. outline.size) outlines + size → outcome limits files (Create name size) ≡ Err NoRoom
 create_large limits outlines files name size same free large =
-    let over : nat_le (total_size files + size) limits.bytes ≡ false = lt-leb (total_size files + size) limits.bytes (omega (arith, same_total outlines files same, large)) in
+    let over : nat_le (total_size files + size) limits.bytes ≡ false =
+    lt-leb (total_size files + size) limits.bytes (omega (arith, same_total outlines files same, large)) in
     cond-false (has_name files name) _ _ (same_name outlines files name same ∙ free)
-    ∙ cond-false (nat_lt (length files) limits.files && nat_le (total_size files + size) limits.bytes) _ _ (and_right (nat_lt (length files) limits.files) (nat_le (total_size files + size) limits.bytes) over)
+    ∙ cond-false (nat_lt (length files) limits.files && nat_le (total_size files + size) limits.bytes) _ _
+    (and_right (nat_lt (length files) limits.files) (nat_le (total_size files + size) limits.bytes) over)
 
 -- else the file is made, and its outline stands behind the others
-pub create_made : (limits : Limits) (outlines : List Outline) (files : List File) (new : Outline) → AreOutlines outlines files → is_named outlines new.name.now ≡ false → length outlines < limits.files → sum_by (λ outline. outline.size) outlines + new.size ≤ limits.bytes
+pub create_made : (limits : Limits) (outlines : List Outline) (files : List File) (new : Outline) → AreOutlines outlines files
+    → is_named outlines new.name.now ≡ false → length outlines < limits.files → sum_by (λ outline. outline.size) outlines + new.size ≤ limits.bytes
     → Agrees (Ok tt) (outcome limits files (Create new.name.now new.size)) (outlines ++ new ∷ [])
 create_made limits outlines files new same free few small =
     let file : File = record { name = new.name.now; bytes = replicate new.size 0 } in
     let low : nat_lt (length files) limits.files ≡ true = lt-ltb (length files) limits.files (omega (arith, same_count outlines files same, few)) in
-    let fits : nat_le (total_size files + new.size) limits.bytes ≡ true = le-leb (total_size files + new.size) limits.bytes (omega (arith, same_total outlines files same, small)) in
+    let fits : nat_le (total_size files + new.size) limits.bytes ≡ true =
+    le-leb (total_size files + new.size) limits.bytes (omega (arith, same_total outlines files same, small)) in
     let made : outcome limits files (Create new.name.now new.size) ≡ Ok (files ++ file ∷ []) =
     cond-false (has_name files new.name.now) _ _ (same_name outlines files new.name.now same ∙ free)
-    ∙ cond-true (nat_lt (length files) limits.files && nat_le (total_size files + new.size) limits.bytes) _ _ (and_from (nat_lt (length files) limits.files) (nat_le (total_size files + new.size) limits.bytes) low fits) in
+    ∙ cond-true (nat_lt (length files) limits.files && nat_le (total_size files + new.size) limits.bytes) _ _
+    (and_from (nat_lt (length files) limits.files) (nat_le (total_size files + new.size) limits.bytes) low fits) in
     let shape : shape_of new ≡ shape_of_file file = ap (λ (n : ℕ). record { name = new.name.now; size = n }) (sym (length-replicate {A = ℕ} new.size 0)) in (
       files ++ file ∷ [],
       made,
-      map_push shape_of outlines new ∙ ap (λ (shapes : List Shape). shapes ++ shape_of new ∷ []) same ∙ ap (λ (s : Shape). map shape_of_file files ++ s ∷ []) shape ∙ sym (map_push shape_of_file files file),
+      map_push shape_of outlines new ∙ ap (λ (shapes : List Shape). shapes ++ shape_of new ∷ []) same
+          ∙ ap (λ (s : Shape). map shape_of_file files ++ s ∷ []) shape ∙ sym (map_push shape_of_file files file),
     )
 
 -- ---- a change of a file
 
 -- a file and its outline are removed
-pub delete_made : (limits : Limits) (outlines : List Outline) (files : List File) (i : ℕ) (o : Outline) → AreOutlines outlines files → slice_get outlines i ≡ Some o → Agrees (Ok tt) (outcome limits files (Delete i)) (remove outlines i)
+pub delete_made : (limits : Limits) (outlines : List Outline) (files : List File) (i : ℕ) (o : Outline) → AreOutlines outlines files
+    → slice_get outlines i ≡ Some o → Agrees (Ok tt) (outcome limits files (Delete i)) (remove outlines i)
 delete_made limits outlines files i o same at =
     let found = file_at outlines files i o same at in (
       remove files i,
@@ -144,19 +159,23 @@ delete_made limits outlines files i o same at =
     )
 
 -- a name that an outline has is taken for a rename
-pub rename_taken : (limits : Limits) (outlines : List Outline) (files : List File) (i : ℕ) (o : Outline) (name : List ℕ) → AreOutlines outlines files → slice_get outlines i ≡ Some o → is_named outlines name ≡ true → outcome limits files (Rename i name) ≡ Err Exists
+pub rename_taken : (limits : Limits) (outlines : List Outline) (files : List File) (i : ℕ) (o : Outline) (name : List ℕ) → AreOutlines outlines files
+    → slice_get outlines i ≡ Some o → is_named outlines name ≡ true → outcome limits files (Rename i name) ≡ Err Exists
 rename_taken limits outlines files i o name same at taken =
     let found = file_at outlines files i o same at in
     ap (λ x. with_file x (λ file. cond (has_name files name) (Err Exists) (Ok (slice_set files i (record file { name = name }))))) found.1
     ∙ cond-true (has_name files name) _ _ (same_name outlines files name same ∙ taken)
 
 -- an outline and a file put in the place of those at an index, with one shape
-put_shape : (outlines : List Outline) (files : List File) (i : ℕ) (o : Outline) (file : File) → AreOutlines outlines files → shape_of o ≡ shape_of_file file → map shape_of (set outlines i o) ≡ map shape_of_file (set files i file)
+put_shape : (outlines : List Outline) (files : List File) (i : ℕ) (o : Outline) (file : File) → AreOutlines outlines files
+    → shape_of o ≡ shape_of_file file → map shape_of (set outlines i o) ≡ map shape_of_file (set files i file)
 put_shape outlines files i o file same shape =
-    map-set shape_of outlines i o ∙ ap (λ (shapes : List Shape). set shapes i (shape_of o)) same ∙ ap (λ (s : Shape). set (map shape_of_file files) i s) shape ∙ sym (map-set shape_of_file files i file)
+    map-set shape_of outlines i o ∙ ap (λ (shapes : List Shape). set shapes i (shape_of o)) same
+    ∙ ap (λ (s : Shape). set (map shape_of_file files) i s) shape ∙ sym (map-set shape_of_file files i file)
 
 -- else the file and its outline have the new name
-pub rename_made : (limits : Limits) (outlines : List Outline) (files : List File) (i : ℕ) (o new : Outline) → AreOutlines outlines files → slice_get outlines i ≡ Some o → new.size ≡ o.size → is_named outlines new.name.now ≡ false
+pub rename_made : (limits : Limits) (outlines : List Outline) (files : List File) (i : ℕ) (o new : Outline) → AreOutlines outlines files
+    → slice_get outlines i ≡ Some o → new.size ≡ o.size → is_named outlines new.name.now ≡ false
     → Agrees (Ok tt) (outcome limits files (Rename i new.name.now)) (insert (remove outlines i) i new)
 rename_made limits outlines files i o new same at size free =
     let found = file_at outlines files i o same at in
@@ -164,66 +183,82 @@ rename_made limits outlines files i o new same at size free =
     let made : outcome limits files (Rename i new.name.now) ≡ Ok (slice_set files i file) =
     ap (λ x. with_file x (λ old. cond (has_name files new.name.now) (Err Exists) (Ok (slice_set files i (record old { name = new.name.now }))))) found.1
     ∙ cond-false (has_name files new.name.now) _ _ (same_name outlines files new.name.now same ∙ free) in
-    let shape : shape_of new ≡ shape_of_file file = ap (λ (n : ℕ). record { name = new.name.now; size = n }) (size ∙ sym (ap (λ (s : Shape). s.size) found.2)) in (
+    let shape : shape_of new ≡ shape_of_file file =
+    ap (λ (n : ℕ). record { name = new.name.now; size = n }) (size ∙ sym (ap (λ (s : Shape). s.size) found.2)) in (
       slice_set files i file,
       made,
-      ap (λ (os : List Outline). map shape_of os) (remove-insert outlines i new (slice_get_within outlines i o at)) ∙ put_shape outlines files i new file same shape,
+      ap (λ (os : List Outline). map shape_of os) (remove-insert outlines i new (slice_get_within outlines i o at))
+          ∙ put_shape outlines files i new file same shape,
     )
 
-same_shapes : (files : List File) (i : ℕ) (old new : File) → slice_get files i ≡ Some old → shape_of_file new ≡ shape_of_file old → map shape_of_file (set files i new) ≡ map shape_of_file files
+same_shapes : (files : List File) (i : ℕ) (old new : File) → slice_get files i ≡ Some old → shape_of_file new ≡ shape_of_file old
+    → map shape_of_file (set files i new) ≡ map shape_of_file files
 same_shapes [] i old new at same = refl
 same_shapes (f ∷ files) zero old new at same = ap (λ s. s ∷ map shape_of_file files) (same ∙ ap shape_of_file (same_file old f (sym at)))
 same_shapes (f ∷ files) (suc i) old new at same = ap (λ ss. shape_of_file f ∷ ss) (same_shapes files i old new at same)
 
 -- a range past the size of the outline is refused
-pub write_past : (limits : Limits) (outlines : List Outline) (files : List File) (i offset : ℕ) (bytes : List ℕ) (o : Outline) → AreOutlines outlines files → slice_get outlines i ≡ Some o → o.size < offset + length bytes → outcome limits files (Write i offset bytes) ≡ Err Range
+pub write_past : (limits : Limits) (outlines : List Outline) (files : List File) (i offset : ℕ) (bytes : List ℕ) (o : Outline)
+    → AreOutlines outlines files → slice_get outlines i ≡ Some o → o.size < offset + length bytes → outcome limits files (Write i offset bytes) ≡ Err Range
 write_past limits outlines files i offset bytes o same at past =
     let found = file_at outlines files i o same at in
-    ap (λ x. with_file x (λ file. cond (nat_le (offset + length bytes) (length file.bytes)) (Ok (slice_set files i (record file { bytes = splice file.bytes offset bytes }))) (Err Range))) found.1
-    ∙ cond-false (nat_le (offset + length bytes) (length found.0.bytes)) _ _ (lt-leb (offset + length bytes) (length found.0.bytes) (omega (arith, ap (λ (s : Shape). s.size) found.2, past)))
+    ap (λ x. with_file x (λ file. cond (nat_le (offset + length bytes) (length file.bytes))
+    (Ok (slice_set files i (record file { bytes = splice file.bytes offset bytes }))) (Err Range))) found.1
+    ∙ cond-false (nat_le (offset + length bytes) (length found.0.bytes)) _ _
+    (lt-leb (offset + length bytes) (length found.0.bytes) (omega (arith, ap (λ (s : Shape). s.size) found.2, past)))
 
 -- a range within it is written, and the outline stays
-pub write_made : (limits : Limits) (outlines : List Outline) (files : List File) (i offset : ℕ) (bytes : List ℕ) (o : Outline) → AreOutlines outlines files → slice_get outlines i ≡ Some o → offset + length bytes ≤ o.size
+pub write_made : (limits : Limits) (outlines : List Outline) (files : List File) (i offset : ℕ) (bytes : List ℕ) (o : Outline)
+    → AreOutlines outlines files → slice_get outlines i ≡ Some o → offset + length bytes ≤ o.size
     → Agrees (Ok tt) (outcome limits files (Write i offset bytes)) outlines
 write_made limits outlines files i offset bytes o same at within =
     let found = file_at outlines files i o same at in
     let fits : offset + length bytes ≤ length found.0.bytes = omega (arith, ap (λ (s : Shape). s.size) found.2, within) in
     let file : File = record found.0 { bytes = splice found.0.bytes offset bytes } in (
       slice_set files i file,
-      ap (λ x. with_file x (λ old. cond (nat_le (offset + length bytes) (length old.bytes)) (Ok (slice_set files i (record old { bytes = splice old.bytes offset bytes }))) (Err Range))) found.1
+      ap (λ x. with_file x (λ old. cond (nat_le (offset + length bytes) (length old.bytes))
+          (Ok (slice_set files i (record old { bytes = splice old.bytes offset bytes }))) (Err Range))) found.1
           ∙ cond-true (nat_le (offset + length bytes) (length found.0.bytes)) _ _ (le-leb (offset + length bytes) (length found.0.bytes) fits),
-      same ∙ sym (same_shapes files i found.0 file found.1 (ap (λ (n : ℕ). record { name = found.0.name; size = n }) (length-splice found.0.bytes offset bytes fits))),
+      same ∙ sym (same_shapes files i found.0 file found.1
+          (ap (λ (n : ℕ). record { name = found.0.name; size = n }) (length-splice found.0.bytes offset bytes fits))),
     )
 
 -- all bytes are set, and the outline stays
-pub set_all_made : (limits : Limits) (outlines : List Outline) (files : List File) (i value : ℕ) (o : Outline) → AreOutlines outlines files → slice_get outlines i ≡ Some o → Agrees (Ok tt) (outcome limits files (SetAll i value)) outlines
+pub set_all_made : (limits : Limits) (outlines : List Outline) (files : List File) (i value : ℕ) (o : Outline) → AreOutlines outlines files
+    → slice_get outlines i ≡ Some o → Agrees (Ok tt) (outcome limits files (SetAll i value)) outlines
 set_all_made limits outlines files i value o same at =
     let found = file_at outlines files i o same at in
     let file : File = record found.0 { bytes = replicate (length found.0.bytes) value } in (
       slice_set files i file,
       ap (λ x. with_file x (λ old. Ok (slice_set files i (record old { bytes = replicate (length old.bytes) value })))) found.1,
-      same ∙ sym (same_shapes files i found.0 file found.1 (ap (λ (n : ℕ). record { name = found.0.name; size = n }) (length-replicate {A = ℕ} (length found.0.bytes) value))),
+      same ∙ sym (same_shapes files i found.0 file found.1
+          (ap (λ (n : ℕ). record { name = found.0.name; size = n }) (length-replicate {A = ℕ} (length found.0.bytes) value))),
     )
 
 -- ---- the walk over a group
 
 -- the outlines are those of files of which the rest of the group makes what the whole makes
-abbrev pub IsStage : List Outline → List Change → Result (List File) DirectoryFault → Type 0
-IsStage outlines rest total = (files : List File) × IsDirectory LAYOUT_1 files × AreOutlines outlines files × (outcome_of_all LAYOUT_1 files rest ≡ total)
+abbrev pub IsStage : Limits → List Outline → List Change → Result (List File) DirectoryFault → Type 0
+IsStage limits outlines rest total = (files : List File) × IsDirectory limits files × AreOutlines outlines files × (outcome_of_all limits files rest ≡ total)
 
 -- a change that agrees leads on
-pub stage_on : (outlines next : List Outline) (changes : List Change) (i : ℕ) (change : Change) (total : Result (List File) DirectoryFault) → i < length changes → change ≡ get_or changes i change → IsChange change
-    → ((files : List File) → AreOutlines outlines files → Agrees (Ok tt) (outcome LAYOUT_1 files change) next) → IsStage outlines (drop i changes) total → IsStage next (drop (i + 1) changes) total
-stage_on outlines next changes i change total lt at takes made stage =
+pub stage_on : (limits : Limits) (outlines next : List Outline) (changes : List Change) (i : ℕ) (change : Change)
+    (total : Result (List File) DirectoryFault) → i < length changes → change ≡ get_or changes i change → IsChange change
+    → ((files : List File) → AreOutlines outlines files → Agrees (Ok tt) (outcome limits files change) next)
+    → IsStage limits outlines (drop i changes) total → IsStage limits next (drop (i + 1) changes) total
+stage_on limits outlines next changes i change total lt at takes made stage =
     let one = made stage.0 stage.2 in
-    (one.0, changed LAYOUT_1 stage.0 one.0 change stage.1 takes one.1, one.2, goes_on LAYOUT_1 stage.0 one.0 changes i change total lt at one.1 stage.3)
+    (one.0, changed limits stage.0 one.0 change stage.1 takes one.1, one.2, goes_on limits stage.0 one.0 changes i change total lt at one.1 stage.3)
 
 -- a change that is refused is the end
-pub stage_stops : (outlines : List Outline) (changes : List Change) (i : ℕ) (change : Change) (fault : DirectoryFault) (total : Result (List File) DirectoryFault) → i < length changes → change ≡ get_or changes i change
-    → ((files : List File) → AreOutlines outlines files → outcome LAYOUT_1 files change ≡ Err fault) → IsStage outlines (drop i changes) total → Some fault ≡ result_err total
-stage_stops outlines changes i change fault total lt at stopped stage =
-    sym (ap result_err (stops LAYOUT_1 stage.0 changes i change fault total lt at (stopped stage.0 stage.2) stage.3))
+pub stage_stops : (limits : Limits) (outlines : List Outline) (changes : List Change) (i : ℕ) (change : Change) (fault : DirectoryFault)
+    (total : Result (List File) DirectoryFault) → i < length changes → change ≡ get_or changes i change
+    → ((files : List File) → AreOutlines outlines files → outcome limits files change ≡ Err fault) → IsStage limits outlines (drop i changes) total
+    → Some fault ≡ result_err total
+stage_stops limits outlines changes i change fault total lt at stopped stage =
+    sym (ap result_err (stops limits stage.0 changes i change fault total lt at (stopped stage.0 stage.2) stage.3))
 
 -- at each stage the sizes fit
-pub stage_room : (outlines : List Outline) (rest : List Change) (total : Result (List File) DirectoryFault) → IsStage outlines rest total → sum_by (λ outline. outline.size) outlines ≤ LAYOUT_1.bytes
-stage_room outlines rest total stage = omega (arith, same_total outlines stage.0 stage.2, stage.1.size)
+pub stage_room : (limits : Limits) (outlines : List Outline) (rest : List Change) (total : Result (List File) DirectoryFault)
+    → IsStage limits outlines rest total → sum_by (λ outline. outline.size) outlines ≤ limits.bytes
+stage_room limits outlines rest total stage = omega (arith, same_total outlines stage.0 stage.2, stage.1.size)

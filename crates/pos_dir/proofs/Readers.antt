@@ -63,7 +63,8 @@ byte_spelling byte = byte ∷ []
 byte_takes : (bytes : List ℕ) (x : ℕ) (rest : List ℕ) → IsBytes bytes → byte_at bytes ≡ Some (x, rest) → Takes bytes (byte_spelling x) rest × (x < 256)
 byte_takes [] x rest fits e = absurd cc
 byte_takes (byte ∷ bytes) x rest fits e =
-    subst (λ (p : ℕ × List ℕ). Takes (byte ∷ bytes) (byte_spelling p.0) p.1 × (p.0 < 256)) (some_is (byte, bytes) (x, rest) e) (record { parts = refl; rest_fits = λ i. fits (suc i) }, fits 0)
+    subst (λ (p : ℕ × List ℕ). Takes (byte ∷ bytes) (byte_spelling p.0) p.1 × (p.0 < 256)) (some_is (byte, bytes) (x, rest) e)
+    (record { parts = refl; rest_fits = λ i. fits (suc i) }, fits 0)
 
 -- a byte is read as it is spelled
 pub byte_reads : IsReader byte_at byte_spelling (λ byte. byte < 256)
@@ -92,14 +93,22 @@ wide32 = record {
   below = λ bytes fits. omega (arith, fits 0, fits 1, fits 2, fits 3);
 }
 
-number_takes : (w : Width) (limit : ℕ) (wide : IsWide w limit) (bytes : List ℕ) (n : ℕ) (rest : List ℕ) → IsBytes bytes → number_at w bytes ≡ Some (n, rest) → Takes bytes (to_be_bytes w n) rest × (n < limit)
+number_takes : (w : Width) (limit : ℕ) (wide : IsWide w limit) (bytes : List ℕ) (n : ℕ) (rest : List ℕ) → IsBytes bytes
+    → number_at w bytes ≡ Some (n, rest) → Takes bytes (to_be_bytes w n) rest × (n < limit)
 number_takes w limit wide bytes n rest fits e =
     let g = stopped (ltb (length bytes) (byte_len w)) (from_be_bytes w (take (byte_len w) bytes), drop (byte_len w) bytes) (n, rest) e in
     let long : byte_len w ≤ length bytes = ltb-false _ _ g.0 in
     let n-is : from_be_bytes w (take (byte_len w) bytes) ≡ n = ap (λ (p : ℕ × List ℕ). p.0) g.1 in
     let rest-is : drop (byte_len w) bytes ≡ rest = ap (λ (p : ℕ × List ℕ). p.1) g.1 in
-    let front : to_be_bytes w n ≡ take (byte_len w) bytes = rw (← n-is) (wide.back (take (byte_len w) bytes) (omega (arith, length-take (byte_len w) bytes)) (IsBytes-take (byte_len w) bytes fits)) in
-    (record { parts = rw (front, ← rest-is) (sym (take-append-drop (byte_len w) bytes)); rest_fits = rw (← rest-is) (IsBytes-drop (byte_len w) bytes fits) }, rw (← n-is) (wide.below (take (byte_len w) bytes) (IsBytes-take (byte_len w) bytes fits)))
+    let front : to_be_bytes w n ≡ take (byte_len w) bytes =
+    rw (← n-is) (wide.back (take (byte_len w) bytes) (omega (arith, length-take (byte_len w) bytes)) (IsBytes-take (byte_len w) bytes fits)) in (
+      record {
+        parts = rw (front, ← rest-is) (sym (take-append-drop (byte_len w) bytes));
+        rest_fits = rw (← rest-is)
+            (IsBytes-drop (byte_len w) bytes fits);
+      },
+      rw (← n-is) (wide.below (take (byte_len w) bytes) (IsBytes-take (byte_len w) bytes fits)),
+    )
 
 number_again : (w : Width) (limit : ℕ) (wide : IsWide w limit) (n : ℕ) (rest : List ℕ) → n < limit → number_at w (to_be_bytes w n ++ rest) ≡ Some (n, rest)
 number_again w limit wide n rest lt =
@@ -121,7 +130,8 @@ part_takes : (size : ℕ) (bytes x rest : List ℕ) → IsBytes bytes → part_a
 part_takes size bytes x rest fits e =
     let g = stopped (ltb (length bytes) size) (take size bytes, drop size bytes) (x, rest) e in
     let long : size ≤ length bytes = ltb-false _ _ g.0 in
-    subst (λ (p : List ℕ × List ℕ). Takes bytes p.0 p.1 × (length p.0 ≡ size)) g.1 (record { parts = sym (take-append-drop size bytes); rest_fits = IsBytes-drop size bytes fits }, omega (arith, length-take size bytes))
+    subst (λ (p : List ℕ × List ℕ). Takes bytes p.0 p.1 × (length p.0 ≡ size)) g.1
+    (record { parts = sym (take-append-drop size bytes); rest_fits = IsBytes-drop size bytes fits }, omega (arith, length-take size bytes))
 
 part_again : (x rest : List ℕ) → part_at (length x) (x ++ rest) ≡ Some (x, rest)
 part_again x rest =
@@ -129,7 +139,8 @@ part_again x rest =
     rw (long, take_at x rest (length x) refl, drop_at x rest (length x) refl) refl
 
 -- a name or a text behind its length, as it was spelled
-behind : (spell : ℕ → List ℕ) (bytes : List ℕ) (size : ℕ) (mid x rest : List ℕ) → Takes bytes (spell size) mid → Takes mid x rest → length x ≡ size → Takes bytes (spell (length x) ++ x) rest
+behind : (spell : ℕ → List ℕ) (bytes : List ℕ) (size : ℕ) (mid x rest : List ℕ) → Takes bytes (spell size) mid → Takes mid x rest → length x ≡ size
+    → Takes bytes (spell (length x) ++ x) rest
 behind spell bytes size mid x rest first second len =
     subst (λ (k : ℕ). Takes bytes (spell k ++ x) rest) (sym len) (Takes-then bytes (spell size) mid x rest first second)
 
@@ -141,7 +152,8 @@ name_takes bytes x rest fits e =
     let g = passed (is_name b.0.0) b.0 (x, rest) b.2 in
     let first = byte_takes bytes a.0.0 a.0.1 fits a.1 in
     let second = part_takes a.0.0 a.0.1 b.0.0 b.0.1 first.0.rest_fits b.1 in
-    subst (λ (p : List ℕ × List ℕ). Takes bytes (name_spelling p.0) p.1 × (is_name p.0 ≡ true)) g.1 (behind byte_spelling bytes a.0.0 a.0.1 b.0.0 b.0.1 first.0 second.0 second.1, g.0)
+    subst (λ (p : List ℕ × List ℕ). Takes bytes (name_spelling p.0) p.1 × (is_name p.0 ≡ true)) g.1
+    (behind byte_spelling bytes a.0.0 a.0.1 b.0.0 b.0.1 first.0 second.0 second.1, g.0)
 
 name_again : (x rest : List ℕ) → is_name x ≡ true → name_at (name_spelling x ++ rest) ≡ Some (x, rest)
 unfolding name_at
@@ -176,8 +188,10 @@ abbrev pub both : {A B C : Type 0} → (List ℕ → Option (A × List ℕ)) →
 both first second make bytes = first bytes >>= λ a. second a.1 >>= λ b. Some (make a.0 b.0, b.1)
 
 -- two things that were read one behind the other are spelled so
-pub both_take : {A B C : Type 0} (read_a : List ℕ → Option (A × List ℕ)) (spell_a : A → List ℕ) (FitsA : A → Type 0) (read_b : List ℕ → Option (B × List ℕ)) (spell_b : B → List ℕ) (FitsB : B → Type 0) (make : A → B → C)
-    → IsReader read_a spell_a FitsA → IsReader read_b spell_b FitsB → (bytes : List ℕ) (x : C) (rest : List ℕ) → IsBytes bytes → both read_a read_b make bytes ≡ Some (x, rest)
+pub both_take : {A B C : Type 0} (read_a : List ℕ → Option (A × List ℕ)) (spell_a : A → List ℕ) (FitsA : A → Type 0)
+    (read_b : List ℕ → Option (B × List ℕ)) (spell_b : B → List ℕ) (FitsB : B → Type 0) (make : A → B → C)
+    → IsReader read_a spell_a FitsA → IsReader read_b spell_b FitsB → (bytes : List ℕ) (x : C) (rest : List ℕ) → IsBytes bytes
+    → both read_a read_b make bytes ≡ Some (x, rest)
     → (a : A) × (b : B) × (make a b ≡ x) × Takes bytes (spell_a a ++ spell_b b) rest × FitsA a × FitsB b
 both_take {C = C} read_a spell_a FitsA read_b spell_b FitsB make reads_a reads_b bytes x rest fits e =
     let p = bind_some (read_a bytes) (λ a. read_b a.1 >>= λ b. Some (make a.0 b.0, b.1)) (x, rest) e in
@@ -185,11 +199,19 @@ both_take {C = C} read_a spell_a FitsA read_b spell_b FitsB make reads_a reads_b
     let first = reads_a.takes bytes p.0.0 p.0.1 fits p.1 in
     let second = reads_b.takes p.0.1 q.0.0 q.0.1 first.0.rest_fits q.1 in
     let made = some_is (make p.0.0 q.0.0, q.0.1) (x, rest) q.2 in
-    let joined = Takes-then bytes (spell_a p.0.0) p.0.1 (spell_b q.0.0) q.0.1 first.0 second.0 in
-    (p.0.0, q.0.0, ap (λ (y : C × List ℕ). y.0) made, subst (λ (y : List ℕ). Takes bytes (spell_a p.0.0 ++ spell_b q.0.0) y) (ap (λ (y : C × List ℕ). y.1) made) joined, first.1, second.1)
+    let joined = Takes-then bytes (spell_a p.0.0) p.0.1 (spell_b q.0.0) q.0.1 first.0 second.0 in (
+      p.0.0,
+      q.0.0,
+      ap (λ (y : C × List ℕ). y.0) made,
+      subst (λ (y : List ℕ). Takes bytes (spell_a p.0.0 ++ spell_b q.0.0) y) (ap (λ (y : C × List ℕ). y.1) made) joined,
+      first.1,
+      second.1,
+    )
 
 -- two things that are spelled one behind the other are read
-pub both_again : {A B C : Type 0} (read_a : List ℕ → Option (A × List ℕ)) (spell_a : A → List ℕ) (FitsA : A → Type 0) (read_b : List ℕ → Option (B × List ℕ)) (spell_b : B → List ℕ) (FitsB : B → Type 0) (make : A → B → C)
-    → IsReader read_a spell_a FitsA → IsReader read_b spell_b FitsB → (a : A) (b : B) (rest : List ℕ) → FitsA a → FitsB b → both read_a read_b make ((spell_a a ++ spell_b b) ++ rest) ≡ Some (make a b, rest)
+pub both_again : {A B C : Type 0} (read_a : List ℕ → Option (A × List ℕ)) (spell_a : A → List ℕ) (FitsA : A → Type 0)
+    (read_b : List ℕ → Option (B × List ℕ)) (spell_b : B → List ℕ) (FitsB : B → Type 0) (make : A → B → C)
+    → IsReader read_a spell_a FitsA → IsReader read_b spell_b FitsB → (a : A) (b : B) (rest : List ℕ) → FitsA a → FitsB b
+    → both read_a read_b make ((spell_a a ++ spell_b b) ++ rest) ≡ Some (make a b, rest)
 both_again read_a spell_a FitsA read_b spell_b FitsB make reads_a reads_b a b rest fits_a fits_b =
     rw (append_assoc (spell_a a) (spell_b b) rest, reads_a.again a (spell_b b ++ rest) fits_a, reads_b.again b rest fits_b) refl

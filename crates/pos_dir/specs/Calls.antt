@@ -5,7 +5,7 @@ use Rattle.pos_dir.specs.declared.limits.Limits.{Limits}
 use Rattle.pos_dir.specs.declared.change.Change.{Change}
 use Rattle.pos_dir.specs.declared.fault.DirectoryFault.{DirectoryFault}
 use Rattle.pos_dir.specs.declared.fault.DirectoryFault.TheVariants.{NoMemory, Malformed}
-use Rattle.pos_dir.specs.Files.{IsDirectory}
+use Rattle.pos_dir.specs.Files.{DirectoryView, IsDirectory}
 use Rattle.pos_dir.specs.Changes.{after, fault_of, refusal_of, IsGroup}
 use Rattle.pos_dir.specs.Spelling.{spelling, group_spelling}
 
@@ -17,10 +17,10 @@ Pushes old change (Err (fault, back)) new = (refusal_of old change ≡ Some faul
 
 -- Applying a group makes the files after it, or is refused with the fault of its first change that isn't applicable.
 -- Memory is wanted of an applicable group alone. A refusal changes nothing.
-abbrev pub Applies : {X : Type 0} → Limits → List File → List Change → Result X DirectoryFault → List File → Type 0
-Applies limits old changes (Ok _) new = after limits old changes ≡ Some new
-Applies limits old changes (Err NoMemory) new = IsSome (after limits old changes) × (new ≡ old)
-Applies limits old changes (Err fault) new = (fault_of limits old changes ≡ Some fault) × (new ≡ old)
+abbrev pub Applies : {X : Type 0} → DirectoryView → List Change → Result X DirectoryFault → DirectoryView → Type 0
+Applies old changes (Ok _) new = after old.limits old.files changes ≡ Some new.files
+Applies old changes (Err NoMemory) new = IsSome (after old.limits old.files changes) × (new ≡ old)
+Applies old changes (Err fault) new = (fault_of old.limits old.files changes ≡ Some fault) × (new ≡ old)
 
 -- the bytes spell some directory
 abbrev pub IsBody : Limits → List ℕ → Type 0
@@ -31,8 +31,9 @@ abbrev pub IsGroupText : List ℕ → Type 0
 IsGroupText bytes = (changes : List Change) × IsGroup changes × (bytes ≡ group_spelling changes)
 
 -- Bytes are read as the directory that they spell; they are malformed exactly where they spell none.
-abbrev pub Decodes : Limits → List ℕ → Result (List File) DirectoryFault → Type 0
-Decodes limits bytes (Ok files) = IsDirectory limits files × (bytes ≡ spelling files)
+abbrev pub Decodes : Limits → List ℕ → Result DirectoryView DirectoryFault → Type 0
+Decodes limits bytes (Ok made) =
+    (made.limits ≡ limits) × IsDirectory limits made.files × (bytes ≡ spelling made.files)
 Decodes limits bytes (Err NoMemory) = IsBody limits bytes
 Decodes limits bytes (Err Malformed) = ¬ (IsBody limits bytes)
 Decodes limits bytes (Err fault) = ⊥

@@ -1,9 +1,10 @@
--- What a directory is: a list of files in index order, within the limits of a layout (Hard Totals).
-use Rattle.std.specs.Prelude.{◌≡◌, ℕ, ◌≤◌, Bool, true, not, ◌&&◌, List, [], ◌∷◌, length, sum_by, nat_le, Option, position}
+-- What a directory is: a list of files in index order, within the limits of the disk's layout (Hard Totals).
+use Rattle.std.specs.Prelude.{◌≡◌, ℕ, ◌≤◌, ◌<◌, ◌^◌, Bool, true, not, ◌&&◌, List, [], ◌∷◌, length, sum_by, nat_le, Option, position}
 use Rattle.std.specs.List.{list_any, list_all}
 use Rattle.std.specs.Str.{bytes_eq}
 use Rattle.pos_dir.specs.declared.file.File.{File}
 use Rattle.pos_dir.specs.declared.limits.Limits.{Limits}
+use Rattle.pos_dir.specs.declared.limits.TheConstants.{LAYOUT_2}
 
 -- a byte that a name may have
 abbrev pub is_name_byte : ℕ → Bool
@@ -30,9 +31,29 @@ are_distinct (file ∷ files) = not (has_name files file.name) && are_distinct f
 abbrev pub total_size : List File → ℕ
 total_size files = sum_by (λ file. length file.bytes) files
 
+-- A directory: how much it may hold, and its files in index order.
+pub record DirectoryView : Type 0 where
+  pub limits : Limits
+  pub files : List File
+
+-- the directory of these files
+abbrev pub directory_of : Limits → List File → DirectoryView
+directory_of limits files = record { limits = limits; files = files }
+
 -- The files of a directory: few and small enough, with good names, of which no two are the same.
 pub record IsDirectory (limits : Limits) (files : List File) : Type 0 where
   pub count : length files ≤ limits.files
   pub size : total_size files ≤ limits.bytes
   pub named : list_all (λ file. is_name file.name) files ≡ true
   pub distinct : are_distinct files ≡ true
+
+-- Limits that the widths of a directory's spelling hold.
+pub record AreWritable (limits : Limits) : Type 0 where
+  pub files : limits.files < 2 ^ 16
+  pub bytes : limits.bytes < 2 ^ 32
+
+-- The limits allow no more files than those of layout 2, and the files are those of a directory within them.
+pub record IsHeld (limits : Limits) (files : List File) : Type 0 where
+  pub few : limits.files ≤ LAYOUT_2.files
+  pub writable : AreWritable limits
+  pub directory : IsDirectory limits files

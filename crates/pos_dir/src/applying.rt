@@ -9,10 +9,10 @@ use crate::fault::DirectoryFault;
 use crate::file::File;
 use crate::group::Group;
 use crate::laws::{is_directory, is_group};
-use crate::limits::LAYOUT_1;
+use crate::limits::Limits;
 use crate::outlines::check_group;
 use crate::steps::{Step, make_steps};
-use crate::writing::{BODY_LIMIT, put_directory};
+use crate::writing::{limit_body, put_directory};
 use std::alloc::Global;
 
 /// Applies all changes of a group in order. A change that isn't applicable refuses the group with
@@ -23,10 +23,11 @@ pub fn apply_group(
     directory: &mut Directory,
     group: &Group,
 ) -> Result<(), DirectoryFault>
-    ensures { Applies LAYOUT_1 directory.old group.now result directory.new }
+    ensures applied { Applies directory.old group.now result directory.new }
+    ensures limits { directory.new.limits ≡ directory.old.limits }
 {
     check_group(directory, group)?;
-    apply_checked(alloc, &mut directory.files, group)
+    apply_checked(alloc, directory.limits, &mut directory.files, group)
 }
 
 /// Applies all changes of a group as `apply_group` does, and gives the one spelling of the files
@@ -37,15 +38,16 @@ pub fn apply_and_encode(
     directory: &mut Directory,
     group: &Group,
 ) -> Result<Vec<u8>, DirectoryFault>
-    ensures applied { Applies LAYOUT_1 directory.old group.now result directory.new }
-    ensures spelled { IfOk result (λ body. body.items ≡ spelling directory.new) }
-    ensures directory { IsDirectory LAYOUT_1 directory.new }
-    ensures length { length (spelling directory.new) ≤ body_limit LAYOUT_1 }
+    ensures applied { Applies directory.old group.now result directory.new }
+    ensures limits { directory.new.limits ≡ directory.old.limits }
+    ensures spelled { IfOk result (λ body. body.items ≡ spelling directory.new.files) }
+    ensures directory { IsDirectory directory.new.limits directory.new.files }
+    ensures length { length (spelling directory.new.files) ≤ body_limit directory.new.limits }
 {
     is_directory(directory);
     check_group(directory, group)?;
-    let mut body = Vec::with_capacity(alloc, BODY_LIMIT)?;
-    apply_checked(alloc, &mut directory.files, group)?;
+    let mut body = Vec::with_capacity(alloc, limit_body(directory.limits))?;
+    apply_checked(alloc, directory.limits, &mut directory.files, group)?;
     put_directory(&mut body, directory);
     Ok(body)
 }
@@ -57,37 +59,44 @@ pub fn apply_applicable(
     directory: &mut Directory,
     group: &Group,
 ) -> Result<(), DirectoryFault>
-    requires { IsOk (outcome_of_all LAYOUT_1 directory.old group.now) }
-    ensures outcome { MatchResult result (λ _. outcome_of_all LAYOUT_1 directory.old group.now ≡ Ok directory.new)
+    requires { IsOk (outcome_of_all directory.old.limits directory.old.files group.now) }
+    ensures outcome { MatchResult result
+        (λ _. outcome_of_all directory.old.limits directory.old.files group.now ≡ Ok directory.new.files)
         (λ fault. (fault ≡ DirectoryFault.NoMemory) × (directory.new ≡ directory.old)) }
+    ensures limits { directory.new.limits ≡ directory.old.limits }
 {
     is_directory(directory);
-    apply_checked(alloc, &mut directory.files, group)
+    apply_checked(alloc, directory.limits, &mut directory.files, group)
 }
 
 /// Applies a group that is applicable, in place. It is refused for want of memory alone, before
 /// anything is changed.
-fn apply_checked(alloc: Global, files: &mut Vec<File>, group: &Group) -> Result<(), DirectoryFault>
-    requires directory { IsDirectory LAYOUT_1 files.old.items }
-    requires applicable { IsOk (outcome_of_all LAYOUT_1 files.old.items group.now) }
-    ensures outcome { MatchResult result (λ _. outcome_of_all LAYOUT_1 files.old.items group.now ≡ Ok files.new.items)
+fn apply_checked(
+    alloc: Global,
+    limits: Limits,
+    files: &mut Vec<File>,
+    group: &Group,
+) -> Result<(), DirectoryFault>
+    requires directory { IsDirectory limits files.old.items }
+    requires applicable { IsOk (outcome_of_all limits files.old.items group.now) }
+    ensures outcome { MatchResult result (λ _. outcome_of_all limits files.old.items group.now ≡ Ok files.new.items)
         (λ fault. (fault ≡ DirectoryFault.NoMemory) × (files.new.items ≡ files.old.items)) }
-    ensures directory { IsDirectory LAYOUT_1 files.new.items }
+    ensures directory { IsDirectory limits files.new.items }
 {
     is_group(group);
     let steps = make_steps(alloc, group)?;
-    files.reserve(LAYOUT_1.files as usize - files.len())?;
-    carry_out(files, steps);
+    files.reserve(limits.files as usize - files.len())?;
+    carry_out(limits, files, steps);
     Ok(())
 }
 
 /// Carries out changes that are applicable, where there is room for all files.
-fn carry_out(files: &mut Vec<File>, steps: Vec<Step<'_>>)
-    requires applicable { IsOk (outcome_of_all LAYOUT_1 files.old.items steps.items) }
-    requires room { LAYOUT_1.files ≤ vec_capacity files.old }
-    ensures { outcome_of_all LAYOUT_1 files.old.items steps.entry.items ≡ Ok files.new.items }
+fn carry_out(limits: Limits, files: &mut Vec<File>, steps: Vec<Step<'_>>)
+    requires applicable { IsOk (outcome_of_all limits files.old.items steps.items) }
+    requires room { limits.files ≤ vec_capacity files.old }
+    ensures { outcome_of_all limits files.old.items steps.entry.items ≡ Ok files.new.items }
 {
     for step in steps {
-        step.carry_out(files);
+        step.carry_out(limits, files);
     }
 }

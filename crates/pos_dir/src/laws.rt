@@ -1,19 +1,19 @@
 //! Laws over the definitions, and what is true of each directory and each group.
 ghost use Rattle.std.specs.Prelude.{◌≡◌, ◌≤◌, List, length};
 ghost use Rattle.pos_dir.specs.declared.file.File.{File};
+ghost use Rattle.pos_dir.specs.declared.limits.Limits.{Limits};
 ghost use Rattle.pos_dir.specs.declared.change.Change.{Change};
-ghost use Rattle.pos_dir.specs.Files.{IsDirectory};
+ghost use Rattle.pos_dir.specs.Files.{IsDirectory, AreWritable};
 ghost use Rattle.pos_dir.specs.Changes.{IsGroup};
 ghost use Rattle.pos_dir.specs.Spelling.{spelling, group_spelling, body_limit};
 
 use crate::directory::Directory;
 use crate::group::Group;
-use crate::limits::LAYOUT_1;
 
-/// No two directories are spelled alike.
+/// No two directories within the same limits are spelled alike.
 pub fn one_spelling()
-    ensures { (files others : List File) → IsDirectory LAYOUT_1 files → IsDirectory LAYOUT_1 others
-        → spelling files ≡ spelling others → files ≡ others }
+    ensures { (limits : Limits) (files others : List File) → AreWritable limits → IsDirectory limits files
+        → IsDirectory limits others → spelling files ≡ spelling others → files ≡ others }
 {}
 
 /// No two groups are spelled alike.
@@ -22,11 +22,12 @@ pub fn one_group_spelling()
         → group_spelling changes ≡ group_spelling others → changes ≡ others }
 {}
 
-/// The files of a directory are within the limits and have distinct good names, and their spelling
-/// is no longer than a body may be.
+/// The files of a directory are within its limits, which the widths of a spelling hold, and have
+/// distinct good names, and their spelling is no longer than a body may be.
 pub fn is_directory(directory: &Directory)
-    ensures directory { IsDirectory LAYOUT_1 directory.now }
-    ensures length { length (spelling directory.now) ≤ body_limit LAYOUT_1 }
+    ensures writable { AreWritable directory.now.limits }
+    ensures directory { IsDirectory directory.now.limits directory.now.files }
+    ensures length { length (spelling directory.now.files) ≤ body_limit directory.now.limits }
 {
     let _ = &directory.files;
 }

@@ -28,7 +28,7 @@ pub use directory::Directory;
 pub use fault::DirectoryFault;
 pub use file::File;
 pub use group::Group;
-pub use limits::{LAYOUT_1, Limits};
+pub use limits::{LAYOUT_1, LAYOUT_2, Limits};
 pub use names::is_name;
 pub use outlines::check_group;
 pub use reading::{decode, decode_group};

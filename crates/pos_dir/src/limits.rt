@@ -7,8 +7,14 @@ pub struct Limits {
     pub files: u16,
 }
 
-/// The limits of a totals disk of the first layout: 8,192 bytes, 64 files.
+/// The limits of a totals disk of layout 1: 8,192 bytes, 64 files.
 pub const LAYOUT_1: Limits = Limits {
     bytes: 8_192,
     files: 64,
+};
+
+/// The limits of a totals disk of layout 2: 65,536 bytes, 250 files. No directory has more files.
+pub const LAYOUT_2: Limits = Limits {
+    bytes: 65_536,
+    files: 250,
 };

@@ -1,7 +1,8 @@
 //! A check of a group over the names and sizes of the files, which takes no memory.
-ghost use Rattle.std.specs.Prelude.{◌≡◌, ◌≤◌, ◌<◌, ◌^◌, ℕ, length, sum_by};
+ghost use Rattle.std.specs.Prelude.{◌≡◌, ◌≤◌, ◌<◌, ◌^◌, ℕ, [], length, sum_by};
 ghost use Rattle.pos_dir.specs.declared.change.Change.TheVariants.{Create, Delete, Rename, Write, SetAll};
 ghost use Rattle.std.specs.Result.{result_err};
+ghost use Rattle.pos_dir.specs.Files.{IsDirectory};
 ghost use Rattle.pos_dir.specs.Changes.{fault_of};
 ghost use Rattle.pos_dir.specs.Outlines.{AreOutlines, is_named, Checks};
 
@@ -11,11 +12,14 @@ use crate::directory::Directory;
 use crate::fault::DirectoryFault;
 use crate::file::File;
 use crate::group::Group;
-use crate::limits::{LAYOUT_1, Limits};
+use crate::limits::{LAYOUT_1, LAYOUT_2, Limits};
 use arrayvec::ArrayVec;
 
-/// The most files of a directory, in the layout that allows the most.
-const MOST_FILES: usize = LAYOUT_1.files as usize;
+/// The most files within the limits of layout 1.
+const FEW_FILES: usize = LAYOUT_1.files as usize;
+
+/// The most files of any directory.
+const MOST_FILES: usize = LAYOUT_2.files as usize;
 
 /// The name and the size of a file.
 #[derive(Clone, Copy, Default)]
@@ -40,13 +44,13 @@ fn sum_outlines(outlines: &[Outline<'_>]) -> usize
 }
 
 /// Checks a Create.
-fn check_create<'a>(
-    outlines: &mut ArrayVec<Outline<'a>, MOST_FILES>,
+fn check_create<'a, const N: usize>(
+    outlines: &mut ArrayVec<Outline<'a>, N>,
     limits: Limits,
     name: &'a [u8],
     size: u32,
 ) -> Result<(), DirectoryFault>
-    requires files { limits.files ≤ LAYOUT_1.files }
+    requires files { limits.files ≤ N }
     requires total { sum_by (λ outline. outline.size) outlines.old.items ≤ limits.bytes }
     ensures { Checks limits outlines.old.items (Create name.now size) result outlines.new.items }
 {
@@ -66,8 +70,8 @@ fn check_create<'a>(
 }
 
 /// Checks a Delete.
-fn check_delete(
-    outlines: &mut ArrayVec<Outline<'_>, MOST_FILES>,
+fn check_delete<const N: usize>(
+    outlines: &mut ArrayVec<Outline<'_>, N>,
     index: u16,
 ) -> Result<(), DirectoryFault>
     ensures { (limits : Limits) → Checks limits outlines.old.items (Delete index) result outlines.new.items }
@@ -81,8 +85,8 @@ fn check_delete(
 }
 
 /// Checks a Rename.
-fn check_rename<'a>(
-    outlines: &mut ArrayVec<Outline<'a>, MOST_FILES>,
+fn check_rename<'a, const N: usize>(
+    outlines: &mut ArrayVec<Outline<'a>, N>,
     index: u16,
     name: &'a [u8],
 ) -> Result<(), DirectoryFault>
@@ -102,8 +106,8 @@ fn check_rename<'a>(
 }
 
 /// Checks a Write.
-fn check_write(
-    outlines: &ArrayVec<Outline<'_>, MOST_FILES>,
+fn check_write<const N: usize>(
+    outlines: &ArrayVec<Outline<'_>, N>,
     index: u16,
     offset: u32,
     bytes: &Bytes,
@@ -123,8 +127,8 @@ fn check_write(
 }
 
 /// Checks a SetAll, of whatever value.
-fn check_set_all(
-    outlines: &ArrayVec<Outline<'_>, MOST_FILES>,
+fn check_set_all<const N: usize>(
+    outlines: &ArrayVec<Outline<'_>, N>,
     index: u16,
 ) -> Result<(), DirectoryFault>
     ensures { (limits : Limits) (value : ℕ)
@@ -137,12 +141,12 @@ fn check_set_all(
 }
 
 /// Checks one change, and makes of the outlines what it makes of the files.
-fn check<'a>(
-    outlines: &mut ArrayVec<Outline<'a>, MOST_FILES>,
+fn check<'a, const N: usize>(
+    outlines: &mut ArrayVec<Outline<'a>, N>,
     limits: Limits,
     change: &'a Change,
 ) -> Result<(), DirectoryFault>
-    requires files { limits.files ≤ LAYOUT_1.files }
+    requires files { limits.files ≤ N }
     requires total { sum_by (λ outline. outline.size) outlines.old.items ≤ limits.bytes }
     ensures { Checks limits outlines.old.items change.now result outlines.new.items }
 {
@@ -159,29 +163,49 @@ fn check<'a>(
     }
 }
 
-/// The outlines of files.
-fn outline_files(files: &[File]) -> ArrayVec<Outline<'_>, MOST_FILES>
-    requires { length files.now ≤ LAYOUT_1.files }
-    ensures { AreOutlines result.items files.now }
+/// Makes the outlines of files.
+fn outline_files<'a, const N: usize>(outlines: &mut ArrayVec<Outline<'a>, N>, files: &'a [File])
+    requires empty { outlines.old.items ≡ [] }
+    requires few { length files.now ≤ N }
+    ensures { AreOutlines outlines.new.items files.now }
 {
-    let mut outlines = ArrayVec::new();
     for file in files {
         outlines.push(Outline {
             name: file.name.as_slice(),
             size: file.bytes.as_slice().len(),
         });
     }
-    outlines
+}
+
+/// Checks a group where there is room for as many outlines as the limits allow files.
+fn check_within<'a, const N: usize>(
+    outlines: &mut ArrayVec<Outline<'a>, N>,
+    limits: Limits,
+    files: &'a [File],
+    group: &'a Group,
+) -> Result<(), DirectoryFault>
+    requires empty { outlines.old.items ≡ [] }
+    requires directory { IsDirectory limits files.now }
+    requires few { limits.files ≤ N }
+    ensures { result_err result ≡ fault_of limits files.now group.now }
+{
+    outline_files(outlines, files);
+    for change in &group.changes {
+        check(outlines, limits, change)?;
+    }
+    Ok(())
 }
 
 /// Whether a group is applicable, or the fault of the first change that isn't: NoFile, Exists,
 /// Range or NoRoom. It takes no memory.
 pub fn check_group<'a>(directory: &'a Directory, group: &'a Group) -> Result<(), DirectoryFault>
-    ensures { result_err result ≡ fault_of LAYOUT_1 directory.now group.now }
+    ensures { result_err result ≡ fault_of directory.now.limits directory.now.files group.now }
 {
-    let mut outlines = outline_files(&directory.files);
-    for change in &group.changes {
-        check(&mut outlines, LAYOUT_1, change)?;
+    let files = directory.files.as_slice();
+    if directory.limits.files as usize <= FEW_FILES {
+        let mut outlines: ArrayVec<Outline<'a>, FEW_FILES> = ArrayVec::new();
+        return check_within(&mut outlines, directory.limits, files, group);
     }
-    Ok(())
+    let mut outlines: ArrayVec<Outline<'a>, MOST_FILES> = ArrayVec::new();
+    check_within(&mut outlines, directory.limits, files, group)
 }

@@ -1,3 +1,5 @@
+ghost use Rattle.std.specs.Prelude.{◌≤◌};
+ghost use Rattle.pos_dir.specs.declared.limits.TheConstants.{LAYOUT_2};
 ghost use Rattle.pos_dir.specs.Calls.{Decodes, DecodesGroup};
 
 use crate::changes::locate_changes;
@@ -6,21 +8,22 @@ use crate::directory::Directory;
 use crate::fault::DirectoryFault;
 use crate::files::locate_files;
 use crate::group::Group;
-use crate::limits::LAYOUT_1;
+use crate::limits::Limits;
 use std::alloc::Global;
 
-/// The directory whose spelling (`encode`) the bytes are, all of them. Bytes that spell no
-/// directory are refused (Malformed): those cut short, bytes left over, a bad name, a name used
-/// twice, more than 64 files, more than 8,192 bytes in sum. Want of memory is answered for the
-/// spelling of a directory alone (NoMemory).
-pub fn decode(alloc: Global, bytes: &[u8]) -> Result<Directory, DirectoryFault>
-    ensures { Decodes LAYOUT_1 bytes.now result }
+/// The directory within limits of at most 250 files whose spelling (`encode`) the bytes are, all of
+/// them. Bytes that spell no such directory are refused (Malformed): those cut short, bytes left
+/// over, a bad name, a name used twice, more files or more bytes in sum than the limits allow. Want
+/// of memory is answered for the spelling of a directory alone (NoMemory).
+pub fn decode(alloc: Global, bytes: &[u8], limits: Limits) -> Result<Directory, DirectoryFault>
+    requires { limits.files ≤ LAYOUT_2.files }
+    ensures { Decodes limits bytes.now result }
 {
-    let Some((count, rest)) = locate_files(LAYOUT_1, bytes) else {
+    let Some((count, rest)) = locate_files(limits, bytes) else {
         return Err(DirectoryFault::Malformed);
     };
     let files = copy_items(alloc, count, rest)?;
-    Ok(Directory { files })
+    Ok(Directory { limits, files })
 }
 
 /// The group whose spelling (`encode_group`) the bytes are, all of them. Bytes that spell no group

@@ -7,7 +7,7 @@ use crate::change::Change;
 use crate::fault::DirectoryFault;
 use crate::file::File;
 use crate::group::Group;
-use crate::limits::LAYOUT_1;
+use crate::limits::Limits;
 use std::alloc::Global;
 use std::marker::Model;
 
@@ -85,15 +85,18 @@ impl<'a> Step<'a> {
     }
 
     /// Carries the change out, which is applicable, where there is room for all files.
-    pub(crate) fn carry_out(self, files: &mut Vec<File>)
-        requires applicable { IsOk (outcome LAYOUT_1 files.old.items self) }
-        requires room { LAYOUT_1.files ≤ vec_capacity files.old }
-        ensures outcome { outcome LAYOUT_1 files.old.items self.entry ≡ Ok files.new.items }
-        ensures room { LAYOUT_1.files ≤ vec_capacity files.new }
+    pub(crate) fn carry_out(self, limits: Limits, files: &mut Vec<File>)
+        requires applicable { IsOk (outcome limits files.old.items self) }
+        requires room { limits.files ≤ vec_capacity files.old }
+        ensures outcome { outcome limits files.old.items self.entry ≡ Ok files.new.items }
+        ensures room { limits.files ≤ vec_capacity files.new }
     {
         let Step { work } = self;
         match work {
-            Work::Create { file } => files.push_reserved(file),
+            Work::Create { file } => {
+                prove!(files.len() < limits.files as usize);
+                files.push_reserved(file)
+            }
             Work::Delete { index } => {
                 let _removed = files.remove(index as usize);
             }

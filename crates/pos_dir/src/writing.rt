@@ -13,7 +13,7 @@ use crate::fault::DirectoryFault;
 use crate::file::File;
 use crate::group::Group;
 use crate::laws::is_directory;
-use crate::limits::LAYOUT_1;
+use crate::limits::Limits;
 use std::alloc::Global;
 
 /// The bytes of a count.
@@ -23,22 +23,24 @@ const COUNT_SIZE: usize = 2;
 const FILE_HEAD: usize = 15;
 
 /// The most bytes of a directory's spelling.
-pub(crate) const BODY_LIMIT: usize = COUNT_SIZE
-    + FILE_HEAD * LAYOUT_1.files as usize
-    + LAYOUT_1.bytes as usize;
+pub(crate) fn limit_body(limits: Limits) -> usize
+    ensures { result ≡ body_limit limits }
+{
+    COUNT_SIZE + FILE_HEAD * limits.files as usize + limits.bytes as usize
+}
 
-/// The one spelling of a directory (a body of the totals disk), at most 9,154 bytes: the number
-/// of files in two bytes; then for each file in index order the length of its name in one byte,
-/// the name, its size in four bytes and its bytes. Numbers are big-endian. It is refused for want
-/// of memory alone (NoMemory).
+/// The one spelling of a directory (a body of the totals disk), at most 9,154 bytes within the
+/// limits of layout 1, 69,288 within those of layout 2: the number of files in two bytes; then for
+/// each file in index order the length of its name in one byte, the name, its size in four bytes
+/// and its bytes. Numbers are big-endian. It is refused for want of memory alone (NoMemory).
 pub fn encode(alloc: Global, directory: &Directory) -> Result<Vec<u8>, DirectoryFault>
-    ensures directory { IsDirectory LAYOUT_1 directory.now }
-    ensures length { length (spelling directory.now) ≤ body_limit LAYOUT_1 }
-    ensures spelling { MatchResult result (λ bytes. bytes.items ≡ spelling directory.now)
+    ensures directory { IsDirectory directory.now.limits directory.now.files }
+    ensures length { length (spelling directory.now.files) ≤ body_limit directory.now.limits }
+    ensures spelling { MatchResult result (λ bytes. bytes.items ≡ spelling directory.now.files)
         (λ fault. fault ≡ DirectoryFault.NoMemory) }
 {
     is_directory(directory);
-    let mut body = Vec::with_capacity(alloc, BODY_LIMIT)?;
+    let mut body = Vec::with_capacity(alloc, limit_body(directory.limits))?;
     put_directory(&mut body, directory);
     Ok(body)
 }
@@ -46,10 +48,10 @@ pub fn encode(alloc: Global, directory: &Directory) -> Result<Vec<u8>, Directory
 /// Writes a directory.
 pub(crate) fn put_directory(out: &mut Vec<u8>, directory: &Directory)
     requires empty { out.old.items ≡ [] }
-    requires room { body_limit LAYOUT_1 ≤ vec_capacity out.old }
-    ensures spelling { out.new.items ≡ spelling directory.now }
-    ensures directory { IsDirectory LAYOUT_1 directory.now }
-    ensures length { length (spelling directory.now) ≤ body_limit LAYOUT_1 }
+    requires room { body_limit directory.now.limits ≤ vec_capacity out.old }
+    ensures spelling { out.new.items ≡ spelling directory.now.files }
+    ensures directory { IsDirectory directory.now.limits directory.now.files }
+    ensures length { length (spelling directory.now.files) ≤ body_limit directory.now.limits }
 {
     is_directory(directory);
     let files = directory.files.as_slice();

@@ -17,24 +17,33 @@ in_range at n i = elim (cases_lt i at) [
 -- bytes put over others leave the length
 pub length-splice : {A : Type 0} (old new : List A) (at : ℕ) → at + length new ≤ length old → length (splice old at new) ≡ length old
 length-splice old new at fits =
-    omega (arith, length-append (take at old ++ new) (drop (at + length new) old), length-append (take at old) new, length-take-le at old (omega arith), length-drop (at + length new) old)
+    omega (
+      arith,
+      length-append (take at old ++ new) (drop (at + length new) old),
+      length-append (take at old) new,
+      length-take-le at old (omega arith),
+      length-drop (at + length new) old,
+    )
 
 -- before what was written, within it, and behind it
-pub spliced_before : {A : Type 0} (d : A) (old new : List A) (at i : ℕ) → at + length new ≤ length old → i < at → get_or (splice old at new) i d ≡ get_or old i d
+pub spliced_before : {A : Type 0} (d : A) (old new : List A) (at i : ℕ) → at + length new ≤ length old → i < at
+    → get_or (splice old at new) i d ≡ get_or old i d
 spliced_before d old new at i fits before =
     let front = length-take-le at old (omega arith) in
     get_or_append_left (take at old ++ new) (drop (at + length new) old) d i (omega (arith, length-append (take at old) new))
     ∙ get_or_append_left (take at old) new d i (omega arith) ∙ get_or-take at old i d before
 
 -- within its range stand the new ones
-pub spliced_within : {A : Type 0} (d : A) (old new : List A) (at i : ℕ) → at + length new ≤ length old → InRange at (length new) i → get_or (splice old at new) i d ≡ get_or new (i - at) d
+pub spliced_within : {A : Type 0} (d : A) (old new : List A) (at i : ℕ) → at + length new ≤ length old → InRange at (length new) i
+    → get_or (splice old at new) i d ≡ get_or new (i - at) d
 spliced_within d old new at i fits inside =
     let front = length-take-le at old (omega arith) in
     get_or_append_left (take at old ++ new) (drop (at + length new) old) d i (omega (arith, inside.1, length-append (take at old) new))
     ∙ get_or-append_right (take at old) new at i d front inside.0
 
 -- behind it the old ones
-pub spliced_behind : {A : Type 0} (d : A) (old new : List A) (at i : ℕ) → at + length new ≤ length old → at + length new ≤ i → get_or (splice old at new) i d ≡ get_or old i d
+pub spliced_behind : {A : Type 0} (d : A) (old new : List A) (at i : ℕ) → at + length new ≤ length old → at + length new ≤ i
+    → get_or (splice old at new) i d ≡ get_or old i d
 spliced_behind d old new at i fits behind =
     let front = length-take-le at old (omega arith) in
     let size : length (take at old ++ new) ≡ at + length new = omega (arith, length-append (take at old) new) in
@@ -43,7 +52,8 @@ spliced_behind d old new at i fits behind =
     ∙ get_or-drop (at + length new) old (i - (at + length new)) d ∙ ap (λ (k : ℕ). get_or old k d) same
 
 -- and everywhere else too
-pub spliced_elsewhere : {A : Type 0} (d : A) (old new : List A) (at i : ℕ) → at + length new ≤ length old → ¬ (InRange at (length new) i) → get_or (splice old at new) i d ≡ get_or old i d
+pub spliced_elsewhere : {A : Type 0} (d : A) (old new : List A) (at i : ℕ) → at + length new ≤ length old → ¬ (InRange at (length new) i)
+    → get_or (splice old at new) i d ≡ get_or old i d
 spliced_elsewhere d old new at i fits outside = elim (cases_lt i at) [
   | inl before ↦ spliced_before d old new at i fits before
   | inr from ↦ elim (cases_lt i (at + length new)) [
@@ -53,7 +63,8 @@ spliced_elsewhere d old new at i fits outside = elim (cases_lt i at) [
 ]
 
 -- the same of bytes, as a read gives them
-pub splice_elsewhere : (old bytes : List ℕ) (at i : ℕ) → at + length bytes ≤ length old → ¬ (InRange at (length bytes) i) → get_or (splice old at bytes) i 0 ≡ get_or old i 0
+pub splice_elsewhere : (old bytes : List ℕ) (at i : ℕ) → at + length bytes ≤ length old → ¬ (InRange at (length bytes) i)
+    → get_or (splice old at bytes) i 0 ≡ get_or old i 0
 splice_elsewhere old bytes at i fits outside = spliced_elsewhere 0 old bytes at i fits outside
 
 -- the bytes that were written
@@ -73,7 +84,8 @@ pub get_or-part : (at n : ℕ) (bytes : List ℕ) (i : ℕ) → i < n → get_or
 get_or-part at n bytes i inside = get_or-take n (drop at bytes) i 0 inside ∙ get_or-drop at bytes i 0
 
 -- two lists that agree in a range have the same part there
-pub same_part : (xs ys : List ℕ) (at n : ℕ) → at + n ≤ length xs → length xs ≡ length ys → ((i : ℕ) → InRange at n i → get_or xs i 0 ≡ get_or ys i 0) → part at n xs ≡ part at n ys
+pub same_part : (xs ys : List ℕ) (at n : ℕ) → at + n ≤ length xs → length xs ≡ length ys → ((i : ℕ) → InRange at n i → get_or xs i 0 ≡ get_or ys i 0)
+    → part at n xs ≡ part at n ys
 same_part xs ys at n fits long agree =
     let xs_long = length-part at n xs fits in
     let ys_long = length-part at n ys (omega arith) in
@@ -88,4 +100,5 @@ part-part at n from m bytes within fits =
     let right = length-part (at + from) m bytes (omega arith) in
     ext_get_or 0 (part from m (part at n bytes)) (part (at + from) m bytes) (left ∙ sym right) (λ i inside.
     let same : at + (from + i) ≡ at + from + i = omega arith in
-    get_or-part from m (part at n bytes) i (omega arith) ∙ get_or-part at n bytes (from + i) (omega arith) ∙ ap (λ (k : ℕ). get_or bytes k 0) same ∙ sym (get_or-part (at + from) m bytes i (omega arith)))
+    get_or-part from m (part at n bytes) i (omega arith) ∙ get_or-part at n bytes (from + i) (omega arith) ∙ ap (λ (k : ℕ). get_or bytes k 0) same
+    ∙ sym (get_or-part (at + from) m bytes i (omega arith)))

@@ -36,7 +36,8 @@ module _ (past : List Moment) (present next : Moment) where
       (λ now. inr now) left
 
 -- a disk in memory keeps its moment before each change
-pub elapsed : (disk : Memory) (next : Moment) (settled : List ℕ) → Elapses (state_of disk) (state_of (record { present = next; settled = settled; past = disk.past ++ disk.present ∷ [] }))
+pub elapsed : (disk : Memory) (next : Moment) (settled : List ℕ)
+    → Elapses (state_of disk) (state_of (record { present = next; settled = settled; past = disk.past ++ disk.present ∷ [] }))
 elapsed disk next settled =
     let after : Memory = record { present = next; settled = settled; past = disk.past ++ disk.present ∷ [] } in
     record {
@@ -49,15 +50,18 @@ no_failure : {T : Type 0} (old new : Memory) (x : T) → HasCause (state_of old)
 no_failure old new x = record { later = omega arith; last = omega arith; rises = tt; same = refl }
 
 -- its write does what a write of an honest disk does
-pub writes : (disk : Memory) (at : ℕ) (bytes : List ℕ) → length disk.present.loose ≡ length disk.present.reading → at + length bytes ≤ length disk.present.reading
+pub writes : (disk : Memory) (at : ℕ) (bytes : List ℕ) → length disk.present.loose ≡ length disk.present.reading
+    → at + length bytes ≤ length disk.present.reading
     → Writes {T = Unit {0}} (state_of disk) (state_of (written at bytes disk)) at bytes (Ok tt)
 writes disk at bytes long fits =
     let marks = replicate (length bytes) true in
     let marked = length-replicate (length bytes) true in
     let room : at + length marks ≤ length disk.present.loose = omega (arith, long, marked) in
     let hit : (i : ℕ) → InRange at (length bytes) i → get_or (splice disk.present.loose at marks) i false ≡ true = λ i inside.
-    spliced_within false disk.present.loose marks at i room (inside.0, omega (arith, inside.1, marked)) ∙ get_or-replicate (length bytes) (i - at) true false (omega (arith, inside.0, inside.1)) in
-    let missed : (i : ℕ) → ¬ (InRange at (length bytes) i) → get_or (splice disk.present.loose at marks) i false ≡ get_or disk.present.loose i false = λ i outside.
+    spliced_within false disk.present.loose marks at i room (inside.0, omega (arith, inside.1, marked))
+    ∙ get_or-replicate (length bytes) (i - at) true false (omega (arith, inside.0, inside.1)) in
+    let missed : (i : ℕ) → ¬ (InRange at (length bytes) i)
+    → get_or (splice disk.present.loose at marks) i false ≡ get_or disk.present.loose i false = λ i outside.
     spliced_elsewhere false disk.present.loose marks at i room (λ inside. outside (inside.0, omega (arith, inside.1, marked))) in
     record {
       written = refl;

@@ -17,10 +17,12 @@ module _ (old new : DiskState) (f g : ℕ) where
   elapses_under time = record {
     later = time.later;
     keeps = time.keeps;
-    nothing_else = λ t c le left. ⊎_elim (λ was. inl was) (λ may. inr (record { same_length = may.same_length; settled = may.settled })) (time.nothing_else t c le left);
+    nothing_else = λ t c le left. ⊎_elim (λ was. inl was) (λ may. inr (record { same_length = may.same_length; settled = may.settled }))
+        (time.nothing_else t c le left);
   }
 
-  reads_under : {T : Type 0} (at : ℕ) (out : List ℕ) (result : Result T DiskFault) → Reads old new at out result → HasCause (with_failures old f) (with_failures new g) result → Reads (with_failures old f) (with_failures new g) at out result
+  reads_under : {T : Type 0} (at : ℕ) (out : List ℕ) (result : Result T DiskFault) → Reads old new at out result
+      → HasCause (with_failures old f) (with_failures new g) result → Reads (with_failures old f) (with_failures new g) at out result
   reads_under at out result reads cause = record {
     bytes = reads.bytes;
     reading = reads.reading;
@@ -30,7 +32,8 @@ module _ (old new : DiskState) (f g : ℕ) where
     cause = cause;
   }
 
-  writes_under : {T : Type 0} (at : ℕ) (bytes : List ℕ) (result : Result T DiskFault) → Writes old new at bytes result → HasCause (with_failures old f) (with_failures new g) result → Writes (with_failures old f) (with_failures new g) at bytes result
+  writes_under : {T : Type 0} (at : ℕ) (bytes : List ℕ) (result : Result T DiskFault) → Writes old new at bytes result
+      → HasCause (with_failures old f) (with_failures new g) result → Writes (with_failures old f) (with_failures new g) at bytes result
   writes_under at bytes result writes cause = record {
     written = writes.written;
     same_length = writes.same_length;
@@ -41,7 +44,9 @@ module _ (old new : DiskState) (f g : ℕ) where
     cause = cause;
   }
 
-  half_under : {T : Type 0} (at : ℕ) (bytes : List ℕ) (fault : DiskFault) → PutsHalf old new at bytes → HasCause {T = T} (with_failures old f) (with_failures new g) (Err fault) → Writes {T = T} (with_failures old f) (with_failures new g) at bytes (Err fault)
+  half_under : {T : Type 0} (at : ℕ) (bytes : List ℕ) (fault : DiskFault) → PutsHalf old new at bytes
+      → HasCause {T = T} (with_failures old f) (with_failures new g) (Err fault)
+      → Writes {T = T} (with_failures old f) (with_failures new g) at bytes (Err fault)
   half_under at bytes fault half cause = record {
     written = tt;
     same_length = half.spoils.same_length;
@@ -52,7 +57,8 @@ module _ (old new : DiskState) (f g : ℕ) where
     cause = cause;
   }
 
-  syncs_under : {T : Type 0} (result : Result T DiskFault) → Syncs old new result → HasCause (with_failures old f) (with_failures new g) result → Syncs (with_failures old f) (with_failures new g) result
+  syncs_under : {T : Type 0} (result : Result T DiskFault) → Syncs old new result → HasCause (with_failures old f) (with_failures new g) result
+      → Syncs (with_failures old f) (with_failures new g) result
   syncs_under result syncs cause = record {
     at_rest = syncs.at_rest;
     reading = syncs.reading;
@@ -77,7 +83,8 @@ module _ (disk : DiskState) (f g : ℕ) where
     cause = cause;
   }
 
-  blown_sync : {T : Type 0} (fault : DiskFault) → HasCause {T = T} (with_failures disk f) (with_failures disk g) (Err fault) → Syncs {T = T} (with_failures disk f) (with_failures disk g) (Err fault)
+  blown_sync : {T : Type 0} (fault : DiskFault) → HasCause {T = T} (with_failures disk f) (with_failures disk g) (Err fault)
+      → Syncs {T = T} (with_failures disk f) (with_failures disk g) (Err fault)
   blown_sync fault cause = record {
     at_rest = tt;
     reading = refl;
@@ -100,17 +107,20 @@ module _ {D : Type 0} (bound : Ghosts D) (old new : Fuse D) (answer : Answer) (f
   is = bound.state new.inner
 
   cause : new ≡ after_call old new.inner answer → HasCause (fuse_state bound old) (fuse_state bound new) answer
-  cause count = subst (λ (f : ℕ). HasCause (fuse_state bound old) (with_failures is f) answer) (sym (ap (λ (m : Fuse D). m.failures) count)) (caused was is old.failures answer fits)
+  cause count = subst (λ (f : ℕ). HasCause (fuse_state bound old) (with_failures is f) answer) (sym (ap (λ (m : Fuse D). m.failures) count))
+      (caused was is old.failures answer fits)
 
   -- a read of the fuse does what a read of an honest disk does
-  pub fuse_reads : (at : ℕ) (before after : List ℕ) → FuseReads bound old new at before after answer → Reads (fuse_state bound old) (fuse_state bound new) at after answer
+  pub fuse_reads : (at : ℕ) (before after : List ℕ) → FuseReads bound old new at before after answer
+      → Reads (fuse_state bound old) (fuse_state bound new) at after answer
   fuse_reads at before after call = elim (cases_Bool (is_blown old)) [
     | inl blown ↦
         let refused = (call.blown blown).0 in
         let counted = subst (λ (a : Answer). HasCause (fuse_state bound old) (fuse_state bound new) a) refused.0 (cause call.counts) in
         subst (λ (a : Answer). Reads (fuse_state bound old) (fuse_state bound new) at after a) (sym refused.0)
         (subst (λ (d : D). Reads {T = Unit {0}} (fuse_state bound old) (with_failures (bound.state d) new.failures) at after (Err record {})) (sym refused.1)
-        (blown_read was old.failures new.failures record {} at after (subst (λ (d : D). HasCause {T = Unit {0}} (fuse_state bound old) (with_failures (bound.state d) new.failures) (Err record {})) refused.1 counted)))
+        (blown_read was old.failures new.failures record {} at after
+        (subst (λ (d : D). HasCause {T = Unit {0}} (fuse_state bound old) (with_failures (bound.state d) new.failures) (Err record {})) refused.1 counted)))
     | inr passed ↦ reads_under was is old.failures new.failures at after answer (call.reads passed honest) (cause call.counts)
   ]
 
@@ -133,6 +143,7 @@ module _ {D : Type 0} (bound : Ghosts D) (old new : Fuse D) (answer : Answer) (f
         let counted = subst (λ (a : Answer). HasCause (fuse_state bound old) (fuse_state bound new) a) refused.0 (cause call.counts) in
         subst (λ (a : Answer). Syncs (fuse_state bound old) (fuse_state bound new) a) (sym refused.0)
         (subst (λ (d : D). Syncs {T = Unit {0}} (fuse_state bound old) (with_failures (bound.state d) new.failures) (Err record {})) (sym refused.1)
-        (blown_sync was old.failures new.failures record {} (subst (λ (d : D). HasCause {T = Unit {0}} (fuse_state bound old) (with_failures (bound.state d) new.failures) (Err record {})) refused.1 counted)))
+        (blown_sync was old.failures new.failures record {}
+        (subst (λ (d : D). HasCause {T = Unit {0}} (fuse_state bound old) (with_failures (bound.state d) new.failures) (Err record {})) refused.1 counted)))
     | inr passed ↦ syncs_under was is old.failures new.failures answer (call.syncs passed honest) (cause call.counts)
   ]

@@ -13,7 +13,8 @@ pub started : (disk : DiskState) (P : List ℕ → Type 0) → ((c : List ℕ) �
 started disk P here = record { later = omega arith; each = here; before = λ t c le left. inl left }
 
 -- one call more, after which a crash leaves what has P
-pub goes_on : (old mid new : DiskState) (P : List ℕ → Type 0) → LeavesOnly old mid P → Elapses mid new → ((c : List ℕ) → MayLeave new c → P c) → LeavesOnly old new P
+pub goes_on : (old mid new : DiskState) (P : List ℕ → Type 0) → LeavesOnly old mid P → Elapses mid new → ((c : List ℕ) → MayLeave new c → P c)
+    → LeavesOnly old new P
 goes_on old mid new P so_far time here = record {
   later = omega (arith, so_far.later, time.later);
   each = λ c left. ⊎_elim (so_far.each c) (here c) (time.nothing_else old.moment c so_far.later left);
@@ -41,7 +42,8 @@ pub rest_leaves : (disk : DiskState) (bytes : List ℕ) → IsAtRest disk → Ma
 rest_leaves disk bytes rest may = ext_get_or 0 bytes disk.reading may.same_length (λ i inside. may.settled i (rest i))
 
 -- what a disk that was only looked at may leave, it might have left before
-pub seen_before : (old new : DiskState) (bytes : List ℕ) → new.reading ≡ old.reading → ((i : ℕ) → new.loose i → old.loose i) → MayLeave new bytes → MayLeave old bytes
+pub seen_before : (old new : DiskState) (bytes : List ℕ) → new.reading ≡ old.reading → ((i : ℕ) → new.loose i → old.loose i) → MayLeave new bytes
+    → MayLeave old bytes
 seen_before old new bytes same loose may = record {
   same_length = may.same_length ∙ ap length same;
   settled = λ i tight. may.settled i (λ l. tight (loose i l)) ∙ ap (λ (b : List ℕ). get_or b i 0) same;
@@ -73,5 +75,6 @@ pub watches_on : (old mid new : DiskState) → Watches old mid → Watches mid n
 watches_on old mid new first second = record {
   reading = second.reading ∙ first.reading;
   loose = λ i l. first.loose i (second.loose i l);
-  any_moment = followed_by old mid new (MayLeave old) first.any_moment (weaker mid new (MayLeave mid) (MayLeave old) (λ c may. seen_before old mid c first.reading first.loose may) second.any_moment);
+  any_moment = followed_by old mid new (MayLeave old) first.any_moment
+      (weaker mid new (MayLeave mid) (MayLeave old) (λ c may. seen_before old mid c first.reading first.loose may) second.any_moment);
 }

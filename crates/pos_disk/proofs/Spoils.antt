@@ -8,7 +8,8 @@ use Rattle.pos_disk.specs.declared.device.DiskFault.{DiskFault}
 use Rattle.pos_disk.proofs.Bytes.{in_range, length-splice, spliced_within, splice_elsewhere, length-part, get_or-part}
 
 -- a read spoils nothing
-pub spoils_read : {T : Type 0} (old new : DiskState) (place : ℕ) (out : List ℕ) (result : Result T DiskFault) (at : ℕ) → Reads old new place out result → Spoils old new at 0
+pub spoils_read : {T : Type 0} (old new : DiskState) (place : ℕ) (out : List ℕ) (result : Result T DiskFault) (at : ℕ)
+    → Reads old new place out result → Spoils old new at 0
 spoils_read old new place out result at reads = record {
   same_length = ap length reads.reading;
   elsewhere = λ i outside. ap (λ (b : List ℕ). get_or b i 0) reads.reading;
@@ -18,7 +19,8 @@ spoils_read old new place out result at reads = record {
 }
 
 -- a write spoils its range
-pub spoils_write : {T : Type 0} (old new : DiskState) (at : ℕ) (bytes : List ℕ) (result : Result T DiskFault) → Writes old new at bytes result → Spoils old new at (length bytes)
+pub spoils_write : {T : Type 0} (old new : DiskState) (at : ℕ) (bytes : List ℕ) (result : Result T DiskFault) → Writes old new at bytes result
+    → Spoils old new at (length bytes)
 spoils_write old new at bytes result writes = record {
   same_length = writes.same_length;
   elsewhere = writes.elsewhere;
@@ -34,12 +36,14 @@ spoils_on old mid new at n m first second =
     let far : (i : ℕ) → InRange (at + n) m i → InRange at (n + m) i = λ i inside. (omega (arith, inside.0), omega (arith, inside.1)) in
     let stays : (c : List ℕ) → MayLeave mid c → MayLeave new c = λ c may. record {
       same_length = may.same_length ∙ sym second.same_length;
-      settled = λ i tight. may.settled i (λ was. tight (second.reached i (inl was))) ∙ sym (second.elsewhere i (λ inside. tight (second.reached i (inr inside))));
+      settled = λ i tight. may.settled i (λ was. tight (second.reached i (inl was)))
+          ∙ sym (second.elsewhere i (λ inside. tight (second.reached i (inr inside))));
     } in
     record {
       same_length = second.same_length ∙ first.same_length;
       elsewhere = λ i outside. second.elsewhere i (λ inside. outside (far i inside)) ∙ first.elsewhere i (λ inside. outside (near i inside));
-      loose = λ i is. ⊎_elim (λ was. ⊎_elim (λ before. inl before) (λ inside. inr (near i inside)) (first.loose i was)) (λ inside. inr (far i inside)) (second.loose i is);
+      loose = λ i is. ⊎_elim (λ was. ⊎_elim (λ before. inl before) (λ inside. inr (near i inside)) (first.loose i was))
+          (λ inside. inr (far i inside)) (second.loose i is);
       reached = λ i either. ⊎_elim (λ was. second.reached i (inl (first.reached i (inl was)))) (λ inside. elim (cases_lt i (at + n)) [
         | inl before ↦ second.reached i (inl (first.reached i (inr (inside.0, before))))
         | inr behind ↦ second.reached i (inr (behind, omega (arith, inside.1)))
@@ -47,7 +51,8 @@ spoils_on old mid new at n m first second =
       time = record {
         later = omega (arith, first.time.later, second.time.later);
         keeps = λ t c le left. second.time.keeps t c (omega (arith, le, first.time.later)) (first.time.keeps t c le left);
-        nothing_else = λ t c le left. ⊎_elim (λ then_left. ⊎_elim (λ was. inl was) (λ may. inr (stays c may)) (first.time.nothing_else t c le then_left)) (λ may. inr may)
+        nothing_else = λ t c le left. ⊎_elim
+            (λ then_left. ⊎_elim (λ was. inl was) (λ may. inr (stays c may)) (first.time.nothing_else t c le then_left)) (λ may. inr may)
             (second.time.nothing_else t c (omega (arith, le, first.time.later)) left);
       };
     }
@@ -62,7 +67,8 @@ steady before mid now first second steady_all = (
   ]) rises),
 )
 
-succeeded : {T : Type 0} (old new : DiskState) (result : Result T DiskFault) (P : Type 0) → HasCause old new result → ¬ (Rises old.failures new.failures) → OnOk result P → P
+succeeded : {T : Type 0} (old new : DiskState) (result : Result T DiskFault) (P : Type 0) → HasCause old new result
+    → ¬ (Rises old.failures new.failures) → OnOk result P → P
 succeeded old new (Ok x) P cause no_failure holds = holds
 succeeded old new (Err e) P cause no_failure holds = absurd (no_failure cause.rises)
 
@@ -74,7 +80,8 @@ splice-part old at n fits =
     ext_get_or 0 (splice old at (part at n old)) old (length-splice old (part at n old) at room) (λ i inside. elim (in_range at n i) [
       | inl hit ↦
           let back : at + (i - at) ≡ i = omega (arith, hit.0) in
-          spliced_within 0 old (part at n old) at i room (hit.0, omega (arith, hit.1, long)) ∙ get_or-part at n old (i - at) (omega (arith, hit.0, hit.1)) ∙ ap (λ (k : ℕ). get_or old k 0) back
+          spliced_within 0 old (part at n old) at i room (hit.0, omega (arith, hit.1, long))
+          ∙ get_or-part at n old (i - at) (omega (arith, hit.0, hit.1)) ∙ ap (λ (k : ℕ). get_or old k 0) back
       | inr missed ↦ splice_elsewhere old (part at n old) at i room (λ hit. missed (hit.0, omega (arith, hit.1, long)))
     ])
 
@@ -95,12 +102,14 @@ loosens_none disk at = record {
 -- one place more, read and written
 module _ {T : Type 0} (old mid read new : DiskState) (at n : ℕ) (out : List ℕ) (first second : Result T DiskFault) where
   -- one place more: it is read and written again
-  pub loosens_on : Loosens old mid at n → length out ≡ 1 → at + n + 1 ≤ length mid.reading → Reads mid read (at + n) out first → Writes read new (at + n) out second → Loosens old new at (n + 1)
+  pub loosens_on : Loosens old mid at n → length out ≡ 1 → at + n + 1 ≤ length mid.reading → Reads mid read (at + n) out first
+      → Writes read new (at + n) out second → Loosens old new at (n + 1)
   loosens_on so_far one fits reads writes =
       let start : Spoils mid read (at + n) 0 = spoils_read mid read (at + n) out first (at + n) reads in
       let here : at + n + 0 ≡ at + n = omega arith in
       let single : 0 + length out ≡ 1 = omega (arith, one) in
-      let wrote : Spoils read new (at + n + 0) (length out) = subst (λ (p : ℕ). Spoils read new p (length out)) (sym here) (spoils_write read new (at + n) out second writes) in
+      let wrote : Spoils read new (at + n + 0) (length out) =
+      subst (λ (p : ℕ). Spoils read new p (length out)) (sym here) (spoils_write read new (at + n) out second writes) in
       let both : Spoils mid new (at + n) (0 + length out) = spoils_on mid read new (at + n) 0 (length out) start wrote in
       record {
         spoils = spoils_on old mid new at n 1 so_far.spoils (subst (λ (k : ℕ). Spoils mid new (at + n) k) single both);
@@ -119,7 +128,8 @@ module _ {T : Type 0} (old mid read new : DiskState) (at n : ℕ) (out : List �
 
 -- half of the bytes, and then the rest of the places
 pub puts_half : {T : Type 0} (old mid new : DiskState) (at : ℕ) (bytes : List ℕ) (result : Result T DiskFault) → at + length bytes ≤ length old.reading
-    → Writes old mid at (take (length bytes / 2) bytes) result → Loosens mid new (at + length bytes / 2) (length bytes - length bytes / 2) → PutsHalf old new at bytes
+    → Writes old mid at (take (length bytes / 2) bytes) result → Loosens mid new (at + length bytes / 2) (length bytes - length bytes / 2)
+    → PutsHalf old new at bytes
 puts_half old mid new at bytes result fits writes rest =
     let half = length bytes / 2 in
     let short : length (take half bytes) ≡ half = length-take-le half bytes (omega arith) in

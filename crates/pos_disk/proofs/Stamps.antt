@@ -27,7 +27,8 @@ length-choose (true ∷ loose) (x ∷ xs) (y ∷ ys) long same = ap suc (length-
 length-choose (false ∷ loose) (x ∷ xs) (y ∷ ys) long same = ap suc (length-choose loose xs ys (omega (arith, long)) (omega (arith, same)))
 
 -- at a loose place the first list tells
-pub choose_loose : (loose : List Bool) (xs ys : List ℕ) (i : ℕ) → length loose ≡ length ys → length xs ≡ length ys → get_or loose i false ≡ true → get_or (choose loose xs ys) i 0 ≡ get_or xs i 0
+pub choose_loose : (loose : List Bool) (xs ys : List ℕ) (i : ℕ) → length loose ≡ length ys → length xs ≡ length ys → get_or loose i false ≡ true
+    → get_or (choose loose xs ys) i 0 ≡ get_or xs i 0
 choose_loose [] xs ys i long same is = absurd cc
 choose_loose (l ∷ loose) xs [] i long same is = absurd (omega (arith, long))
 choose_loose (l ∷ loose) [] (y ∷ ys) i long same is = absurd (omega (arith, same))
@@ -37,7 +38,8 @@ choose_loose (true ∷ loose) (x ∷ xs) (y ∷ ys) (suc i) long same is = choos
 choose_loose (false ∷ loose) (x ∷ xs) (y ∷ ys) (suc i) long same is = choose_loose loose xs ys i (omega (arith, long)) (omega (arith, same)) is
 
 -- and at any other the second
-pub choose_settled : (loose : List Bool) (xs ys : List ℕ) (i : ℕ) → length loose ≡ length ys → length xs ≡ length ys → ¬ (get_or loose i false ≡ true) → get_or (choose loose xs ys) i 0 ≡ get_or ys i 0
+pub choose_settled : (loose : List Bool) (xs ys : List ℕ) (i : ℕ) → length loose ≡ length ys → length xs ≡ length ys
+    → ¬ (get_or loose i false ≡ true) → get_or (choose loose xs ys) i 0 ≡ get_or ys i 0
 choose_settled [] xs [] i long same isnt = refl
 choose_settled [] xs (y ∷ ys) i long same isnt = absurd (omega (arith, long))
 choose_settled (l ∷ loose) xs [] i long same isnt = absurd (omega (arith, long))
@@ -48,7 +50,8 @@ choose_settled (true ∷ loose) (x ∷ xs) (y ∷ ys) (suc i) long same isnt = c
 choose_settled (false ∷ loose) (x ∷ xs) (y ∷ ys) (suc i) long same isnt = choose_settled loose xs ys i (omega (arith, long)) (omega (arith, same)) isnt
 
 -- a crash may leave whatever is chosen at the loose places
-pub choose_left : (moment : Moment) (xs : List ℕ) → length moment.loose ≡ length moment.reading → length xs ≡ length moment.reading → LeftAt moment (choose moment.loose xs moment.reading)
+pub choose_left : (moment : Moment) (xs : List ℕ) → length moment.loose ≡ length moment.reading → length xs ≡ length moment.reading
+    → LeftAt moment (choose moment.loose xs moment.reading)
 choose_left moment xs long same = record {
   same_length = length-choose moment.loose xs moment.reading long same;
   settled = λ i isnt. choose_settled moment.loose xs moment.reading i long same isnt;
@@ -71,7 +74,8 @@ module _ (bytes stamps old new : List ℕ) (stamp : ℕ) (long : length stamps �
       let below : i < length bytes = omega (arith, inside, saved.same_length) in
       elim (is_loose (get_or loose i false)) [
         | inl is ↦ saved.kept i (omega arith, omega arith) (loose_at stamp stamps i is) ∙ sym (choose_loose loose old bytes i loose_long same is)
-        | inr isnt ↦ saved.saved i (omega arith, omega arith) (λ is. isnt (stamp_at stamp stamps i (omega (arith, long)) is)) ∙ sym (choose_settled loose old bytes i loose_long same isnt)
+        | inr isnt ↦ saved.saved i (omega arith, omega arith) (λ is. isnt (stamp_at stamp stamps i (omega (arith, long)) is))
+            ∙ sym (choose_settled loose old bytes i loose_long same isnt)
       ])
 
 -- a byte is chosen from either of two equal lists
@@ -96,12 +100,21 @@ choose_none (x ∷ xs) [] same = absurd (omega (arith, same))
 choose_none (x ∷ xs) (y ∷ ys) same = ap (λ (zs : List ℕ). y ∷ zs) (choose_none xs ys (omega (arith, same)))
 
 -- under a stamp that no place bears, the disk is at rest
-pub memory_fresh : (bytes saved stamps : List ℕ) (stamp : ℕ) (past : List Moment) → length saved ≡ length bytes → length stamps ≡ length bytes → ((i : ℕ) → get_or stamps i 0 < stamp)
+pub memory_fresh : (bytes saved stamps : List ℕ) (stamp : ℕ) (past : List Moment) → length saved ≡ length bytes → length stamps ≡ length bytes
+    → ((i : ℕ) → get_or stamps i 0 < stamp)
     → memory_of bytes saved stamps stamp past ≡ record (fresh bytes) { past = past }
 memory_fresh bytes saved stamps stamp past saved_long long earlier =
     let none : loose_by stamp stamps ≡ replicate (length bytes) false = none_bear stamp stamps earlier ∙ ap (λ (n : ℕ). replicate n false) long in
     ap (λ (loose : List Bool). record { present = record { reading = bytes; loose = loose }; settled = choose loose saved bytes; past = past }) none
-    ∙ ap (λ (settled : List ℕ). record { present = record { reading = bytes; loose = replicate (length bytes) false }; settled = settled; past = past }) (choose_none saved bytes saved_long)
+    ∙ ap (λ (settled : List ℕ). record {
+      present = record {
+        reading = bytes;
+        loose = replicate
+            (length bytes) false;
+      };
+      settled = settled;
+      past = past;
+    }) (choose_none saved bytes saved_long)
 
 -- cleared stamps are below 1
 pub zeros : (n i : ℕ) → get_or (replicate n 0) i 0 < 1

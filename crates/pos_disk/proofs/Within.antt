@@ -25,12 +25,14 @@ leaves_within was at n disk within c may = record {
 }
 
 -- one call more of such a run
-pub within_goes_on : (was : List ℕ) (at n : ℕ) (old mid new : DiskState) → LeavesOnly old mid (SameBut at n was) → Elapses mid new → IsWithin was at n new → LeavesOnly old new (SameBut at n was)
+pub within_goes_on : (was : List ℕ) (at n : ℕ) (old mid new : DiskState) → LeavesOnly old mid (SameBut at n was) → Elapses mid new
+    → IsWithin was at n new → LeavesOnly old new (SameBut at n was)
 within_goes_on was at n old mid new so_far time within = goes_on old mid new (SameBut at n was) so_far time (leaves_within was at n new within)
 
 module _ {T : Type 0} (was : List ℕ) (at n : ℕ) (old new : DiskState) (result : Result T DiskFault) where
   -- a write within the range stays there
-  pub within_write : (place : ℕ) (bytes : List ℕ) → at ≤ place → place + length bytes ≤ at + n → IsWithin was at n old → Writes old new place bytes result → IsWithin was at n new
+  pub within_write : (place : ℕ) (bytes : List ℕ) → at ≤ place → place + length bytes ≤ at + n → IsWithin was at n old
+      → Writes old new place bytes result → IsWithin was at n new
   within_write place bytes low high within writes =
       let wider : (i : ℕ) → InRange place (length bytes) i → InRange at n i = λ i inside. (omega (arith, inside.0), omega (arith, inside.1)) in
       record {

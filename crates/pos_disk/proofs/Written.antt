@@ -44,7 +44,8 @@ module _ (bytes saved stamps : List ℕ) (stamp at n : ℕ) (kept : IsKept bytes
       ∙ get_or-replicate n (i - at) stamp 0 (omega (arith, inside.0, inside.1))
 
   outside_same : (i : ℕ) → ¬ (InRange at n i) → get_or (splice stamps at (replicate n stamp)) i 0 ≡ get_or stamps i 0
-  outside_same i outside = spliced_elsewhere 0 stamps (replicate n stamp) at i room (λ inside. outside (inside.0, omega (arith, inside.1, length-replicate n stamp)))
+  outside_same i outside = spliced_elsewhere 0 stamps (replicate n stamp) at i room
+      (λ inside. outside (inside.0, omega (arith, inside.1, length-replicate n stamp)))
 
   -- what a disk in memory keeps of its places still holds after a write
   pub still_kept : IsKept (splice bytes at new) saved' (splice stamps at (replicate n stamp)) stamp
@@ -53,7 +54,8 @@ module _ (bytes saved stamps : List ℕ) (stamp at n : ℕ) (kept : IsKept bytes
       record {
         saved_length = omega (arith, save.same_length, kept.saved_length, bytes_long);
         stamps_length = omega (arith, length-splice stamps (replicate n stamp) at room, kept.stamps_length, bytes_long);
-        none_later = λ i. ⊎_elim (λ inside. omega (arith, inside_bears i inside)) (λ outside. omega (arith, outside_same i outside, kept.none_later i)) (in_range at n i);
+        none_later = λ i. ⊎_elim (λ inside. omega (arith, inside_bears i inside))
+            (λ outside. omega (arith, outside_same i outside, kept.none_later i)) (in_range at n i);
       }
 
   -- the bytes of the last sync stay
@@ -73,33 +75,51 @@ module _ (bytes saved stamps : List ℕ) (stamp at n : ℕ) (kept : IsKept bytes
       let below : i < length bytes = omega (arith, inside, new_long, same_long) in
       elim (in_range at n i) [
         | inl hit ↦
-            choose_loose L' saved' now i L'_long after.saved_length (stamp_at stamp stamps_now i (omega (arith, below, after.stamps_length, same_long)) (inside_bears i hit))
+            choose_loose L' saved' now i L'_long after.saved_length
+            (stamp_at stamp stamps_now i (omega (arith, below, after.stamps_length, same_long)) (inside_bears i hit))
             ∙ elim (is_loose (get_or L i false)) [
               | inl was ↦ save.kept i hit (loose_at stamp stamps i was) ∙ sym (choose_loose L saved bytes i L_long kept.saved_length was)
-              | inr wasnt ↦ save.saved i hit (λ is. wasnt (stamp_at stamp stamps i (omega (arith, below, kept.stamps_length)) is)) ∙ sym (choose_settled L saved bytes i L_long kept.saved_length wasnt)
+              | inr wasnt ↦ save.saved i hit (λ is. wasnt (stamp_at stamp stamps i (omega (arith, below, kept.stamps_length)) is))
+                  ∙ sym (choose_settled L saved bytes i L_long kept.saved_length wasnt)
             ]
         | inr outside ↦ elim (is_loose (get_or L i false)) [
           | inl was ↦
-              choose_loose L' saved' now i L'_long after.saved_length (stamp_at stamp stamps_now i (omega (arith, below, after.stamps_length, same_long)) (outside_same i outside ∙ loose_at stamp stamps i was))
+              choose_loose L' saved' now i L'_long after.saved_length
+              (stamp_at stamp stamps_now i (omega (arith, below, after.stamps_length, same_long)) (outside_same i outside ∙ loose_at stamp stamps i was))
               ∙ save.elsewhere i outside ∙ sym (choose_loose L saved bytes i L_long kept.saved_length was)
           | inr wasnt ↦
-              choose_settled L' saved' now i L'_long after.saved_length (λ is. wasnt (stamp_at stamp stamps i (omega (arith, below, kept.stamps_length)) (sym (outside_same i outside) ∙ loose_at stamp stamps_now i is)))
+              choose_settled L' saved' now i L'_long after.saved_length
+              (λ is. wasnt (stamp_at stamp stamps i (omega (arith, below, kept.stamps_length))
+              (sym (outside_same i outside) ∙ loose_at stamp stamps_now i is)))
               ∙ spliced_elsewhere 0 bytes new at i (omega (arith, long)) (λ in_new. outside (in_new.0, omega (arith, in_new.1, long)))
               ∙ sym (choose_settled L saved bytes i L_long kept.saved_length wasnt)
         ]
       ])
 
   -- and the disk is the one that was written to
-  pub is_written : (past : List Moment) → memory_of (splice bytes at new) saved' (splice stamps at (replicate n stamp)) stamp (past ++ moment_of bytes stamps stamp ∷ []) ≡ written at new (memory_of bytes saved stamps stamp past)
+  pub is_written : (past : List Moment)
+      → memory_of (splice bytes at new) saved' (splice stamps at (replicate n stamp)) stamp
+      (past ++ moment_of bytes stamps stamp ∷ []) ≡ written at new (memory_of bytes saved stamps stamp past)
   is_written past =
       let then_past = past ++ moment_of bytes stamps stamp ∷ [] in
       let marks : loose_by stamp (splice stamps at (replicate n stamp)) ≡ splice (loose_by stamp stamps) at (replicate (length new) true) =
       loose_splice stamp at n stamps ∙ ap (λ (k : ℕ). splice (loose_by stamp stamps) at (replicate k true)) (sym long) in
-      ap (λ (settled : List ℕ). record { present = moment_of (splice bytes at new) (splice stamps at (replicate n stamp)) stamp; settled = settled; past = then_past }) stays_settled
-      ∙ ap (λ (loose : List Bool). record { present = record { reading = splice bytes at new; loose = loose }; settled = choose (loose_by stamp stamps) saved bytes; past = then_past }) marks
+      ap (λ (settled : List ℕ). record {
+        present = moment_of (splice bytes at new)
+            (splice stamps at (replicate n stamp)) stamp;
+        settled = settled;
+        past = then_past;
+      }) stays_settled
+      ∙ ap (λ (loose : List Bool). record {
+        present = record { reading = splice bytes at new; loose = loose };
+        settled = choose
+            (loose_by stamp stamps) saved bytes;
+        past = then_past;
+      }) marks
 
 -- where no place of a range bears the stamp, the bytes of the range are saved all at once
-pub saved_at_once : (stamps : List ℕ) (stamp : ℕ) (bytes : List ℕ) (at n : ℕ) (old : List ℕ) → at + n ≤ length stamps → at + n ≤ length bytes → at + n ≤ length old
+pub saved_at_once : (stamps : List ℕ) (stamp : ℕ) (bytes : List ℕ) (at n : ℕ) (old : List ℕ) → at + n ≤ length stamps → at + n ≤ length bytes
+    → at + n ≤ length old
     → list_any (λ s. s == stamp) (part at n stamps) ≡ false → IsSaved stamps stamp bytes at n old (splice old at (part at n bytes))
 saved_at_once stamps stamp bytes at n old stamps_fit bytes_fit old_fit none =
     let new = part at n bytes in
@@ -114,7 +134,8 @@ saved_at_once stamps stamp bytes at n old stamps_fit bytes_fit old_fit none =
       kept = λ i inside is.
           let place : at + (i - at) ≡ i = omega (arith, inside.0) in
           let part_long : length (part at n stamps) ≡ n = length-part at n stamps stamps_fit in
-          let here : get_or (part at n stamps) (i - at) 0 ≡ stamp = get_or-part at n stamps (i - at) (omega (arith, inside.0, inside.1)) ∙ ap (λ (k : ℕ). get_or stamps k 0) place ∙ is in
+          let here : get_or (part at n stamps) (i - at) 0 ≡ stamp =
+          get_or-part at n stamps (i - at) (omega (arith, inside.0, inside.1)) ∙ ap (λ (k : ℕ). get_or stamps k 0) place ∙ is in
           let bears : (get_or (part at n stamps) (i - at) 0 == stamp) ≡ true = grind (arith, nat_tests, here) in
           let found = list_any_at (λ s. s == stamp) (part at n stamps) (i - at) 0 (omega (arith, inside.0, inside.1, part_long)) bears in
           absurd (false≢true (sym none ∙ found));

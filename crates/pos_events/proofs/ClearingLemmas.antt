@@ -38,7 +38,13 @@ told_filtered (told.Complete id) events = refl
 weave_filtered : (waiting : List Enqueued) (others : List Other) → All IsWaiting waiting → filter is_told (weave waiting others) ≡ tolds others
 weave_filtered waiting [] w = none_told waiting w
 weave_filtered waiting (other ∷ others) w =
-    rw (filter-append is_told (take other.before waiting) (told_event other.event ∷ weave (drop other.before waiting) others), none_told (take other.before waiting) (All-take IsWaiting other.before waiting w), told_filtered other.event (weave (drop other.before waiting) others), weave_filtered (drop other.before waiting) others (All-drop IsWaiting other.before waiting w))
+    rw (
+      filter-append is_told (take other.before waiting) (told_event other.event ∷ weave (drop other.before waiting) others),
+      none_told (take other.before waiting) (All-take IsWaiting other.before waiting w),
+      told_filtered other.event
+          (weave (drop other.before waiting) others),
+      weave_filtered (drop other.before waiting) others (All-drop IsWaiting other.before waiting w),
+    )
 
 input_data_filtered : (events : List Enqueued) → filter is_told (with_input_data events) ≡ filter is_told events
 input_data_filtered [] = refl
@@ -49,12 +55,14 @@ input_data_filtered (Error code extended locus.Input ∷ events) = input_data_fi
 input_data_filtered (Error code extended locus.InputData ∷ events) = input_data_filtered events
 input_data_filtered (Complete id ∷ events) = ap (λ (l : List Enqueued). Complete id ∷ l) (input_data_filtered events)
 
-all_filtered : (input_data in_error : Bool) (scans : List Scan) (others : List Other) → filter is_told (events_in input_data (waiting_in scans in_error) others) ≡ tolds others
+all_filtered : (input_data in_error : Bool) (scans : List Scan) (others : List Other)
+    → filter is_told (events_in input_data (waiting_in scans in_error) others) ≡ tolds others
 all_filtered false in_error scans others = weave_filtered (waiting_in scans in_error) others (all_wait scans in_error)
 all_filtered true in_error scans others =
     input_data_filtered (weave (waiting_in scans in_error) others) ∙ weave_filtered (waiting_in scans in_error) others (all_wait scans in_error)
 
-pub input_deleted : (input_data in_error : Bool) (scans none : List Scan) (others after : List Other) → none ≡ [] → tolds after ≡ tolds others → list_of false false none after ≡ input_cleared (list_of input_data in_error scans others)
+pub input_deleted : (input_data in_error : Bool) (scans none : List Scan) (others after : List Other) → none ≡ [] → tolds after ≡ tolds others
+    → list_of false false none after ≡ input_cleared (list_of input_data in_error scans others)
 input_deleted input_data in_error scans none others after e same = rw (e, only_told after, same, all_filtered input_data in_error scans others)
 
 -- a waiting event is no error of output
@@ -78,42 +86,61 @@ error_goes (told.Status status) events e = cc
 error_goes (told.OutputError code extended) events e = refl
 error_goes (told.Complete id) events e = cc
 
-other_stays : (event : Told) (events : List Enqueued) → is_error event ≡ false → filter is_kept (told_event event ∷ events) ≡ told_event event ∷ filter is_kept events
+other_stays : (event : Told) (events : List Enqueued) → is_error event ≡ false
+    → filter is_kept (told_event event ∷ events) ≡ told_event event ∷ filter is_kept events
 other_stays (told.Status status) events e = refl
 other_stays (told.OutputError code extended) events e = cc
 other_stays (told.Complete id) events e = refl
 
 -- the waiting events before an event and those before them, as one part
-regroup : (waiting rest : List Enqueued) (others : List Other) (count before : ℕ) (event : Enqueued) → take count waiting ++ (take before (drop count waiting) ++ event ∷ weave (drop before (drop count waiting)) others) ≡ take (count + before) waiting ++ event ∷ weave (drop (count + before) waiting) others
+regroup : (waiting rest : List Enqueued) (others : List Other) (count before : ℕ) (event : Enqueued)
+    → take count waiting ++ (take before (drop count waiting) ++ event ∷ weave (drop before (drop count waiting)) others) ≡ take
+    (count + before) waiting ++ event ∷ weave (drop (count + before) waiting) others
 regroup waiting rest others count before event =
-    rw (take-add count before waiting, ← drop-drop before count waiting) (sym (append_assoc (take count waiting) (take before (drop count waiting)) (event ∷ weave (drop before (drop count waiting)) others)))
+    rw (take-add count before waiting, ← drop-drop before count waiting)
+    (sym (append_assoc (take count waiting) (take before (drop count waiting)) (event ∷ weave (drop before (drop count waiting)) others)))
 
 -- the next is deleted
-error_woven : (waiting : List Enqueued) (other : Other) (others : List Other) (count : ℕ) → is_error other.event ≡ true → filter is_kept (take (count + other.before) waiting ++ weave (drop (count + other.before) waiting) others) ≡ weave waiting (without_errors (count + other.before) others) → filter is_kept (take count waiting ++ weave (drop count waiting) (other ∷ others)) ≡ weave waiting (without_errors count (other ∷ others))
+error_woven : (waiting : List Enqueued) (other : Other) (others : List Other) (count : ℕ) → is_error other.event ≡ true
+    → filter is_kept (take (count + other.before) waiting ++ weave (drop (count + other.before) waiting) others) ≡ weave waiting
+    (without_errors (count + other.before) others)
+    → filter is_kept (take count waiting ++ weave (drop count waiting) (other ∷ others)) ≡ weave waiting (without_errors count (other ∷ others))
 error_woven waiting other others count e more =
     let n = count + other.before in
     let rest = weave (drop n waiting) others in
     rw (e, regroup waiting [] others count other.before (told_event other.event))
-    (filter-append is_kept (take n waiting) (told_event other.event ∷ rest) ∙ ap (λ (l : List Enqueued). filter is_kept (take n waiting) ++ l) (error_goes other.event rest e) ∙ sym (filter-append is_kept (take n waiting) rest) ∙ more)
+    (filter-append is_kept (take n waiting) (told_event other.event ∷ rest)
+    ∙ ap (λ (l : List Enqueued). filter is_kept (take n waiting) ++ l) (error_goes other.event rest e)
+    ∙ sym (filter-append is_kept (take n waiting) rest) ∙ more)
 
 -- the next stays
-other_woven : (waiting : List Enqueued) (other : Other) (others : List Other) (count : ℕ) → All IsKept waiting → is_error other.event ≡ false → filter is_kept (weave (drop (count + other.before) waiting) others) ≡ weave (drop (count + other.before) waiting) (without_errors 0 others) → filter is_kept (take count waiting ++ weave (drop count waiting) (other ∷ others)) ≡ weave waiting (without_errors count (other ∷ others))
+other_woven : (waiting : List Enqueued) (other : Other) (others : List Other) (count : ℕ) → All IsKept waiting → is_error other.event ≡ false
+    → filter is_kept (weave (drop (count + other.before) waiting) others) ≡ weave (drop (count + other.before) waiting) (without_errors 0 others)
+    → filter is_kept (take count waiting ++ weave (drop count waiting) (other ∷ others)) ≡ weave waiting (without_errors count (other ∷ others))
 other_woven waiting other others count k e more =
     let n = count + other.before in
     let rest = weave (drop n waiting) others in
     rw (e, regroup waiting [] others count other.before (told_event other.event))
-    (filter-append is_kept (take n waiting) (told_event other.event ∷ rest) ∙ (rw (other_stays other.event rest e, all_stay (take n waiting) (All-take IsKept n waiting k), more)))
+    (filter-append is_kept (take n waiting) (told_event other.event ∷ rest)
+    ∙ (rw (other_stays other.event rest e, all_stay (take n waiting) (All-take IsKept n waiting k), more)))
 
-woven : (waiting : List Enqueued) (other : Other) (others : List Other) (count : ℕ) (is_deleted : Bool) → All IsKept waiting → is_error other.event ≡ is_deleted → filter is_kept (take (count + other.before) waiting ++ weave (drop (count + other.before) waiting) others) ≡ weave waiting (without_errors (count + other.before) others) → filter is_kept (weave (drop (count + other.before) waiting) others) ≡ weave (drop (count + other.before) waiting) (without_errors 0 others) → filter is_kept (take count waiting ++ weave (drop count waiting) (other ∷ others)) ≡ weave waiting (without_errors count (other ∷ others))
+woven : (waiting : List Enqueued) (other : Other) (others : List Other) (count : ℕ) (is_deleted : Bool) → All IsKept waiting
+    → is_error other.event ≡ is_deleted
+    → filter is_kept (take (count + other.before) waiting ++ weave (drop (count + other.before) waiting) others) ≡ weave waiting
+    (without_errors (count + other.before) others)
+    → filter is_kept (weave (drop (count + other.before) waiting) others) ≡ weave (drop (count + other.before) waiting) (without_errors 0 others)
+    → filter is_kept (take count waiting ++ weave (drop count waiting) (other ∷ others)) ≡ weave waiting (without_errors count (other ∷ others))
 woven waiting other others count true k e deleted kept = error_woven waiting other others count e deleted
 woven waiting other others count false k e deleted kept = other_woven waiting other others count k e kept
 
 -- the list without errors of output, when so many waiting events stand before the others besides
-errors_woven : (waiting : List Enqueued) (others : List Other) (count : ℕ) → All IsKept waiting → filter is_kept (take count waiting ++ weave (drop count waiting) others) ≡ weave waiting (without_errors count others)
+errors_woven : (waiting : List Enqueued) (others : List Other) (count : ℕ) → All IsKept waiting
+    → filter is_kept (take count waiting ++ weave (drop count waiting) others) ≡ weave waiting (without_errors count others)
 errors_woven waiting [] count k = rw (take-append-drop count waiting) (all_stay waiting k)
 errors_woven waiting (other ∷ others) count k =
     let n = count + other.before in
-    woven waiting other others count (is_error other.event) k refl (errors_woven waiting others n k) (errors_woven (drop n waiting) others 0 (All-drop IsKept n waiting k))
+    woven waiting other others count (is_error other.event) k refl (errors_woven waiting others n k)
+    (errors_woven (drop n waiting) others 0 (All-drop IsKept n waiting k))
 
 -- EL_INPUT_DATA stays
 input_data_stays : (events : List Enqueued) → filter is_kept (with_input_data events) ≡ with_input_data (filter is_kept events)
@@ -125,11 +152,13 @@ input_data_stays (Error code extended locus.Input ∷ events) = ap (λ (l : List
 input_data_stays (Error code extended locus.InputData ∷ events) = ap (λ (l : List Enqueued). Error code extended locus.InputData ∷ l) (input_data_stays events)
 input_data_stays (Complete id ∷ events) = ap (λ (l : List Enqueued). Complete id ∷ l) (input_data_stays events)
 
-stays : (in_error : Bool) (scans : List Scan) (others : List Other) → filter is_kept (weave (waiting_in scans in_error) others) ≡ weave (waiting_in scans in_error) (without_errors 0 others)
+stays : (in_error : Bool) (scans : List Scan) (others : List Other)
+    → filter is_kept (weave (waiting_in scans in_error) others) ≡ weave (waiting_in scans in_error) (without_errors 0 others)
 stays in_error scans others =
     errors_woven (waiting_in scans in_error) others 0 (All-weaker IsWaiting IsKept waits_and_stays (waiting_in scans in_error) (all_wait scans in_error))
 
-pub errors_deleted : (input_data in_error : Bool) (scans : List Scan) (others after : List Other) → after ≡ without_errors 0 others → list_of input_data in_error scans after ≡ output_cleared (list_of input_data in_error scans others)
+pub errors_deleted : (input_data in_error : Bool) (scans : List Scan) (others after : List Other) → after ≡ without_errors 0 others
+    → list_of input_data in_error scans after ≡ output_cleared (list_of input_data in_error scans others)
 errors_deleted false in_error scans others after e = rw (e, stays in_error scans others)
 errors_deleted true in_error scans others after e =
     rw (e, input_data_stays (weave (waiting_in scans in_error) others), stays in_error scans others)

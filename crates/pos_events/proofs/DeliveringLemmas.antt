@@ -29,7 +29,8 @@ scans_wait (scan ∷ scans) = All-cons IsWaiting (Data scan) (map Data scans) re
 
 pub all_wait : (scans : List Scan) (in_error : Bool) → All IsWaiting (waiting_in scans in_error)
 all_wait scans false = scans_wait scans
-all_wait scans true = All-append IsWaiting (map Data scans) (input_error locus.Input ∷ []) (scans_wait scans) (All-cons IsWaiting (input_error locus.Input) [] refl (All-nil IsWaiting))
+all_wait scans true = All-append IsWaiting (map Data scans) (input_error locus.Input ∷ []) (scans_wait scans)
+    (All-cons IsWaiting (input_error locus.Input) [] refl (All-nil IsWaiting))
 
 told_goes : (event : Told) → is_waiting (told_event event) ≡ false
 told_goes (told.Status status) = refl
@@ -37,7 +38,8 @@ told_goes (told.OutputError code extended) = refl
 told_goes (told.Complete id) = refl
 
 -- a list whose first events wait
-split_behind : (front rest : List Enqueued) (event : Enqueued) → All IsWaiting front → is_waiting event ≡ false → split false (front ++ event ∷ rest) ≡ record { front = front; deliverable = Some event; rest = rest }
+split_behind : (front rest : List Enqueued) (event : Enqueued) → All IsWaiting front → is_waiting event ≡ false
+    → split false (front ++ event ∷ rest) ≡ record { front = front; deliverable = Some event; rest = rest }
 split_behind [] rest event w goes = rw goes
 split_behind (first ∷ front) rest event w goes =
     rw (All-head IsWaiting first front w, split_behind front rest event (All-tail IsWaiting first front w) goes)
@@ -62,35 +64,46 @@ left_with_input_data (Data scan ∷ events) = refl
 left_with_input_data (Status status ∷ events) = refl
 left_with_input_data (Error code extended locus.Output ∷ events) = refl
 left_with_input_data (Error code extended locus.Input ∷ events) = ap (λ (l : List Enqueued). Error code extended locus.Input ∷ l) (left_with_input_data events)
-left_with_input_data (Error code extended locus.InputData ∷ events) = ap (λ (l : List Enqueued). Error code extended locus.InputData ∷ l) (left_with_input_data events)
+left_with_input_data (Error code extended locus.InputData ∷ events) =
+    ap (λ (l : List Enqueued). Error code extended locus.InputData ∷ l) (left_with_input_data events)
 left_with_input_data (Complete id ∷ events) = refl
 
 -- what stood before an event that is gone stands before the next
-pub weave_lead : (waiting : List Enqueued) (others : List Other) (count : ℕ) → take count waiting ++ weave (drop count waiting) others ≡ weave waiting (lead count others)
+pub weave_lead : (waiting : List Enqueued) (others : List Other) (count : ℕ)
+    → take count waiting ++ weave (drop count waiting) others ≡ weave waiting (lead count others)
 weave_lead waiting [] count = take-append-drop count waiting
 weave_lead waiting (other ∷ others) count =
-    rw (take-add count other.before waiting, ← drop-drop other.before count waiting) (sym (append_assoc (take count waiting) (take other.before (drop count waiting)) (told_event other.event ∷ weave (drop other.before (drop count waiting)) others)))
+    rw (take-add count other.before waiting, ← drop-drop other.before count waiting)
+    (sym (append_assoc (take count waiting) (take other.before (drop count waiting))
+    (told_event other.event ∷ weave (drop other.before (drop count waiting)) others)))
 
 -- the first event that doesn't wait
-deliverable_woven : (waiting : List Enqueued) (others : List Other) → All IsWaiting waiting → (split false (weave waiting others)).deliverable ≡ option_map told_event (first_told others)
+deliverable_woven : (waiting : List Enqueued) (others : List Other) → All IsWaiting waiting
+    → (split false (weave waiting others)).deliverable ≡ option_map told_event (first_told others)
 deliverable_woven waiting [] w = rw (split_none waiting w)
 deliverable_woven waiting (other ∷ others) w =
-    rw (split_behind (take other.before waiting) (weave (drop other.before waiting) others) (told_event other.event) (All-take IsWaiting other.before waiting w) (told_goes other.event))
+    rw (split_behind (take other.before waiting) (weave (drop other.before waiting) others) (told_event other.event)
+    (All-take IsWaiting other.before waiting w) (told_goes other.event))
 
-left_woven : (waiting : List Enqueued) (others : List Other) → All IsWaiting waiting → left_by false (weave waiting others) ≡ weave waiting (without_first others)
+left_woven : (waiting : List Enqueued) (others : List Other) → All IsWaiting waiting
+    → left_by false (weave waiting others) ≡ weave waiting (without_first others)
 left_woven waiting [] w = rw (split_none waiting w) (append-nil waiting)
 left_woven waiting (other ∷ others) w =
-    rw (split_behind (take other.before waiting) (weave (drop other.before waiting) others) (told_event other.event) (All-take IsWaiting other.before waiting w) (told_goes other.event)) (weave_lead waiting others other.before)
+    rw (split_behind (take other.before waiting) (weave (drop other.before waiting) others) (told_event other.event)
+    (All-take IsWaiting other.before waiting w) (told_goes other.event)) (weave_lead waiting others other.before)
 
-pub deliverable_told : (input_data in_error : Bool) (scans : List Scan) (others : List Other) → (split false (events_in input_data (waiting_in scans in_error) others)).deliverable ≡ option_map told_event (first_told others)
+pub deliverable_told : (input_data in_error : Bool) (scans : List Scan) (others : List Other)
+    → (split false (events_in input_data (waiting_in scans in_error) others)).deliverable ≡ option_map told_event (first_told others)
 deliverable_told false in_error scans others = deliverable_woven (waiting_in scans in_error) others (all_wait scans in_error)
 deliverable_told true in_error scans others =
     deliverable_with_input_data (weave (waiting_in scans in_error) others) ∙ deliverable_woven (waiting_in scans in_error) others (all_wait scans in_error)
 
-pub left_by_told : (input_data in_error : Bool) (scans : List Scan) (others : List Other) → left_by false (events_in input_data (waiting_in scans in_error) others) ≡ events_in input_data (waiting_in scans in_error) (without_first others)
+pub left_by_told : (input_data in_error : Bool) (scans : List Scan) (others : List Other)
+    → left_by false (events_in input_data (waiting_in scans in_error) others) ≡ events_in input_data (waiting_in scans in_error) (without_first others)
 left_by_told false in_error scans others = left_woven (waiting_in scans in_error) others (all_wait scans in_error)
 left_by_told true in_error scans others =
-    left_with_input_data (weave (waiting_in scans in_error) others) ∙ ap with_input_data (left_woven (waiting_in scans in_error) others (all_wait scans in_error))
+    left_with_input_data (weave (waiting_in scans in_error) others)
+    ∙ ap with_input_data (left_woven (waiting_in scans in_error) others (all_wait scans in_error))
 
 -- no reply to an event that doesn't wait changes the events
 pub told_stays : (events : List Enqueued) (answer : ErrorReply) (list : EventList) → after_reply (split false events).deliverable answer list ≡ list
@@ -111,60 +124,76 @@ drop_some : (event : Enqueued) (waiting : List Enqueued) (n : ℕ) → 0 < n →
 drop_some event waiting zero some = absurd (omega arith)
 drop_some event waiting (suc n) some = ap (λ (k : ℕ). drop k waiting) (omega arith)
 
-pub first_waits : (event : Enqueued) (waiting : List Enqueued) (others : List Other) (behind : ℕ) → 0 < before_first others behind → weave (event ∷ waiting) others ≡ event ∷ weave waiting (one_less others)
+pub first_waits : (event : Enqueued) (waiting : List Enqueued) (others : List Other) (behind : ℕ) → 0 < before_first others behind
+    → weave (event ∷ waiting) others ≡ event ∷ weave waiting (one_less others)
 first_waits event waiting [] behind some = refl
 first_waits event waiting (other ∷ others) behind some =
     rw (take_some event waiting other.before some, drop_some event waiting other.before some)
 
 -- EL_INPUT_DATA is the first
-input_data_first : (in_error : Bool) (scans : List Scan) (others : List Other) (behind : ℕ) → 0 < length scans → 0 < before_first others behind → events_in true (waiting_in scans in_error) others ≡ input_error locus.InputData ∷ events_in false (waiting_in scans in_error) others
+input_data_first : (in_error : Bool) (scans : List Scan) (others : List Other) (behind : ℕ) → 0 < length scans → 0 < before_first others behind
+    → events_in true (waiting_in scans in_error) others ≡ input_error locus.InputData ∷ events_in false (waiting_in scans in_error) others
 input_data_first in_error [] others behind held some = absurd (omega arith)
 input_data_first false (scan ∷ scans) others behind held some = rw (first_waits (Data scan) (map Data scans) others behind some)
 input_data_first true (scan ∷ scans) others behind held some = rw (first_waits (Data scan) (map Data scans ++ input_error locus.Input ∷ []) others behind some)
 
-pub first_is_input_data : (input_data in_error : Bool) (scans : List Scan) (others : List Other) (behind : ℕ) → Fits input_data in_error scans others behind → input_data ≡ true → 0 < before_first others behind → events_in input_data (waiting_in scans in_error) others ≡ input_error locus.InputData ∷ events_in false (waiting_in scans in_error) others
+pub first_is_input_data : (input_data in_error : Bool) (scans : List Scan) (others : List Other) (behind : ℕ)
+    → Fits input_data in_error scans others behind → input_data ≡ true → 0 < before_first others behind
+    → events_in input_data (waiting_in scans in_error) others ≡ input_error locus.InputData ∷ events_in false (waiting_in scans in_error) others
 first_is_input_data input_data in_error scans others behind fits e some = rw e (input_data_first in_error scans others behind (fits.held e) some)
 
 -- a DataEvent is the first
-data_first : (in_error : Bool) (scan : Scan) (scans : List Scan) (others : List Other) (behind : ℕ) → 0 < before_first others behind → weave (waiting_in (scan ∷ scans) in_error) others ≡ Data scan ∷ weave (waiting_in scans in_error) (one_less others)
+data_first : (in_error : Bool) (scan : Scan) (scans : List Scan) (others : List Other) (behind : ℕ) → 0 < before_first others behind
+    → weave (waiting_in (scan ∷ scans) in_error) others ≡ Data scan ∷ weave (waiting_in scans in_error) (one_less others)
 data_first false scan scans others behind some = first_waits (Data scan) (map Data scans) others behind some
 data_first true scan scans others behind some = first_waits (Data scan) (map Data scans ++ input_error locus.Input ∷ []) others behind some
 
-pub first_is_data : (input_data in_error : Bool) (scan : Scan) (scans rest : List Scan) (others : List Other) (behind : ℕ) → input_data ≡ false → scans ≡ scan ∷ rest → 0 < before_first others behind → events_in input_data (waiting_in scans in_error) others ≡ Data scan ∷ weave (waiting_in rest in_error) (one_less others)
+pub first_is_data : (input_data in_error : Bool) (scan : Scan) (scans rest : List Scan) (others : List Other) (behind : ℕ) → input_data ≡ false
+    → scans ≡ scan ∷ rest → 0 < before_first others behind
+    → events_in input_data (waiting_in scans in_error) others ≡ Data scan ∷ weave (waiting_in rest in_error) (one_less others)
 first_is_data input_data in_error scan scans rest others behind e s some = rw (e, s) (data_first in_error scan rest others behind some)
 
 -- what is left of a list when its first event has been delivered
 abbrev pub after_first : ErrorReply → EventList → EventList
 after_first answer list = after_reply (split true list.events).deliverable answer (record list { events = left_by true list.events })
 
-pub kept_after_input_data : (answer : ErrorReply) (list : EventList) (rest : List Enqueued) → list.events ≡ input_error locus.InputData ∷ rest → clears_input locus.InputData answer ≡ false → after_first answer list ≡ record list { events = rest }
+pub kept_after_input_data : (answer : ErrorReply) (list : EventList) (rest : List Enqueued) → list.events ≡ input_error locus.InputData ∷ rest
+    → clears_input locus.InputData answer ≡ false → after_first answer list ≡ record list { events = rest }
 kept_after_input_data answer list rest e r = rw (e, r)
 
-pub cleared_after_input_data : (answer : ErrorReply) (list : EventList) (rest : List Enqueued) → list.events ≡ input_error locus.InputData ∷ rest → clears_input locus.InputData answer ≡ true → after_first answer list ≡ input_cleared list
+pub cleared_after_input_data : (answer : ErrorReply) (list : EventList) (rest : List Enqueued) → list.events ≡ input_error locus.InputData ∷ rest
+    → clears_input locus.InputData answer ≡ true → after_first answer list ≡ input_cleared list
 cleared_after_input_data answer list rest e r = rw (e, r)
 
-pub left_after_data : (answer : ErrorReply) (list : EventList) (scan : Scan) (rest : List Enqueued) → list.events ≡ Data scan ∷ rest → after_first answer list ≡ record list { events = rest }
+pub left_after_data : (answer : ErrorReply) (list : EventList) (scan : Scan) (rest : List Enqueued) → list.events ≡ Data scan ∷ rest
+    → after_first answer list ≡ record list { events = rest }
 left_after_data answer list scan rest e = rw e
 
 pub first_goes : (events : List Enqueued) (event : Enqueued) (rest : List Enqueued) → events ≡ event ∷ rest → (split true events).deliverable ≡ Some event
 first_goes events event rest e = rw e
 
 -- while data events aren't enabled, an event that doesn't wait is delivered, and no reply changes the others
-pub delivered_told : (data_enabled frozen : Bool) (answer : ErrorReply) (list : EventList) → frozen ≡ false → data_enabled ≡ false → delivered data_enabled frozen answer list ≡ record list { events = left_by false list.events }
+pub delivered_told : (data_enabled frozen : Bool) (answer : ErrorReply) (list : EventList) → frozen ≡ false → data_enabled ≡ false
+    → delivered data_enabled frozen answer list ≡ record list { events = left_by false list.events }
 delivered_told data_enabled frozen answer list f d = rw (f, d) (told_stays list.events answer (record list { events = left_by false list.events }))
 
 -- the first of some scans is there
-pub popped_scan : (popped : Option Scan) (scans rest : List Scan) → IsSome popped → scans ≡ option_to_list popped ++ rest → (scan : Scan) × (popped ≡ Some scan) × (scans ≡ scan ∷ rest)
+pub popped_scan : (popped : Option Scan) (scans rest : List Scan) → IsSome popped → scans ≡ option_to_list popped ++ rest
+    → (scan : Scan) × (popped ≡ Some scan) × (scans ≡ scan ∷ rest)
 popped_scan None scans rest some e = cc
 popped_scan (Some scan) scans rest some e = (scan, refl, e)
 
 -- a DataEvent is delivered with its scan
-pub data_event : (popped : Option Scan) (list : EventList) (scan : Scan) (rest : List Enqueued) → popped ≡ Some scan → list.events ≡ Data scan ∷ rest → ◌≡◌ {A = Option Delivery} (Some (record { event = event.Data; scan = popped })) (option_map delivery_of (split true list.events).deliverable)
+pub data_event : (popped : Option Scan) (list : EventList) (scan : Scan) (rest : List Enqueued) → popped ≡ Some scan → list.events ≡ Data scan ∷ rest
+    → ◌≡◌ {A = Option Delivery} (Some (record { event = event.Data; scan = popped })) (option_map delivery_of (split true list.events).deliverable)
 data_event popped list scan rest p e = rw (p, e)
 
-pub data_rest : (answer : ErrorReply) (input_data in_error : Bool) (scan : Scan) (scans rest : List Scan) (others after : List Other) (behind : ℕ) (list : EventList) → list ≡ list_of input_data in_error scans others → input_data ≡ false → scans ≡ scan ∷ rest → after ≡ one_less others → 0 < before_first others behind → list_of input_data in_error rest after ≡ after_first answer list
+pub data_rest : (answer : ErrorReply) (input_data in_error : Bool) (scan : Scan) (scans rest : List Scan) (others after : List Other) (behind : ℕ)
+    (list : EventList) → list ≡ list_of input_data in_error scans others → input_data ≡ false → scans ≡ scan ∷ rest → after ≡ one_less others
+    → 0 < before_first others behind → list_of input_data in_error rest after ≡ after_first answer list
 data_rest answer input_data in_error scan scans rest others after behind list l d s a some =
-    rw (l, a, d) (sym (left_after_data answer (list_of false in_error scans others) scan (weave (waiting_in rest in_error) (one_less others)) (first_is_data false in_error scan scans rest others behind refl s some)))
+    rw (l, a, d) (sym (left_after_data answer (list_of false in_error scans others) scan (weave (waiting_in rest in_error) (one_less others))
+    (first_is_data false in_error scan scans rest others behind refl s some)))
 
 -- what the kind of the first waiting event tells of the parts
 pub is_input_data : (input_data no_scans : Bool) → first_waiting input_data no_scans ≡ waiting.InputData → input_data ≡ true

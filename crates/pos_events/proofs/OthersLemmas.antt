@@ -11,13 +11,15 @@ all_before-append [] more = omega arith
 all_before-append (other ∷ others) more = omega (arith, all_before-append others more)
 
 -- the counts alone change
-pub tolds_set : (others : List Other) (i : ℕ) (d other : Other) → i < length others → other.event ≡ (get_or others i d).event → tolds (set others i other) ≡ tolds others
+pub tolds_set : (others : List Other) (i : ℕ) (d other : Other) → i < length others → other.event ≡ (get_or others i d).event
+    → tolds (set others i other) ≡ tolds others
 tolds_set others i d other lt e =
     let f : Other → Enqueued = λ (o : Other). told_event o.event in
     map-set f others i other ∙ ap (set (tolds others) i) (ap told_event e ∙ sym (get_or-map f others i d (f d) lt)) ∙ set-get_or (tolds others) i (f d)
 
 -- one more before which nothing waits
-pub none_more : (others : List Other) (i : ℕ) (other : Other) → i < length others → other.before ≡ 0 → all_before (take i others) ≡ 0 → all_before (take (i + 1) (set others i other)) ≡ 0
+pub none_more : (others : List Other) (i : ℕ) (other : Other) → i < length others → other.before ≡ 0 → all_before (take i others) ≡ 0
+    → all_before (take (i + 1) (set others i other)) ≡ 0
 none_more others i other lt e none =
     rw (take_more_set others i other lt) (omega (arith, all_before-append (take i others) (other ∷ [])))
 
@@ -29,14 +31,17 @@ pub record Removing (start rest : List Other) (carried : ℕ) (now : List Other)
   pub counted : all_before done + carried + all_before rest ≡ all_before start
 
 -- one step of the deletion
-kept_first : (rest : List Other) (first other : Other) (carried : ℕ) → other ≡ first → is_error other.event ≡ false → without_errors carried (first ∷ rest) ≡ record { before = carried + other.before; event = other.event } ∷ without_errors 0 rest
+kept_first : (rest : List Other) (first other : Other) (carried : ℕ) → other ≡ first → is_error other.event ≡ false
+    → without_errors carried (first ∷ rest) ≡ record { before = carried + other.before; event = other.event } ∷ without_errors 0 rest
 kept_first rest first other carried e stays = rw (← e) (rw stays)
 
-error_first : (rest : List Other) (first other : Other) (carried : ℕ) → other ≡ first → is_error other.event ≡ true → without_errors carried (first ∷ rest) ≡ without_errors (carried + other.before) rest
+error_first : (rest : List Other) (first other : Other) (carried : ℕ) → other ≡ first → is_error other.event ≡ true
+    → without_errors carried (first ∷ rest) ≡ without_errors (carried + other.before) rest
 error_first rest first other carried e goes = rw (← e) (rw goes)
 
 -- the next stays
-pub removing_kept : (start rest now more : List Other) (first other : Other) (carried : ℕ) → Removing start (first ∷ rest) carried now → now ≡ other ∷ more → is_error other.event ≡ false → Removing start rest 0 (more ++ record { before = carried + other.before; event = other.event } ∷ [])
+pub removing_kept : (start rest now more : List Other) (first other : Other) (carried : ℕ) → Removing start (first ∷ rest) carried now
+    → now ≡ other ∷ more → is_error other.event ≡ false → Removing start rest 0 (more ++ record { before = carried + other.before; event = other.event } ∷ [])
 removing_kept start rest now more first other carried r e stays =
     let both : other ∷ more ≡ first ∷ (rest ++ r.done) = sym e ∙ r.parts in
     let is_first : other ≡ first = cc in
@@ -45,12 +50,14 @@ removing_kept start rest now more first other carried r e stays =
     record {
       done = r.done ++ kept ∷ [];
       parts = ap (λ (l : List Other). l ++ kept ∷ []) is_rest ∙ append_assoc rest r.done (kept ∷ []);
-      same = append_assoc r.done (kept ∷ []) (without_errors 0 rest) ∙ ap (λ (l : List Other). r.done ++ l) (sym (kept_first rest first other carried is_first stays)) ∙ r.same;
+      same = append_assoc r.done (kept ∷ []) (without_errors 0 rest)
+          ∙ ap (λ (l : List Other). r.done ++ l) (sym (kept_first rest first other carried is_first stays)) ∙ r.same;
       counted = let c = r.counted in omega (arith, all_before-append r.done (kept ∷ []), ap (λ (o : Other). o.before) is_first);
     }
 
 -- the next is deleted
-pub removing_error : (start rest now more : List Other) (first other : Other) (carried : ℕ) → Removing start (first ∷ rest) carried now → now ≡ other ∷ more → is_error other.event ≡ true → Removing start rest (carried + other.before) more
+pub removing_error : (start rest now more : List Other) (first other : Other) (carried : ℕ) → Removing start (first ∷ rest) carried now
+    → now ≡ other ∷ more → is_error other.event ≡ true → Removing start rest (carried + other.before) more
 removing_error start rest now more first other carried r e goes =
     let both : other ∷ more ≡ first ∷ (rest ++ r.done) = sym e ∙ r.parts in
     let is_first : other ≡ first = cc in

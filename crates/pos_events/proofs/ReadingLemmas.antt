@@ -26,14 +26,24 @@ count_weave : (waiting : List Enqueued) (others : List Other) → count_by is_da
 count_weave waiting [] = refl
 count_weave waiting (other ∷ others) =
     let rest = drop other.before waiting in
-    omega (arith, sum_by-append worth (take other.before waiting) (told_event other.event ∷ weave rest others), count_cons (told_event other.event) (weave rest others), count_told other.event, count_weave rest others, sum_by-take-drop worth waiting other.before)
+    omega (
+      arith,
+      sum_by-append worth (take other.before waiting) (told_event other.event ∷ weave rest others),
+      count_cons (told_event other.event) (weave rest others),
+      count_told other.event,
+      count_weave rest others,
+      sum_by-take-drop worth waiting other.before,
+    )
 
 count_with_input_data : (events : List Enqueued) → count_by is_data (with_input_data events) ≡ count_by is_data events
 count_with_input_data [] = refl
 count_with_input_data (Data scan ∷ events) = count_cons (input_error locus.InputData) (Data scan ∷ events) ∙ omega arith
-count_with_input_data (Status status ∷ events) = omega (arith, count_cons (Status status) (with_input_data events), count_cons (Status status) events, count_with_input_data events)
-count_with_input_data (Error code extended at ∷ events) = omega (arith, count_cons (Error code extended at) (with_input_data events), count_cons (Error code extended at) events, count_with_input_data events)
-count_with_input_data (Complete id ∷ events) = omega (arith, count_cons (Complete id) (with_input_data events), count_cons (Complete id) events, count_with_input_data events)
+count_with_input_data (Status status ∷ events) =
+    omega (arith, count_cons (Status status) (with_input_data events), count_cons (Status status) events, count_with_input_data events)
+count_with_input_data (Error code extended at ∷ events) =
+    omega (arith, count_cons (Error code extended at) (with_input_data events), count_cons (Error code extended at) events, count_with_input_data events)
+count_with_input_data (Complete id ∷ events) =
+    omega (arith, count_cons (Complete id) (with_input_data events), count_cons (Complete id) events, count_with_input_data events)
 
 count_scans : (scans : List Scan) → count_by is_data (map Data scans) ≡ length scans
 count_scans [] = refl
@@ -44,6 +54,8 @@ count_waiting scans false = count_scans scans
 count_waiting scans true = sum_by-append worth (map Data scans) (input_error locus.Input ∷ []) ∙ omega (arith, count_scans scans)
 
 -- DataCount is the number of scans
-pub count_events : (input_data in_error : Bool) (scans : List Scan) (others : List Other) → count_by is_data (events_in input_data (waiting_in scans in_error) others) ≡ length scans
+pub count_events : (input_data in_error : Bool) (scans : List Scan) (others : List Other)
+    → count_by is_data (events_in input_data (waiting_in scans in_error) others) ≡ length scans
 count_events false in_error scans others = count_weave (waiting_in scans in_error) others ∙ count_waiting scans in_error
-count_events true in_error scans others = count_with_input_data (weave (waiting_in scans in_error) others) ∙ count_weave (waiting_in scans in_error) others ∙ count_waiting scans in_error
+count_events true in_error scans others =
+    count_with_input_data (weave (waiting_in scans in_error) others) ∙ count_weave (waiting_in scans in_error) others ∙ count_waiting scans in_error

@@ -39,19 +39,22 @@ module _ (old new : List ℕ) (at n : ℕ) (same : SameBut at n old new) where
       same_part new old place m (omega (arith, same.same_length)) same.same_length (λ i inside. same.elsewhere i (outside i inside))
 
   -- a sequence
-  pub kept_sequence : (place : ℕ) → place + 13 ≤ length old → ((i : ℕ) → InRange (place + 1) 12 i → ¬ (InRange at n i)) → sequence_at new place ≡ sequence_at old place
+  pub kept_sequence : (place : ℕ) → place + 13 ≤ length old → ((i : ℕ) → InRange (place + 1) 12 i → ¬ (InRange at n i))
+      → sequence_at new place ≡ sequence_at old place
   unfolding sequence_at
   kept_sequence place fits outside =
       ap (from_be_bytes w64) (kept_part (place + 1) 8 (omega arith) (λ i inside. outside i (inside.0, omega (arith, inside.1))))
 
   -- a length
-  pub kept_length : (place : ℕ) → place + 13 ≤ length old → ((i : ℕ) → InRange (place + 1) 12 i → ¬ (InRange at n i)) → length_at new place ≡ length_at old place
+  pub kept_length : (place : ℕ) → place + 13 ≤ length old → ((i : ℕ) → InRange (place + 1) 12 i → ¬ (InRange at n i))
+      → length_at new place ≡ length_at old place
   unfolding length_at
   kept_length place fits outside =
       ap (from_be_bytes w32) (kept_part (place + 9) 4 (omega arith) (λ i inside. outside i (omega (arith, inside.0), omega (arith, inside.1))))
 
   -- and a body
-  pub kept_body : (place : ℕ) → place + 16384 ≤ length old → length_at old place ≤ 16371 → ((i : ℕ) → InRange (place + 1) 16383 i → ¬ (InRange at n i)) → body_at new place ≡ body_at old place
+  pub kept_body : (place : ℕ) → place + 16384 ≤ length old → length_at old place ≤ 16371
+      → ((i : ℕ) → InRange (place + 1) 16383 i → ¬ (InRange at n i)) → body_at new place ≡ body_at old place
   unfolding body_at
   kept_body place fits short outside =
       let long = kept_length place (omega arith) (λ i inside. outside i (inside.0, omega (arith, inside.1))) in
@@ -59,7 +62,8 @@ module _ (old new : List ℕ) (at n : ℕ) (same : SameBut at n old new) where
       ∙ kept_part (place + 13) (length_at old place) (omega arith) (λ i inside. outside i (omega (arith, inside.0), omega (arith, inside.1)))
 
 -- what stays away from its slot up to the log, and from the gates of the later layout, leaves the current image, where the other slot isn't the newer one then
-pub kept_away : (slot : Slot) (old new body : List ℕ) (sequence at n : ℕ) → ((i : ℕ) → InRange (start slot) 16384 i → ¬ (InRange at n i)) → ((i : ℕ) → 65536 ≤ i → ¬ (InRange at n i)) → IsCurrent old slot body sequence
+pub kept_away : (slot : Slot) (old new body : List ℕ) (sequence at n : ℕ) → ((i : ℕ) → InRange (start slot) 16384 i → ¬ (InRange at n i))
+    → ((i : ℕ) → 65536 ≤ i → ¬ (InRange at n i)) → IsCurrent old slot body sequence
     → SameBut at n old new → (is_open new (start (other slot)) ≡ true → sequence_at new (start (other slot)) < sequence) → IsCurrent new slot body sequence
 kept_away slot old new body sequence at n out far current same greater =
     let here = start_low slot in
@@ -71,47 +75,59 @@ kept_away slot old new body sequence at n out far current same greater =
         kept_gate old new at n same 196608 (far 196608 (omega arith)) ∙ current.first_layout.1,
       );
       gate = kept_gate old new at n same (start slot) (out (start slot) (omega arith, omega arith)) ∙ current.gate;
-      sequence_is = kept_sequence old new at n same (start slot) (omega arith) (λ i inside. out i (omega (arith, inside.0), omega (arith, inside.1))) ∙ current.sequence_is;
-      fits = let long = kept_length old new at n same (start slot) (omega arith) (λ i inside. out i (omega (arith, inside.0), omega (arith, inside.1))) in omega (arith, long, current.fits);
-      body_is = kept_body old new at n same (start slot) (omega arith) current.fits (λ i inside. out i (omega (arith, inside.0), omega (arith, inside.1))) ∙ current.body_is;
+      sequence_is = kept_sequence old new at n same (start slot) (omega arith) (λ i inside. out i (omega (arith, inside.0), omega (arith, inside.1)))
+          ∙ current.sequence_is;
+      fits = let long = kept_length old new at n same (start slot) (omega arith)
+          (λ i inside. out i (omega (arith, inside.0), omega (arith, inside.1))) in omega (arith, long, current.fits);
+      body_is = kept_body old new at n same (start slot) (omega arith) current.fits
+          (λ i inside. out i (omega (arith, inside.0), omega (arith, inside.1))) ∙ current.body_is;
       greater = greater;
     }
 
 -- so does what stays within the other slot
-pub kept_current : (slot : Slot) (old new body : List ℕ) (sequence at n : ℕ) → start (other slot) ≤ at → at + n ≤ start (other slot) + 32768 → IsCurrent old slot body sequence → SameBut at n old new
+pub kept_current : (slot : Slot) (old new body : List ℕ) (sequence at n : ℕ) → start (other slot) ≤ at → at + n ≤ start (other slot) + 32768
+    → IsCurrent old slot body sequence → SameBut at n old new
     → (is_open new (start (other slot)) ≡ true → sequence_at new (start (other slot)) < sequence) → IsCurrent new slot body sequence
 kept_current slot old new body sequence at n low high =
     let there = start_low (other slot) in
     kept_away slot old new body sequence at n
-    (λ i inside hit. ⊎_elim (λ before. absurd (omega (arith, before, inside.1, hit.0))) (λ behind. absurd (omega (arith, behind, inside.0, hit.1))) (apart slot))
+    (λ i inside hit. ⊎_elim (λ before. absurd (omega (arith, before, inside.1, hit.0))) (λ behind. absurd (omega (arith, behind, inside.0, hit.1)))
+    (apart slot))
     (λ i above hit. absurd (omega (arith, hit.1)))
 
 -- while an image is put into the other slot
-pub stage_current : (slot : Slot) (old new body : List ℕ) (sequence : ℕ) → IsCurrent old slot body sequence → Stages (start (other slot)) old new → IsCurrent new slot body sequence
+pub stage_current : (slot : Slot) (old new body : List ℕ) (sequence : ℕ) → IsCurrent old slot body sequence → Stages (start (other slot)) old new
+    → IsCurrent new slot body sequence
 stage_current slot old new body sequence current stages =
     kept_current slot old new body sequence (start (other slot)) 32768 (omega arith) (omega arith) current stages.same (λ opened.
     let was = stages.behind opened in
     let low = start_low (other slot) in
     let whole = current.whole in
-    let kept = kept_sequence old new (start (other slot)) 1 was.1 (start (other slot)) (omega arith) (λ i inside hit. absurd (omega (arith, inside.0, hit.1))) in
+    let kept = kept_sequence old new (start (other slot)) 1 was.1 (start (other slot)) (omega arith)
+    (λ i inside hit. absurd (omega (arith, inside.0, hit.1))) in
     let less = current.greater was.0 in
     omega (arith, kept, less))
 
 -- while its gate is written: closed, it is as before
-pub unpublished : (slot : Slot) (old new body : List ℕ) (sequence : ℕ) → IsCurrent old slot body sequence → SameBut (start (other slot)) 1 old new → is_open new (start (other slot)) ≡ false → IsCurrent new slot body sequence
+pub unpublished : (slot : Slot) (old new body : List ℕ) (sequence : ℕ) → IsCurrent old slot body sequence → SameBut (start (other slot)) 1 old new
+    → is_open new (start (other slot)) ≡ false → IsCurrent new slot body sequence
 unpublished slot old new body sequence current same shut =
     kept_current slot old new body sequence (start (other slot)) 1 (omega arith) (omega arith) current same (λ opened. absurd (cc (opened, shut)))
 
 -- and open, the new image is the current one
-pub published : (slot : Slot) (old new body next : List ℕ) (sequence : ℕ) → IsCurrent old slot body sequence → IsPrepared old (other slot) next (sequence + 1) → SameBut (start (other slot)) 1 old new → is_open new (start (other slot)) ≡ true
+pub published : (slot : Slot) (old new body next : List ℕ) (sequence : ℕ) → IsCurrent old slot body sequence
+    → IsPrepared old (other slot) next (sequence + 1) → SameBut (start (other slot)) 1 old new → is_open new (start (other slot)) ≡ true
     → IsCurrent new (other slot) next (sequence + 1)
 published slot old new body next sequence current prepared same opened =
     let here = start_low slot in
     let there = start_low (other slot) in
     let far : (i : ℕ) → 65536 ≤ i → ¬ (InRange (start (other slot)) 1 i) = λ i above hit. absurd (omega (arith, hit.1)) in
-    let out : (i : ℕ) → InRange (start slot) 32768 i → ¬ (InRange (start (other slot)) 1 i) = λ i inside hit. ⊎_elim (λ before. absurd (omega (arith, before, inside.1, hit.0))) (λ behind. absurd (omega (arith, behind, inside.0, hit.1))) (apart slot) in
+    let out : (i : ℕ) → InRange (start slot) 32768 i → ¬ (InRange (start (other slot)) 1 i) =
+    λ i inside hit. ⊎_elim (λ before. absurd (omega (arith, before, inside.1, hit.0)))
+    (λ behind. absurd (omega (arith, behind, inside.0, hit.1))) (apart slot) in
     let whole = current.whole in
-    let kept = kept_sequence old new (start (other slot)) 1 same (start slot) (omega arith) (λ i inside. out i (omega (arith, inside.0), omega (arith, inside.1))) in
+    let kept = kept_sequence old new (start (other slot)) 1 same (start slot) (omega arith)
+    (λ i inside. out i (omega (arith, inside.0), omega (arith, inside.1))) in
     let was = current.sequence_is in
     record {
       whole = omega (arith, same.same_length);
@@ -120,14 +136,18 @@ published slot old new body next sequence current prepared same opened =
         kept_gate old new (start (other slot)) 1 same 196608 (far 196608 (omega arith)) ∙ current.first_layout.1,
       );
       gate = opened;
-      sequence_is = kept_sequence old new (start (other slot)) 1 same (start (other slot)) (omega arith) (λ i inside hit. absurd (omega (arith, inside.0, hit.1))) ∙ prepared.sequence_is;
-      fits = let long = kept_length old new (start (other slot)) 1 same (start (other slot)) (omega arith) (λ i inside hit. absurd (omega (arith, inside.0, hit.1))) in omega (arith, long, prepared.fits);
-      body_is = kept_body old new (start (other slot)) 1 same (start (other slot)) (omega arith) prepared.fits (λ i inside hit. absurd (omega (arith, inside.0, hit.1))) ∙ prepared.body_is;
+      sequence_is = kept_sequence old new (start (other slot)) 1 same (start (other slot)) (omega arith)
+          (λ i inside hit. absurd (omega (arith, inside.0, hit.1))) ∙ prepared.sequence_is;
+      fits = let long = kept_length old new (start (other slot)) 1 same (start (other slot)) (omega arith)
+          (λ i inside hit. absurd (omega (arith, inside.0, hit.1))) in omega (arith, long, prepared.fits);
+      body_is = kept_body old new (start (other slot)) 1 same (start (other slot)) (omega arith) prepared.fits
+          (λ i inside hit. absurd (omega (arith, inside.0, hit.1))) ∙ prepared.body_is;
       greater = λ _. subst (λ (s : Slot). sequence_at new (start s) < sequence + 1) (sym (other_other slot)) (omega (arith, kept, was));
     }
 
 -- the first gate of its log stays 0
-pub published_log : (slot : Slot) (old new body next : List ℕ) (sequence : ℕ) → IsCurrent old slot body sequence → IsPrepared old (other slot) next (sequence + 1) → SameBut (start (other slot)) 1 old new
+pub published_log : (slot : Slot) (old new body next : List ℕ) (sequence : ℕ) → IsCurrent old slot body sequence
+    → IsPrepared old (other slot) next (sequence + 1) → SameBut (start (other slot)) 1 old new
     → get_or new (start (other slot) + 16384) 0 ≡ 0
 published_log slot old new body next sequence current prepared same =
     same.elsewhere (start (other slot) + 16384) (λ hit. absurd (omega (arith, hit.1))) ∙ prepared.log
@@ -148,7 +168,8 @@ at_most : (a b : ℕ) → a ≤ b → nat_le a b ≡ true
 at_most a b le = grind (arith, nat_tests)
 
 -- the image in a slot, where it fits
-stands_at : (bytes body : List ℕ) (sequence place : ℕ) → length_at bytes place ≤ 16371 → body_at bytes place ≡ body → sequence_at bytes place ≡ sequence → image_at bytes place ≡ OneImage body sequence
+stands_at : (bytes body : List ℕ) (sequence place : ℕ) → length_at bytes place ≤ 16371 → body_at bytes place ≡ body
+    → sequence_at bytes place ≡ sequence → image_at bytes place ≡ OneImage body sequence
 stands_at bytes body sequence place fits body_is sequence_is =
     let yes = at_most (length_at bytes place) 16371 fits in
     rw yes (λ i. OneImage (body_is i) (sequence_is i))
@@ -159,7 +180,8 @@ pub record IsChosen (bytes : List ℕ) (slot : Slot) : Type 0 where
   pub opened : (is_open bytes 0 || is_open bytes 32768) ≡ true
   pub untied : is_tied bytes ≡ false
 
-pub chosen : (bytes : List ℕ) (slot : Slot) → is_open bytes (start slot) ≡ true → (is_open bytes (start (other slot)) ≡ true → sequence_at bytes (start (other slot)) < sequence_at bytes (start slot)) → IsChosen bytes slot
+pub chosen : (bytes : List ℕ) (slot : Slot) → is_open bytes (start slot) ≡ true
+    → (is_open bytes (start (other slot)) ≡ true → sequence_at bytes (start (other slot)) < sequence_at bytes (start slot)) → IsChosen bytes slot
 chosen bytes First here lesser = elim (cases_Bool (is_open bytes 32768)) [
   | inl also ↦
       let less = lesser also in
@@ -182,7 +204,8 @@ chosen bytes Second here lesser = elim (cases_Bool (is_open bytes 0)) [
 ]
 
 -- where the bytes are long enough and no gate of the later layout is open, they hold the image in that slot
-pub chosen_stands : (bytes : List ℕ) (slot : Slot) → 327680 ≤ length bytes → (is_open bytes 65536 || is_open bytes 196608) ≡ false → IsChosen bytes slot → image_on bytes ≡ image_at bytes (start slot)
+pub chosen_stands : (bytes : List ℕ) (slot : Slot) → 327680 ≤ length bytes → (is_open bytes 65536 || is_open bytes 196608) ≡ false
+    → IsChosen bytes slot → image_on bytes ≡ image_at bytes (start slot)
 unfolding image_on
 chosen_stands bytes slot whole later chosen = rw (long_enough (length bytes) 327680 whole, chosen.opened, later, chosen.untied, chosen.place) refl
 
@@ -198,7 +221,8 @@ current_stands slot bytes body sequence current =
     ∙ stands_at bytes body sequence (start slot) current.fits current.body_is current.sequence_is
 
 -- what was found, with its body
-pub found_current : (slot : Slot) (bytes body : List ℕ) (sequence size : ℕ) → 327680 ≤ length bytes → IsFound bytes slot sequence size → body ≡ part (start slot + 13) size bytes → IsCurrent bytes slot body sequence
+pub found_current : (slot : Slot) (bytes body : List ℕ) (sequence size : ℕ) → 327680 ≤ length bytes → IsFound bytes slot sequence size
+    → body ≡ part (start slot + 13) size bytes → IsCurrent bytes slot body sequence
 unfolding body_at
 found_current slot bytes body sequence size whole found is = record {
   whole = whole;

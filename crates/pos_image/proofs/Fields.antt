@@ -24,7 +24,8 @@ module _ (bytes body : List ℕ) (at sequence : ℕ) (fits : at + 13 ≤ length 
   length_is =
       let inner : part 8 4 (part (at + 1) 12 bytes) ≡ part (at + 1 + 8) 4 bytes = part-part (at + 1) 12 8 4 bytes (omega arith) (omega arith) in
       let here : at + 1 + 8 ≡ at + 9 = omega arith in
-      ap (from_be_bytes w32) (ap (λ (k : ℕ). part k 4 bytes) (sym here) ∙ sym inner ∙ ap (part 8 4) head) ∙ from_be_bytes-to_be_bytes_4 (length body) (omega arith)
+      ap (from_be_bytes w32) (ap (λ (k : ℕ). part k 4 bytes) (sym here) ∙ sym inner ∙ ap (part 8 4) head)
+      ∙ from_be_bytes-to_be_bytes_4 (length body) (omega arith)
 
   body_is : body_at bytes at ≡ body
   unfolding body_at

@@ -19,7 +19,8 @@ pub image_here : (slot : Slot) (bytes body : List ℕ) (sequence : ℕ) → IsCu
 image_here slot bytes body sequence current = record { image = current_stands slot bytes body sequence current; log = refl }
 
 -- what stays within the other slot leaves the log
-pub kept_image : (slot : Slot) (old new body : List ℕ) (sequence at n : ℕ) → start (other slot) ≤ at → at + n ≤ start (other slot) + 32768 → IsCurrent old slot body sequence → IsCurrent new slot body sequence → SameBut at n old new
+pub kept_image : (slot : Slot) (old new body : List ℕ) (sequence at n : ℕ) → start (other slot) ≤ at → at + n ≤ start (other slot) + 32768
+    → IsCurrent old slot body sequence → IsCurrent new slot body sequence → SameBut at n old new
     → HasImage body sequence (log_of old) new
 kept_image slot old new body sequence at n low high was is same =
     let here = start_low slot in
@@ -27,12 +28,15 @@ kept_image slot old new body sequence at n low high was is same =
     record {
       image = current_stands slot new body sequence is;
       log = log_place slot new body sequence is
-          ∙ kept_part old new at n same (start slot + 16384) 16384 (omega arith) (λ i inside hit. ⊎_elim (λ before. absurd (omega (arith, before, inside.1, hit.0))) (λ behind. absurd (omega (arith, behind, inside.0, hit.1))) (apart slot))
+          ∙ kept_part old new at n same (start slot + 16384) 16384 (omega arith)
+          (λ i inside hit. ⊎_elim (λ before. absurd (omega (arith, before, inside.1, hit.0)))
+          (λ behind. absurd (omega (arith, behind, inside.0, hit.1))) (apart slot))
           ∙ sym (log_place slot old body sequence was);
     }
 
 -- a new image, whose log has 0 in its first gate
-pub new_image : (slot : Slot) (bytes body : List ℕ) (sequence : ℕ) → IsCurrent bytes slot body sequence → get_or bytes (start slot + 16384) 0 ≡ 0 → HasNewImage body sequence bytes
+pub new_image : (slot : Slot) (bytes body : List ℕ) (sequence : ℕ) → IsCurrent bytes slot body sequence → get_or bytes (start slot + 16384) 0 ≡ 0
+    → HasNewImage body sequence bytes
 new_image slot bytes body sequence current shut =
     let here : start slot + 16384 + 0 ≡ start slot + 16384 = omega arith in
     let first : get_or (log_of bytes) 0 0 ≡ get_or bytes (start slot + 16384) 0 =

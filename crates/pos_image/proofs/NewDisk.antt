@@ -31,7 +31,8 @@ pub shut_gate : (bytes : List ℕ) (at : ℕ) → get_or bytes at 0 ≡ 0 → is
 shut_gate bytes at is = ap (λ (byte : ℕ). nat_eq byte 165) is
 
 module _ (closed mid new : List ℕ) (large : 327680 ≤ length closed) (gates : HasClosedGates closed)
-    (image : mid ≡ splice closed 1 (0 ∷ 0 ∷ 0 ∷ 0 ∷ 0 ∷ 0 ∷ 0 ∷ 1 ∷ 0 ∷ 0 ∷ 0 ∷ 2 ∷ 0 ∷ 0 ∷ [])) (same : SameBut 1 14 closed mid) (gate : new ≡ splice mid 0 (165 ∷ [])) where
+    (image : mid ≡ splice closed 1 (0 ∷ 0 ∷ 0 ∷ 0 ∷ 0 ∷ 0 ∷ 0 ∷ 1 ∷ 0 ∷ 0 ∷ 0 ∷ 2 ∷ 0 ∷ 0 ∷ [])) (same : SameBut 1 14 closed mid)
+    (gate : new ≡ splice mid 0 (165 ∷ [])) where
   long : 327680 ≤ length mid
   long = omega (arith, same.same_length, large)
 
@@ -71,8 +72,10 @@ module _ (closed mid new : List ℕ) (large : 327680 ≤ length closed) (gates :
         first_layout = (shut_gate new 65536 still_closed.third, shut_gate new 196608 still_closed.fourth);
         gate = opened.1;
         sequence_is = kept_sequence mid new 0 1 opened.0 0 (omega (arith, long)) (λ i inside hit. absurd (omega (arith, inside.0, hit.1))) ∙ holds.sequence_is;
-        fits = let kept = kept_length mid new 0 1 opened.0 0 (omega (arith, long)) (λ i inside hit. absurd (omega (arith, inside.0, hit.1))) in omega (arith, kept, small);
-        body_is = kept_body mid new 0 1 opened.0 0 (omega (arith, long)) (omega (arith, small)) (λ i inside hit. absurd (omega (arith, inside.0, hit.1))) ∙ holds.body_is;
+        fits = let kept = kept_length mid new 0 1 opened.0 0 (omega (arith, long)) (λ i inside hit. absurd (omega (arith, inside.0, hit.1))) in omega
+            (arith, kept, small);
+        body_is = kept_body mid new 0 1 opened.0 0 (omega (arith, long)) (omega (arith, small))
+            (λ i inside hit. absurd (omega (arith, inside.0, hit.1))) ∙ holds.body_is;
         greater = λ is. absurd (cc (is, shut_gate new 32768 still_closed.second));
       }
 

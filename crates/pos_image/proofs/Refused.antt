@@ -58,9 +58,12 @@ module _ (bytes : List ℕ) (first second : Head) (later : Bool) (heads : HasHea
   has_head Second = heads.at_second
 
   -- the current body is too long: damage
-  pub long_found : (slot : Slot) → (head_at slot).gate ≡ true → later ≡ false → ((head_at (other slot)).gate ≡ true → (head_at (other slot)).sequence < (head_at slot).sequence) → 16371 < (head_at slot).length → image_on bytes ≡ DamagedImage
+  pub long_found : (slot : Slot) → (head_at slot).gate ≡ true → later ≡ false
+      → ((head_at (other slot)).gate ≡ true → (head_at (other slot)).sequence < (head_at slot).sequence) → 16371 < (head_at slot).length
+      → image_on bytes ≡ DamagedImage
   long_found slot opened not_later lesser over =
       let here = has_head slot in
       let there = has_head (other slot) in
-      chosen_stands bytes slot heads.whole (heads.at_later ∙ not_later) (chosen bytes slot (here.gate ∙ opened) (λ also. omega (arith, lesser (sym there.gate ∙ also), here.sequence, there.sequence)))
+      chosen_stands bytes slot heads.whole (heads.at_later ∙ not_later)
+      (chosen bytes slot (here.gate ∙ opened) (λ also. omega (arith, lesser (sym there.gate ∙ also), here.sequence, there.sequence)))
       ∙ rw (too_long (length_at bytes (start slot)) 16371 (omega (arith, here.length))) refl

@@ -26,7 +26,8 @@ use Rattle.pos_image.proofs.Staged.{so_ok}
 module _ (slot : Slot) (old new : List ℕ) (whole : 327680 ≤ length old) (same : SameBut (start slot + 16384) 16384 old new) where
   -- nothing of the other slot lies there
   beside : (i : ℕ) → InRange (start (other slot)) 32768 i → ¬ (InRange (start slot + 16384) 16384 i)
-  beside i inside hit = ⊎_elim (λ before. absurd (omega (arith, before, inside.0, hit.1))) (λ behind. absurd (omega (arith, behind, inside.1, hit.0))) (apart slot)
+  beside i inside hit = ⊎_elim (λ before. absurd (omega (arith, before, inside.0, hit.1)))
+      (λ behind. absurd (omega (arith, behind, inside.1, hit.0))) (apart slot)
 
   -- nor of its image
   behind : (i : ℕ) → InRange (start (other slot) + 1) 16383 i → ¬ (InRange (start slot + 16384) 16384 i)
@@ -38,8 +39,10 @@ module _ (slot : Slot) (old new : List ℕ) (whole : 327680 ≤ length old) (sam
       let here = start_low slot in
       let there = start_low (other slot) in
       let gate = kept_gate old new (start slot + 16384) 16384 same (start (other slot)) (beside (start (other slot)) (omega arith, omega arith)) in
-      let kept = kept_sequence old new (start slot + 16384) 16384 same (start (other slot)) (omega arith) (λ i inside. behind i (inside.0, omega (arith, inside.1))) in
-      kept_away slot old new body sequence (start slot + 16384) 16384 (λ i inside hit. absurd (omega (arith, inside.1, hit.0))) (λ i above hit. absurd (omega (arith, hit.1))) current same
+      let kept = kept_sequence old new (start slot + 16384) 16384 same (start (other slot)) (omega arith)
+      (λ i inside. behind i (inside.0, omega (arith, inside.1))) in
+      kept_away slot old new body sequence (start slot + 16384) 16384 (λ i inside hit. absurd (omega (arith, inside.1, hit.0)))
+      (λ i above hit. absurd (omega (arith, hit.1))) current same
       (λ opened. let was = current.greater (sym gate ∙ opened) in omega (arith, kept, was))
 
   -- and the one that is prepared
@@ -48,16 +51,19 @@ module _ (slot : Slot) (old new : List ℕ) (whole : 327680 ≤ length old) (sam
       let there = start_low (other slot) in
       record {
         gate = kept_gate old new (start slot + 16384) 16384 same (start (other slot)) (beside (start (other slot)) (omega arith, omega arith)) ∙ prepared.gate;
-        sequence_is = kept_sequence old new (start slot + 16384) 16384 same (start (other slot)) (omega arith) (λ i inside. behind i (inside.0, omega (arith, inside.1))) ∙ prepared.sequence_is;
+        sequence_is = kept_sequence old new (start slot + 16384) 16384 same (start (other slot)) (omega arith)
+            (λ i inside. behind i (inside.0, omega (arith, inside.1))) ∙ prepared.sequence_is;
         fits =
-            let long = kept_length old new (start slot + 16384) 16384 same (start (other slot)) (omega arith) (λ i inside. behind i (inside.0, omega (arith, inside.1))) in
+            let long = kept_length old new (start slot + 16384) 16384 same (start (other slot)) (omega arith)
+            (λ i inside. behind i (inside.0, omega (arith, inside.1))) in
             omega (arith, long, prepared.fits);
         body_is = kept_body old new (start slot + 16384) 16384 same (start (other slot)) (omega arith) prepared.fits behind ∙ prepared.body_is;
         log = same.elsewhere (start (other slot) + 16384) (beside (start (other slot) + 16384) (omega arith, omega arith)) ∙ prepared.log;
       }
 
   -- if there is one
-  still_prepared : (prepared : Option (List ℕ)) (sequence : ℕ) → MatchOption prepared ⊤ (λ body. IsPrepared old (other slot) body sequence) → MatchOption prepared ⊤ (λ body. IsPrepared new (other slot) body sequence)
+  still_prepared : (prepared : Option (List ℕ)) (sequence : ℕ) → MatchOption prepared ⊤ (λ body. IsPrepared old (other slot) body sequence)
+      → MatchOption prepared ⊤ (λ body. IsPrepared new (other slot) body sequence)
   still_prepared None sequence is = tt
   still_prepared (Some body) sequence is = log_prepared body sequence is
 
@@ -88,7 +94,8 @@ module _ (slot : Slot) (bytes body : List ℕ) (sequence : ℕ) (current : IsCur
       ∙ ap (part (at - 16384) n) (sym (log_place slot bytes body sequence current))
 
 -- spans agree where the disks do
-spans_agree : (slot : Slot) (old new body : List ℕ) (sequence : ℕ) → IsCurrent old slot body sequence → IsCurrent new slot body sequence → (i : ℕ) → (i < 16384 → get_or new (start slot + 16384 + i) 0 ≡ get_or old (start slot + 16384 + i) 0)
+spans_agree : (slot : Slot) (old new body : List ℕ) (sequence : ℕ) → IsCurrent old slot body sequence → IsCurrent new slot body sequence → (i : ℕ)
+    → (i < 16384 → get_or new (start slot + 16384 + i) 0 ≡ get_or old (start slot + 16384 + i) 0)
     → get_or (log_of new) i 0 ≡ get_or (log_of old) i 0
 spans_agree slot old new body sequence was is i agree = elim (cases_lt i 16384) [
   | inl inside ↦ span_place slot new body sequence is i inside ∙ agree inside ∙ sym (span_place slot old body sequence was i inside)
@@ -104,8 +111,10 @@ module _ {D : Type 0} (images : View D) where
       record {
         image = current_stands images.slot c images.body images.sequence current;
         log = record {
-          same_length = span_length images.slot c images.body images.sequence current ∙ sym (span_length images.slot state.reading images.body images.sequence held.current);
-          settled = λ i tight. spans_agree images.slot state.reading c images.body images.sequence held.current current i (λ _. may.settled (start images.slot + 16384 + i) tight);
+          same_length = span_length images.slot c images.body images.sequence current
+              ∙ sym (span_length images.slot state.reading images.body images.sequence held.current);
+          settled = λ i tight. spans_agree images.slot state.reading c images.body images.sequence held.current current i
+              (λ _. may.settled (start images.slot + 16384 + i) tight);
         };
       }
 
@@ -114,11 +123,14 @@ module _ {D : Type 0} (images : View D) where
   held_at_rest state sound = record { loose = λ i loose. absurd (sound.at_rest i loose); current = sound.current; prepared = sound.prepared }
 
   -- a write into the log
-  module _ {T : Type 0} (old new : DiskState) (result : Result T DiskFault) (held : IsHeld old images) (only : (c : List ℕ) → old.left_since old.moment c → MayLeave old c) where
-    module _ (at : ℕ) (bytes : List ℕ) (from : 16384 ≤ at) (to : at + length bytes ≤ 32768) (writes : Writes old new (start images.slot + at) bytes result) where
+  module _ {T : Type 0} (old new : DiskState) (result : Result T DiskFault) (held : IsHeld old images)
+      (only : (c : List ℕ) → old.left_since old.moment c → MayLeave old c) where
+    module _ (at : ℕ) (bytes : List ℕ) (from : 16384 ≤ at) (to : at + length bytes ≤ 32768)
+        (writes : Writes old new (start images.slot + at) bytes result) where
       within : IsWithin old.reading (start images.slot + 16384) 16384 new
       within =
-          within_write old.reading (start images.slot + 16384) 16384 old new result (start images.slot + at) bytes (omega arith) (omega arith) (within_here old (start images.slot + 16384) 16384 held.loose) writes
+          within_write old.reading (start images.slot + 16384) 16384 old new result (start images.slot + at) bytes (omega arith) (omega arith)
+          (within_here old (start images.slot + 16384) 16384 held.loose) writes
 
       -- a write leaves the images held
       pub write_held : IsHeld new images
@@ -148,23 +160,27 @@ module _ {D : Type 0} (images : View D) where
           let long = old_length in
           let fits : at - 16384 + length bytes ≤ length (log_of old.reading) = omega arith in
           let spliced = length-splice (log_of old.reading) bytes (at - 16384) fits in
-          ext_get_or 0 (log_of new.reading) (splice (log_of old.reading) (at - 16384) bytes) (new_length ∙ sym long ∙ sym spliced) (λ i _. elim (in_range (at - 16384) (length bytes) i) [
+          ext_get_or 0 (log_of new.reading) (splice (log_of old.reading) (at - 16384) bytes) (new_length ∙ sym long ∙ sym spliced)
+          (λ i _. elim (in_range (at - 16384) (length bytes) i) [
             | inl inside ↦
                 let place : start images.slot + 16384 + i - (start images.slot + at) ≡ i - (at - 16384) = omega (arith, inside.0) in
                 span_place images.slot new.reading images.body images.sequence write_held.current i (omega (arith, inside.1))
                 ∙ ap (λ (l : List ℕ). get_or l (start images.slot + 16384 + i) 0) is
-                ∙ spliced_within 0 old.reading bytes (start images.slot + at) (start images.slot + 16384 + i) (omega arith) (omega (arith, inside.0), omega (arith, inside.1))
+                ∙ spliced_within 0 old.reading bytes (start images.slot + at) (start images.slot + 16384 + i) (omega arith)
+                (omega (arith, inside.0), omega (arith, inside.1))
                 ∙ ap (λ (k : ℕ). get_or bytes k 0) place ∙ sym (spliced_within 0 (log_of old.reading) bytes (at - 16384) i fits inside)
             | inr missed ↦ elsewhere i missed ∙ sym (splice_elsewhere (log_of old.reading) bytes (at - 16384) i fits missed)
           ])
 
       -- so it is a write into the span
-      pub writes_span : {X E : Type 0} (answer : Result X E) → OnOk answer (new.reading ≡ splice old.reading (start images.slot + at) bytes) → WritesSpan (span_of images old) (span_of images new) (at - 16384) bytes answer
+      pub writes_span : {X E : Type 0} (answer : Result X E) → OnOk answer (new.reading ≡ splice old.reading (start images.slot + at) bytes)
+          → WritesSpan (span_of images old) (span_of images new) (at - 16384) bytes answer
       writes_span answer is = record {
         written = so_ok answer _ _ written is;
         same_length = new_length ∙ sym old_length;
         elsewhere = elsewhere;
-        loose = λ i loose. ⊎_elim (λ was. inl was) (λ hit. inr (omega (arith, hit.0), omega (arith, hit.1))) (writes.loose (start images.slot + 16384 + i) loose);
+        loose = λ i loose. ⊎_elim (λ was. inl was) (λ hit. inr (omega (arith, hit.0), omega (arith, hit.1)))
+            (writes.loose (start images.slot + 16384 + i) loose);
       }
 
       -- what a crash before it may leave, a crash after it may leave too
@@ -177,14 +193,17 @@ module _ {D : Type 0} (images : View D) where
       pub write_moments : LeavesOnly old new (KeepsImage images (span_of images new))
       write_moments =
           let here = keeps_image new write_held in
-          goes_on old old new (KeepsImage images (span_of images new)) (started old (KeepsImage images (span_of images new)) (λ c left. here c (still_may c (only c left)))) writes.time here
+          goes_on old old new (KeepsImage images (span_of images new))
+          (started old (KeepsImage images (span_of images new)) (λ c left. here c (still_may c (only c left)))) writes.time here
 
   -- a sync leaves them held
   sync_held : {T : Type 0} (old new : DiskState) (result : Result T DiskFault) → IsHeld old images → Syncs old new result → IsHeld new images
-  sync_held old new result held syncs = rw syncs.reading record { loose = λ i loose. held.loose i (syncs.loose i loose); current = held.current; prepared = held.prepared }
+  sync_held old new result held syncs =
+      rw syncs.reading record { loose = λ i loose. held.loose i (syncs.loose i loose); current = held.current; prepared = held.prepared }
 
 -- images that a disk holds are writable
-pub writable : {D : Type 0} (bound : Ghosts D) (images : View D) → 327680 ≤ bound.size images.disk → images.sequence < 2 ^ 64 → (bound.honest images.disk → IsHeld (bound.state images.disk) images) → IsWritable bound images
+pub writable : {D : Type 0} (bound : Ghosts D) (images : View D) → 327680 ≤ bound.size images.disk → images.sequence < 2 ^ 64
+    → (bound.honest images.disk → IsHeld (bound.state images.disk) images) → IsWritable bound images
 writable bound images large counted held = record {
   large = large;
   counted = counted;
@@ -197,7 +216,8 @@ pub ready_writable : {D : Type 0} (bound : Ghosts D) (images : View D) → IsRea
 ready_writable bound images is = writable bound images is.large is.counted (λ honest. held_at_rest images (bound.state images.disk) (is.sound honest))
 
 -- writable images are ready after a sync
-pub synced : {D : Type 0} (bound : Ghosts D) (images : View D) (disk : D) (result : Result (Unit {0}) DiskFault) → IsWritable bound images → bound.size disk ≡ bound.size images.disk → (bound.honest images.disk ↔ bound.honest disk)
+pub synced : {D : Type 0} (bound : Ghosts D) (images : View D) (disk : D) (result : Result (Unit {0}) DiskFault) → IsWritable bound images
+    → bound.size disk ≡ bound.size images.disk → (bound.honest images.disk ↔ bound.honest disk)
     → (bound.honest images.disk → Syncs (bound.state images.disk) (bound.state disk) result) → OnOk result (IsReady bound (record images { disk = disk }))
 synced bound images disk (Err fault) was size honest syncs = tt
 synced bound images disk (Ok done) was size honest syncs =

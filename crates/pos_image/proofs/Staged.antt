@@ -9,13 +9,16 @@ use Rattle.pos_image.specs.Slots.{HasFields}
 use Rattle.pos_image.proofs.Fields.{fields}
 
 -- bytes before the place of a write stay
-part_stays : (old : List ℕ) (at n place : ℕ) (bytes : List ℕ) → at + n ≤ place → place + length bytes ≤ length old → part at n (splice old place bytes) ≡ part at n old
+part_stays : (old : List ℕ) (at n place : ℕ) (bytes : List ℕ) → at + n ≤ place → place + length bytes ≤ length old
+    → part at n (splice old place bytes) ≡ part at n old
 part_stays old at n place bytes behind fits =
     let long = length-splice old bytes place fits in
-    same_part (splice old place bytes) old at n (omega arith) long (λ i inside. splice_elsewhere old bytes place i fits (λ (low, high). absurd (omega (arith, low, inside.1))))
+    same_part (splice old place bytes) old at n (omega arith) long
+    (λ i inside. splice_elsewhere old bytes place i fits (λ (low, high). absurd (omega (arith, low, inside.1))))
 
 -- the fields of a slot after its head, its body and the first gate of its log were written
-pub fields_written : (old new head body : List ℕ) (at sequence : ℕ) → at + 32768 ≤ length old → length body ≤ 16371 → sequence < 2 ^ 64 → head ≡ big_bytes 8 sequence ++ big_bytes 4 (length body)
+pub fields_written : (old new head body : List ℕ) (at sequence : ℕ) → at + 32768 ≤ length old → length body ≤ 16371 → sequence < 2 ^ 64
+    → head ≡ big_bytes 8 sequence ++ big_bytes 4 (length body)
     → new ≡ splice (splice (splice old (at + 1) head) (at + 13) body) (at + 16384) (0 ∷ []) → HasFields new at sequence body
 fields_written old new head body at sequence fits short small head_is written =
     let first = splice old (at + 1) head in
@@ -26,8 +29,11 @@ fields_written old new head body at sequence fits short small head_is written =
     let third_long : length new ≡ length old = ap length written ∙ length-splice second (0 ∷ []) (at + 16384) (omega (arith, second_long)) ∙ second_long in
     let head_here : part (at + 1) 12 first ≡ head = ap (λ (n : ℕ). part (at + 1) n first) (sym long) ∙ part-splice old head (at + 1) (omega (arith, long)) in
     fields new body at sequence (omega (arith, third_long)) short small
-    (ap (part (at + 1) 12) written ∙ part_stays second (at + 1) 12 (at + 16384) (0 ∷ []) (omega arith) (omega (arith, second_long)) ∙ part_stays first (at + 1) 12 (at + 13) body (omega arith) (omega (arith, first_long)) ∙ head_here ∙ head_is)
-    (ap (part (at + 13) (length body)) written ∙ part_stays second (at + 13) (length body) (at + 16384) (0 ∷ []) (omega arith) (omega (arith, second_long)) ∙ part-splice first body (at + 13) (omega (arith, first_long)))
+    (ap (part (at + 1) 12) written ∙ part_stays second (at + 1) 12 (at + 16384) (0 ∷ []) (omega arith) (omega (arith, second_long))
+    ∙ part_stays first (at + 1) 12 (at + 13) body (omega arith) (omega (arith, first_long)) ∙ head_here ∙ head_is)
+    (ap (part (at + 13) (length body)) written
+    ∙ part_stays second (at + 13) (length body) (at + 16384) (0 ∷ []) (omega arith) (omega (arith, second_long))
+    ∙ part-splice first body (at + 13) (omega (arith, first_long)))
 
 -- a fact holds where a call succeeded
 pub where_ok : {T E : Type 0} (r : Result T E) (P : Type 0) → P → OnOk r P

@@ -19,20 +19,24 @@ use Rattle.pos_log.proofs.Unique.{one_log}
 
 -- What a write into the log span and its sync did to the disk, whatever they answered.
 pub record WritesThrough {D : Type 0} (bound : Ghosts D) (images : View D) (disk : D) (at : ℕ) (bytes : List ℕ) (end : D) : Type 0 where
-  pub moments : bound.honest disk → LeavesOnly (bound.state disk) (bound.state end) (KeepsSpan images.body images.sequence at (length bytes) (log_of (bound.state disk).reading))
+  pub moments : bound.honest disk
+      → LeavesOnly (bound.state disk) (bound.state end) (KeepsSpan images.body images.sequence at (length bytes) (log_of (bound.state disk).reading))
   pub keeps : KeepsDisk bound disk end
 
 -- the same for images that differ in their disk alone
-pub over_disk : {D : Type 0} (bound : Ghosts D) (images now : View D) (disk : D) → now ≡ record images { disk = disk } → (from : D) (at : ℕ) (bytes : List ℕ) (end : D) → WritesThrough bound now from at bytes end → WritesThrough bound images from at bytes end
+pub over_disk : {D : Type 0} (bound : Ghosts D) (images now : View D) (disk : D) → now ≡ record images { disk = disk }
+    → (from : D) (at : ℕ) (bytes : List ℕ) (end : D) → WritesThrough bound now from at bytes end → WritesThrough bound images from at bytes end
 over_disk {D = D} bound images now disk is from at bytes end =
-    subst (λ (im : View D). WritesThrough bound im from at bytes end → WritesThrough bound images from at bytes end) (sym is) (λ wrote. record { moments = wrote.moments; keeps = wrote.keeps })
+    subst (λ (im : View D). WritesThrough bound im from at bytes end → WritesThrough bound images from at bytes end) (sym is)
+    (λ wrote. record { moments = wrote.moments; keeps = wrote.keeps })
 
 -- bytes that are put at a place leave the others
 spliced_same : (old bytes : List ℕ) (at : ℕ) → at + length bytes ≤ length old → SameBut at (length bytes) old (splice old at bytes)
 spliced_same old bytes at fits = record { same_length = length-splice old bytes at fits; elsewhere = λ i outside. splice_elsewhere old bytes at i fits outside }
 
 -- failures that rose in a later call rose since an earlier one
-pub risen : {D : Type 0} (bound : Ghosts D) (old mid new : D) → KeepsDisk bound old mid → KeepsDisk bound mid new → bound.honest old → Rises (bound.state mid).failures (bound.state new).failures → Rises (bound.state old).failures (bound.state new).failures
+pub risen : {D : Type 0} (bound : Ghosts D) (old mid new : D) → KeepsDisk bound old mid → KeepsDisk bound mid new → bound.honest old
+    → Rises (bound.state mid).failures (bound.state new).failures → Rises (bound.state old).failures (bound.state new).failures
 risen bound old mid new keeps also honest rises =
     let later = keeps.later honest in
     let last = also.later (keeps.honest.0 honest) in
@@ -42,7 +46,8 @@ risen bound old mid new keeps also honest rises =
 pub never_failed : {T : Type 0} (old new : DiskState) (made : T) → CountsFaults old new (Ok made) → HasNotFailed old new
 never_failed old new made counts = ⊎_elim (λ is. absurd cc) (λ same. same) counts
 
-module _ {D : Type 0} (bound : Ghosts D) (images : View D) (tail : ℕ) (group : List ℕ) (ready : IsLogReady bound (log_over images tail)) (low : 16384 ≤ tail) (fits : tail + 6 + length group ≤ 32768) where
+module _ {D : Type 0} (bound : Ghosts D) (images : View D) (tail : ℕ) (group : List ℕ) (ready : IsLogReady bound (log_over images tail))
+    (low : 16384 ≤ tail) (fits : tail + 6 + length group ≤ 32768) where
   abbrev old : DiskState
   old = bound.state images.disk
 
@@ -57,7 +62,8 @@ module _ {D : Type 0} (bound : Ghosts D) (images : View D) (tail : ℕ) (group :
   long : bound.honest images.disk → length (log_of old.reading) ≡ 16384
   long honest = ready_length bound images ready.images honest
 
-  module _ (at : ℕ) (at_is : at ≡ tail - 16384 + 1) (text : List ℕ) (text_is : text ≡ text_behind_gate group) (disk : D) (puts : WritesThrough bound images images.disk at text disk) where
+  module _ (at : ℕ) (at_is : at ≡ tail - 16384 + 1) (text : List ℕ) (text_is : text ≡ text_behind_gate group) (disk : D)
+      (puts : WritesThrough bound images images.disk at text disk) where
     -- at any moment of the first step
     first_moments : bound.honest images.disk → LeavesOnly old (bound.state disk) (KeepsRecords images.body images.sequence (log_of old.reading) group)
     first_moments honest = weaker old (bound.state disk) _ _ (λ c keeps. record {
@@ -82,7 +88,8 @@ module _ {D : Type 0} (bound : Ghosts D) (images : View D) (tail : ℕ) (group :
       keeps = puts.keeps;
     }
 
-    module _ (put : bound.honest images.disk → PutsBytes at text old (bound.state disk)) (end : D) (opens : WritesThrough bound images disk (tail - 16384) (165 ∷ []) end) where
+    module _ (put : bound.honest images.disk → PutsBytes at text old (bound.state disk)) (end : D)
+        (opens : WritesThrough bound images disk (tail - 16384) (165 ∷ []) end) where
       few : length group < 2 ^ 32
       few = omega (arith, fits)
 
@@ -115,7 +122,8 @@ module _ {D : Type 0} (bound : Ghosts D) (images : View D) (tail : ℕ) (group :
           (weaker (bound.state disk) (bound.state end) _ _ (λ c keeps. record {
             image = keeps.image;
             log = λ groups holds.
-                either_more groups (log_of old.reading) (log_of (bound.state disk).reading) (log_of c) group holds (tail - 16384) (tail_is honest groups holds) (place_fits honest) few (beside honest) (there honest) keeps.log;
+                either_more groups (log_of old.reading) (log_of (bound.state disk).reading) (log_of c) group holds (tail - 16384)
+                (tail_is honest groups holds) (place_fits honest) few (beside honest) (there honest) keeps.log;
           }) (opens.moments (puts.keeps.honest.0 honest)))
 
       both_keep : KeepsDisk bound images.disk end
@@ -154,8 +162,10 @@ module _ {D : Type 0} (bound : Ghosts D) (images : View D) (tail : ℕ) (group :
 
         more : bound.honest images.disk → HoldsMore (log_of old.reading) group (log_of (bound.state end).reading)
         more honest groups holds =
-            opened_more groups (log_of old.reading) (log_of (bound.state disk).reading) (log_of (bound.state end).reading) group holds (tail - 16384) (tail_is honest groups holds) (place_fits honest) few (beside honest) (there honest)
-            (subst (SameBut (tail - 16384) 1 (log_of (bound.state disk).reading)) (sym (opened (puts.keeps.honest.0 honest))) (spliced_same (log_of (bound.state disk).reading) (165 ∷ []) (tail - 16384) (mid_long honest)))
+            opened_more groups (log_of old.reading) (log_of (bound.state disk).reading) (log_of (bound.state end).reading) group holds (tail - 16384)
+            (tail_is honest groups holds) (place_fits honest) few (beside honest) (there honest)
+            (subst (SameBut (tail - 16384) 1 (log_of (bound.state disk).reading)) (sym (opened (puts.keeps.honest.0 honest)))
+            (spliced_same (log_of (bound.state disk).reading) (165 ∷ []) (tail - 16384) (mid_long honest)))
             (ap (λ (b : ℕ). nat_eq b 165) (is_opened honest))
 
         pub appended : (now : View D) (behind : ℕ) → now ≡ record images { disk = end } → behind ≡ tail + 5 + length group → IsReady bound now

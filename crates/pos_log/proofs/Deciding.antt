@@ -32,14 +32,16 @@ length_or_none span at =
     (cases_lt n (2 ^ 32))
 
 -- reading on from a place
-read_on : (left : ℕ) (groups : List (List ℕ)) (at : ℕ) (span : List ℕ) → BeginsWith groups at span → length span ≤ at + left → HoldsSome span ⊎ (HoldsSome span → ⊥)
+read_on : (left : ℕ) (groups : List (List ℕ)) (at : ℕ) (span : List ℕ) → BeginsWith groups at span → length span ≤ at + left
+    → HoldsSome span ⊎ (HoldsSome span → ⊥)
 read_on zero groups at span begins end = absurd (let inside = begins.inside in omega arith)
 read_on (suc left) groups at span begins end =
     ⊎_elim
     (λ opened.
     let byte = open_byte (get_or span at 0) opened in
     ⊎_elim
-    (λ has. read_on left (groups ++ part (at + 5) has.0 span ∷ []) (at + (5 + has.0)) span (begins_more groups at has.0 span (part (at + 5) has.0 span) begins byte has.1 refl) (omega (arith, end)))
+    (λ has. read_on left (groups ++ part (at + 5) has.0 span ∷ []) (at + (5 + has.0)) span
+    (begins_more groups at has.0 span (part (at + 5) has.0 span) begins byte has.1 refl) (omega (arith, end)))
     (λ none. inr (none_held groups at span begins byte none))
     (length_or_none span at))
     (λ shut. inl (groups, all_read groups at span begins shut))

@@ -16,5 +16,6 @@ no_records body sequence bytes new =
     }
 
 -- the old image with its log, or the new one with none
-pub renewing : (old new : DiskState) (body next : List ℕ) (sequence : ℕ) (span : List ℕ) → LeavesOnly old new (HasEither body next sequence span) → LeavesOnly old new (HasOldOrNew body next sequence span)
+pub renewing : (old new : DiskState) (body next : List ℕ) (sequence : ℕ) (span : List ℕ) → LeavesOnly old new (HasEither body next sequence span)
+    → LeavesOnly old new (HasOldOrNew body next sequence span)
 renewing old new body next sequence span = weaker old new _ _ (λ c either. ⊎_elim (λ was. inl was) (λ is. inr (no_records next (sequence + 1) c is)) either)

@@ -28,12 +28,14 @@ one_byte (b ∷ []) byte long is = ap (λ (x : ℕ). x ∷ []) is
 one_byte (b ∷ c ∷ more) byte long is = absurd (omega (arith, long))
 
 -- a record stands at this place
-pub record_here : (place : ℕ) (span group : List ℕ) → get_or span place 0 ≡ 165 → part (place + 1) 4 span ≡ to_be_bytes w32 (length group) → part (place + 5) (length group) span ≡ group → place + 5 + length group ≤ length span
+pub record_here : (place : ℕ) (span group : List ℕ) → get_or span place 0 ≡ 165 → part (place + 1) 4 span ≡ to_be_bytes w32 (length group)
+    → part (place + 5) (length group) span ≡ group → place + 5 + length group ≤ length span
     → part place (1 + (4 + length group)) span ≡ record_spelling group
 record_here place span group byte length_is group_is fits =
     let first : place + 0 ≡ place = omega arith in
     let gate_is : part place 1 span ≡ 165 ∷ [] =
-    one_byte (part place 1 span) 165 (length-part place 1 span (omega arith)) (get_or-part place 1 span 0 (omega arith) ∙ ap (λ (k : ℕ). get_or span k 0) first ∙ byte) in
+    one_byte (part place 1 span) 165 (length-part place 1 span (omega arith))
+    (get_or-part place 1 span 0 (omega arith) ∙ ap (λ (k : ℕ). get_or span k 0) first ∙ byte) in
     let at_group : place + 1 + 4 ≡ place + 5 = omega arith in
     let behind_gate : part (place + 1) (4 + length group) span ≡ to_be_bytes w32 (length group) ++ group =
     part_in_two (place + 1) 4 (length group) span
@@ -46,7 +48,8 @@ record_here place span group byte length_is group_is fits =
 
 -- one record more
 pub spelling_more : (groups : List (List ℕ)) (group : List ℕ) → spelling (groups ++ group ∷ []) ≡ spelling groups ++ record_spelling group
-spelling_more groups group = flat_map-append record_spelling groups (group ∷ []) ∙ ap (λ (l : List ℕ). spelling groups ++ l) (append-nil (record_spelling group))
+spelling_more groups group = flat_map-append record_spelling groups (group ∷ [])
+    ∙ ap (λ (l : List ℕ). spelling groups ++ l) (append-nil (record_spelling group))
 
 -- and so long
 pub spelling_length : (groups : List (List ℕ)) (group : List ℕ) → length (spelling (groups ++ group ∷ [])) ≡ length (spelling groups) + 5 + length group
@@ -60,11 +63,13 @@ all_more [] group all one = (one, tt)
 all_more (first ∷ groups) group all one = (all.0, all_more groups group all.1 one)
 
 -- what changes from the gate behind the records on, while that gate is closed, leaves the records
-pub kept_shut : (groups : List (List ℕ)) (old new : List ℕ) (at n : ℕ) → HoldsRecords groups old → SameBut at n old new → length (spelling groups) ≤ at → is_open new (length (spelling groups)) ≡ false → HoldsRecords groups new
+pub kept_shut : (groups : List (List ℕ)) (old new : List ℕ) (at n : ℕ) → HoldsRecords groups old → SameBut at n old new
+    → length (spelling groups) ≤ at → is_open new (length (spelling groups)) ≡ false → HoldsRecords groups new
 kept_shut groups old new at n holds same behind shut =
     let inside = holds.inside in
     let front : part 0 (length (spelling groups)) new ≡ part 0 (length (spelling groups)) old =
-    same_part new old 0 (length (spelling groups)) (omega (arith, same.same_length)) same.same_length (λ i in_front. same.elsewhere i (λ hit. absurd (omega (arith, hit.0, in_front.1)))) in
+    same_part new old 0 (length (spelling groups)) (omega (arith, same.same_length)) same.same_length
+    (λ i in_front. same.elsewhere i (λ hit. absurd (omega (arith, hit.0, in_front.1)))) in
     record {
       short = holds.short;
       front = front ∙ holds.front;
@@ -73,12 +78,15 @@ kept_shut groups old new at n holds same behind shut =
     }
 
 -- what changes behind that gate leaves the records
-pub kept_records : (groups : List (List ℕ)) (old new : List ℕ) (at n : ℕ) → HoldsRecords groups old → SameBut at n old new → length (spelling groups) < at → HoldsRecords groups new
+pub kept_records : (groups : List (List ℕ)) (old new : List ℕ) (at n : ℕ) → HoldsRecords groups old → SameBut at n old new
+    → length (spelling groups) < at → HoldsRecords groups new
 kept_records groups old new at n holds same behind =
-    kept_shut groups old new at n holds same (omega arith) (ap (λ (byte : ℕ). nat_eq byte 165) (same.elsewhere (length (spelling groups)) (λ hit. absurd (omega (arith, hit.0)))) ∙ holds.behind)
+    kept_shut groups old new at n holds same (omega arith)
+    (ap (λ (byte : ℕ). nat_eq byte 165) (same.elsewhere (length (spelling groups)) (λ hit. absurd (omega (arith, hit.0)))) ∙ holds.behind)
 
 -- what was written behind a gate is the length of a group, the group, and a closed gate
-module _ (place : ℕ) (span group : List ℕ) (fits : place + 6 + length group ≤ length span) (text : part (place + 1) (5 + length group) span ≡ text_behind_gate group) where
+module _ (place : ℕ) (span group : List ℕ) (fits : place + 6 + length group ≤ length span)
+    (text : part (place + 1) (5 + length group) span ≡ text_behind_gate group) where
   inner : (from m : ℕ) → from + m ≤ 5 + length group → part (place + 1 + from) m span ≡ part from m (text_behind_gate group)
   inner from m short = sym (part-part (place + 1) (5 + length group) from m span short (omega (arith, fits))) ∙ ap (part from m) text
 
@@ -94,33 +102,41 @@ module _ (place : ℕ) (span group : List ℕ) (fits : place + 6 + length group 
   next_closed =
       let at : place + 1 + (4 + length group) ≡ place + 5 + length group = omega arith in
       let last : length group + 0 ≡ length group = omega arith in
-      ap (λ (k : ℕ). get_or span k 0) (sym at) ∙ sym (get_or-part (place + 1) (5 + length group) span (4 + length group) (omega arith)) ∙ ap (λ (l : List ℕ). get_or l (4 + length group) 0) text
+      ap (λ (k : ℕ). get_or span k 0) (sym at) ∙ sym (get_or-part (place + 1) (5 + length group) span (4 + length group) (omega arith))
+      ∙ ap (λ (l : List ℕ). get_or l (4 + length group) 0) text
       ∙ get_or-append-add (to_be_bytes w32 (length group)) (group ++ 0 ∷ []) (length group) 0
       ∙ ap (λ (k : ℕ). get_or (group ++ 0 ∷ []) k 0) (sym last) ∙ get_or-append-add group (0 ∷ []) 0 0
 
 -- a record behind an open gate, with a closed gate behind it
-module _ (groups : List (List ℕ)) (old mid new group : List ℕ) (holds : HoldsRecords groups old) (place : ℕ) (place_is : place ≡ length (spelling groups)) (fits : place + 6 + length group ≤ length old) (few : length group < 2 ^ 32)
-    (beside : SameBut (place + 1) (5 + length group) old mid) (there : part (place + 1) (5 + length group) mid ≡ text_behind_gate group) (gate : SameBut place 1 mid new) where
+module _ (groups : List (List ℕ)) (old mid new group : List ℕ) (holds : HoldsRecords groups old) (place : ℕ)
+    (place_is : place ≡ length (spelling groups)) (fits : place + 6 + length group ≤ length old) (few : length group < 2 ^ 32)
+    (beside : SameBut (place + 1) (5 + length group) old mid) (there : part (place + 1) (5 + length group) mid ≡ text_behind_gate group)
+    (gate : SameBut place 1 mid new) where
   long : length new ≡ length old
   long = gate.same_length ∙ beside.same_length
 
   kept_part : (at n : ℕ) → place < at → at + n ≤ length old → part at n new ≡ part at n mid
-  kept_part at n low high = same_part new mid at n (omega (arith, long)) gate.same_length (λ i inside. gate.elsewhere i (λ hit. absurd (omega (arith, inside.0, hit.1))))
+  kept_part at n low high = same_part new mid at n (omega (arith, long)) gate.same_length
+      (λ i inside. gate.elsewhere i (λ hit. absurd (omega (arith, inside.0, hit.1))))
 
   same_front : take (length (spelling groups)) new ≡ spelling groups
   same_front =
       let inside = holds.inside in
       let all : part 0 (length (spelling groups)) new ≡ part 0 (length (spelling groups)) old =
-      same_part new old 0 (length (spelling groups)) (omega (arith, long)) long (λ i in_front. gate.elsewhere i (λ hit. absurd (omega (arith, hit.0, in_front.1, place_is))) ∙ beside.elsewhere i (λ hit. absurd (omega (arith, hit.0, in_front.1, place_is)))) in
+      same_part new old 0 (length (spelling groups)) (omega (arith, long)) long
+      (λ i in_front. gate.elsewhere i (λ hit. absurd (omega (arith, hit.0, in_front.1, place_is)))
+      ∙ beside.elsewhere i (λ hit. absurd (omega (arith, hit.0, in_front.1, place_is)))) in
       all ∙ holds.front
 
   pub opened_more : is_open new place ≡ true → HoldsRecords (groups ++ group ∷ []) new
   opened_more opened =
       let size = spelling_length groups group in
       let byte : get_or new place 0 ≡ 165 = open_byte (get_or new place 0) opened in
-      let text : part (place + 1) (5 + length group) new ≡ text_behind_gate group = kept_part (place + 1) (5 + length group) (omega arith) (omega arith) ∙ there in
+      let text : part (place + 1) (5 + length group) new ≡ text_behind_gate group =
+      kept_part (place + 1) (5 + length group) (omega arith) (omega arith) ∙ there in
       let head : part place (1 + (4 + length group)) new ≡ record_spelling group =
-      record_here place new group byte (length_there place new group (omega (arith, fits, long)) text) (group_there place new group (omega (arith, fits, long)) text) (omega (arith, long)) in
+      record_here place new group byte (length_there place new group (omega (arith, fits, long)) text)
+      (group_there place new group (omega (arith, fits, long)) text) (omega (arith, long)) in
       let total : length (spelling (groups ++ group ∷ [])) ≡ length (spelling groups) + (1 + (4 + length group)) = omega (arith, size) in
       let total_place : length (spelling (groups ++ group ∷ [])) ≡ place + 5 + length group = omega (arith, size, place_is) in
       record {
@@ -141,7 +157,8 @@ module _ (groups : List (List ℕ)) (old mid new group : List ℕ) (holds : Hold
     | inr shut ↦
         let all : SameBut place (6 + length group) old new = record {
           same_length = long;
-          elsewhere = λ i outside. gate.elsewhere i (λ hit. outside (hit.0, omega (arith, hit.1))) ∙ beside.elsewhere i (λ hit. outside (omega (arith, hit.0), omega (arith, hit.1)));
+          elsewhere = λ i outside. gate.elsewhere i (λ hit. outside (hit.0, omega (arith, hit.1)))
+              ∙ beside.elsewhere i (λ hit. outside (omega (arith, hit.0), omega (arith, hit.1)));
         } in
         inl (kept_shut groups old new place (6 + length group) holds all (omega (arith, place_is)) (ap (is_open new) (sym place_is) ∙ shut))
   ]

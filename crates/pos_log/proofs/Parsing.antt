@@ -15,14 +15,16 @@ pub begins : (span : List ℕ) → 0 < length span → BeginsWith [] 0 span
 begins span some = record { short = tt; end_is = refl; front = refl; inside = some }
 
 -- one record more
-pub begins_more : (groups : List (List ℕ)) (at n : ℕ) (span group : List ℕ) → BeginsWith groups at span → get_or span at 0 ≡ 165 → HasLength span at n → group ≡ part (at + 5) n span → BeginsWith (groups ++ group ∷ []) (at + (5 + n)) span
+pub begins_more : (groups : List (List ℕ)) (at n : ℕ) (span group : List ℕ) → BeginsWith groups at span → get_or span at 0 ≡ 165
+    → HasLength span at n → group ≡ part (at + 5) n span → BeginsWith (groups ++ group ∷ []) (at + (5 + n)) span
 begins_more groups at n span group begins gate has is =
     let fits = has.fits in
     let few = has.few in
     let long : length group ≡ n = ap length is ∙ length-part (at + 5) n span (omega arith) in
     let size = spelling_length groups group in
     let end_is = begins.end_is in
-    let here = record_here at span group gate (has.length_is ∙ ap (to_be_bytes w32) (sym long)) (ap (λ (k : ℕ). part (at + 5) k span) long ∙ sym is) (omega (arith, long)) in
+    let here = record_here at span group gate (has.length_is ∙ ap (to_be_bytes w32) (sym long)) (ap (λ (k : ℕ). part (at + 5) k span) long ∙ sym is)
+    (omega (arith, long)) in
     let total : at + (5 + n) ≡ at + (1 + (4 + length group)) = omega (arith, long) in
     record {
       short = all_more groups group begins.short (omega (arith, long));
@@ -42,7 +44,8 @@ all_read groups at span begins shut = record {
   behind = ap (λ (k : ℕ). nat_eq (get_or span k 0) 165) (sym begins.end_is) ∙ shut;
 }
 
-refused : (others : List (List ℕ)) (at : ℕ) (span : List ℕ) (gate : ℕ) (behind : List ℕ) → at < length span → AllByRecursion IsShort others → drop at span ≡ spelling others ++ gate ∷ behind → nat_eq gate 165 ≡ false → get_or span at 0 ≡ 165
+refused : (others : List (List ℕ)) (at : ℕ) (span : List ℕ) (gate : ℕ) (behind : List ℕ) → at < length span → AllByRecursion IsShort others
+    → drop at span ≡ spelling others ++ gate ∷ behind → nat_eq gate 165 ≡ false → get_or span at 0 ≡ 165
     → ((n : ℕ) → HasLength span at n → ⊥) → ⊥
 refused [] at span gate behind inside short is shut byte none =
     let here : at + 0 ≡ at = omega arith in
@@ -59,7 +62,8 @@ refused (group ∷ others) at span gate behind inside short is shut byte none =
     }
 
 -- where no record fits behind an open gate, the span holds no records
-pub none_held : (groups : List (List ℕ)) (at : ℕ) (span : List ℕ) → BeginsWith groups at span → get_or span at 0 ≡ 165 → ((n : ℕ) → HasLength span at n → ⊥) → HoldsSome span → ⊥
+pub none_held : (groups : List (List ℕ)) (at : ℕ) (span : List ℕ) → BeginsWith groups at span → get_or span at 0 ≡ 165
+    → ((n : ℕ) → HasLength span at n → ⊥) → HoldsSome span → ⊥
 none_held groups at span begins byte none (all, holds) =
     let gate = get_or span (length (spelling all)) 0 in
     let front : span ≡ spelling groups ++ drop at span = sym (take-append-drop at span) ∙ ap (λ (l : List ℕ). l ++ drop at span) begins.front in
@@ -67,7 +71,8 @@ none_held groups at span begins byte none (all, holds) =
     refused follow.0 at span gate _ begins.inside follow.3 follow.2 holds.behind byte none
 
 -- a span that was read whole
-pub whole_read : (read out items span : List ℕ) (n : ℕ) → n ≡ 16384 → length out ≡ 16384 → length span ≡ 16384 → read ≡ take n (out ++ drop (length out) items) → out ≡ part 0 (length out) span → read ≡ span
+pub whole_read : (read out items span : List ℕ) (n : ℕ) → n ≡ 16384 → length out ≡ 16384 → length span ≡ 16384
+    → read ≡ take n (out ++ drop (length out) items) → out ≡ part 0 (length out) span → read ≡ span
 whole_read read out items span n n_is out_long span_long read_is out_is =
     let one : n ≡ length out = omega arith in
     let two : length out ≡ length span = omega arith in

@@ -24,7 +24,8 @@ span_leaves was at n span within c may = record {
 }
 
 module _ {D : Type 0} (images : View D) (at : ℕ) (bytes : List ℕ) {T E : Type 0} (result : Result T E) (old mid : DiskState) (sound : IsSound old images)
-    (writes : WritesSpan (span_of images old) (span_of images mid) at bytes result) (written : LeavesOnly old mid (KeepsImage images (span_of images mid))) where
+    (writes : WritesSpan (span_of images old) (span_of images mid) at bytes result)
+    (written : LeavesOnly old mid (KeepsImage images (span_of images mid))) where
   within : IsSpanWithin (log_of old.reading) at (length bytes) (span_of images mid)
   within = record {
     same = record { same_length = writes.same_length; elsewhere = writes.elsewhere };
@@ -33,16 +34,28 @@ module _ {D : Type 0} (images : View D) (at : ℕ) (bytes : List ℕ) {T E : Typ
 
   -- at any moment of the write
   pub write_moments : LeavesOnly old mid (KeepsSpan images.body images.sequence at (length bytes) (log_of old.reading))
-  write_moments = weaker old mid _ _ (λ c keeps. record { image = keeps.image; log = span_leaves (log_of old.reading) at (length bytes) (span_of images mid) within (log_of c) keeps.log }) written
+  write_moments = weaker old mid _ _
+      (λ c keeps. record {
+        image = keeps.image;
+        log = span_leaves (log_of old.reading) at (length bytes) (span_of images mid) within
+            (log_of c) keeps.log;
+      }) written
 
   -- and of the sync after it
   pub sync_moments : (now : View D) (disk : D) → now ≡ record images { disk = disk } → (new : DiskState) → LeavesOnly mid new (KeepsImage now (span_of now mid))
       → LeavesOnly old new (KeepsSpan images.body images.sequence at (length bytes) (log_of old.reading))
   sync_moments now disk is new =
-      subst (λ (im : View D). LeavesOnly mid new (KeepsImage im (span_of im mid)) → LeavesOnly old new (KeepsSpan images.body images.sequence at (length bytes) (log_of old.reading))) (sym is) (λ synced.
-      followed_by old mid new _ write_moments (weaker mid new _ _ (λ c keeps. record { image = keeps.image; log = span_leaves (log_of old.reading) at (length bytes) (span_of images mid) within (log_of c) keeps.log }) synced))
+      subst (λ (im : View D). LeavesOnly mid new (KeepsImage im (span_of im mid))
+      → LeavesOnly old new (KeepsSpan images.body images.sequence at (length bytes) (log_of old.reading))) (sym is) (λ synced.
+      followed_by old mid new _ write_moments
+      (weaker mid new _ _ (λ c keeps. record {
+        image = keeps.image;
+        log = span_leaves (log_of old.reading) at (length bytes)
+            (span_of images mid) within (log_of c) keeps.log;
+      }) synced))
 
 -- the span of images that are ready is as long as ever
-pub ready_length : {D : Type 0} (bound : Ghosts D) (images : View D) → IsReady bound images → bound.honest images.disk → length (log_of (bound.state images.disk).reading) ≡ 16384
+pub ready_length : {D : Type 0} (bound : Ghosts D) (images : View D) → IsReady bound images → bound.honest images.disk
+    → length (log_of (bound.state images.disk).reading) ≡ 16384
 ready_length bound images is honest =
     span_length images.slot (bound.state images.disk).reading images.body images.sequence (is.sound honest).current

@@ -10,7 +10,8 @@ use Rattle.pos_log.specs.Records.{record_spelling, spelling, IsShort, HoldsRecor
 pub same_head : (a b x y : List ℕ) → IsShort a → IsShort b → record_spelling a ++ x ≡ record_spelling b ++ y → (a ≡ b) × (x ≡ y)
 same_head a b x y sa sb is =
     let lens : to_be_bytes w32 (length a) ≡ to_be_bytes w32 (length b) = ap (λ (l : List ℕ). take 4 (drop 1 l)) is in
-    let long : length a ≡ length b = sym (from_be_bytes-to_be_bytes_4 (length a) sa) ∙ ap (from_be_bytes w32) lens ∙ from_be_bytes-to_be_bytes_4 (length b) sb in
+    let long : length a ≡ length b =
+    sym (from_be_bytes-to_be_bytes_4 (length a) sa) ∙ ap (from_be_bytes w32) lens ∙ from_be_bytes-to_be_bytes_4 (length b) sb in
     let rest : a ++ x ≡ b ++ y = ap (drop 5) is in (
       sym (take_at a x (length a) refl) ∙ ap (take (length a)) rest ∙ take_at b y (length a) (sym long),
       sym (drop_at a x (length a) refl) ∙ ap (drop (length a)) rest ∙ drop_at b y (length a) (sym long),
@@ -38,14 +39,16 @@ others_follow (group ∷ groups) (one ∷ all) rest gate behind short short_all 
     (more.0, (λ i. sym first.0 i ∷ more.1 i), more.2, more.3)
 
 -- a span is its records, the gate behind them, and what follows
-pub span_split : (groups : List (List ℕ)) (span : List ℕ) → HoldsRecords groups span → span ≡ spelling groups ++ get_or span (length (spelling groups)) 0 ∷ drop (suc (length (spelling groups))) span
+pub span_split : (groups : List (List ℕ)) (span : List ℕ) → HoldsRecords groups span
+    → span ≡ spelling groups ++ get_or span (length (spelling groups)) 0 ∷ drop (suc (length (spelling groups))) span
 span_split groups span holds =
     let inside = holds.inside in
     sym (take-append-drop (length (spelling groups)) span)
     ∙ ap (λ (l : List ℕ). l ++ drop (length (spelling groups)) span) holds.front
     ∙ ap (λ (l : List ℕ). spelling groups ++ l) (drop-cons span (length (spelling groups)) 0 inside)
 
-none_follow : (groups all others : List (List ℕ)) (gate : ℕ) (rest behind : List ℕ) → all ≡ groups ++ others → gate ∷ rest ≡ spelling others ++ behind → nat_eq gate 165 ≡ false → groups ≡ all
+none_follow : (groups all others : List (List ℕ)) (gate : ℕ) (rest behind : List ℕ) → all ≡ groups ++ others
+    → gate ∷ rest ≡ spelling others ++ behind → nat_eq gate 165 ≡ false → groups ≡ all
 none_follow groups all [] gate rest behind is text shut = sym (is ∙ append-nil groups)
 none_follow groups all (one ∷ others) gate rest behind is text shut = absurd (shut_differs gate (sym (ap (λ (l : List ℕ). get_or l 0 0) text)) shut)
 
@@ -54,5 +57,6 @@ pub one_log : (groups all : List (List ℕ)) (span : List ℕ) → HoldsRecords 
 one_log groups all span holds also =
     let gate = get_or span (length (spelling groups)) 0 in
     let rest = drop (suc (length (spelling groups))) span in
-    let follow = others_follow groups all (gate ∷ rest) (get_or span (length (spelling all)) 0) (drop (suc (length (spelling all))) span) holds.short also.short (sym (span_split groups span holds) ∙ span_split all span also) also.behind in
+    let follow = others_follow groups all (gate ∷ rest) (get_or span (length (spelling all)) 0)
+    (drop (suc (length (spelling all))) span) holds.short also.short (sym (span_split groups span holds) ∙ span_split all span also) also.behind in
     none_follow groups all follow.0 gate rest _ follow.1 follow.2 holds.behind

@@ -18,7 +18,8 @@ heard_at place s t controls =
     all_listening place (heard (status_events (signs_of s.kind s.plant) (signs_of t.kind t.plant))) controls
 
 -- they have heard of signs that are those of the printer
-pub heard_of : (place : ℕ) (s t : PeripheralState) (a b : Signs) (old mid new : List Control) → a ≡ signs_of s.kind s.plant → b ≡ signs_of t.kind t.plant → mid ≡ old → new ≡ all_listening place (heard (status_events a b)) mid → new ≡ heard_at place s t old
+pub heard_of : (place : ℕ) (s t : PeripheralState) (a b : Signs) (old mid new : List Control) → a ≡ signs_of s.kind s.plant
+    → b ≡ signs_of t.kind t.plant → mid ≡ old → new ≡ all_listening place (heard (status_events a b)) mid → new ≡ heard_at place s t old
 heard_of place s t a b old mid new is_a is_b same h =
     h
     ∙ ap (λ (m : List Control). all_listening place (heard (status_events a b)) m) same
@@ -26,11 +27,13 @@ heard_of place s t a b old mid new is_a is_b same h =
     ∙ ap (λ (u : Signs). all_listening place (heard (status_events (signs_of s.kind s.plant) u)) old) is_b
 
 -- nothing has changed at a printer that does nothing
-same_station : (s t : PeripheralState) (old : List Control) → t.kind ≡ s.kind → t.plant ≡ s.plant → t.failures ≡ s.failures → SameStation old (station_of s) old (station_of t)
+same_station : (s t : PeripheralState) (old : List Control) → t.kind ≡ s.kind → t.plant ≡ s.plant → t.failures ≡ s.failures
+    → SameStation old (station_of s) old (station_of t)
 same_station s t old kind plant failures = record { controls = refl; station = rw (kind, plant, failures) refl }
 
 -- the printer has done it
-pub ordered_done : (given : Order) (place : ℕ) (s t : PeripheralState) (old new : List Control) → Asked s given (Ok reply.Done) t → new ≡ heard_at place s t old → Ordered given place reply.Done old (station_of s) new (station_of t)
+pub ordered_done : (given : Order) (place : ℕ) (s t : PeripheralState) (old new : List Control) → Asked s given (Ok reply.Done) t
+    → new ≡ heard_at place s t old → Ordered given place reply.Done old (station_of s) new (station_of t)
 ordered_done given place s t old new asked heard = record {
   plant = asked.answer.0;
   station = rw (asked.kind, asked.answer.1) refl;
@@ -38,21 +41,24 @@ ordered_done given place s t old new asked heard = record {
 }
 
 -- its cover is open
-ordered_covered : (given : Order) (place : ℕ) (s t : PeripheralState) (old : List Control) → Asked s given (Ok reply.CoverOpen) t → Ordered given place reply.CoverOpen old (station_of s) old (station_of t)
+ordered_covered : (given : Order) (place : ℕ) (s t : PeripheralState) (old : List Control) → Asked s given (Ok reply.CoverOpen) t
+    → Ordered given place reply.CoverOpen old (station_of s) old (station_of t)
 ordered_covered given place s t old asked = record {
   plant = asked.answer.0;
   same = same_station s t old asked.kind (same_covered s.kind given s.plant t.plant asked.answer.0) asked.answer.1;
 }
 
 -- its paper doesn't suffice
-ordered_ended : (given : Order) (place : ℕ) (s t : PeripheralState) (old : List Control) → Asked s given (Ok reply.PaperEnd) t → Ordered given place reply.PaperEnd old (station_of s) old (station_of t)
+ordered_ended : (given : Order) (place : ℕ) (s t : PeripheralState) (old : List Control) → Asked s given (Ok reply.PaperEnd) t
+    → Ordered given place reply.PaperEnd old (station_of s) old (station_of t)
 ordered_ended given place s t old asked = record {
   plant = asked.answer.0;
   same = same_station s t old asked.kind (same_ended s.kind given s.plant t.plant asked.answer.0) asked.answer.1;
 }
 
 -- its line has failed
-ordered_failed : (given : Order) (place : ℕ) (s t : PeripheralState) (old : List Control) → Asked s given (Ok reply.LineFault) t → Ordered given place reply.LineFault old (station_of s) old (station_of t)
+ordered_failed : (given : Order) (place : ℕ) (s t : PeripheralState) (old : List Control) → Asked s given (Ok reply.LineFault) t
+    → Ordered given place reply.LineFault old (station_of s) old (station_of t)
 ordered_failed given place s t old asked = record {
   failures = asked.answer.1;
   station = rw (asked.kind, asked.answer.0) refl;
@@ -60,7 +66,8 @@ ordered_failed given place s t old asked = record {
 }
 
 -- it has not done it
-pub ordered_undone : (said : Reply) → (said ≡ reply.Done → ⊥) → (given : Order) (place : ℕ) (s t : PeripheralState) (old : List Control) → Asked s given (Ok said) t → Ordered given place said old (station_of s) old (station_of t)
+pub ordered_undone : (said : Reply) → (said ≡ reply.Done → ⊥) → (given : Order) (place : ℕ) (s t : PeripheralState) (old : List Control)
+    → Asked s given (Ok said) t → Ordered given place said old (station_of s) old (station_of t)
 ordered_undone reply.Done undone given place s t old asked = absurd (undone refl)
 ordered_undone reply.CoverOpen undone given place s t old asked = ordered_covered given place s t old asked
 ordered_undone reply.PaperEnd undone given place s t old asked = ordered_ended given place s t old asked

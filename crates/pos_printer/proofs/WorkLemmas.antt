@@ -28,7 +28,11 @@ use Rattle.pos_printer.specs.Requests.{HasRequest}
 use Rattle.pos_printer.proofs.OrderLemmas.{heard_of, ordered_done, ordered_undone}
 
 -- there is a request to do
-pub works : (at : Option ℕ) (holder place : ℕ) (outcome : Result Worked NoMemory) (old new : List Control) (before after : Station) (request : ℕ × Order) → at ≡ Some holder → is_printer before.kind ≡ true → option_and_then (first_request place) (slice_get old holder) ≡ Some request → MatchResult outcome (λ result. WorksOn (due_request holder request) place result old before new after) (λ want. SameStation old before new after) → WorksAt at place outcome old before new after
+pub works : (at : Option ℕ) (holder place : ℕ) (outcome : Result Worked NoMemory) (old new : List Control) (before after : Station)
+    (request : ℕ × Order) → at ≡ Some holder → is_printer before.kind ≡ true
+    → option_and_then (first_request place) (slice_get old holder) ≡ Some request
+    → MatchResult outcome (λ result. WorksOn (due_request holder request) place result old before new after)
+    (λ want. SameStation old before new after) → WorksAt at place outcome old before new after
 works at holder place outcome old new before after request is printer found h = rw (is, printer, found) h
 
 none_of : {A B : Type 0} (f : A → B) (o : Option A) (P : Type 0) (Q : B → Type 0) → is_some o ≡ false → P → MatchOption (option_map f o) P Q
@@ -36,22 +40,32 @@ none_of f None P Q none p = p
 none_of f (Some x) P Q none p = absurd (true≢false none)
 
 -- there is none
-pub idles : (at : Option ℕ) (holder place : ℕ) (old : List Control) (before : Station) → at ≡ Some holder → is_printer before.kind ≡ true → is_some (option_and_then (first_request place) (slice_get old holder)) ≡ false → WorksAt at place (Ok worked.Idle) old before old before
+pub idles : (at : Option ℕ) (holder place : ℕ) (old : List Control) (before : Station) → at ≡ Some holder → is_printer before.kind ≡ true
+    → is_some (option_and_then (first_request place) (slice_get old holder)) ≡ false → WorksAt at place (Ok worked.Idle) old before old before
 idles at holder place old before is printer none =
-    rw (is, printer) (none_of (due_request holder) (option_and_then (first_request place) (slice_get old holder)) _ _ none (refl, record { controls = refl; station = refl }))
+    rw (is, printer) (none_of (due_request holder) (option_and_then (first_request place) (slice_get old holder)) _ _ none
+    (refl, record { controls = refl; station = refl }))
 
 -- the request to do is the one that is done
-of_request : (o : Option (ℕ × Order)) (id i : ℕ) (old new : List Control) (control : Control) → option_map (λ (request : ℕ × Order). request.0) o ≡ Some id → new ≡ slice_set old i (completed id control) → MatchOption o ⊥ (λ request. (worked.Done id ≡ worked.Done request.0) × (new ≡ slice_set old i (completed request.0 control)))
+of_request : (o : Option (ℕ × Order)) (id i : ℕ) (old new : List Control) (control : Control)
+    → option_map (λ (request : ℕ × Order). request.0) o ≡ Some id → new ≡ slice_set old i (completed id control)
+    → MatchOption o ⊥ (λ request. (worked.Done id ≡ worked.Done request.0) × (new ≡ slice_set old i (completed request.0 control)))
 of_request None id i old new control is h = absurd cc
 of_request (Some request) id i old new control is h =
     let same : id ≡ request.0 = cc in (ap worked.Done same, h ∙ ap (λ n. slice_set old i (completed n control)) same)
 
 -- a held control whose request is done is a change of the machine's control
-pub completed_in : (hs : List Held) (i : ℕ) (d g : Held) (id : ℕ) → i < length hs → option_map (λ (request : ℕ × Order). request.0) (request_to_do (get_or hs i d).control.writer.output) ≡ Some id → g.control ≡ completed id (get_or hs i d).control → MatchOption (slice_get (controls_of hs) i) ⊥ (λ control. MatchOption (request_to_do control.writer.output) ⊥ (λ request. (worked.Done id ≡ worked.Done request.0) × (controls_of (set hs i g) ≡ slice_set (controls_of hs) i (completed request.0 control))))
+pub completed_in : (hs : List Held) (i : ℕ) (d g : Held) (id : ℕ) → i < length hs
+    → option_map (λ (request : ℕ × Order). request.0) (request_to_do (get_or hs i d).control.writer.output) ≡ Some id
+    → g.control ≡ completed id (get_or hs i d).control
+    → MatchOption (slice_get (controls_of hs) i) ⊥
+    (λ control. MatchOption (request_to_do control.writer.output) ⊥
+    (λ request. (worked.Done id ≡ worked.Done request.0) × (controls_of (set hs i g) ≡ slice_set (controls_of hs) i (completed request.0 control))))
 completed_in hs i d g id lt is done =
     let within : i < length (controls_of hs) = omega (arith, length-map hs (λ (h : Held). h.control)) in
     rw (slice_get-get_or (controls_of hs) i d.control within, ← control_at hs i d d.control lt)
-    (of_request (request_to_do (get_or hs i d).control.writer.output) id i (controls_of hs) (controls_of (set hs i g)) (get_or hs i d).control is (map-set (λ (h : Held). h.control) hs i g ∙ ap (set (controls_of hs) i) done))
+    (of_request (request_to_do (get_or hs i d).control.writer.output) id i (controls_of hs) (controls_of (set hs i g)) (get_or hs i d).control is
+    (map-set (λ (h : Held). h.control) hs i g ∙ ap (set (controls_of hs) i) done))
 
 -- The control with a number has this request to do at a place.
 pub record IsFirst (place holder : ℕ) (request : ℕ × Order) (controls : List Control) : Type 0 where
@@ -60,19 +74,23 @@ pub record IsFirst (place holder : ℕ) (request : ℕ × Order) (controls : Lis
   pub first : first_request place control ≡ Some request
 
 -- there is such a request
-pub first_found : (place holder : ℕ) (cs : List Control) → is_some (option_and_then (first_request place) (slice_get cs holder)) ≡ true → (request : ℕ × Order) × IsFirst place holder request cs
+pub first_found : (place holder : ℕ) (cs : List Control) → is_some (option_and_then (first_request place) (slice_get cs holder)) ≡ true
+    → (request : ℕ × Order) × IsFirst place holder request cs
 first_found place holder cs h = by_control (slice_get cs holder) refl h
   where
-    by_request : (x : Control) → slice_get cs holder ≡ Some x → (r : Option (ℕ × Order)) → first_request place x ≡ r → is_some r ≡ true → (request : ℕ × Order) × IsFirst place holder request cs
+    by_request : (x : Control) → slice_get cs holder ≡ Some x → (r : Option (ℕ × Order)) → first_request place x ≡ r → is_some r ≡ true
+        → (request : ℕ × Order) × IsFirst place holder request cs
     by_request x e None first some = absurd (false≢true some)
     by_request x e (Some request) first some = (request, record { control = x; there = e; first = first })
 
-    by_control : (o : Option Control) → slice_get cs holder ≡ o → is_some (option_and_then (first_request place) o) ≡ true → (request : ℕ × Order) × IsFirst place holder request cs
+    by_control : (o : Option Control) → slice_get cs holder ≡ o → is_some (option_and_then (first_request place) o) ≡ true
+        → (request : ℕ × Order) × IsFirst place holder request cs
     by_control None e some = absurd (false≢true some)
     by_control (Some x) e some = by_request x e (first_request place x) refl some
 
 -- it is the request that the machine works on
-pub first_is : (place holder : ℕ) (request : ℕ × Order) (cs : List Control) → IsFirst place holder request cs → option_and_then (first_request place) (slice_get cs holder) ≡ Some request
+pub first_is : (place holder : ℕ) (request : ℕ × Order) (cs : List Control) → IsFirst place holder request cs
+    → option_and_then (first_request place) (slice_get cs holder) ≡ Some request
 first_is place holder request cs f = ap (option_and_then (first_request place)) f.there ∙ f.first
 
 first_of : (b : Bool) (o : Option (ℕ × Order)) (request : ℕ × Order) → cond b o None ≡ Some request → (o ≡ Some request) × (b ≡ true)
@@ -84,22 +102,26 @@ same_first true place events x = refl
 same_first false place events x = refl
 
 -- it still is once the controls have heard
-pub first_heard : (place holder : ℕ) (request : ℕ × Order) (events : List Enqueued) (old new : List Control) → IsFirst place holder request old → new ≡ all_listening place (heard events) old → IsFirst place holder request new
+pub first_heard : (place holder : ℕ) (request : ℕ × Order) (events : List Enqueued) (old new : List Control) → IsFirst place holder request old
+    → new ≡ all_listening place (heard events) old → IsFirst place holder request new
 first_heard place holder request events old new f is = record {
   control = if_listening place (heard events) f.control;
-  there = ap (λ (cs : List Control). slice_get cs holder) is ∙ slice_get-map (if_listening place (heard events)) old holder ∙ ap (option_map (if_listening place (heard events))) f.there;
+  there = ap (λ (cs : List Control). slice_get cs holder) is ∙ slice_get-map (if_listening place (heard events)) old holder
+      ∙ ap (option_map (if_listening place (heard events))) f.there;
   first = same_first (listens place f.control) place events f.control ∙ f.first;
 }
 
 -- the control as it is held
-pub first_held : (place holder : ℕ) (request : ℕ × Order) (hs : List Held) (d : Held) (f : IsFirst place holder request (controls_of hs)) → (holder < length hs) × ((get_or hs holder d).control ≡ f.control)
+pub first_held : (place holder : ℕ) (request : ℕ × Order) (hs : List Held) (d : Held) (f : IsFirst place holder request (controls_of hs))
+    → (holder < length hs) × ((get_or hs holder d).control ≡ f.control)
 first_held place holder request hs d f =
     let long = slice_get_within (controls_of hs) holder f.control f.there in
     let within : holder < length hs = omega (arith, long, length-map hs (λ (h : Held). h.control)) in
     (within, control_at hs holder d d.control within ∙ get_or_from_slice_get (controls_of hs) holder f.control d.control f.there)
 
 -- there is room for the event that it has then
-pub has_request : (place holder count : ℕ) (request : ℕ × Order) (hs : List Held) → IsFirst place holder request (controls_of hs) → 1 ≤ count → All (HasRoom place count) hs → HasRequest holder hs
+pub has_request : (place holder count : ℕ) (request : ℕ × Order) (hs : List Held) → IsFirst place holder request (controls_of hs) → 1 ≤ count
+    → All (HasRoom place count) hs → HasRequest holder hs
 has_request place holder count request hs f most room =
     let d : Held = record { control = f.control; spare = 0 } in
     let held = first_held place holder request hs d f in
@@ -112,21 +134,33 @@ has_request place holder count request hs f most room =
     some_is o r is = rw is refl
 
 -- the order that the printer is given is that of the request
-pub first_asked : (place holder : ℕ) (request : ℕ × Order) (hs : List Held) (d : Held) (outcome : Result Reply NoMemory) (s t : PeripheralState) → IsFirst place holder request (controls_of hs) → MatchOption (first_request place (get_or hs holder d).control) ⊥ (λ r. Asked s r.1 outcome t) → Asked s request.1 outcome t
+pub first_asked : (place holder : ℕ) (request : ℕ × Order) (hs : List Held) (d : Held) (outcome : Result Reply NoMemory) (s t : PeripheralState)
+    → IsFirst place holder request (controls_of hs) → MatchOption (first_request place (get_or hs holder d).control) ⊥ (λ r. Asked s r.1 outcome t)
+    → Asked s request.1 outcome t
 first_asked place holder request hs d outcome s t f asked =
     let held = first_held place holder request hs d f in
     MatchOption-at_some ⊥ (λ (r : ℕ × Order). Asked s r.1 outcome t) request (ap (first_request place) held.1 ∙ f.first) asked
 
 -- what is done with the request
-pub first_done : (place holder : ℕ) (request : ℕ × Order) (mid new : List Control) (result : Worked) → IsFirst place holder request mid → MatchOption (slice_get mid holder) ⊥ (λ control. MatchOption (request_to_do control.writer.output) ⊥ (λ r. (result ≡ worked.Done r.0) × (new ≡ slice_set mid holder (completed r.0 control)))) → (result ≡ worked.Done request.0) × MatchOption (slice_get mid holder) ⊥ (λ control. new ≡ slice_set mid holder (completed request.0 control))
+pub first_done : (place holder : ℕ) (request : ℕ × Order) (mid new : List Control) (result : Worked) → IsFirst place holder request mid
+    → MatchOption (slice_get mid holder) ⊥
+    (λ control. MatchOption (request_to_do control.writer.output) ⊥
+    (λ r. (result ≡ worked.Done r.0) × (new ≡ slice_set mid holder (completed r.0 control))))
+    → (result ≡ worked.Done request.0) × MatchOption (slice_get mid holder) ⊥ (λ control. new ≡ slice_set mid holder (completed request.0 control))
 first_done place holder request mid new result f h =
     let to_do = (first_of (listens place f.control) (request_to_do f.control.writer.output) request f.first).0 in
-    let of_control = MatchOption-at_some ⊥ (λ (control : Control). MatchOption (request_to_do control.writer.output) ⊥ (λ r. (result ≡ worked.Done r.0) × (new ≡ slice_set mid holder (completed r.0 control)))) f.control f.there h in
-    let of_request = MatchOption-at_some ⊥ (λ (r : ℕ × Order). (result ≡ worked.Done r.0) × (new ≡ slice_set mid holder (completed r.0 f.control))) request to_do of_control in
+    let of_control = MatchOption-at_some ⊥
+    (λ (control : Control). MatchOption (request_to_do control.writer.output) ⊥
+    (λ r. (result ≡ worked.Done r.0) × (new ≡ slice_set mid holder (completed r.0 control)))) f.control f.there h in
+    let of_request = MatchOption-at_some ⊥
+    (λ (r : ℕ × Order). (result ≡ worked.Done r.0) × (new ≡ slice_set mid holder (completed r.0 f.control))) request to_do of_control in
     (of_request.0, rw f.there of_request.1)
 
 -- work by its parts
-pub works_on : (holder place : ℕ) (said : Reply) (result : Worked) (old mid new : List Control) (before after : Station) (request : ℕ × Order) → Ordered request.1 place said old before mid after → MatchOption (slice_get mid holder) ⊥ (λ control. new ≡ slice_set mid holder (after_work request.0 said control)) → result ≡ worked_by request.0 said → WorksOn (due_request holder request) place result old before new after
+pub works_on : (holder place : ℕ) (said : Reply) (result : Worked) (old mid new : List Control) (before after : Station) (request : ℕ × Order)
+    → Ordered request.1 place said old before mid after
+    → MatchOption (slice_get mid holder) ⊥ (λ control. new ≡ slice_set mid holder (after_work request.0 said control))
+    → result ≡ worked_by request.0 said → WorksOn (due_request holder request) place result old before new after
 works_on holder place said result old mid new before after request ordered changed answered = record {
   said = said;
   controls = mid;
@@ -136,13 +170,22 @@ works_on holder place said result old mid new before after request ordered chang
 }
 
 -- what there is of a request to do: room for its event
-pub room_for_first : (place holder : ℕ) (old : List Control) (hs : List Held) → is_some (option_and_then (first_request place) (slice_get old holder)) ≡ true → controls_of hs ≡ old → All (HasRoom place work_events) hs → HasRequest holder hs
+pub room_for_first : (place holder : ℕ) (old : List Control) (hs : List Held)
+    → is_some (option_and_then (first_request place) (slice_get old holder)) ≡ true → controls_of hs ≡ old → All (HasRoom place work_events) hs
+    → HasRequest holder hs
 room_for_first place holder old hs found same room =
     let f = first_found place holder old found in
     has_request place holder work_events f.0 hs (subst (IsFirst place holder f.0) (sym same) f.1) (omega arith) room
 
 -- work on a request that the printer does
-pub does : (at : Option ℕ) (holder place : ℕ) (result : Worked) (old mid new : List Control) (hs : List Held) (d : Held) (s t : PeripheralState) (a b : Signs) → at ≡ Some holder → is_printer s.kind ≡ true → is_some (option_and_then (first_request place) (slice_get old holder)) ≡ true → controls_of hs ≡ old → MatchOption (first_request place (get_or hs holder d).control) ⊥ (λ r. Asked s r.1 (Ok reply.Done) t) → a ≡ signs_of s.kind s.plant → b ≡ signs_of t.kind t.plant → mid ≡ all_listening place (heard (status_events a b)) (controls_of hs) → MatchOption (slice_get mid holder) ⊥ (λ control. MatchOption (request_to_do control.writer.output) ⊥ (λ r. (result ≡ worked.Done r.0) × (new ≡ slice_set mid holder (completed r.0 control)))) → WorksAt at place (Ok result) old (station_of s) new (station_of t)
+pub does : (at : Option ℕ) (holder place : ℕ) (result : Worked) (old mid new : List Control) (hs : List Held) (d : Held) (s t : PeripheralState)
+    (a b : Signs) → at ≡ Some holder → is_printer s.kind ≡ true → is_some (option_and_then (first_request place) (slice_get old holder)) ≡ true
+    → controls_of hs ≡ old → MatchOption (first_request place (get_or hs holder d).control) ⊥ (λ r. Asked s r.1 (Ok reply.Done) t)
+    → a ≡ signs_of s.kind s.plant → b ≡ signs_of t.kind t.plant → mid ≡ all_listening place (heard (status_events a b)) (controls_of hs)
+    → MatchOption (slice_get mid holder) ⊥
+    (λ control. MatchOption (request_to_do control.writer.output) ⊥
+    (λ r. (result ≡ worked.Done r.0) × (new ≡ slice_set mid holder (completed r.0 control))))
+    → WorksAt at place (Ok result) old (station_of s) new (station_of t)
 does at holder place result old mid new hs d s t a b is printer found same asked was now said done =
     let heard_all = heard_of place s t a b old (controls_of hs) mid was now same said in
     let f = first_found place holder old found in
@@ -150,17 +193,28 @@ does at holder place result old mid new hs d s t a b is printer found same asked
     let events = status_events (signs_of s.kind s.plant) (signs_of t.kind t.plant) in
     let worked = first_done place holder f.0 mid new result (first_heard place holder f.0 events old mid f.1 heard_all) done in
     works at holder place (Ok result) old new (station_of s) (station_of t) f.0 is printer (first_is place holder f.0 old f.1)
-    (works_on holder place reply.Done result old mid new (station_of s) (station_of t) f.0 (ordered_done f.0.1 place s t old mid given heard_all) worked.1 worked.0)
+    (works_on holder place reply.Done result old mid new (station_of s) (station_of t) f.0
+    (ordered_done f.0.1 place s t old mid given heard_all) worked.1 worked.0)
 
 -- what is said of a request that the printer doesn't do, and what becomes of its control
-undone_said : (said : Reply) → (said ≡ reply.Done → ⊥) → (id holder : ℕ) (result : Worked) (old new : List Control) → result ≡ worked.Failed (code_by said) (extended_by said) → MatchOption (slice_get old holder) ⊥ (λ control. new ≡ slice_set old holder (output_failed (code_by said) (extended_by said) control)) → (result ≡ worked_by id said) × MatchOption (slice_get old holder) ⊥ (λ control. new ≡ slice_set old holder (after_work id said control))
+undone_said : (said : Reply) → (said ≡ reply.Done → ⊥) → (id holder : ℕ) (result : Worked) (old new : List Control)
+    → result ≡ worked.Failed (code_by said) (extended_by said)
+    → MatchOption (slice_get old holder) ⊥ (λ control. new ≡ slice_set old holder (output_failed (code_by said) (extended_by said) control))
+    → (result ≡ worked_by id said) × MatchOption (slice_get old holder) ⊥ (λ control. new ≡ slice_set old holder (after_work id said control))
 undone_said reply.Done undone id holder result old new answer changed = absurd (undone refl)
 undone_said reply.CoverOpen undone id holder result old new answer changed = (answer, changed)
 undone_said reply.PaperEnd undone id holder result old new answer changed = (answer, changed)
 undone_said reply.LineFault undone id holder result old new answer changed = (answer, changed)
 
 -- work on a request that the printer doesn't do
-pub fails : (at : Option ℕ) (holder place : ℕ) (said : Reply) (result : Worked) (old new : List Control) (hs : List Held) (d : Held) (s t : PeripheralState) → (said ≡ reply.Done → ⊥) → at ≡ Some holder → is_printer s.kind ≡ true → is_some (option_and_then (first_request place) (slice_get old holder)) ≡ true → controls_of hs ≡ old → MatchOption (first_request place (get_or hs holder d).control) ⊥ (λ r. Asked s r.1 (Ok said) t) → result ≡ worked.Failed (code_by said) (extended_by said) → MatchOption (slice_get (controls_of hs) holder) ⊥ (λ control. new ≡ slice_set (controls_of hs) holder (output_failed (code_by said) (extended_by said) control)) → WorksAt at place (Ok result) old (station_of s) new (station_of t)
+pub fails : (at : Option ℕ) (holder place : ℕ) (said : Reply) (result : Worked) (old new : List Control) (hs : List Held) (d : Held)
+    (s t : PeripheralState) → (said ≡ reply.Done → ⊥) → at ≡ Some holder → is_printer s.kind ≡ true
+    → is_some (option_and_then (first_request place) (slice_get old holder)) ≡ true → controls_of hs ≡ old
+    → MatchOption (first_request place (get_or hs holder d).control) ⊥ (λ r. Asked s r.1 (Ok said) t)
+    → result ≡ worked.Failed (code_by said) (extended_by said)
+    → MatchOption (slice_get (controls_of hs) holder) ⊥
+    (λ control. new ≡ slice_set (controls_of hs) holder (output_failed (code_by said) (extended_by said) control))
+    → WorksAt at place (Ok result) old (station_of s) new (station_of t)
 fails at holder place said result old new hs d s t undone is printer found same asked answer changed =
     let f = first_found place holder old found in
     let given = first_asked place holder f.0 hs d (Ok said) s t (subst (IsFirst place holder f.0) (sym same) f.1) asked in

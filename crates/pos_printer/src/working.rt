@@ -5,7 +5,7 @@ ghost use Rattle.pos_service.specs.Controls.{completed, output_failed};
 ghost use Rattle.pos_service.specs.Kinds.{is_printer};
 ghost use Rattle.pos_service.specs.Output.{request_to_do};
 ghost use Rattle.pos_service.specs.Peripherals.{Asked};
-ghost use Rattle.pos_service.specs.PrinterCalls.{first_request, WorksAt};
+ghost use Rattle.pos_service.specs.PrinterCalls.{first_request, OrdersOfWork, WorksAt};
 ghost use Rattle.pos_service.specs.Stations.{station_of, StaysInService};
 ghost use Rattle.pos_common.specs.Held.{controls_of};
 ghost use Rattle.pos_printer.specs.Requests.{HasRequest};
@@ -34,6 +34,8 @@ pub fn work<P: Peripheral>(
         WorksAt (holder_at claims.now (Some place)) place result
         (controls_of controls.old) (station_of (state printer.old))
         (controls_of controls.new) (station_of (state printer.new)) }
+    ensures orders { let state = P.Peripheral.state in
+        OrdersOfWork result (state printer.old).orders (state printer.new).orders }
     ensures in_service { let state = P.Peripheral.state in
         StaysInService (state printer.old) (state printer.new) }
 {

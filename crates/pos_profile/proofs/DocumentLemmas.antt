@@ -17,9 +17,10 @@ use Rattle.pos_profile.specs.declared.root.DocumentFault.TheVariants.{Mistaken}
 use Rattle.pos_profile.specs.declared.role.Role.{Role}
 use Rattle.pos_profile.specs.declared.role.Role.TheVariants.{Device, Spare}
 use Rattle.pos_profile.specs.declared.table.Keys.TheVariants.{OfEntry}
+use Rattle.pos_profile.specs.declared.variation.Variation.{Variation}
 use Rattle.pos_service.specs.Names.{category_named}
 use Rattle.pos_profile.specs.Categories.{is_totals}
-use Rattle.pos_profile.specs.Entries.{entry_of, entry_with, numbers_of, table_entry}
+use Rattle.pos_profile.specs.Entries.{entry_of, entry_with, numbers_of, table_entry, variation_of}
 use Rattle.pos_profile.specs.Mistakes.{IsFlawedList, IsMistake, IsSoundList, RootHas, mistake_at}
 use Rattle.pos_profile.specs.Profiles.{IsLowest, IsRead, entries_of, is_faulty, is_refused, is_refused_after, is_root, is_totals_entry}
 use Rattle.pos_profile.specs.Tables.{allowed, has_only, is_key, key_of, name_for, text_at, values_at}
@@ -67,38 +68,55 @@ refused_front front back n less =
     rw (same, prefix)
 
 -- a spare isn't Hard Totals
-plain_entry : (category : Category) → is_totals category ≡ false → (name : Option (List ℕ)) (numbers : Option Numbers) (only : Bool)
-    → is_totals_entry (option_and_then (λ text. option_and_then (λ ns. cond only (Some (entry_with category text ns)) None) numbers) name) ≡ false
-plain_entry category plain None numbers only = refl
-plain_entry category plain (Some text) None only = refl
-plain_entry category plain (Some text) (Some ns) true = plain
-plain_entry category plain (Some text) (Some ns) false = refl
+plain_entry : (category : Category) → is_totals category ≡ false
+    → (name : Option (List ℕ)) (numbers : Option Numbers) (variation : Option Variation) (only : Bool)
+    → is_totals_entry (option_and_then
+    (λ text. option_and_then (λ ns. option_and_then (λ v. cond only (Some (entry_with category text ns v)) None) variation) numbers) name) ≡ false
+plain_entry category plain None numbers variation only = refl
+plain_entry category plain (Some text) None variation only = refl
+plain_entry category plain (Some text) (Some ns) None only = refl
+plain_entry category plain (Some text) (Some ns) (Some v) true = plain
+plain_entry category plain (Some text) (Some ns) (Some v) false = refl
 
 plain_category : (table : Members) (category : Option Category)
-    → is_totals_entry (option_and_then (λ c. option_and_then (λ name. option_and_then (λ numbers. if has_only (is_key (OfEntry Spare c)) table then Some (entry_with c name numbers) else None) (numbers_of c table)) (name_for Spare table)) (option_and_then (allowed Spare) category)) ≡ false
+    → is_totals_entry (option_and_then
+    (λ c. option_and_then (λ name. option_and_then
+    (λ numbers. option_and_then (λ v. if has_only (is_key (OfEntry Spare c)) table then Some (entry_with c name numbers v) else None)
+    (variation_of c table)) (numbers_of c table)) (name_for Spare table)) (option_and_then (allowed Spare) category)) ≡ false
 plain_category table None = refl
-plain_category table (Some CashDrawer) = plain_entry CashDrawer refl (name_for Spare table) (numbers_of CashDrawer table) (has_only (is_key (OfEntry Spare CashDrawer)) table)
-plain_category table (Some Scanner) = plain_entry Scanner refl (name_for Spare table) (numbers_of Scanner table) (has_only (is_key (OfEntry Spare Scanner)) table)
-plain_category table (Some LineDisplay) = plain_entry LineDisplay refl (name_for Spare table) (numbers_of LineDisplay table) (has_only (is_key (OfEntry Spare LineDisplay)) table)
-plain_category table (Some PosPrinter) = plain_entry PosPrinter refl (name_for Spare table) (numbers_of PosPrinter table) (has_only (is_key (OfEntry Spare PosPrinter)) table)
+plain_category table (Some CashDrawer) =
+    plain_entry CashDrawer refl (name_for Spare table) (numbers_of CashDrawer table) (variation_of CashDrawer table)
+    (has_only (is_key (OfEntry Spare CashDrawer)) table)
+plain_category table (Some Scanner) =
+    plain_entry Scanner refl (name_for Spare table) (numbers_of Scanner table) (variation_of Scanner table) (has_only (is_key (OfEntry Spare Scanner)) table)
+plain_category table (Some LineDisplay) =
+    plain_entry LineDisplay refl (name_for Spare table) (numbers_of LineDisplay table) (variation_of LineDisplay table)
+    (has_only (is_key (OfEntry Spare LineDisplay)) table)
+plain_category table (Some PosPrinter) =
+    plain_entry PosPrinter refl (name_for Spare table) (numbers_of PosPrinter table) (variation_of PosPrinter table)
+    (has_only (is_key (OfEntry Spare PosPrinter)) table)
 plain_category table (Some HardTotals) = refl
 
 plain_table : (table : Option Members) → is_totals_entry (option_and_then (table_entry Spare) table) ≡ false
 plain_table None = refl
 plain_table (Some table) = plain_category table (option_and_then category_named (text_at (codes "category") table))
 
-after_plain : (earlier others : List (Option Entry)) (entry : Option Entry) → is_totals_entry entry ≡ false → is_refused_after earlier (Some entry) ≡ is_refused_after others (Some entry)
+after_plain : (earlier others : List (Option Entry)) (entry : Option Entry) → is_totals_entry entry ≡ false
+    → is_refused_after earlier (Some entry) ≡ is_refused_after others (Some entry)
 after_plain earlier others None plain = refl
 after_plain earlier others (Some entry) plain = rw plain
 
-after_spare : (earlier others : List (Option Entry)) (value : Option Data) → is_refused_after earlier (option_map (entry_of Spare) value) ≡ is_refused_after others (option_map (entry_of Spare) value)
+after_spare : (earlier others : List (Option Entry)) (value : Option Data)
+    → is_refused_after earlier (option_map (entry_of Spare) value) ≡ is_refused_after others (option_map (entry_of Spare) value)
 after_spare earlier others None = refl
 after_spare earlier others (Some value) = after_plain earlier others (entry_of Spare value) (plain_table (as_table value))
 
-refused_back : (front : List (Option Entry)) (values : List Data) (n k : ℕ) → k ≡ length front + n → is_refused (front ++ map (entry_of Spare) values) k ≡ is_refused (map (entry_of Spare) values) n
+refused_back : (front : List (Option Entry)) (values : List Data) (n k : ℕ) → k ≡ length front + n
+    → is_refused (front ++ map (entry_of Spare) values) k ≡ is_refused (map (entry_of Spare) values) n
 refused_back front values n k e =
     let back = map (entry_of Spare) values in
-    let same : slice_get (front ++ back) k ≡ option_map (entry_of Spare) (slice_get values n) = get_back front back n k e ∙ slice_get-map (entry_of Spare) values n in
+    let same : slice_get (front ++ back) k ≡ option_map (entry_of Spare) (slice_get values n) =
+    get_back front back n k e ∙ slice_get-map (entry_of Spare) values n in
     let here : slice_get back n ≡ option_map (entry_of Spare) (slice_get values n) = slice_get-map (entry_of Spare) values n in
     rw (same, here) (after_spare (take k (front ++ back)) (take n back) (slice_get values n))
 
@@ -111,7 +129,9 @@ lowest_front front back place lowest =
       below = λ n before. refused_front front back n (omega arith) ∙ lowest.below n before;
     }
 
-both_sound : (front : List (Option Entry)) (values : List Data) (limit : ℕ) → ((n : ℕ) → is_refused front n ≡ false) → ((n : ℕ) → n < limit → is_refused (map (entry_of Spare) values) n ≡ false) → (n : ℕ) → n < length front + limit → is_refused (front ++ map (entry_of Spare) values) n ≡ false
+both_sound : (front : List (Option Entry)) (values : List Data) (limit : ℕ) → ((n : ℕ) → is_refused front n ≡ false)
+    → ((n : ℕ) → n < limit → is_refused (map (entry_of Spare) values) n ≡ false) → (n : ℕ) → n < length front + limit
+    → is_refused (front ++ map (entry_of Spare) values) n ≡ false
 both_sound front values limit first second n less =
     elim (cases_lt n (length front)) [
       | inl here ↦ refused_front front (map (entry_of Spare) values) n here ∙ first n
@@ -119,20 +139,24 @@ both_sound front values limit first second n less =
     ]
 
 -- where no device is refused, the lowest of the spares is the lowest of both
-lowest_back : (front : List (Option Entry)) (values : List Data) (place : ℕ) → ((n : ℕ) → is_refused front n ≡ false) → IsLowest (is_refused (map (entry_of Spare) values)) place → IsLowest (is_refused (front ++ map (entry_of Spare) values)) (length front + place)
+lowest_back : (front : List (Option Entry)) (values : List Data) (place : ℕ) → ((n : ℕ) → is_refused front n ≡ false)
+    → IsLowest (is_refused (map (entry_of Spare) values)) place → IsLowest (is_refused (front ++ map (entry_of Spare) values)) (length front + place)
 lowest_back front values place first lowest =
     record { here = refused_back front values place (length front + place) refl ∙ lowest.here; below = both_sound front values place first lowest.below }
 
 -- where no device and no spare is refused, none of both is
-neither : (front : List (Option Entry)) (values : List Data) → ((n : ℕ) → is_refused front n ≡ false) → ((n : ℕ) → is_refused (map (entry_of Spare) values) n ≡ false) → (n : ℕ) → is_refused (front ++ map (entry_of Spare) values) n ≡ false
+neither : (front : List (Option Entry)) (values : List Data) → ((n : ℕ) → is_refused front n ≡ false)
+    → ((n : ℕ) → is_refused (map (entry_of Spare) values) n ≡ false) → (n : ℕ) → is_refused (front ++ map (entry_of Spare) values) n ≡ false
 neither front values first second n = both_sound front values (n + 1) first (λ k _. second k) n (omega arith)
 
 -- a mistake is at another spelling of its flaw
-pub listed_at : (before : ℕ) (role : Role) {flaw other : Flaw} {fault : DocumentFault} → flaw ≡ other → fault ≡ Mistaken (mistake_at before role flaw.place flaw.reason) → fault ≡ Mistaken (mistake_at before role other.place other.reason)
+pub listed_at : (before : ℕ) (role : Role) {flaw other : Flaw} {fault : DocumentFault} → flaw ≡ other
+    → fault ≡ Mistaken (mistake_at before role flaw.place flaw.reason) → fault ≡ Mistaken (mistake_at before role other.place other.reason)
 listed_at before role same is = is ∙ ap (λ (f : Flaw). Mistaken (mistake_at before role f.place f.reason)) same
 
 -- the root is the first mistake
-pub root_mistaken : (root : Members) (why : Reason) → is_root root ≡ false → RootHas root why → IsMistake root (record { number = 0; place = Root; reason = why })
+pub root_mistaken : (root : Members) (why : Reason) → is_root root ≡ false → RootHas root why
+    → IsMistake root (record { number = 0; place = Root; reason = why })
 root_mistaken root why unsound has = record {
   lowest = record { here = rw unsound; below = λ n less. absurd (omega arith) };
   number = refl;
@@ -141,7 +165,8 @@ root_mistaken root why unsound has = record {
 
 module _ (root : Members) (is : is_root root ≡ true) where
   -- a device is the first mistake
-  pub device_mistaken : (place : ℕ) (why : Reason) → IsFlawedList Device (values_at (key_of Device) root) place why → IsMistake root (mistake_at 0 Device place why)
+  pub device_mistaken : (place : ℕ) (why : Reason) → IsFlawedList Device (values_at (key_of Device) root) place why
+      → IsMistake root (mistake_at 0 Device place why)
   device_mistaken place why flawed =
       let same : place + 1 ≡ 0 + place + 1 = omega arith in
       let lowest = numbered root place is (lowest_front (entries_of Device root) (entries_of Spare root) place flawed.lowest) in
@@ -159,9 +184,11 @@ module _ (root : Members) (is : is_root root ≡ true) where
     values_count = sym (length-map (values_at (key_of Device) root) (entry_of Device)) ∙ count
 
     -- a spare is the first mistake
-    pub spare_mistaken : (before place : ℕ) (why : Reason) → before ≡ length devices → IsFlawedList Spare (values_at (key_of Spare) root) place why → IsMistake root (mistake_at before Spare place why)
+    pub spare_mistaken : (before place : ℕ) (why : Reason) → before ≡ length devices → IsFlawedList Spare (values_at (key_of Spare) root) place why
+        → IsMistake root (mistake_at before Spare place why)
     spare_mistaken before place why are flawed =
-        let lowest = numbered root (length (entries_of Device root) + place) is (lowest_back (entries_of Device root) (values_at (key_of Spare) root) place sound.sound flawed.lowest) in
+        let lowest = numbered root (length (entries_of Device root) + place) is
+        (lowest_back (entries_of Device root) (values_at (key_of Spare) root) place sound.sound flawed.lowest) in
         record {
           lowest = subst (λ n. IsLowest (is_faulty root) (n + place + 1)) (count ∙ sym are) lowest;
           number = omega (arith, values_count);
@@ -169,7 +196,8 @@ module _ (root : Members) (is : is_root root ≡ true) where
         }
 
     -- the document has no mistake
-    pub document_read : (spares : List Entry) → IsSoundList Spare (values_at (key_of Spare) root) spares → IsRead root (record { devices = devices; spares = spares })
+    pub document_read : (spares : List Entry) → IsSoundList Spare (values_at (key_of Spare) root) spares
+        → IsRead root (record { devices = devices; spares = spares })
     document_read spares others = record {
       sound = faultless root is (neither (entries_of Device root) (values_at (key_of Spare) root) sound.sound others.sound);
       devices = sound.entries;

@@ -23,7 +23,8 @@ any_totals [] = refl
 any_totals (entry ∷ entries) = ap (λ rest. is_totals entry.category || rest) (any_totals entries)
 
 -- the document's value at a place of a list
-pub value_at : (values : List Value) (place : ℕ) (value : Value) → place < length values → value ≡ get_or values place value → slice_get (map view values) place ≡ Some (view value)
+pub value_at : (values : List Value) (place : ℕ) (value : Value) → place < length values → value ≡ get_or values place value
+    → slice_get (map view values) place ≡ Some (view value)
 value_at values place value within at =
     slice_get-map view values place ∙ ap (option_map view) (slice_get_read values (length values) place value refl within at)
 
@@ -36,7 +37,8 @@ module _ (role : Role) (values : List Data) (place : ℕ) (value : Data) (at : s
   entry_at next is = slice_get-map (entry_of role) values place ∙ ap (option_map (entry_of role)) at ∙ ap (λ (o : Option Entry). Some o) is
 
   -- the first value that isn't sound by itself
-  pub flawed_at : (why : Reason) → IsFlawedValue role value why → ((n : ℕ) → n < place → is_refused (map (entry_of role) values) n ≡ false) → place < 2 ^ 62 → IsFlawedList role values place why
+  pub flawed_at : (why : Reason) → IsFlawedValue role value why → ((n : ℕ) → n < place → is_refused (map (entry_of role) values) n ≡ false)
+      → place < 2 ^ 62 → IsFlawedList role values place why
   flawed_at why flawed before small =
       let here : slice_get (map (entry_of role) values) place ≡ Some None = entry_at None flawed.unsound in
       record {
@@ -45,15 +47,18 @@ module _ (role : Role) (values : List Data) (place : ℕ) (value : Data) (at : s
         small = small;
       }
 
-  module _ (entry : Entry) (is : entry_of role value ≡ Some entry) (read : List Entry) (so_far : map (λ entry. Some entry) read ≡ take place (map (entry_of role) values)) where
+  module _ (entry : Entry) (is : entry_of role value ≡ Some entry) (read : List Entry)
+      (so_far : map (λ entry. Some entry) read ≡ take place (map (entry_of role) values)) where
     -- the verdict on the next entry, which is sound by itself
-    pub refused_at : (verdict : Bool) → is_refused_after (map (λ entry. Some entry) read) (Some (Some entry)) ≡ verdict → is_refused (map (entry_of role) values) place ≡ verdict
+    pub refused_at : (verdict : Bool) → is_refused_after (map (λ entry. Some entry) read) (Some (Some entry)) ≡ verdict
+        → is_refused (map (entry_of role) values) place ≡ verdict
     refused_at verdict refused =
         let here : slice_get (map (entry_of role) values) place ≡ Some (Some entry) = entry_at (Some entry) is in
         rw (← so_far, here) refused
 
     -- the first value that is a second one of Hard Totals
-    pub second_at : is_refused_after (map (λ entry. Some entry) read) (Some (Some entry)) ≡ true → ((n : ℕ) → n < place → is_refused (map (entry_of role) values) n ≡ false) → place < 2 ^ 62 → IsFlawedList role values place SecondHardTotals
+    pub second_at : is_refused_after (map (λ entry. Some entry) read) (Some (Some entry)) ≡ true
+        → ((n : ℕ) → n < place → is_refused (map (entry_of role) values) n ≡ false) → place < 2 ^ 62 → IsFlawedList role values place SecondHardTotals
     second_at refused before small =
         let parts = and_parts (is_totals entry.category) (list_any is_totals_entry (map (λ entry. Some entry) read)) refused in
         record {
@@ -69,10 +74,13 @@ module _ (role : Role) (values : List Data) (place : ℕ) (value : Data) (at : s
         let here : slice_get found place ≡ Some (Some entry) = entry_at (Some entry) is in
         map-append (λ e. Some e) read (entry ∷ [])
         ∙ ap (λ front. front ++ Some entry ∷ []) so_far
-        ∙ sym (take_more found place None (slice_get_within found place (Some entry) here) ∙ ap (λ e. take place found ++ e ∷ []) (get_or_from_slice_get found place (Some entry) None here))
+        ∙ sym (take_more found place None (slice_get_within found place (Some entry) here)
+        ∙ ap (λ e. take place found ++ e ∷ []) (get_or_from_slice_get found place (Some entry) None here))
 
 -- all entries were read
-pub all_read : (role : Role) (values : List Data) (read : List Entry) (place : ℕ) → length values ≤ place → map (λ entry. Some entry) read ≡ take place (map (entry_of role) values) → ((n : ℕ) → n < place → is_refused (map (entry_of role) values) n ≡ false) → IsSoundList role values read
+pub all_read : (role : Role) (values : List Data) (read : List Entry) (place : ℕ) → length values ≤ place
+    → map (λ entry. Some entry) read ≡ take place (map (entry_of role) values)
+    → ((n : ℕ) → n < place → is_refused (map (entry_of role) values) n ≡ false) → IsSoundList role values read
 all_read role values read place past so_far sound =
     let found = map (entry_of role) values in
     let end : length found ≤ place = omega (arith, length-map values (entry_of role)) in
@@ -85,7 +93,8 @@ all_read role values read place past so_far sound =
     }
 
 -- whether a name is among lent ones
-any_lent : (name : List ℕ) (lent : List (Bor (List ℕ))) → list_any (λ (other : Bor (List ℕ)). bytes_eq name other.now) lent ≡ list_any (bytes_eq name) (map (λ (other : Bor (List ℕ)). other.now) lent)
+any_lent : (name : List ℕ) (lent : List (Bor (List ℕ)))
+    → list_any (λ (other : Bor (List ℕ)). bytes_eq name other.now) lent ≡ list_any (bytes_eq name) (map (λ (other : Bor (List ℕ)). other.now) lent)
 any_lent name [] = refl
 any_lent name (other ∷ lent) = ap (λ rest. bytes_eq name other.now || rest) (any_lent name lent)
 
@@ -94,7 +103,9 @@ not_not true = refl
 not_not false = refl
 
 -- what a set of the names so far says of one more
-pub known : (lent : Bor (List ℕ)) (keys : List (Bor (List ℕ))) (earlier : List (List ℕ)) (is_new : Bool) → is_new ≡ not (list_any (λ (other : Bor (List ℕ)). bytes_eq lent.now other.now) keys) → map (λ (name : Bor (List ℕ)). name.now) keys ≡ earlier → list_any (bytes_eq lent.now) earlier ≡ not is_new
+pub known : (lent : Bor (List ℕ)) (keys : List (Bor (List ℕ))) (earlier : List (List ℕ)) (is_new : Bool)
+    → is_new ≡ not (list_any (λ (other : Bor (List ℕ)). bytes_eq lent.now other.now) keys) → map (λ (name : Bor (List ℕ)). name.now) keys ≡ earlier
+    → list_any (bytes_eq lent.now) earlier ≡ not is_new
 known lent keys earlier is_new added so_far =
     ap (list_any (bytes_eq lent.now)) (sym so_far) ∙ sym (any_lent lent.now keys)
     ∙ sym (ap not added ∙ not_not (list_any (λ (other : Bor (List ℕ)). bytes_eq lent.now other.now) keys))
@@ -105,22 +116,28 @@ names_more names place name at =
     take_more names place [] (slice_get_within names place name at) ∙ ap (λ n. take place names ++ n ∷ []) (get_or_from_slice_get names place name [] at)
 
 -- a set of the names so far gets one more
-pub names_taken : (lent : Bor (List ℕ)) (keys : List (Bor (List ℕ))) (names : List (List ℕ)) (place : ℕ) → true ≡ not (list_any (λ (other : Bor (List ℕ)). bytes_eq lent.now other.now) keys) → map (λ (name : Bor (List ℕ)). name.now) keys ≡ take place names → slice_get names place ≡ Some lent.now
+pub names_taken : (lent : Bor (List ℕ)) (keys : List (Bor (List ℕ))) (names : List (List ℕ)) (place : ℕ)
+    → true ≡ not (list_any (λ (other : Bor (List ℕ)). bytes_eq lent.now other.now) keys)
+    → map (λ (name : Bor (List ℕ)). name.now) keys ≡ take place names → slice_get names place ≡ Some lent.now
     → map (λ (name : Bor (List ℕ)). name.now) (insert_key (λ q k. bytes_eq q.now k.now) keys lent) ≡ take (place + 1) names
 names_taken lent keys names place added so_far at =
-    let fresh : list_any (λ (other : Bor (List ℕ)). bytes_eq lent.now other.now) keys ≡ false = sym (ap not added ∙ not_not (list_any (λ (other : Bor (List ℕ)). bytes_eq lent.now other.now) keys)) in
+    let fresh : list_any (λ (other : Bor (List ℕ)). bytes_eq lent.now other.now) keys ≡ false =
+    sym (ap not added ∙ not_not (list_any (λ (other : Bor (List ℕ)). bytes_eq lent.now other.now) keys)) in
     ap (λ b. map (λ (name : Bor (List ℕ)). name.now) (cond b keys (keys ++ lent ∷ []))) fresh
     ∙ map-append (λ (name : Bor (List ℕ)). name.now) keys (lent ∷ [])
     ∙ ap (λ front. front ++ lent.now ∷ []) so_far
     ∙ sym (names_more names place lent.now at)
 
 -- the name at a place of a list of entries
-pub name_at : (entries : List Entry) (place : ℕ) (entry : Entry) → place < length entries → entry ≡ get_or entries place entry → slice_get (names_of entries) place ≡ Some entry.name
+pub name_at : (entries : List Entry) (place : ℕ) (entry : Entry) → place < length entries → entry ≡ get_or entries place entry
+    → slice_get (names_of entries) place ≡ Some entry.name
 name_at entries place entry within at =
-    slice_get-map (λ (e : Entry). e.name) entries place ∙ ap (option_map (λ (e : Entry). e.name)) (slice_get_read entries (length entries) place entry refl within at)
+    slice_get-map (λ (e : Entry). e.name) entries place
+    ∙ ap (option_map (λ (e : Entry). e.name)) (slice_get_read entries (length entries) place entry refl within at)
 
 -- the verdict on the name at a place
-pub repeated_at : (names : List (List ℕ)) (place : ℕ) (name : List ℕ) (verdict : Bool) → slice_get names place ≡ Some name → list_any (bytes_eq name) (take place names) ≡ verdict → is_repeated names place ≡ verdict
+pub repeated_at : (names : List (List ℕ)) (place : ℕ) (name : List ℕ) (verdict : Bool) → slice_get names place ≡ Some name
+    → list_any (bytes_eq name) (take place names) ≡ verdict → is_repeated names place ≡ verdict
 repeated_at names place name verdict at is = rw at is
 
 -- no name past the end is repeated
@@ -128,7 +145,8 @@ none_repeated : (names : List (List ℕ)) (place : ℕ) → length names ≤ pla
 none_repeated names place past = rw (slice_get_past names place past)
 
 -- no name is repeated
-pub all_single : (names : List (List ℕ)) (place : ℕ) → length names ≤ place → ((n : ℕ) → n < place → is_repeated names n ≡ false) → (n : ℕ) → is_repeated names n ≡ false
+pub all_single : (names : List (List ℕ)) (place : ℕ) → length names ≤ place → ((n : ℕ) → n < place → is_repeated names n ≡ false) → (n : ℕ)
+    → is_repeated names n ≡ false
 all_single names place past single n =
     elim (cases_lt n place) [
       | inl here ↦ single n here

@@ -10,12 +10,14 @@ use Rattle.pos_profile.specs.declared.planning.Planned.{Planned}
 use Rattle.pos_profile.specs.Places.{first_of, place_from, place_of, where_same}
 
 -- a place before the end is looked at first
-cond_first : (here : Bool) (at : ℕ) (long short later : Option ℕ) → long ≡ first_of short later → cond here (Some at) long ≡ first_of (cond here (Some at) short) later
+cond_first : (here : Bool) (at : ℕ) (long short later : Option ℕ) → long ≡ first_of short later
+    → cond here (Some at) long ≡ first_of (cond here (Some at) short) later
 cond_first true at long short later is = refl
 cond_first false at long short later is = is
 
 -- the place of a name in a list with one more name
-place_longer : (at : ℕ) (name : List ℕ) (names : List (List ℕ)) (noted : List ℕ) (end : ℕ) → end ≡ at + length names → place_from at name (names ++ noted ∷ []) ≡ first_of (place_from at name names) (where_same name noted end)
+place_longer : (at : ℕ) (name : List ℕ) (names : List (List ℕ)) (noted : List ℕ) (end : ℕ) → end ≡ at + length names
+    → place_from at name (names ++ noted ∷ []) ≡ first_of (place_from at name names) (where_same name noted end)
 place_longer at name [] noted end is =
     let same : at ≡ end = omega (arith, is) in
     ap (λ n. where_same name noted n) same
@@ -24,7 +26,8 @@ place_longer at name (first ∷ names) noted end is =
     (place_longer (at + 1) name names noted end (omega (arith, is)))
 
 -- the place of a name among one more of a list's names
-pub place_more : (names : List (List ℕ)) (place : ℕ) (noted : List ℕ) → slice_get names place ≡ Some noted → (name : List ℕ) → place_of (take (place + 1) names) name ≡ first_of (place_of (take place names) name) (where_same name noted place)
+pub place_more : (names : List (List ℕ)) (place : ℕ) (noted : List ℕ) → slice_get names place ≡ Some noted → (name : List ℕ)
+    → place_of (take (place + 1) names) name ≡ first_of (place_of (take place names) name) (where_same name noted place)
 place_more names place noted at name =
     let within : place < length names = slice_get_within names place noted at in
     let longer : take (place + 1) names ≡ take place names ++ noted ∷ [] =
@@ -33,7 +36,8 @@ place_more names place noted at name =
     ap (λ ns. place_of ns name) longer ∙ place_longer 0 name (take place names) noted place (omega (arith, count))
 
 -- a place that is found is one of the list
-bound_here : (here : Bool) (at : ℕ) (rest : Option ℕ) (place count : ℕ) → (rest ≡ Some place → place < at + 1 + count) → cond here (Some at) rest ≡ Some place → place < at + suc count
+bound_here : (here : Bool) (at : ℕ) (rest : Option ℕ) (place count : ℕ) → (rest ≡ Some place → place < at + 1 + count)
+    → cond here (Some at) rest ≡ Some place → place < at + suc count
 bound_here true at rest place count later found = let same : at ≡ place = cc in omega (arith, same)
 bound_here false at rest place count later found = let less = later found in omega (arith, less)
 
@@ -52,18 +56,23 @@ found_first false place None is = refl
 found_first true place None is = absurd (false≢true (is refl))
 
 -- a name that has a place is noted already
-pub already : (found : List ℕ → Option ℕ) (noted : List ℕ) (place : ℕ) → is_some (found noted) ≡ true → (name : List ℕ) → found name ≡ first_of (found name) (where_same name noted place)
+pub already : (found : List ℕ → Option ℕ) (noted : List ℕ) (place : ℕ) → is_some (found noted) ≡ true → (name : List ℕ)
+    → found name ≡ first_of (found name) (where_same name noted place)
 already found noted place there name =
     found_first (bytes_eq name noted) place (found name)
     (λ same. subst (λ (other : List ℕ). is_some (found other) ≡ true) (sym ((bytes_eq-Decides name noted).0 same)) there)
 
 -- a list of entries with one more
-pub lookup_more : {K : Type 0} (test : K → Bool) (entries : List (K × ℕ)) (key : K) (place : ℕ) → lookup test (entries ++ (key, place) ∷ []) ≡ first_of (lookup test entries) (cond (test key) (Some place) None)
+pub lookup_more : {K : Type 0} (test : K → Bool) (entries : List (K × ℕ)) (key : K) (place : ℕ)
+    → lookup test (entries ++ (key, place) ∷ []) ≡ first_of (lookup test entries) (cond (test key) (Some place) None)
 lookup_more test [] key place = refl
 lookup_more test (entry ∷ entries) key place =
-    cond_first (test entry.0) entry.1 (lookup test (entries ++ (key, place) ∷ [])) (lookup test entries) (cond (test key) (Some place) None) (lookup_more test entries key place)
+    cond_first (test entry.0) entry.1 (lookup test (entries ++ (key, place) ∷ [])) (lookup test entries) (cond (test key) (Some place) None)
+    (lookup_more test entries key place)
 
 -- the name at a place of a plan
-pub planned_name : (plan : List Planned) (place : ℕ) (planned : Planned) → place < length plan → planned ≡ get_or plan place planned → slice_get (map (λ (p : Planned). p.name) plan) place ≡ Some planned.name
+pub planned_name : (plan : List Planned) (place : ℕ) (planned : Planned) → place < length plan → planned ≡ get_or plan place planned
+    → slice_get (map (λ (p : Planned). p.name) plan) place ≡ Some planned.name
 planned_name plan place planned within at =
-    slice_get-map (λ (p : Planned). p.name) plan place ∙ ap (option_map (λ (p : Planned). p.name)) (slice_get_read plan (length plan) place planned refl within at)
+    slice_get-map (λ (p : Planned). p.name) plan place
+    ∙ ap (option_map (λ (p : Planned). p.name)) (slice_get_read plan (length plan) place planned refl within at)

@@ -22,27 +22,33 @@ use Rattle.pos_profile.specs.Soundness.{IsSoundEntry}
 use Rattle.pos_profile.specs.Registries.{Device, HasKindInRange, IsRegistrySound, IsServed, MayServe, device_of, devices, devices_of, names_of, parked, planned_for, planned_of, standing_at, vacant, vacant_devices, with_peripheral}
 
 -- what one more entry plans
-planned_more : (entries : List Entry) (place : ℕ) (entry : Entry) → place < length entries → entry ≡ get_or entries place entry → planned_of (take (place + 1) entries) ≡ planned_of (take place entries) ++ planned_of (entry ∷ [])
+planned_more : (entries : List Entry) (place : ℕ) (entry : Entry) → place < length entries → entry ≡ get_or entries place entry
+    → planned_of (take (place + 1) entries) ≡ planned_of (take place entries) ++ planned_of (entry ∷ [])
 planned_more entries place entry within at =
     ap planned_of (take_more entries place entry within ∙ ap (λ e. take place entries ++ e ∷ []) (sym at))
     ∙ filter_map-append planned_for (take place entries) (entry ∷ [])
 
 -- an entry without a peripheral plans nothing
-pub planned_skips : (entries : List Entry) (place : ℕ) (entry : Entry) → place < length entries → entry ≡ get_or entries place entry → kind_of entry ≡ None → planned_of (take (place + 1) entries) ≡ planned_of (take place entries)
+pub planned_skips : (entries : List Entry) (place : ℕ) (entry : Entry) → place < length entries → entry ≡ get_or entries place entry
+    → kind_of entry ≡ None → planned_of (take (place + 1) entries) ≡ planned_of (take place entries)
 planned_skips entries place entry within at none =
     let plans : planned_of (entry ∷ []) ≡ [] = rw none refl in
-    planned_more entries place entry within at ∙ ap (λ (ps : List Planned). planned_of (take place entries) ++ ps) plans ∙ append-nil (planned_of (take place entries))
+    planned_more entries place entry within at ∙ ap (λ (ps : List Planned). planned_of (take place entries) ++ ps) plans
+    ∙ append-nil (planned_of (take place entries))
 
 -- an entry with a peripheral plans its device
-pub planned_takes : (entries : List Entry) (place : ℕ) (entry : Entry) (kind : Kind) → place < length entries → entry ≡ get_or entries place entry → kind_of entry ≡ Some kind → planned_of (take (place + 1) entries) ≡ planned_of (take place entries) ++ record { name = entry.name; kind = kind } ∷ []
+pub planned_takes : (entries : List Entry) (place : ℕ) (entry : Entry) (kind : Kind) → place < length entries → entry ≡ get_or entries place entry
+    → kind_of entry ≡ Some kind → planned_of (take (place + 1) entries) ≡ planned_of (take place entries) ++ record { name = entry.name; kind = kind } ∷ []
 planned_takes entries place entry kind within at some =
     let plans : planned_of (entry ∷ []) ≡ record { name = entry.name; kind = kind } ∷ [] = rw some refl in
     planned_more entries place entry within at ∙ ap (λ (ps : List Planned). planned_of (take place entries) ++ ps) plans
 
 -- the device at the place of a slot
-pub device_at : {P : Type 0} (peripherals : Ghosts P) (slots : List (Slot P)) (place : ℕ) (slot : Slot P) → place < length slots → slot ≡ get_or slots place slot → slice_get (devices_of peripherals slots) place ≡ Some (device_of peripherals slot)
+pub device_at : {P : Type 0} (peripherals : Ghosts P) (slots : List (Slot P)) (place : ℕ) (slot : Slot P) → place < length slots
+    → slot ≡ get_or slots place slot → slice_get (devices_of peripherals slots) place ≡ Some (device_of peripherals slot)
 device_at peripherals slots place slot within at =
-    slice_get-map (λ s. device_of peripherals s) slots place ∙ ap (λ o. option_map (λ s. device_of peripherals s) o) (slice_get_read slots (length slots) place slot refl within at)
+    slice_get-map (λ s. device_of peripherals s) slots place
+    ∙ ap (λ o. option_map (λ s. device_of peripherals s) o) (slice_get_read slots (length slots) place slot refl within at)
 
 pub devices_count : {P : Type 0} (peripherals : Ghosts P) (slots : List (Slot P)) → length (devices_of peripherals slots) ≡ length slots
 devices_count peripherals slots = length-map slots (λ s. device_of peripherals s)
@@ -51,7 +57,10 @@ pub names_count : (list : List Device) → length (names_of list) ≡ length lis
 names_count list = length-map list (λ (d : Device). d.name)
 
 -- another peripheral, or none, is put into a slot
-pub devices_set : {P : Type 0} (peripherals : Ghosts P) (slots : List (Slot P)) (place : ℕ) (slot other : Slot P) (x : Option P) → slot ≡ get_or slots place other → devices_of peripherals (set slots place (record slot { peripheral = x })) ≡ with_peripheral (devices_of peripherals slots) place (option_map peripherals.state x)
+pub devices_set : {P : Type 0} (peripherals : Ghosts P) (slots : List (Slot P)) (place : ℕ) (slot other : Slot P) (x : Option P)
+    → slot ≡ get_or slots place other
+    → devices_of peripherals (set slots place (record slot { peripheral = x })) ≡ with_peripheral (devices_of peripherals slots) place
+    (option_map peripherals.state x)
 devices_set peripherals [] place slot other x at = refl
 devices_set peripherals (first ∷ slots) zero slot other x at =
     ap (λ (s : Slot _). (record (device_of peripherals s) { peripheral = option_map peripherals.state x } ∷ devices_of peripherals slots)) at
@@ -78,28 +87,35 @@ names_with (device ∷ list) zero x = refl
 names_with (device ∷ list) (suc place) x = ap (λ (ns : List (List ℕ)). (device.name ∷ ns)) (names_with list place x)
 
 -- each device is served rightly, where the changed one is
-served_with : (list : List Device) (place : ℕ) (x : Option PeripheralState) → AllByRecursion IsServed list → ((device : Device) → slice_get list place ≡ Some device → IsServed (record device { peripheral = x })) → AllByRecursion IsServed (with_peripheral list place x)
+served_with : (list : List Device) (place : ℕ) (x : Option PeripheralState) → AllByRecursion IsServed list
+    → ((device : Device) → slice_get list place ≡ Some device → IsServed (record device { peripheral = x }))
+    → AllByRecursion IsServed (with_peripheral list place x)
 served_with [] place x all here = tt
 served_with (device ∷ list) zero x all here = (here device refl, all.1)
 served_with (device ∷ list) (suc place) x all here = (all.0, served_with list place x all.1 here)
 
 -- the kinds stay
-kinds_with : (list : List Device) (place : ℕ) (x : Option PeripheralState) → AllByRecursion HasKindInRange list → AllByRecursion HasKindInRange (with_peripheral list place x)
+kinds_with : (list : List Device) (place : ℕ) (x : Option PeripheralState) → AllByRecursion HasKindInRange list
+    → AllByRecursion HasKindInRange (with_peripheral list place x)
 kinds_with [] place x all = tt
 kinds_with (device ∷ list) zero x all = all
 kinds_with (device ∷ list) (suc place) x all = (all.0, kinds_with list place x all.1)
 
 -- a registry stays sound, where the peripheral of a place is changed for a right one
-pub sound_with : {P : Type 0} (peripherals : Ghosts P) (old new : Registry P) (place : ℕ) (x : Option PeripheralState) → IsRegistrySound peripherals old → new.places ≡ old.places → devices peripherals new ≡ with_peripheral (devices peripherals old) place x
-    → ((device : Device) → slice_get (devices peripherals old) place ≡ Some device → IsServed (record device { peripheral = x })) → IsRegistrySound peripherals new
+pub sound_with : {P : Type 0} (peripherals : Ghosts P) (old new : Registry P) (place : ℕ) (x : Option PeripheralState)
+    → IsRegistrySound peripherals old → new.places ≡ old.places → devices peripherals new ≡ with_peripheral (devices peripherals old) place x
+    → ((device : Device) → slice_get (devices peripherals old) place ≡ Some device → IsServed (record device { peripheral = x }))
+    → IsRegistrySound peripherals new
 sound_with peripherals old new place x sound places is here = record {
-  index = λ name. ap (λ p. found_in p name) places ∙ sound.index name ∙ ap (λ (ns : List (List ℕ)). place_of ns name) (sym (ap names_of is ∙ names_with (devices peripherals old) place x));
+  index = λ name. ap (λ p. found_in p name) places ∙ sound.index name
+      ∙ ap (λ (ns : List (List ℕ)). place_of ns name) (sym (ap names_of is ∙ names_with (devices peripherals old) place x));
   kinds = subst (AllByRecursion HasKindInRange) (sym is) (kinds_with (devices peripherals old) place x sound.kinds);
   served = subst (AllByRecursion IsServed) (sym is) (served_with (devices peripherals old) place x sound.served here);
 }
 
 -- what may serve a place is of the kind of its device
-pub same_kind : (list : List Device) (place : ℕ) (state : PeripheralState) (device : Device) → MayServe list place state → slice_get list place ≡ Some device → state.kind ≡ device.kind
+pub same_kind : (list : List Device) (place : ℕ) (state : PeripheralState) (device : Device) → MayServe list place state
+    → slice_get list place ≡ Some device → state.kind ≡ device.kind
 same_kind list place state device may at =
     let same : may.device ≡ device = cc in
     may.kind ∙ ap (λ (d : Device). d.kind) same
@@ -128,7 +144,8 @@ served_vacant [] = tt
 served_vacant (planned ∷ plan) = (tt, served_vacant plan)
 
 -- what is planned for an entry whose kind is in range
-kinds_more : (name : List ℕ) (kind : Option Kind) (plan : List Planned) → IfSome kind IsInRange → AllByRecursion HasKindInRange (map vacant plan) → AllByRecursion HasKindInRange (map vacant (cons_option (option_map (λ kind. record { name = name; kind = kind }) kind) plan))
+kinds_more : (name : List ℕ) (kind : Option Kind) (plan : List Planned) → IfSome kind IsInRange → AllByRecursion HasKindInRange (map vacant plan)
+    → AllByRecursion HasKindInRange (map vacant (cons_option (option_map (λ kind. record { name = name; kind = kind }) kind) plan))
 kinds_more name None plan here all = all
 kinds_more name (Some kind) plan here all = (here, all)
 
@@ -137,21 +154,30 @@ kinds_planned : (entries : List Entry) → AllByRecursion (IsSoundEntry role.Dev
 kinds_planned [] sound = tt
 kinds_planned (entry ∷ entries) sound = kinds_more entry.name (kind_of entry) (planned_of entries) sound.0.kind (kinds_planned entries sound.1)
 
-pub sound_planned : {P : Type 0} (peripherals : Ghosts P) (registry : Registry P) (entries : List Entry) (plan : List Planned) → All (IsSoundEntry role.Device) entries → plan ≡ planned_of entries → devices peripherals registry ≡ map vacant plan → IsIndexOf registry.places (map (λ (p : Planned). p.name) plan) → IsRegistrySound peripherals registry
+pub sound_planned : {P : Type 0} (peripherals : Ghosts P) (registry : Registry P) (entries : List Entry) (plan : List Planned)
+    → All (IsSoundEntry role.Device) entries → plan ≡ planned_of entries → devices peripherals registry ≡ map vacant plan
+    → IsIndexOf registry.places (map (λ (p : Planned). p.name) plan) → IsRegistrySound peripherals registry
 sound_planned peripherals registry entries plan sound planned is index = record {
   index = λ name. index name ∙ ap (λ (ns : List (List ℕ)). place_of ns name) (sym (ap names_of is ∙ names_vacant plan));
-  kinds = subst (AllByRecursion HasKindInRange) (sym (is ∙ ap (map vacant) planned)) (kinds_planned entries (recursion_from_All (IsSoundEntry role.Device) entries sound));
+  kinds = subst (AllByRecursion HasKindInRange) (sym (is ∙ ap (map vacant) planned))
+      (kinds_planned entries (recursion_from_All (IsSoundEntry role.Device) entries sound));
   served = subst (AllByRecursion IsServed) (sym is) (served_vacant plan);
 }
 
 -- one more device is out of service
-pub parked_more : {P : Type 0} (peripherals : Ghosts P) (slots : List (Slot P)) (olds : List Device) (place : ℕ) (old new : Slot P) → place < length olds → length slots ≡ length olds → devices_of peripherals slots ≡ map parked (take place olds) ++ drop place olds → old ≡ get_or slots place old
-    → device_of peripherals new ≡ parked (device_of peripherals old) → devices_of peripherals (set slots place new) ≡ map parked (take (place + 1) olds) ++ drop (place + 1) olds
+pub parked_more : {P : Type 0} (peripherals : Ghosts P) (slots : List (Slot P)) (olds : List Device) (place : ℕ) (old new : Slot P)
+    → place < length olds → length slots ≡ length olds → devices_of peripherals slots ≡ map parked (take place olds) ++ drop place olds
+    → old ≡ get_or slots place old
+    → device_of peripherals new ≡ parked (device_of peripherals old)
+    → devices_of peripherals (set slots place new) ≡ map parked (take (place + 1) olds) ++ drop (place + 1) olds
 parked_more peripherals slots olds place old new within same front at parks =
     map-set (λ s. device_of peripherals s) slots place new ∙ ap (set (devices_of peripherals slots) place) parks
-    ∙ map_over_more parked olds (devices_of peripherals slots) place (device_of peripherals old) within front (ap (λ s. device_of peripherals s) at ∙ sym (get_or-map (λ s. device_of peripherals s) slots place old (device_of peripherals old) (omega (arith, within, same))))
+    ∙ map_over_more parked olds (devices_of peripherals slots) place (device_of peripherals old) within front
+    (ap (λ s. device_of peripherals s) at
+    ∙ sym (get_or-map (λ s. device_of peripherals s) slots place old (device_of peripherals old) (omega (arith, within, same))))
 
 -- once the place is behind the last, all are out of service
 pub parked_whole : (list olds : List Device) (place : ℕ) → length olds ≤ place → list ≡ map parked (take place olds) ++ drop place olds → list ≡ map parked olds
 parked_whole list olds place past front =
-    front ∙ ap (λ (xs : List Device). map parked xs ++ drop place olds) (take_all place olds past) ∙ ap (λ (xs : List Device). map parked olds ++ xs) (drop_all place olds past) ∙ append-nil (map parked olds)
+    front ∙ ap (λ (xs : List Device). map parked xs ++ drop place olds) (take_all place olds past)
+    ∙ ap (λ (xs : List Device). map parked olds ++ xs) (drop_all place olds past) ∙ append-nil (map parked olds)

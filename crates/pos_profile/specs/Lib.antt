@@ -1,5 +1,6 @@
 pub mod Categories
 pub mod Numbers
+pub mod OptionalKeys
 pub mod Kinds
 pub mod Tables
 pub mod Entries

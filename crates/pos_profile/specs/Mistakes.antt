@@ -20,7 +20,7 @@ use Rattle.pos_profile.specs.declared.root.DocumentFault.TheVariants as document
 use Rattle.pos_profile.specs.declared.root.Lists.{Lists}
 use Rattle.pos_profile.specs.declared.table.Keys.TheVariants.{OfRoot, OfEntry}
 use Rattle.pos_profile.specs.Categories.{is_totals}
-use Rattle.pos_profile.specs.Entries.{Contents, IsBadNumber, entry_of, table_entry}
+use Rattle.pos_profile.specs.Entries.{Contents, IsBadNumber, IsBadOption, entry_of, table_entry}
 use Rattle.pos_profile.specs.Profiles.{IsLowest, IsRead, is_faulty, is_refused, is_root, is_totals_entry}
 use Rattle.pos_profile.specs.Tables.{IsUnknown, category_for, is_key, is_list, key_of, name_for, values_at}
 
@@ -30,6 +30,8 @@ TableHas role table (reason.BadCategory of) = (of ≡ role) × (category_for rol
 TableHas role table reason.BadName = name_for role table ≡ None
 TableHas role table (reason.BadNumber number) =
     IsSomeAnd (category_for role table) (λ category. IsBadNumber category table number)
+TableHas role table (reason.BadOption key) =
+    IsSomeAnd (category_for role table) (λ category. IsBadOption category table key)
 TableHas role table (reason.UnknownKey key) =
     IsSomeAnd (category_for role table) (λ category. IsUnknown (is_key (OfEntry role category)) table key)
 TableHas role table (reason.NotAnArray of) = ⊥

@@ -1,15 +1,18 @@
 -- What a profile asks of a table (docs/PROFILE.md).
-use Rattle.std.specs.Prelude.{◌≡◌, ℕ, ℤ, pos, negsuc, List, [], ◌∷◌, is_some, Option, Some, None, Bool, true, false, ◌&&◌, ◌||◌, codes, nat_le, bytes_eq, option_and_then, if◌then◌else◌}
-use Rattle.toml.specs.Data.{Data, Items, no_items, item, Members, no_members, member, as_array, as_str, as_integer, get_member}
+use Rattle.std.specs.Prelude.{◌≡◌, ℕ, ℤ, pos, negsuc, List, [], ◌∷◌, is_some, Option, Some, None, Bool, true, false, ◌&&◌, ◌||◌, codes, nat_le, bytes_eq, option_and_then, option_map, if◌then◌else◌}
+use Rattle.toml.specs.Data.{Data, Items, no_items, item, Members, no_members, member, as_array, as_bool, as_str, as_integer, get_member}
 use Rattle.pos_service.specs.declared.category.Category.{Category}
 use Rattle.pos_service.specs.declared.category.Category.TheVariants.{HardTotals}
 use Rattle.pos_service.specs.Names.{category_named, is_device_name}
 use Rattle.pos_profile.specs.declared.number.NumberKey.{NumberKey}
+use Rattle.pos_profile.specs.declared.optional.OptionalKey.{OptionalKey}
+use Rattle.pos_profile.specs.declared.optional.OptionalKey.TheVariants.{Flaky}
 use Rattle.pos_profile.specs.declared.role.Role.{Role}
 use Rattle.pos_profile.specs.declared.role.Role.TheVariants.{Device, Spare}
 use Rattle.pos_profile.specs.declared.table.Keys.{Keys}
 use Rattle.pos_profile.specs.declared.table.Keys.TheVariants.{OfRoot, OfEntry}
 use Rattle.pos_profile.specs.Numbers.{key_of_number, least_of, most_of, is_number_key}
+use Rattle.pos_profile.specs.OptionalKeys.{is_option_key, key_of_option, most_orders}
 
 -- the key of the root at which a list stands
 abbrev pub key_of : Role → List ℕ
@@ -31,6 +34,44 @@ number_at key table =
     option_and_then (number_within (least_of key) (most_of key))
     (option_and_then as_integer (get_member (key_of_number key) table))
 
+-- the items of an array as a list
+abbrev pub data_of : Items → List Data
+data_of no_items = []
+data_of (item first rest) = first ∷ data_of rest
+
+-- the values of an array
+abbrev pub array_in : Data → Option (List Data)
+array_in value = option_map data_of (as_array value)
+
+-- a truth value: false where it is absent, and none where another value stands
+abbrev pub truth_in : Option Data → Option Bool
+truth_in None = Some false
+truth_in (Some value) = as_bool value
+
+-- the truth value at an optional key of the table
+abbrev pub truth_at : OptionalKey → Members → Option Bool
+truth_at key table = truth_in (get_member (key_of_option key) table)
+
+-- a number of failing orders
+abbrev pub failing_number : Data → Option ℕ
+failing_number value = option_and_then (number_within 0 most_orders) (as_integer value)
+
+-- which orders fail: the first, and how many, where there are these two numbers and no other value
+abbrev pub failing_in : List Data → Option (ℕ × ℕ)
+failing_in (first ∷ times ∷ []) =
+    option_and_then (λ first. option_and_then (λ times. Some (first, times)) (failing_number times))
+    (failing_number first)
+failing_in _ = None
+
+-- which orders fail: none where it is absent, and nothing is told where the value is no array of two numbers
+abbrev pub flaky_in : Option Data → Option (Option (ℕ × ℕ))
+flaky_in None = Some None
+flaky_in (Some value) = option_map (λ orders. Some orders) (option_and_then failing_in (array_in value))
+
+-- which orders fail by the table
+abbrev pub flaky_at : Members → Option (Option (ℕ × ℕ))
+flaky_at table = flaky_in (get_member (key_of_option Flaky) table)
+
 -- each key passes the test
 abbrev pub has_only : (List ℕ → Bool) → Members → Bool
 has_only test no_members = true
@@ -47,22 +88,21 @@ abbrev pub FindsUnknown : (List ℕ → Bool) → Members → Option (List ℕ) 
 FindsUnknown test table None = has_only test table ≡ true
 FindsUnknown test table (Some key) = IsUnknown test table key
 
--- the keys that a table may have: the root's two lists; an entry's category and numbers, and a device's name
+-- an entry of a category may have this number or this optional key
+abbrev pub is_category_key : Category → List ℕ → Bool
+is_category_key category key = is_number_key category key || is_option_key category key
+
+-- the keys that a table may have: the root's two lists; an entry's category and what that has, and a device's name
 abbrev pub is_key : Keys → List ℕ → Bool
 is_key OfRoot key = bytes_eq key (key_of Device) || bytes_eq key (key_of Spare)
 is_key (OfEntry Device category) key =
-    (bytes_eq key (codes "category") || bytes_eq key (codes "name")) || is_number_key category key
-is_key (OfEntry Spare category) key = bytes_eq key (codes "category") || is_number_key category key
+    (bytes_eq key (codes "category") || bytes_eq key (codes "name")) || is_category_key category key
+is_key (OfEntry Spare category) key = bytes_eq key (codes "category") || is_category_key category key
 
 -- a key is absent or has an array
 abbrev pub is_list : Option Data → Bool
 is_list None = true
 is_list (Some value) = is_some (as_array value)
-
--- the items of an array as a list
-abbrev pub data_of : Items → List Data
-data_of no_items = []
-data_of (item first rest) = first ∷ data_of rest
 
 -- the values of an array; none where there is no array
 abbrev pub values_of : Option Items → List Data

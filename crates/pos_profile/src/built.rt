@@ -4,6 +4,7 @@ ghost use Rattle.pos_profile.specs.Built.{built, built_devices, built_spares};
 use crate::entry::Entry;
 use crate::profile::Profile;
 use crate::reading::{NO_NUMBERS, Numbers, named_entry};
+use crate::variation::PLAIN;
 use pos_service::{Category, NoMemory};
 use std::alloc::Global;
 
@@ -23,11 +24,11 @@ fn make_devices(alloc: Global) -> Result<Vec<Entry>, NoMemory>
         ..NO_NUMBERS
     };
     let mut devices = Vec::with_capacity(alloc, 5)?;
-    devices.push_reserved(named_entry(alloc, Category::CashDrawer, "d1", NO_NUMBERS)?);
-    devices.push_reserved(named_entry(alloc, Category::Scanner, "s1", NO_NUMBERS)?);
-    devices.push_reserved(named_entry(alloc, Category::LineDisplay, "p1", size)?);
-    devices.push_reserved(named_entry(alloc, Category::PosPrinter, "r1", roll)?);
-    devices.push_reserved(named_entry(alloc, Category::HardTotals, "t1", NO_NUMBERS)?);
+    devices.push_reserved(named_entry(alloc, Category::CashDrawer, "d1", NO_NUMBERS, PLAIN)?);
+    devices.push_reserved(named_entry(alloc, Category::Scanner, "s1", NO_NUMBERS, PLAIN)?);
+    devices.push_reserved(named_entry(alloc, Category::LineDisplay, "p1", size, PLAIN)?);
+    devices.push_reserved(named_entry(alloc, Category::PosPrinter, "r1", roll, PLAIN)?);
+    devices.push_reserved(named_entry(alloc, Category::HardTotals, "t1", NO_NUMBERS, PLAIN)?);
     Ok(devices)
 }
 
@@ -36,7 +37,7 @@ fn make_spares(alloc: Global) -> Result<Vec<Entry>, NoMemory>
     ensures { IfOk result (λ spares. spares.items ≡ built_spares) }
 {
     let mut spares = Vec::with_capacity(alloc, 1)?;
-    spares.push_reserved(named_entry(alloc, Category::CashDrawer, "", NO_NUMBERS)?);
+    spares.push_reserved(named_entry(alloc, Category::CashDrawer, "", NO_NUMBERS, PLAIN)?);
     Ok(spares)
 }
 

@@ -5,6 +5,7 @@ use crate::text::Text;
 use pos_service::{Category, Kind};
 
 /// A device of the profile, or a spare. A number that its category doesn't have is 0, and a spare's name is empty.
+/// By `ring`, `flaky` and `recorded` a device differs from a plain one; of Hard Totals, none does.
 #[derive(Drop)]
 pub struct Entry {
     /// The name by which controls open it, 1 to 16 ASCII letters, digits or hyphens.
@@ -21,6 +22,13 @@ pub struct Entry {
     pub lines: u32,
     /// How many lines of paper are left where a printer's paper is near its end, 0 to 100,000.
     pub near: u32,
+    /// The rows of a display are a ring, of which a scroll by one row moves no cell.
+    pub ring: bool,
+    /// Which orders of the device fail, counted from 1: the number of the first, and how many, each 0 to 1,000,000.
+    /// None fails where it is 0 of them, or there is no such pair.
+    pub flaky: Option<(u32, u32)>,
+    /// The orders of the device are counted.
+    pub recorded: bool,
 }
 
 impl Entry {

@@ -1,5 +1,7 @@
 use crate::number::NumberKey;
+use crate::optional::OptionalKey;
 use crate::role::Role;
+use crate::table::MOST_ORDERS;
 use crate::text::Text;
 use std::fmt;
 
@@ -27,6 +29,8 @@ pub enum Reason {
     BadName,
     /// A number of the category is missing, or isn't in its range.
     BadNumber(NumberKey),
+    /// The value of an optional key is none that it may have.
+    BadOption(OptionalKey),
     /// There is an earlier device of Hard Totals.
     SecondHardTotals,
 }
@@ -73,6 +77,16 @@ impl fmt::Display for Reason {
             Reason::BadNumber(number) => {
                 let (key, least, most) = (number.key(), number.least(), number.most());
                 write!(f, "{key} must be {least} to {most}")
+            }
+            Reason::BadOption(OptionalKey::Flaky) => {
+                write!(
+                    f,
+                    "flaky must be an array of two numbers, each 0 to {MOST_ORDERS}"
+                )
+            }
+            Reason::BadOption(option) => {
+                let key = option.key();
+                write!(f, "{key} must be true or false")
             }
             Reason::SecondHardTotals => write!(f, "a second device of category HardTotals"),
         }

@@ -12,6 +12,7 @@ use crate::number::NumberKey;
 use crate::role::Role;
 use crate::table::{Keys, number_at, text_at, unknown_key};
 use crate::text::Text;
+use crate::variation::{Variation, variation_of};
 use pos_service::{Category, NoMemory, is_device_name};
 use std::alloc::Global;
 use toml::{Table, Value};
@@ -117,14 +118,15 @@ fn numbers_of(category: Category, table: &Table) -> Result<Numbers, NumberKey>
     }
 }
 
-/// The entry of a category with a copy of this name and these numbers.
+/// The entry of a category with a copy of this name and these numbers, whose device differs so from a plain one.
 pub(crate) fn named_entry(
     alloc: Global,
     category: Category,
     name: &str,
     numbers: Numbers,
+    variation: Variation,
 ) -> Result<Entry, NoMemory>
-    ensures { IfOk result (λ entry. entry ≡ entry_with category name.now numbers) }
+    ensures { IfOk result (λ entry. entry ≡ entry_with category name.now numbers variation) }
 {
     Ok(Entry {
         name: Text::copy_of(alloc, name)?,
@@ -134,6 +136,9 @@ pub(crate) fn named_entry(
         chars: numbers.chars,
         lines: numbers.lines,
         near: numbers.near,
+        ring: variation.ring,
+        flaky: variation.flaky,
+        recorded: variation.recorded,
     })
 }
 
@@ -151,13 +156,17 @@ fn read_table(alloc: Global, role: Role, table: &Table) -> Result<Entry, EntryFa
         Ok(numbers) => numbers,
         Err(number) => return Err(EntryFault::Flawed(Reason::BadNumber(number))),
     };
+    let variation = match variation_of(category, table) {
+        Ok(variation) => variation,
+        Err(key) => return Err(EntryFault::Flawed(Reason::BadOption(key))),
+    };
     if let Some(key) = unknown_key(table, Keys::OfEntry(role, category)) {
         return match Text::copy_of(alloc, key) {
             Ok(key) => Err(EntryFault::Flawed(Reason::UnknownKey(key))),
             Err(NoMemory) => Err(EntryFault::NoMemory),
         };
     }
-    match named_entry(alloc, category, name, numbers) {
+    match named_entry(alloc, category, name, numbers, variation) {
         Ok(entry) => Ok(entry),
         Err(NoMemory) => Err(EntryFault::NoMemory),
     }

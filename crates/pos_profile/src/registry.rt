@@ -7,9 +7,8 @@ use crate::laws::is_profile;
 use crate::places::Places;
 use crate::planning::{Planned, plan};
 use crate::profile::Profile;
-use crate::registry_fault::{AttachFault, DetachFault};
 use crate::slot::Slot;
-use pos_service::{Kind, NoMemory, Peripheral};
+use pos_service::{AttachFault, DetachFault, Kind, NoMemory, Peripheral};
 use std::alloc::Global;
 
 /// The devices of a profile that have a peripheral, in its order, each with what serves it. It is ended by

@@ -2,10 +2,12 @@
 ghost use Rattle.std.specs.Prelude.{◌≡◌, map, option_map, option_copied};
 ghost use Rattle.toml.specs.Data.{get_member};
 ghost use Rattle.toml.specs.View.{view, table_view};
-ghost use Rattle.pos_profile.specs.Numbers.{has_number, is_number_key};
-ghost use Rattle.pos_profile.specs.Tables.{FindsUnknown, is_key, is_list, number_at, number_within, text_at, values_at};
+ghost use Rattle.pos_profile.specs.Numbers.{is_number_key};
+ghost use Rattle.pos_profile.specs.OptionalKeys.{is_option_key, is_shared_key, most_orders};
+ghost use Rattle.pos_profile.specs.Tables.{FindsUnknown, array_in, failing_number, failing_in, flaky_at, is_category_key, is_key, is_list, number_at, number_within, text_at, truth_at, values_at};
 
 use crate::number::NumberKey;
+use crate::optional::OptionalKey;
 use crate::role::Role;
 use pos_service::Category;
 use toml::{Table, Value};
@@ -50,6 +52,65 @@ pub(crate) fn number_at(table: &Table, key: NumberKey) -> Option<u32>
     }
 }
 
+/// The truth value at an optional key, false where it is absent; none where another value stands.
+pub(crate) fn truth_at(table: &Table, key: OptionalKey) -> Option<bool>
+    ensures { result ≡ truth_at key (table_view table.now) }
+{
+    match member(table, key.key()) {
+        Some(value) => value.as_bool(),
+        None => Some(false),
+    }
+}
+
+/// The most that a number of failing orders may be.
+pub(crate) const MOST_ORDERS: u32 = 1_000_000;
+
+/// The values of an array.
+fn array_in(value: &Value) -> Option<&[Value]>
+    ensures { option_map (λ values. map (λ value. view value) values.now) result ≡ array_in (view value.now) }
+{
+    match value.as_array() {
+        Some(values) => Some(values.as_slice()),
+        None => None,
+    }
+}
+
+/// A number of failing orders.
+fn failing_number(value: &Value) -> Option<u32>
+    ensures { result ≡ failing_number (view value.now) }
+{
+    match value.as_integer() {
+        Some(number) => number_within(number, 0, MOST_ORDERS),
+        None => None,
+    }
+}
+
+/// Which orders fail, where there are the number of the first, how many, and no other value.
+fn failing_in(values: &[Value]) -> Option<(u32, u32)>
+    ensures { result ≡ failing_in (map (λ value. view value) values.now) }
+{
+    match values {
+        [first, times] => Some((failing_number(first)?, failing_number(times)?)),
+        _ => None,
+    }
+}
+
+/// Which orders fail, if the table has any; none where the value is no array of two numbers in their range.
+pub(crate) fn flaky_at(table: &Table) -> Option<Option<(u32, u32)>>
+    ensures { result ≡ flaky_at (table_view table.now) }
+{
+    let Some(value) = member(table, OptionalKey::Flaky.key()) else {
+        return Some(None);
+    };
+    let Some(values) = array_in(value) else {
+        return None;
+    };
+    match failing_in(values) {
+        Some(failing) => Some(Some(failing)),
+        None => None,
+    }
+}
+
 /// Whether entries of a category have a number of this key.
 fn is_number_key(category: Category, key: &str) -> bool
     ensures { result ≡ is_number_key category key.now }
@@ -59,6 +120,31 @@ fn is_number_key(category: Category, key: &str) -> bool
         Category::PosPrinter => key == "chars" || key == "lines" || key == "near",
         _ => false,
     }
+}
+
+/// Whether each device with a peripheral may have this optional key.
+fn is_shared_key(key: &str) -> bool
+    ensures { result ≡ is_shared_key key.now }
+{
+    key == "flaky" || key == "record"
+}
+
+/// Whether entries of a category may have this optional key.
+fn is_option_key(category: Category, key: &str) -> bool
+    ensures { result ≡ is_option_key category key.now }
+{
+    match category {
+        Category::LineDisplay => key == "ring" || is_shared_key(key),
+        Category::HardTotals => false,
+        _ => is_shared_key(key),
+    }
+}
+
+/// Whether entries of a category may have this number or this optional key.
+fn is_category_key(category: Category, key: &str) -> bool
+    ensures { result ≡ is_category_key category key.now }
+{
+    is_number_key(category, key) || is_option_key(category, key)
 }
 
 /// Which keys a table may have.
@@ -77,10 +163,10 @@ impl Keys {
         match self {
             Keys::OfRoot => key == "device" || key == "spare",
             Keys::OfEntry(Role::Device, category) => {
-                key == "category" || key == "name" || is_number_key(category, key)
+                key == "category" || key == "name" || is_category_key(category, key)
             }
             Keys::OfEntry(Role::Spare, category) => {
-                key == "category" || is_number_key(category, key)
+                key == "category" || is_category_key(category, key)
             }
         }
     }

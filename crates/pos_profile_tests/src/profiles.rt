@@ -1,7 +1,7 @@
 //! Texts of profiles. Where a text finds no memory it is read once more, so with one growth refused all is as with
 //! none.
-use pos_profile::{AttachFault, DetachFault, Entry, Mistake, Profile, ProfileFault, find_mistake};
-use pos_service::NoMemory;
+use pos_profile::{Entry, Mistake, Profile, ProfileFault, find_mistake};
+use pos_service::{AttachFault, DetachFault, NoMemory};
 use std::alloc::Global;
 use std::test::Fail;
 
@@ -21,19 +21,46 @@ fn mistake_in(alloc: Global, text: &str) -> Result<Option<Mistake>, NoMemory> {
     }
 }
 
-/// What is told of a text: how many devices and spares there are, or why it is no profile.
-fn told(alloc: Global, text: &str) -> Result<String, Fail> {
-    let fault = match read(alloc, text) {
+/// What a text is answered: how many devices and spares there are, or the refusal.
+fn answer(alloc: Global, text: &str) -> Result<String, Fail> {
+    match read(alloc, text) {
         Ok(profile) => {
             let (devices, spares) = (profile.devices().len(), profile.spares().len());
-            return Ok(format!(in alloc; "{devices} and {spares}")?);
+            Ok(format!(in alloc; "{devices} and {spares}")?)
         }
-        Err(fault) => fault,
-    };
+        Err(fault) => Ok(format!(in alloc; "{fault}")?),
+    }
+}
+
+/// What is told of a text: its mistake, or what it is answered where it has none.
+fn told(alloc: Global, text: &str) -> Result<String, Fail> {
     match mistake_in(alloc, text)? {
         Some(mistake) => Ok(format!(in alloc; "{mistake}")?),
-        None => Ok(format!(in alloc; "{fault}")?),
+        None => answer(alloc, text),
     }
+}
+
+#[test]
+fn what_texts_are_answered(rt: HostRuntime) -> Result<(), Fail> {
+    for case in [
+        " -> 0 and 0",
+        "x=1 -> entry 0 of the profile is not sound",
+        "device=3 -> entry 0 of the profile is not sound",
+        "device=[3] -> entry 1 of the profile is not sound",
+        "device=[{name='d1'}] -> entry 1 of the profile is not sound",
+        "device=[{name='d1',category='CashDrawer'}]\nspare=[{category='HardTotals'}] \
+        -> entry 2 of the profile is not sound",
+        "device=[{name='t1',category='HardTotals'},{name='t2',category='HardTotals'}] \
+        -> entry 2 of the profile is not sound",
+        "device=[{name='d1',category='CashDrawer'},{name='d1',category='CashDrawer'}] \
+        -> two devices of the profile have the name d1",
+        "device=[ -> the profile is no TOML document",
+    ] {
+        let (text, wanted) = case.split_once(" -> ").expect(&rt, "an arrow");
+        let line = answer(rt.alloc(), text)?;
+        assert_eq!(rt; line.as_str(), wanted, "{case}");
+    }
+    Ok(())
 }
 
 #[test]
@@ -51,6 +78,11 @@ fn what_is_told_of_documents(rt: HostRuntime) -> Result<(), Fail> {
         "spare=[{category='Scanner'},3] -> spare 2: must be a table",
         "spare=[{category='HardTotals'}] -> spare 1: category must be CashDrawer, Scanner, LineDisplay or POSPrinter",
         "spare=[{category='Scanner',name='s'}] -> spare 1: unknown key: name",
+        "spare=[{category='LineDisplay',rows=1,columns=1,ring=true,flaky=[1,1],record=true}] -> 0 and 1",
+        "spare=[{category='Scanner',ring=false}] -> spare 1: unknown key: ring",
+        "device=[{category='HardTotals',name='t',ring=true}] -> device 1: unknown key: ring",
+        "device=[{category='HardTotals',name='t',flaky=[1,1]}] -> device 1: unknown key: flaky",
+        "device=[{category='HardTotals',name='t',record=false}] -> device 1: unknown key: record",
     ] {
         let (text, wanted) = case.split_once(" -> ").expect(&rt, "an arrow");
         let line = told(rt.alloc(), text)?;
@@ -81,6 +113,25 @@ fn what_is_told_of_a_device_behind_totals(rt: HostRuntime) -> Result<(), Fail> {
         "category='POSPrinter',name='r',chars=0 -> device 2: chars must be 1 to 255",
         "category='POSPrinter',name='r',chars=1 -> device 2: lines must be 0 to 100000",
         "category='POSPrinter',name='r',chars=1,lines=0 -> device 2: near must be 0 to 100000",
+        "category='LineDisplay',name='p',rows=1,columns=1,ring=1 -> device 2: ring must be true or false",
+        "category='LineDisplay',name='p',rows=9,columns=1,ring=1 -> device 2: rows must be 1 to 8",
+        "category='CashDrawer',name='d',ring=true -> device 2: unknown key: ring",
+        "category='CashDrawer',name='d',record='true' -> device 2: record must be true or false",
+        "category='CashDrawer',name='d',flaky=true -> device 2: flaky must be an array of two numbers, \
+        each 0 to 1000000",
+        "category='CashDrawer',name='d',flaky=[] -> device 2: flaky must be an array of two numbers, each 0 to 1000000",
+        "category='CashDrawer',name='d',flaky=[1] -> device 2: flaky must be an array of two numbers, \
+        each 0 to 1000000",
+        "category='CashDrawer',name='d',flaky=[1,1,1] -> device 2: flaky must be an array of two numbers, \
+        each 0 to 1000000",
+        "category='CashDrawer',name='d',flaky=[1,1.0] -> device 2: flaky must be an array of two numbers, \
+        each 0 to 1000000",
+        "category='CashDrawer',name='d',flaky=[-1,1] -> device 2: flaky must be an array of two numbers, \
+        each 0 to 1000000",
+        "category='CashDrawer',name='d',flaky=[1000001,1] -> device 2: flaky must be an array of two numbers, \
+        each 0 to 1000000",
+        "category='CashDrawer',name='d',flaky=[1,1000001] -> device 2: flaky must be an array of two numbers, \
+        each 0 to 1000000",
     ] {
         let (device, wanted) = case.split_once(" -> ").expect(&rt, "an arrow");
         let text = format!(in rt.alloc();
@@ -120,6 +171,44 @@ fn texts_of_faults(rt: HostRuntime) -> Result<(), Fail> {
     Ok(())
 }
 
+/// How entries differ from plain ones, a line each.
+fn variations(alloc: Global, entries: &[Entry]) -> Result<String, Fail> {
+    let mut text = String::new(alloc);
+    for entry in entries {
+        let (ring, recorded) = (entry.ring, entry.recorded);
+        let line = match entry.flaky {
+            Some((first, times)) => {
+                format!(in alloc; "ring {ring}, flaky {first} {times}, recorded {recorded}\n")?
+            }
+            None => format!(in alloc; "ring {ring}, recorded {recorded}\n")?,
+        };
+        text.push_str(line.as_str())?;
+    }
+    Ok(text)
+}
+
+#[test]
+fn optional_keys_are_read(rt: HostRuntime) -> Result<(), Fail> {
+    let text = "device=[{name='d1',category='CashDrawer',flaky=[1,2],record=true},\
+        {name='s1',category='Scanner',flaky=[0,1000000]},{name='s2',category='Scanner',record=false},\
+        {name='p1',category='LineDisplay',rows=2,columns=4,ring=true},{name='t1',category='HardTotals'}]\n\
+        spare=[{category='LineDisplay',rows=2,columns=4,ring=false,flaky=[1000000,0],record=true},\
+        {category='POSPrinter',chars=8,lines=5,near=2,flaky=[3,4]}]";
+    let profile = read(rt.alloc(), text)?;
+    let devices = variations(rt.alloc(), profile.devices())?;
+    assert_eq!(rt;
+        devices.as_str(),
+        "ring false, flaky 1 2, recorded true\nring false, flaky 0 1000000, recorded false\n\
+        ring false, recorded false\nring true, recorded false\nring false, recorded false\n"
+    );
+    let spares = variations(rt.alloc(), profile.spares())?;
+    assert_eq!(rt;
+        spares.as_str(),
+        "ring false, flaky 1000000 0, recorded true\nring false, flaky 3 4, recorded false\n"
+    );
+    Ok(())
+}
+
 /// The built profile.
 const BUILT: &str = "spare=[{category='CashDrawer'}]\ndevice=[{name='d1',category='CashDrawer'},\
     {name='s1',category='Scanner'},{name='p1',category='LineDisplay',rows=2,columns=4},\
@@ -133,6 +222,9 @@ fn are_same(some: &[Entry], others: &[Entry]) -> bool {
                 && one.kind() == other.kind()
                 && one.category == other.category
                 && one.lines == other.lines
+                && one.ring == other.ring
+                && one.flaky == other.flaky
+                && one.recorded == other.recorded
         })
 }
 

@@ -46,7 +46,8 @@ held app line words rows option path same known found value =
     ap (first_of option) (sym all) ∙ value
 
 -- the text of the first word
-pub first_named : {X : Type 0} (text : X → Text) (words : List X) (word : X) (name : Text) → slice_get words 0 ≡ Some word → text word ≡ name → Names name (map text words)
+pub first_named : {X : Type 0} (text : X → Text) (words : List X) (word : X) (name : Text) → slice_get words 0 ≡ Some word → text word ≡ name
+    → Names name (map text words)
 first_named text words word name first same = slice_get-map text words 0 ∙ ap (option_map text) first ∙ ap Some same
 
 help_not_memory : (error : Error) → kind_of error ≡ DisplayHelp → kind_of error ≢ OutOfMemory

@@ -7,8 +7,8 @@ use Rattle.std.proofs.lemmas.List.{drop_all, drop_more, take-map, take_all}
 use Rattle.std.proofs.lemmas.List.Elements.{filter_map-append}
 use Rattle.std.proofs.lemmas.Slice.Eq.{bytes_eq-Decides}
 use Rattle.pos_profile.specs.declared.entry.Entry.{Entry}
-use Rattle.pos_profile.specs.declared.registry_fault.AttachFault.{AttachFault}
-use Rattle.pos_profile.specs.declared.registry_fault.AttachFault.TheVariants as attach
+use Rattle.pos_service.specs.declared.exchange_fault.AttachFault.{AttachFault}
+use Rattle.pos_service.specs.declared.exchange_fault.AttachFault.TheVariants as attach
 use Rattle.pos_profile.specs.Kinds.{kind_of, kind_with}
 use Rattle.pos_profile.specs.Profiles.{is_repeated, names_of, stands_after}
 use Rattle.pos_profile.specs.Registries.{vacant_devices}
@@ -32,17 +32,19 @@ the_same : {A : Type 0} {a b : A} → Some a ≡ Some b → a ≡ b
 the_same same = cc
 
 -- a peripheral of its kind isn't refused at a vacant device
-no_refusal : (old new : Machine) (name : List ℕ) (station : Station) (fault : AttachFault) → kind_named old name ≡ Some station.kind → station_named old name ≡ None → Step old (Attach name station) (NotAttached fault) new → ⊥
-no_refusal old new name station attach.Unknown is vacant (none, same) =
+no_refusal : (old new : Machine) (name : List ℕ) (station : Station) (fault : AttachFault) (given : Station)
+    → kind_named old name ≡ Some station.kind → station_named old name ≡ None → Step old (Attach name station) (NotAttached fault given) new → ⊥
+no_refusal old new name station attach.Unknown given is vacant (none, gave, same) =
     let both : Some station.kind ≡ None = sym is ∙ none in
     cc
-no_refusal old new name station attach.KindDiffers is vacant (other, same) = other.differs (the_same (sym is ∙ other.named))
-no_refusal old new name station attach.InUse is vacant (there, same) =
+no_refusal old new name station attach.KindDiffers given is vacant (other, gave, same) = other.differs (the_same (sym is ∙ other.named))
+no_refusal old new name station attach.InUse given is vacant (there, gave, same) =
     let none : is_some (station_named old name) ≡ false = ap is_some vacant in
     let both : true ≡ false = sym there ∙ none in
     cc
 
-module _ (old new : Machine) (name : List ℕ) (station : Station) (place : ℕ) (device : Device) (found : place_of old.devices name ≡ Some place) (there : slice_get old.devices place ≡ Some device) (is : device.kind ≡ Some station.kind) (vacant : device.station ≡ None) where
+module _ (old new : Machine) (name : List ℕ) (station : Station) (place : ℕ) (device : Device) (found : place_of old.devices name ≡ Some place)
+    (there : slice_get old.devices place ≡ Some device) (is : device.kind ≡ Some station.kind) (vacant : device.station ≡ None) where
   named : device_at old.devices (place_of old.devices name) ≡ Some device
   named = ap (device_at old.devices) found ∙ there
 
@@ -54,7 +56,7 @@ module _ (old new : Machine) (name : List ℕ) (station : Station) (place : ℕ)
       done.machine
       ∙ ap (λ (p : ℕ). with_standing old p done.device (Some station)) at
       ∙ ap (λ (d : Device). with_standing old place d (Some station)) of
-  stands (NotAttached fault) step = absurd (no_refusal old new name station fault (ap kind_in named ∙ is) (ap station_in named ∙ vacant) step)
+  stands (NotAttached fault given) step = absurd (no_refusal old new name station fault given (ap kind_in named ∙ is) (ap station_in named ∙ vacant) step)
   stands (Made number) step = absurd step
   stands Full step = absurd step
   stands (Answered answer) step = absurd step
@@ -62,7 +64,7 @@ module _ (old new : Machine) (name : List ℕ) (station : Station) (place : ℕ)
   stands NoDevice step = absurd step
   stands WrongInput step = absurd step
   stands (Delivered event) step = absurd step
-  stands (Shown plant) step = absurd step
+  stands (Shown shown) step = absurd step
   stands (Worked result) step = absurd step
   stands (Detached gone) step = absurd step
   stands (NotDetached fault) step = absurd step
@@ -82,21 +84,24 @@ partly front back totals = filter_map served front ++ (filter_map unserved back 
 
 -- the machine where so many of the entries' devices are served
 abbrev pub begun_partly : List Entry → ℕ → TotalsPart → Machine
-begun_partly entries i part = machine_with [] (replicate (length (profile_devices entries)) None) (partly (take i entries) (drop i entries) (totals_name entries)) part
+begun_partly entries i part = machine_with [] (replicate (length (profile_devices entries)) None)
+    (partly (take i entries) (drop i entries) (totals_name entries)) part
 
 -- at first all are vacant
 all_vacant : (entries : List Entry) → map device_of (vacant_devices entries) ≡ filter_map unserved entries
 all_vacant [] = refl
 all_vacant (entry ∷ entries) = by (kind_of entry) refl (all_vacant entries)
   where
-    by : (kind : Option Kind) → kind_of entry ≡ kind → map device_of (vacant_devices entries) ≡ filter_map unserved entries → map device_of (vacant_devices (entry ∷ entries)) ≡ filter_map unserved (entry ∷ entries)
+    by : (kind : Option Kind) → kind_of entry ≡ kind → map device_of (vacant_devices entries) ≡ filter_map unserved entries
+        → map device_of (vacant_devices (entry ∷ entries)) ≡ filter_map unserved (entry ∷ entries)
     by None is rest = rw is rest
     by (Some kind) is rest = rw is (ap (λ (ds : List Device). device_with entry.name kind None ∷ ds) rest)
 
 vacant_profile : (entries : List Entry) → profile_devices entries ≡ partly [] entries (totals_name entries)
 vacant_profile entries = ap (λ (ds : List Device). ds ++ totals_devices (totals_name entries)) (all_vacant entries)
 
-pub begins_partly : (entries : List Entry) (part : TotalsPart) → machine_with [] (replicate (length (profile_devices entries)) None) (profile_devices entries) part ≡ begun_partly entries 0 part
+pub begins_partly : (entries : List Entry) (part : TotalsPart)
+    → machine_with [] (replicate (length (profile_devices entries)) None) (profile_devices entries) part ≡ begun_partly entries 0 part
 begins_partly entries part = ap (λ (ds : List Device). machine_with [] (replicate (length (profile_devices entries)) None) ds part) (vacant_profile entries)
 
 -- as many are served in the end as were vacant at first
@@ -104,16 +109,20 @@ as_many : (entries : List Entry) (rest : List Device) → length (filter_map uns
 as_many [] rest = refl
 as_many (entry ∷ entries) rest = by (kind_of entry) refl (as_many entries rest)
   where
-    by : (kind : Option Kind) → kind_of entry ≡ kind → length (filter_map unserved entries ++ rest) ≡ length (filter_map served entries ++ rest) → length (filter_map unserved (entry ∷ entries) ++ rest) ≡ length (filter_map served (entry ∷ entries) ++ rest)
+    by : (kind : Option Kind) → kind_of entry ≡ kind → length (filter_map unserved entries ++ rest) ≡ length (filter_map served entries ++ rest)
+        → length (filter_map unserved (entry ∷ entries) ++ rest) ≡ length (filter_map served (entry ∷ entries) ++ rest)
     by None is more = rw is more
     by (Some kind) is more = rw is (ap (λ (n : ℕ). suc n) more)
 
 -- in the end all are served
-pub ends_whole : (entries : List Entry) (i : ℕ) (part : TotalsPart) → length entries ≤ i → begun_partly entries i part ≡ begun_with (simulated_devices entries) part
+pub ends_whole : (entries : List Entry) (i : ℕ) (part : TotalsPart) → length entries ≤ i
+    → begun_partly entries i part ≡ begun_with (simulated_devices entries) part
 ends_whole entries i part all =
     let totals = totals_name entries in
-    let count : length (profile_devices entries) ≡ length (simulated_devices entries) = ap length (vacant_profile entries) ∙ as_many entries (totals_devices totals) in
-    ap (λ (front : List Entry). machine_with [] (replicate (length (profile_devices entries)) None) (partly front (drop i entries) totals) part) (take_all i entries all)
+    let count : length (profile_devices entries) ≡ length (simulated_devices entries) =
+    ap length (vacant_profile entries) ∙ as_many entries (totals_devices totals) in
+    ap (λ (front : List Entry). machine_with [] (replicate (length (profile_devices entries)) None) (partly front (drop i entries) totals) part)
+    (take_all i entries all)
     ∙ ap (λ (back : List Entry). machine_with [] (replicate (length (profile_devices entries)) None) (partly entries back totals) part) (drop_all i entries all)
     ∙ ap (λ (n : ℕ). machine_with [] (replicate n None) (simulated_devices entries) part) count
 
@@ -130,15 +139,23 @@ then_false true b is = absurd (by is)
 then_false false b is = is
 
 -- a device whose name no entry before it has is found behind them
-found_behind : (name : List ℕ) (front : List Entry) (at : ℕ) (device : Device) (back : List Device) → list_any (bytes_eq name) (names_of front) ≡ false → bytes_eq name device.name ≡ true → place_from at name (filter_map served front ++ device ∷ back) ≡ Some (at + length (filter_map served front))
+found_behind : (name : List ℕ) (front : List Entry) (at : ℕ) (device : Device) (back : List Device)
+    → list_any (bytes_eq name) (names_of front) ≡ false → bytes_eq name device.name ≡ true
+    → place_from at name (filter_map served front ++ device ∷ back) ≡ Some (at + length (filter_map served front))
 found_behind name [] at device back none same = ap (λ b. cond b (Some at) (place_from (at + 1) name back)) same ∙ ap (λ (n : ℕ). Some n) (omega arith)
 found_behind name (entry ∷ front) at device back none same =
     let others = then_false (bytes_eq name entry.name) _ none in
-    by (kind_of entry) refl (first_false (bytes_eq name entry.name) _ none) (found_behind name front at device back others same) (found_behind name front (at + 1) device back others same)
+    by (kind_of entry) refl (first_false (bytes_eq name entry.name) _ none) (found_behind name front at device back others same)
+    (found_behind name front (at + 1) device back others same)
   where
-    by : (kind : Option Kind) → kind_of entry ≡ kind → bytes_eq name entry.name ≡ false → place_from at name (filter_map served front ++ device ∷ back) ≡ Some (at + length (filter_map served front)) → place_from (at + 1) name (filter_map served front ++ device ∷ back) ≡ Some ((at + 1) + length (filter_map served front)) → place_from at name (filter_map served (entry ∷ front) ++ device ∷ back) ≡ Some (at + length (filter_map served (entry ∷ front)))
+    by : (kind : Option Kind) → kind_of entry ≡ kind → bytes_eq name entry.name ≡ false
+        → place_from at name (filter_map served front ++ device ∷ back) ≡ Some (at + length (filter_map served front))
+        → place_from (at + 1) name (filter_map served front ++ device ∷ back) ≡ Some ((at + 1) + length (filter_map served front))
+        → place_from at name (filter_map served (entry ∷ front) ++ device ∷ back) ≡ Some (at + length (filter_map served (entry ∷ front)))
     by None is differs here next = rw is here
-    by (Some kind) is differs here next = rw is (ap (λ b. cond b (Some at) (place_from (at + 1) name (filter_map served front ++ device ∷ back))) differs ∙ next ∙ ap (λ (n : ℕ). Some n) (omega arith))
+    by (Some kind) is differs here next =
+        rw is (ap (λ b. cond b (Some at) (place_from (at + 1) name (filter_map served front ++ device ∷ back))) differs ∙ next
+        ∙ ap (λ (n : ℕ). Some n) (omega arith))
 
 -- what stands behind some devices
 there_behind : (front : List Device) (device : Device) (back : List Device) → slice_get (front ++ device ∷ back) (length front) ≡ Some device
@@ -146,7 +163,8 @@ there_behind [] device back = refl
 there_behind (first ∷ front) device back = there_behind front device back
 
 -- what is simulated for an entry is of its kind
-kind_fits : (category : Category) (entry : Entry) (state : PeripheralState) → simulated_with category entry ≡ Some state → kind_with category entry ≡ Some state.kind
+kind_fits : (category : Category) (entry : Entry) (state : PeripheralState) → simulated_with category entry ≡ Some state
+    → kind_with category entry ≡ Some state.kind
 kind_fits CashDrawer entry state is = ap (λ (s : PeripheralState). Some s.kind) (the_same is)
 kind_fits Scanner entry state is = ap (λ (s : PeripheralState). Some s.kind) (the_same is)
 kind_fits LineDisplay entry state is = ap (λ (s : PeripheralState). Some s.kind) (the_same is)
@@ -162,7 +180,8 @@ no_kind PosPrinter entry is = cc
 no_kind HardTotals entry is = refl
 
 -- the name of an entry isn't that of an earlier one
-unnamed_before : (entries : List Entry) (i : ℕ) (entry : Entry) → i < length entries → entry ≡ get_or entries i entry → is_repeated (names_of entries) i ≡ false → list_any (bytes_eq entry.name) (names_of (take i entries)) ≡ false
+unnamed_before : (entries : List Entry) (i : ℕ) (entry : Entry) → i < length entries → entry ≡ get_or entries i entry
+    → is_repeated (names_of entries) i ≡ false → list_any (bytes_eq entry.name) (names_of (take i entries)) ≡ false
 unnamed_before entries i entry lt is single =
     ap (λ (names : List (List ℕ)). stands_after names (Some entry.name)) (sym (take-map (λ (e : Entry). e.name) i entries))
     ∙ ap (stands_after (take i (names_of entries))) (sym (name_at entries i entry lt is)) ∙ single
@@ -191,22 +210,31 @@ module _ (entries : List Entry) (i : ℕ) (entry : Entry) (lt : i < length entri
       let nothing : filter_map served (entry ∷ []) ≡ [] = rw none refl in
       let same : filter_map unserved (entry ∷ drop (i + 1) entries) ≡ filter_map unserved (drop (i + 1) entries) = rw none refl in
       let more : front ≡ filter_map served (take (i + 1) entries) = sym (served_more ∙ ap (λ (ds : List Device). front ++ ds) nothing ∙ append-nil front) in
-      ap (λ (ds : List Device). machine_with [] (replicate (length (profile_devices entries)) None) (front ++ (ds ++ totals_devices totals)) part) (ap (filter_map unserved) one_less ∙ same)
+      ap (λ (ds : List Device). machine_with [] (replicate (length (profile_devices entries)) None) (front ++ (ds ++ totals_devices totals)) part)
+      (ap (filter_map unserved) one_less ∙ same)
       ∙ ap (λ (ds : List Device). machine_with [] (replicate (length (profile_devices entries)) None) (ds ++ back) part) more
 
   -- one more device is served
-  pub serves_more : (part : TotalsPart) (old new : Machine) (state : PeripheralState) (response : Response) → simulated_for entry ≡ Some state → is_repeated (names_of entries) i ≡ false → old ≡ begun_partly entries i part → Step old (Attach entry.name (station_of state)) response new → new ≡ begun_partly entries (i + 1) part
+  pub serves_more : (part : TotalsPart) (old new : Machine) (state : PeripheralState) (response : Response) → simulated_for entry ≡ Some state
+      → is_repeated (names_of entries) i ≡ false → old ≡ begun_partly entries i part → Step old (Attach entry.name (station_of state)) response new
+      → new ≡ begun_partly entries (i + 1) part
   serves_more part old new state response simulated single begun step =
       let kind : kind_of entry ≡ Some state.kind = kind_fits entry.category entry state simulated in
       let vacant = device_with entry.name state.kind None in
       let full = device_with entry.name state.kind (Some state) in
       let over = λ (ds : List Device). machine_with [] (replicate (length (profile_devices entries)) None) ds part in
       let taken : filter_map unserved (entry ∷ drop (i + 1) entries) ≡ vacant ∷ filter_map unserved (drop (i + 1) entries) = rw kind refl in
-      let one : filter_map served (entry ∷ []) ≡ full ∷ [] = rw kind (ap (λ (s : Option PeripheralState). device_with entry.name state.kind s ∷ []) simulated) in
-      let whole : partly (take i entries) (drop i entries) totals ≡ front ++ vacant ∷ back = ap (λ (ds : List Device). front ++ (ds ++ totals_devices totals)) (ap (filter_map unserved) one_less ∙ taken) in
+      let one : filter_map served (entry ∷ []) ≡ full ∷ [] =
+      rw kind (ap (λ (s : Option PeripheralState). device_with entry.name state.kind s ∷ []) simulated) in
+      let whole : partly (take i entries) (drop i entries) totals ≡ front ++ vacant ∷ back =
+      ap (λ (ds : List Device). front ++ (ds ++ totals_devices totals)) (ap (filter_map unserved) one_less ∙ taken) in
       let before : old ≡ over (front ++ vacant ∷ back) = begun ∙ ap over whole in
-      let found : place_of (front ++ vacant ∷ back) entry.name ≡ Some (length front) = found_behind entry.name (take i entries) 0 vacant back (unnamed_before entries i entry lt is single) ((bytes_eq-Decides entry.name entry.name).1 refl) ∙ ap (λ (n : ℕ). Some n) (omega arith) in
-      let stood = stands (over (front ++ vacant ∷ back)) new entry.name (station_of state) (length front) vacant found (there_behind front vacant back) refl refl response (subst (λ (m : Machine). Step m (Attach entry.name (station_of state)) response new) before step) in
+      let found : place_of (front ++ vacant ∷ back) entry.name ≡ Some (length front) =
+      found_behind entry.name (take i entries) 0 vacant back (unnamed_before entries i entry lt is single)
+      ((bytes_eq-Decides entry.name entry.name).1 refl) ∙ ap (λ (n : ℕ). Some n) (omega arith) in
+      let stood = stands (over (front ++ vacant ∷ back)) new entry.name (station_of state) (length front) vacant found
+      (there_behind front vacant back) refl refl response
+      (subst (λ (m : Machine). Step m (Attach entry.name (station_of state)) response new) before step) in
       let after : front ++ full ∷ back ≡ partly (take (i + 1) entries) (drop (i + 1) entries) totals =
       sym (append_assoc front (full ∷ []) back) ∙ ap (λ (ds : List Device). ds ++ back) (sym (served_more ∙ ap (λ (ds : List Device). front ++ ds) one)) in
       stood ∙ ap over (set-append_seam front vacant back full ∙ after)

@@ -1,6 +1,9 @@
 pub mod NameLemmas
 pub mod SpareLemmas
 pub mod Sessions
+pub mod Finishing
+pub mod ReadLemmas
+pub mod PieceLemmas
 pub mod Starting
 pub mod Filling
 pub mod Profiling

@@ -35,35 +35,42 @@ none_taken spares zero none = refl
 none_taken spares (suc place) none = vacated spares place none
 
 -- a spare that is put back is where it was
-returned : (spares : SpareStates) (place : ℕ) (state : PeripheralState) → option_and_then (λ spare. spare) (slice_get spares place) ≡ Some state → set (set spares place None) place (Some state) ≡ spares
+returned : (spares : SpareStates) (place : ℕ) (state : PeripheralState) → option_and_then (λ spare. spare) (slice_get spares place) ≡ Some state
+    → set (set spares place None) place (Some state) ≡ spares
 returned [] place state there = cc
 returned (None ∷ spares) zero state there = cc
 returned (Some first ∷ spares) zero state there = ap (λ (s : Option PeripheralState). s ∷ spares) (sym there)
 returned (first ∷ spares) (suc place) state there = ap (λ (ss : SpareStates). first ∷ ss) (returned spares place state there)
 
-pub put_back : (spares : SpareStates) (number : ℕ) (state : PeripheralState) → spare_at spares number ≡ Some state → with_spare (with_spare spares number None) number (Some state) ≡ spares
+pub put_back : (spares : SpareStates) (number : ℕ) (state : PeripheralState) → spare_at spares number ≡ Some state
+    → with_spare (with_spare spares number None) number (Some state) ≡ spares
 put_back spares zero state there = cc
 put_back spares (suc place) state there = returned spares place state there
 
 -- the place of one that was taken is empty
-emptied : (spares : SpareStates) (place : ℕ) (state : PeripheralState) → option_and_then (λ spare. spare) (slice_get spares place) ≡ Some state → slice_get (set spares place None) place ≡ Some None
+emptied : (spares : SpareStates) (place : ℕ) (state : PeripheralState) → option_and_then (λ spare. spare) (slice_get spares place) ≡ Some state
+    → slice_get (set spares place None) place ≡ Some None
 emptied [] place state there = cc
 emptied (first ∷ spares) zero state there = refl
 emptied (first ∷ spares) (suc place) state there = emptied spares place state there
 
-pub empty_taken : (spares : SpareStates) (number : ℕ) (state : PeripheralState) → spare_at spares number ≡ Some state → IsEmptyAt (with_spare spares number None) number
+pub empty_taken : (spares : SpareStates) (number : ℕ) (state : PeripheralState) → spare_at spares number ≡ Some state
+    → IsEmptyAt (with_spare spares number None) number
 empty_taken spares zero state there = cc
 empty_taken spares (suc place) state there = (place, refl, emptied spares place state there)
 
 -- the spare of a number is what its place has
-pub spare_is : (spares : SpareStates) (number place : ℕ) (spare : Option PeripheralState) → number ≡ suc place → slice_get spares place ≡ Some spare → spare_at spares number ≡ spare
+pub spare_is : (spares : SpareStates) (number place : ℕ) (spare : Option PeripheralState) → number ≡ suc place → slice_get spares place ≡ Some spare
+    → spare_at spares number ≡ spare
 spare_is spares number place spare is at = ap (spare_at spares) is ∙ ap (option_and_then (λ s. s)) at
 
-pub with_is : (spares : SpareStates) (number place : ℕ) (spare : Option PeripheralState) → number ≡ suc place → set spares place spare ≡ with_spare spares number spare
+pub with_is : (spares : SpareStates) (number place : ℕ) (spare : Option PeripheralState) → number ≡ suc place
+    → set spares place spare ≡ with_spare spares number spare
 with_is spares number place spare is = sym (ap (λ n. with_spare spares n spare) is)
 
 -- a place isn't empty and taken
-not_both : (spares : SpareStates) (number place : ℕ) (state : PeripheralState) → number ≡ suc place → IsEmptyAt spares number → slice_get spares place ≡ Some (Some state) → ⊥
+not_both : (spares : SpareStates) (number place : ℕ) (state : PeripheralState) → number ≡ suc place → IsEmptyAt spares number
+    → slice_get spares place ≡ Some (Some state) → ⊥
 not_both spares number place state is (other, same, none) at =
     let places : place ≡ other = omega (arith, is, same) in
     let here : slice_get spares place ≡ Some None = ap (slice_get spares) places ∙ none in
@@ -72,31 +79,40 @@ not_both spares number place state is (other, same, none) at =
 
 module _ {P : Type 0} (peripherals : Ghosts P) (list : List (Option P)) (place : ℕ) where
   -- what is at the place of a box
-  pub state_there : (spare : Option P) → place < length list → spare ≡ get_or list place spare → slice_get (states_in peripherals list) place ≡ Some (option_map peripherals.state spare)
+  pub state_there : (spare : Option P) → place < length list → spare ≡ get_or list place spare
+      → slice_get (states_in peripherals list) place ≡ Some (option_map peripherals.state spare)
   state_there spare within at =
-      slice_get-map (option_map peripherals.state) list place ∙ ap (option_map (option_map peripherals.state)) (slice_get_read list (length list) place spare refl within at)
+      slice_get-map (option_map peripherals.state) list place
+      ∙ ap (option_map (option_map peripherals.state)) (slice_get_read list (length list) place spare refl within at)
 
   -- the box that is there is in service
   serving : (spare : Option P) → IsInService (option_map peripherals.state spare) → IfSome spare (λ b. (peripherals.state b).is_parked ≡ false)
   serving None h = tt
   serving (Some b) h = h
 
-  pub serves_there : (spare : Option P) → All IsInService (states_in peripherals list) → place < length list → spare ≡ get_or list place spare → IfSome spare (λ b. (peripherals.state b).is_parked ≡ false)
+  pub serves_there : (spare : Option P) → All IsInService (states_in peripherals list) → place < length list → spare ≡ get_or list place spare
+      → IfSome spare (λ b. (peripherals.state b).is_parked ≡ false)
   serves_there spare all within at =
       let count : length (states_in peripherals list) ≡ length list = length-map list (option_map peripherals.state) in
-      let there : get_or (states_in peripherals list) place (option_map peripherals.state spare) ≡ option_map peripherals.state spare = get_or-map (option_map peripherals.state) list place spare (option_map peripherals.state spare) within ∙ ap (option_map peripherals.state) (sym at) in
+      let there : get_or (states_in peripherals list) place (option_map peripherals.state spare) ≡ option_map peripherals.state spare =
+      get_or-map (option_map peripherals.state) list place spare (option_map peripherals.state spare) within ∙ ap (option_map peripherals.state) (sym at) in
       serving spare (subst IsInService there (all place (option_map peripherals.state spare) (omega (arith, count, within))))
 
   -- another box, or none, is put there
-  pub states_set : (spare : Option P) → states_in peripherals (set list place spare) ≡ set (states_in peripherals list) place (option_map peripherals.state spare)
+  pub states_set : (spare : Option P)
+      → states_in peripherals (set list place spare) ≡ set (states_in peripherals list) place (option_map peripherals.state spare)
   states_set spare = map-set (option_map peripherals.state) list place spare
 
-  pub service_set : (spare : Option P) → All IsInService (states_in peripherals list) → IsInService (option_map peripherals.state spare) → All IsInService (states_in peripherals (set list place spare))
-  service_set spare all one = subst (All IsInService) (sym (states_set spare)) (All-set IsInService (states_in peripherals list) place (option_map peripherals.state spare) one all)
+  pub service_set : (spare : Option P) → All IsInService (states_in peripherals list) → IsInService (option_map peripherals.state spare)
+      → All IsInService (states_in peripherals (set list place spare))
+  service_set spare all one = subst (All IsInService) (sym (states_set spare))
+      (All-set IsInService (states_in peripherals list) place (option_map peripherals.state spare) one all)
 
   -- the place of a number that is empty has no box
-  pub no_box : (number : ℕ) (spare : Option P) (other : P) → number ≡ suc place → IsEmptyAt (states_in peripherals list) number → spare ≡ get_or list place spare → spare ≡ Some other → ⊥
+  pub no_box : (number : ℕ) (spare : Option P) (other : P) → number ≡ suc place → IsEmptyAt (states_in peripherals list) number
+      → spare ≡ get_or list place spare → spare ≡ Some other → ⊥
   no_box number spare other is (empty, same, none) at some =
       let count : length (states_in peripherals list) ≡ length list = length-map list (option_map peripherals.state) in
       let within : place < length list = omega (arith, is, same, count, slice_get_within (states_in peripherals list) empty None none) in
-      not_both (states_in peripherals list) number place (peripherals.state other) is (empty, same, none) (state_there spare within at ∙ ap (λ (o : Option P). Some (option_map peripherals.state o)) some)
+      not_both (states_in peripherals list) number place (peripherals.state other) is (empty, same, none)
+      (state_there spare within at ∙ ap (λ (o : Option P). Some (option_map peripherals.state o)) some)

@@ -1,5 +1,5 @@
 -- What the program does to a counter as it carries out lines (docs/CONSOLE.md, "Answers").
-use Rattle.std.specs.Prelude.{ℕ, List, Option, Some, Result, option_map, MatchResult}
+use Rattle.std.specs.Prelude.{◌≡◌, ◌++◌, ◌⊎◌, ◌∷◌, [], ℕ, List, Option, Some, Result, option_map, MatchResult, OnOk}
 use Rattle.pos_disk.specs.declared.device.Disk.{Ghosts as DiskGhosts}
 use Rattle.pos_service.specs.declared.peripheral.Peripheral.{Ghosts}
 use Rattle.pos_counter.specs.declared.counter.Counter.{Counter}
@@ -12,11 +12,14 @@ use Rattle.pos_run.specs.declared.spares.Spares.{Spares}
 use Rattle.pos_script.specs.declared.reply.Reply.{Reply}
 use Rattle.pos_run.specs.Names.{ControlNames, names_of}
 use Rattle.pos_run.specs.Spares.{SpareStates, spares_in}
-use Rattle.pos_script.specs.Lines.{lines_of}
-use Rattle.pos_script.specs.Commands.{Asking}
+use Rattle.pos_script.specs.declared.line_buffer.Line.{Line}
+use Rattle.pos_script.specs.LineBuffers.{IsHeld, IsLine, Kept, StandsFor}
+use Rattle.pos_script.specs.Lines.{complete_lines, lines_of}
+use Rattle.pos_script.specs.Commands.{LineRequest}
 use Rattle.pos_script.specs.Text.{reply_text}
 use Rattle.pos_run.specs.Transcript.{Session, session_with, CarriesOut, AskingBecomes, LineBecomes}
 use Rattle.pos_run.specs.Running.{Finishes, Stops}
+use Rattle.pos_run.specs.Streams.{Writing}
 
 -- the session of these names of controls and these spares
 abbrev pub session_of : {P : Type 0} → Ghosts P → Names → Spares P → Session
@@ -24,26 +27,26 @@ session_of peripherals names spares = session_with (names_of names) (spares_in p
 
 -- what a line asks is carried out on a counter, with a session before and one after, and replied to
 abbrev pub CarriesOutAsking : {D P : Type 0} → DiskGhosts D → Ghosts P
-    → Counter D P → Session → Asking → Reply → Session → Counter D P → Type 0
+    → Counter D P → Session → LineRequest → Reply → Session → Counter D P → Type 0
 CarriesOutAsking bound peripherals old session asking reply after new =
     CarriesOut (IsRun bound peripherals) old (AskingBecomes session asking) (Some (reply_text reply)) after new
 
 -- what a line asks of a control is carried out, with these names of controls before and after, whatever the spares are
 abbrev pub CarriesOutAtControl : {D P : Type 0} → DiskGhosts D → Ghosts P
-    → Counter D P → Names → Asking → Reply → Names → Counter D P → Type 0
+    → Counter D P → Names → LineRequest → Reply → Names → Counter D P → Type 0
 CarriesOutAtControl bound peripherals old names asking reply after new = (spares : SpareStates)
     → CarriesOutAsking bound peripherals old (session_with (names_of names) spares) asking reply
     (session_with (names_of after) spares) new
 
 -- what a line asks of a device is carried out, whatever the session is, which stays
 abbrev pub CarriesOutAtDevice : {D P : Type 0} → DiskGhosts D → Ghosts P
-    → Counter D P → Asking → Reply → Counter D P → Type 0
+    → Counter D P → LineRequest → Reply → Counter D P → Type 0
 CarriesOutAtDevice bound peripherals old asking reply new =
     (session : Session) → CarriesOutAsking bound peripherals old session asking reply session new
 
 -- what a line asks with a spare is carried out, with these spares before and after, whatever the names of controls are
 abbrev pub CarriesOutWithSpare : {D P : Type 0} → DiskGhosts D → Ghosts P
-    → Counter D P → SpareStates → Asking → Reply → SpareStates → Counter D P → Type 0
+    → Counter D P → SpareStates → LineRequest → Reply → SpareStates → Counter D P → Type 0
 CarriesOutWithSpare bound peripherals old spares asking reply after new = (names : ControlNames)
     → CarriesOutAsking bound peripherals old (session_with names spares) asking reply (session_with names after) new
 
@@ -53,15 +56,59 @@ abbrev pub CarriesOutLine : {D P : Type 0} → DiskGhosts D → Ghosts P
 CarriesOutLine bound peripherals old session line reply after new =
     CarriesOut (IsRun bound peripherals) old (LineBecomes session line) (option_map reply_text reply) after new
 
--- the lines of a script are carried out, all of them or as far as they can be written, with these spares before and
--- after
+-- what was read of a line decides what becomes of it: the line is carried out, and replied to if it isn't quiet
+abbrev pub CarriesOutRead : {D P : Type 0} → DiskGhosts D → Ghosts P
+    → Counter D P → Session → Line → Option Reply → Session → Counter D P → Type 0
+CarriesOutRead bound peripherals old session line reply after new = (bytes : List ℕ) → IsLine line bytes
+    → CarriesOutLine bound peripherals old session bytes reply after new
+
+-- lines are carried out from one session to another, all of them or as far as they can be written
 abbrev pub CarriesOutLines : {D P E : Type 0} → DiskGhosts D → Ghosts P
-    → Counter D P → SpareStates → List ℕ → Option (List ℕ) → Option (List ℕ) → Result (Unit {0}) E → SpareStates
+    → Counter D P → Session → List (List ℕ) → Option (List ℕ) → Option (List ℕ) → Result (Unit {0}) E → Session
     → Counter D P → Type 0
-CarriesOutLines bound peripherals old spares input before after result left new =
+CarriesOutLines bound peripherals old session lines before after result left new =
     MatchResult result
-    (λ u. Finishes (IsRun bound peripherals) old spares (lines_of input) before after left new)
-    (λ fault. Stops (IsRun bound peripherals) old spares (lines_of input) before after left new)
+    (λ u. Finishes (IsRun bound peripherals) old session lines before after left new)
+    (λ fault. Stops (IsRun bound peripherals) old session lines before after left new)
+
+-- what is held of a line decides what becomes of it: the line is carried out, and written as far as it can be
+abbrev pub CarriesOutHeld : {D P E : Type 0} → DiskGhosts D → Ghosts P
+    → Counter D P → Session → Kept → Option (List ℕ) → Option (List ℕ) → Result (Unit {0}) E → Session
+    → Counter D P → Type 0
+CarriesOutHeld bound peripherals old session held before after result left new = (line : List ℕ) → IsHeld held line
+    → CarriesOutLines bound peripherals old session (line ∷ []) before after result left new
+
+-- behind what was read a piece ends lines, which are carried out; where they all are, what is held then stands for
+-- what is unfinished
+abbrev pub CarriesOutPiece : {D P E : Type 0} → DiskGhosts D → Ghosts P
+    → Counter D P → Session → Kept → List ℕ → Option (List ℕ) → Option (List ℕ) → Result (Unit {0}) E → Kept → Session
+    → Counter D P → Type 0
+CarriesOutPiece bound peripherals old session held piece before after result held_after left new =
+    (read : List ℕ) → StandsFor held read
+    → (lines : List (List ℕ)) × (complete_lines (read ++ piece) ≡ complete_lines read ++ lines)
+    × CarriesOutLines bound peripherals old session lines before after result left new
+    × OnOk result (StandsFor held_after (read ++ piece))
+
+-- at the end of what was read its last line is carried out, if there is one
+abbrev pub CarriesOutLast : {D P E : Type 0} → DiskGhosts D → Ghosts P
+    → Counter D P → Session → Kept → Option (List ℕ) → Option (List ℕ) → Result (Unit {0}) E → Session
+    → Counter D P → Type 0
+CarriesOutLast bound peripherals old session held before after result left new =
+    (read : List ℕ) → StandsFor held read
+    → (lines : List (List ℕ)) × (lines_of read ≡ complete_lines read ++ lines)
+    × CarriesOutLines bound peripherals old session lines before after result left new
+
+-- likewise, and all that was printed is handed on, or could not be
+abbrev pub CarriesOutEnd : {D P E : Type 0} → DiskGhosts D → Ghosts P
+    → Counter D P → Session → Kept → Writing → Writing → Result (Unit {0}) E → Session → Counter D P → Type 0
+CarriesOutEnd bound peripherals old session held before after result left new =
+    (read : List ℕ) → StandsFor held read
+    → (lines : List (List ℕ)) × (lines_of read ≡ complete_lines read ++ lines)
+    × MatchResult result
+    (λ u. Finishes (IsRun bound peripherals) old session lines before.contents after.contents left new
+    × (after.held ≡ []))
+    (λ fault. Stops (IsRun bound peripherals) old session lines before.contents after.contents left new
+    ⊎ Finishes (IsRun bound peripherals) old session lines before.contents after.contents left new)
 
 -- from an old counter to a new one, a run; and for all that the disk may leave before it, a crash at any moment of the
 -- run leaves what may be left before or after one of its steps, and one after the run what may be left after the last

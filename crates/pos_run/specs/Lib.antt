@@ -1,6 +1,7 @@
 pub mod Names
 pub mod Spares
 pub mod Transcript
+pub mod Streams
 pub mod Running
 pub mod Carried
 pub mod Simulating

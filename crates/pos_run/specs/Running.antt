@@ -1,6 +1,6 @@
 -- What a run of a script leaves (docs/CONSOLE.md, "The program").
-use Rattle.std.specs.Prelude.{◌≡◌, ◌++◌, ◌<◌, ◌∷◌, [], ℕ, length, replicate, List, Option, Some, None, Result, Ok, Err, IfSome, option_map}
-use Rattle.std.specs.Io.KnownBytes.{Appends, Keeps}
+use Rattle.std.specs.Prelude.{◌≡◌, ◌++◌, ◌<◌, ◌∷◌, ◌⊎◌, [], ℕ, false, length, replicate, List, Option, Some, None, Result, Ok, Err, option_map}
+use Rattle.std.specs.Io.KnownBytes.{Appends, Consumes, IsAtEnd}
 use Rattle.pos_counter.specs.Machine.{Device, Machine}
 use Rattle.pos_service.specs.declared.kind.Kind.{Kind}
 use Rattle.pos_totals.specs.HardTotals.{Off}
@@ -9,69 +9,78 @@ use Rattle.pos_service.specs.Stations.{station_of}
 use Rattle.pos_store.specs.Standing.{Standing}
 use Rattle.pos_counter.specs.Assembly.{machine_with}
 use Rattle.pos_counter.specs.Totals.{TotalsPart}
+use Rattle.pos_run.specs.declared.reading.ReadState.{ReadState}
+use Rattle.pos_run.specs.declared.reading.ReadState.TheVariants.{Open, Ended, Failed}
 use Rattle.pos_run.specs.declared.scripts.RunFault.{RunFault}
 use Rattle.pos_run.specs.declared.scripts.RunFault.TheVariants as fault
-use Rattle.pos_script.specs.Lines.{lines_of}
+use Rattle.pos_script.specs.Lines.{complete_lines, lines_of}
 use Rattle.pos_script.specs.Text.{printed}
-use Rattle.pos_run.specs.Names.{ControlNames}
-use Rattle.pos_run.specs.Spares.{SpareStates}
-use Rattle.pos_run.specs.Transcript.{Leads, Session, Transcript, CarriesOut, LineBecomes, session_with}
+use Rattle.pos_run.specs.Streams.{Reading, Streams, Writing, may_read}
+use Rattle.pos_run.specs.Transcript.{Leads, Session, Transcript, CarriesOut, LineBecomes}
 
--- All lines were carried out, and their text is written. The spares were these, and are those that are left.
-pub record Finishes {C : Type 0} (Runs : Leads C) (old : C) (spares : SpareStates) (lines : List (List ℕ))
-    (before after : Option (List ℕ)) (left : SpareStates) (new : C) : Type 0 where
+-- All lines were carried out, from one session to another, and their text is written.
+pub record Finishes {C : Type 0} (Runs : Leads C) (old : C) (session : Session) (lines : List (List ℕ))
+    (before after : Option (List ℕ)) (left : Session) (new : C) : Type 0 where
   pub text : List ℕ
-  pub names : ControlNames
-  pub transcript : Transcript Runs old spares lines text (session_with names left) new
+  pub transcript : Transcript Runs old session lines text left new
   pub written : Appends before after text
 
 -- A write failed at a line: the earlier lines were carried out and their text is written; the line was carried out too,
 -- and of what it prints a front is written, but not all; no later line was carried out.
-pub record Stops {C : Type 0} (Runs : Leads C) (old : C) (spares : SpareStates) (lines : List (List ℕ))
-    (before after : Option (List ℕ)) (left : SpareStates) (new : C) : Type 0 where
+pub record Stops {C : Type 0} (Runs : Leads C) (old : C) (session : Session) (lines : List (List ℕ))
+    (before after : Option (List ℕ)) (left : Session) (new : C) : Type 0 where
   pub earlier : List (List ℕ)
   pub line : List ℕ
   pub later : List (List ℕ)
   pub text : List ℕ
-  pub session : Session
+  pub between : Session
   pub mid : C
   pub reply : Option (List ℕ)
-  pub names_after : ControlNames
   pub front : List ℕ
   pub back : List ℕ
   pub split : lines ≡ earlier ++ line ∷ later
-  pub transcript : Transcript Runs old spares earlier text session mid
-  pub carried : CarriesOut Runs mid (LineBecomes session line) reply (session_with names_after left) new
+  pub transcript : Transcript Runs old session earlier text between mid
+  pub carried : CarriesOut Runs mid (LineBecomes between line) reply left new
   pub cut : printed reply ≡ front ++ back
   pub unwritten : 0 < length back
   pub written : Appends before after (text ++ front)
 
--- what a run over these bytes leaves, by its result: of the spares these are left
-abbrev pub ScriptLeaves : {C : Type 0} → Leads C → C → SpareStates → List ℕ → Option (List ℕ) → Option (List ℕ)
-    → Result (Unit {0}) RunFault → SpareStates → C → Type 0
-ScriptLeaves Runs old spares bytes before after (Ok u) left new =
-    Finishes Runs old spares (lines_of bytes) before after left new
-ScriptLeaves Runs old spares bytes before after (Err fault.Read) left new =
-    (new ≡ old) × (left ≡ spares) × Keeps before after
-ScriptLeaves Runs old spares bytes before after (Err fault.Write) left new =
-    Stops Runs old spares (lines_of bytes) before after left new
-ScriptLeaves Runs old spares bytes before after (Err fault.NoMemory) left new =
-    (new ≡ old) × (left ≡ spares) × Keeps before after
+-- the lines that were read, by the bytes that were: those that a line feed ended, and at the end the last one too
+abbrev pub lines_read : ReadState → List ℕ → List (List ℕ)
+lines_read Open bytes = complete_lines bytes
+lines_read Ended bytes = lines_of bytes
+lines_read Failed bytes = complete_lines bytes
 
--- A run that wasn't stopped while it read has read all bytes that the reader is known to have had left.
-abbrev pub ReadsWhole : Option (List ℕ) → List ℕ → Result (Unit {0}) RunFault → Type 0
-ReadsWhole left bytes (Ok u) = IfSome left (λ known. known ≡ bytes)
-ReadsWhole left bytes (Err fault.Read) = Unit {0}
-ReadsWhole left bytes (Err fault.Write) = IfSome left (λ known. known ≡ bytes)
-ReadsWhole left bytes (Err fault.NoMemory) = Unit {0}
+-- what a run leaves, by its result, of the lines that it read: all that the lines print is handed on but after a fault
+-- of the writer, and then it stopped at one, or couldn't hand all on; want of memory leaves everything as it was
+abbrev pub ScriptLeaves : {C : Type 0} → Leads C → C → Session → List (List ℕ) → Writing → Writing
+    → Result (Unit {0}) RunFault → Session → C → Type 0
+ScriptLeaves Runs old session lines before after (Ok u) left new =
+    Finishes Runs old session lines before.contents after.contents left new × (after.held ≡ [])
+ScriptLeaves Runs old session lines before after (Err fault.Read) left new =
+    Finishes Runs old session lines before.contents after.contents left new × (after.held ≡ [])
+ScriptLeaves Runs old session lines before after (Err fault.Write) left new =
+    Stops Runs old session lines before.contents after.contents left new
+    ⊎ Finishes Runs old session lines before.contents after.contents left new
+ScriptLeaves Runs old session lines before after (Err fault.NoMemory) left new =
+    (new ≡ old) × (left ≡ session) × (after ≡ before)
 
--- What a run leaves of a state, of the spares and of a writer, by the bytes that the reader had left.
-pub record RunsScript {C : Type 0} (Runs : Leads C) (old : C) (spares : SpareStates)
-    (unread before after : Option (List ℕ)) (result : Result (Unit {0}) RunFault) (left : SpareStates) (new : C)
-    : Type 0 where
+-- how a run leaves its reader, by its result: at its end; where it may be read no more; after no read that failed;
+-- or not read at all
+abbrev pub ReaderLeaves : Reading → Result (Unit {0}) RunFault → Reading → Type 0
+ReaderLeaves old (Ok u) new = (new.state ≡ Ended) × IsAtEnd new.unread
+ReaderLeaves old (Err fault.Read) new = may_read new.state new.reads ≡ false
+ReaderLeaves old (Err fault.Write) new = new.state ≡ Failed → new ≡ old
+ReaderLeaves old (Err fault.NoMemory) new = new ≡ old
+
+-- What a run leaves, from one session to another, by the bytes that it read.
+pub record RunsScript {C : Type 0} (Runs : Leads C) (old : C) (session : Session) (streams : Streams)
+    (result : Result (Unit {0}) RunFault) (left : Session) (new : C) : Type 0 where
   pub input : List ℕ
-  pub whole : ReadsWhole unread input result
-  pub run : ScriptLeaves Runs old spares input before after result left new
+  pub read : Consumes streams.reader.unread streams.reader_after.unread input
+  pub reader : ReaderLeaves streams.reader result streams.reader_after
+  pub run : ScriptLeaves Runs old session (lines_read streams.reader_after.state input) streams.writer
+      streams.writer_after result left new
 
 -- a device of this name that is of a kind and has this peripheral, or none
 abbrev pub device_with : List ℕ → Kind → Option PeripheralState → Device

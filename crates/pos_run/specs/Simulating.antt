@@ -1,18 +1,24 @@
 -- What is simulated for the entries of a profile (docs/CONSOLE.md, "The program").
-use Rattle.std.specs.Prelude.{◌≡◌, ◌≤◌, ◌⊎◌, ◌++◌, ℕ, false, List, Option, Some, None, Result, Err, IfSome, Box, map, option_map}
+use Rattle.std.specs.Prelude.{◌≡◌, ◌≤◌, ◌⊎◌, ◌++◌, ℕ, Bool, true, false, List, Option, Some, None, Result, Err, IfSome, Box, map, option_map, ⊤}
 use Rattle.std.specs.declared.alloc.Global.{Global}
 use Rattle.pos_service.specs.declared.category.Category.{Category}
 use Rattle.pos_service.specs.declared.category.Category.TheVariants.{CashDrawer, Scanner, LineDisplay, PosPrinter, HardTotals}
+use Rattle.pos_service.specs.declared.peripheral.Peripheral.{Ghosts}
 use Rattle.pos_service.specs.Displays.{blank_display}
 use Rattle.pos_service.specs.Peripherals.{IsInRange, PeripheralState}
 use Rattle.pos_service.specs.Receipts.{empty_roll}
+use Rattle.pos_sims.specs.declared.flaky.Flaky.{Flaky}
 use Rattle.pos_sims.specs.Drawers.{drawer_state, state_of as state_of_drawer}
+use Rattle.pos_sims.specs.Flakies.{flaky_of, state_of as state_of_flaky}
 use Rattle.pos_sims.specs.LineDisplays.{display_state, state_of as state_of_display}
 use Rattle.pos_sims.specs.ReceiptPrinters.{printer_state, state_of as state_of_printer}
+use Rattle.pos_sims.specs.Recorders.{recorder_of, state_of as state_of_recorder}
+use Rattle.pos_sims.specs.RingDisplays.{state_of as state_of_ring}
 use Rattle.pos_sims.specs.Scanners.{scanner_state, state_of as state_of_scanner}
 use Rattle.pos_profile.specs.declared.entry.Entry.{Entry}
+use Rattle.pos_profile.specs.declared.optional.OptionalKey.TheVariants.{Ring}
 use Rattle.pos_profile.specs.Kinds.{kind_of}
-use Rattle.std.specs.Io.KnownBytes.{Keeps}
+use Rattle.pos_profile.specs.OptionalKeys.{has_option}
 use Rattle.std.specs.List.{filter_map}
 use Rattle.pos_disk.specs.State.{DiskState}
 use Rattle.pos_profile.specs.Entries.{Contents}
@@ -25,20 +31,51 @@ use Rattle.pos_run.specs.declared.scripts.RunFault.{RunFault}
 use Rattle.pos_run.specs.declared.scripts.RunFault.TheVariants as fault
 use Rattle.pos_run.specs.Running.{RunsScript, begun_with, device_with, new_totals}
 use Rattle.pos_run.specs.Spares.{SpareStates}
+use Rattle.pos_run.specs.Streams.{AreUntouched, Streams}
+use Rattle.pos_run.specs.Transcript.{Session, begun_session}
 use Rattle.pos_run.specs.declared.simulation.Simulation.{Simulation}
 use Rattle.pos_run.specs.declared.simulation.Simulation.TheVariants as simulation
+use Rattle.pos_run.specs.declared.wrapped.Wrapped.{Wrapped}
+use Rattle.pos_run.specs.declared.wrapped.Wrapped.TheVariants as form
 
--- what contracts see of what is simulated
+-- what contracts see of what is simulated without a wrapper
 abbrev pub state_of : Simulation → PeripheralState
 state_of (simulation.Drawer drawer) = state_of_drawer drawer
 state_of (simulation.Scanner scanner) = state_of_scanner scanner
 state_of (simulation.Display display) = state_of_display display
+state_of (simulation.Ring ring) = state_of_ring ring
 state_of (simulation.Printer printer) = state_of_printer printer
 
+-- the states of what is simulated without a wrapper, and of what stands behind a line that fails
+abbrev pub simulations : Ghosts Simulation
+simulations = record { state = λ device. state_of device }
+
+abbrev pub flaky_simulations : Ghosts (Flaky Simulation)
+flaky_simulations = record { state = λ flaky. state_of_flaky simulations flaky }
+
+-- what contracts see of what is simulated
+abbrev pub wrapped_state : Wrapped → PeripheralState
+wrapped_state (form.Bare device) = state_of device
+wrapped_state (form.Flaky flaky) = state_of_flaky simulations flaky
+wrapped_state (form.Recorded recorder) = state_of_recorder simulations recorder
+wrapped_state (form.Both recorder) = state_of_recorder flaky_simulations recorder
+
 -- what contracts see of what is simulated in a box, if anything is
-abbrev pub boxed_state : Option (Box Simulation Global) → Option PeripheralState
+abbrev pub boxed_state : Option (Box Wrapped Global) → Option PeripheralState
 boxed_state None = None
-boxed_state (Some kept) = Some (state_of kept.value)
+boxed_state (Some kept) = Some (wrapped_state kept.value)
+
+-- a device in its wrappers: a line that fails by these two numbers, and a recorder round it
+abbrev pub wrapped_by : Option (ℕ × ℕ) → Bool → Simulation → Wrapped
+wrapped_by None false device = form.Bare device
+wrapped_by None true device = form.Recorded (recorder_of device)
+wrapped_by (Some (first, times)) false device = form.Flaky (flaky_of device first times)
+wrapped_by (Some (first, times)) true device = form.Both (recorder_of (flaky_of device first times))
+
+-- the rows of a display are a ring
+abbrev pub is_ring : Simulation → Bool
+is_ring (simulation.Ring ring) = true
+is_ring _ = false
 
 -- what is simulated for a category with the numbers of an entry: a closed drawer, a scanner, a blank display, or a
 -- printer that has printed nothing, in service; Hard Totals have no peripheral
@@ -53,14 +90,40 @@ simulated_with HardTotals entry = None
 abbrev pub simulated_for : Entry → Option PeripheralState
 simulated_for entry = simulated_with entry.category entry
 
+-- a blank display in service, whose rows are a ring or not
+pub record IsDisplay (rows columns : ℕ) (turns : Bool) (device : Simulation) : Type 0 where
+  pub state : state_of device ≡ display_state (blank_display rows columns) false
+  pub ring : is_ring device ≡ turns
+
+-- what is simulated for an entry before it is wrapped: its rows are a ring where the entry says so
+pub record IsDeviceFor (entry : Entry) (device : Option Simulation) : Type 0 where
+  pub state : option_map state_of device ≡ simulated_for entry
+  pub ring : IfSome device (λ device. is_ring device ≡ entry.ring)
+
+-- what is simulated for an entry: its device, in the wrappers that it asks for
+pub record IsSimulatedFor (entry : Entry) (made : Option Wrapped) : Type 0 where
+  pub device : Option Simulation
+  pub simulates : IsDeviceFor entry device
+  pub wrapped : made ≡ option_map (wrapped_by entry.flaky entry.recorded) device
+
+-- what a box has, if there is one
+abbrev pub unboxed : Option (Box Wrapped Global) → Option Wrapped
+unboxed kept = option_map (λ box. box.value) kept
+
 -- what is simulated for entries, in order
 abbrev pub simulated_all : List Entry → SpareStates
 simulated_all entries = map simulated_for entries
 
--- the numbers of an entry are in their ranges
+-- a truth value holds only where it may
+abbrev pub HoldsOnlyIf : Bool → Bool → Type 0
+HoldsOnlyIf true holds = ⊤
+HoldsOnlyIf false holds = holds ≡ false
+
+-- the numbers of an entry are in their ranges, and only one whose category may have a ring has one
 pub record IsSimulable (entry : Entry) : Type 0 where
   pub kind : IfSome (kind_of entry) IsInRange
   pub lines : entry.lines ≤ 100000
+  pub ring : HoldsOnlyIf (has_option entry.category Ring) entry.ring
 
 -- the device of an entry that may have a peripheral, with this one or none
 abbrev pub device_for : Option PeripheralState → Entry → Option Device
@@ -71,23 +134,22 @@ abbrev pub simulated_devices : List Entry → List Device
 simulated_devices entries =
     filter_map (λ entry. device_for (simulated_for entry) entry) entries ++ totals_devices (totals_name entries)
 
--- What a run over a profile leaves of a writer: it is one from the profile's devices, each served by what is simulated
--- for it, and totals that are off, with what is simulated for the spares.
-pub record RunsOverProfile (contents : Contents) (part : TotalsPart) (unread before after : Option (List ℕ))
+-- What a run over a profile leaves: it is one from the profile's devices, each served by what is simulated for it, and
+-- totals that are off, with what is simulated for the spares.
+pub record RunsOverProfile (contents : Contents) (part : TotalsPart) (streams : Streams)
     (result : Result (Unit {0}) RunFault) : Type 0 where
   pub end : Machine
-  pub left : SpareStates
-  pub run : RunsScript Run (begun_with (simulated_devices contents.devices) part) (simulated_all contents.spares)
-      unread before after result left end
+  pub left : Session
+  pub run : RunsScript Run (begun_with (simulated_devices contents.devices) part)
+      (begun_session (simulated_all contents.spares)) streams result left end
 
--- there was no memory, and nothing was written
-abbrev pub FindsNoMemory : Option (List ℕ) → Option (List ℕ) → Result (Unit {0}) RunFault → Type 0
-FindsNoMemory before after result = (result ≡ Err fault.NoMemory) × Keeps before after
+-- there was no memory, and nothing was read or written
+abbrev pub FindsNoMemory : Streams → Result (Unit {0}) RunFault → Type 0
+FindsNoMemory streams result = (result ≡ Err fault.NoMemory) × AreUntouched streams
 
 -- what a run over a profile and a disk leaves, for all that an honest disk may leave before it
-abbrev pub ProfileLeaves : Contents → Type 0 → DiskState → Option (List ℕ) → Option (List ℕ) → Option (List ℕ)
-    → Result (Unit {0}) RunFault → Type 0
-ProfileLeaves contents Honest disk unread before after result =
+abbrev pub ProfileLeaves : Contents → Type 0 → DiskState → Streams → Result (Unit {0}) RunFault → Type 0
+ProfileLeaves contents Honest disk streams result =
     (left : List Standing) → Honest → LeavesOneOf left disk
-    → FindsNoMemory before after result
-    ⊎ RunsOverProfile contents (new_totals left disk.failures) unread before after result
+    → FindsNoMemory streams result
+    ⊎ RunsOverProfile contents (new_totals left disk.failures) streams result

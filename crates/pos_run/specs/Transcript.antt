@@ -1,50 +1,15 @@
 -- What a script asks of the machine, and what it prints (docs/CONSOLE.md, "Answers").
 use Rattle.std.specs.Prelude.{◌≡◌, ℕ, ◌⊎◌, ◌++◌, ◌∷◌, [], Bool, true, false, List, Option, Some, None, MatchOption, IsTrue, is_some, option_map, if◌then◌else◌}
 use Rattle.std.specs.Bool.{MatchBool}
-use Rattle.pos_profile.specs.declared.registry_fault.AttachFault.{AttachFault}
-use Rattle.pos_profile.specs.declared.registry_fault.AttachFault.TheVariants as attach
-use Rattle.pos_profile.specs.declared.registry_fault.DetachFault.{DetachFault}
-use Rattle.pos_profile.specs.declared.registry_fault.DetachFault.TheVariants as detach
 use Rattle.pos_service.specs.Stations.{station_of}
-use Rattle.pos_counter.specs.Steps.{Request, Response, NewControl, CallOf, InputTo, Deliver, Snapshot, WorkOn, Attach, Detach, Made, Full, Answered, TakenIn, NoDevice, WrongInput, Delivered, Shown, Worked, Attached, NotAttached, Detached, NotDetached, OutOfMemory}
-use Rattle.pos_script.specs.declared.reply.Refusal.{Refusal}
-use Rattle.pos_script.specs.declared.reply.Refusal.TheVariants as refusal
+use Rattle.pos_counter.specs.Steps.{Request, Response, NewControl, CallOf, InputTo, Deliver, Snapshot, WorkOn, Attach, Detach, Made, Attached}
 use Rattle.pos_script.specs.declared.reply.Reply.TheVariants as reply
 use Rattle.pos_script.specs.Lines.{is_quiet}
 use Rattle.pos_script.specs.Arguments.{Reading}
-use Rattle.pos_script.specs.Commands.{Asking, NewLine, CallLine, InputLine, DeliverLine, ShowLine, WorkLine, AttachLine, DetachLine, asked_by}
+use Rattle.pos_script.specs.Commands.{LineRequest, asked_by}
 use Rattle.pos_run.specs.Names.{ControlNames, number_named}
 use Rattle.pos_run.specs.Spares.{SpareStates, spare_at, with_spare}
-use Rattle.pos_script.specs.Text.{plant_text, printed, reply_text}
-
--- why a peripheral was not attached, as it is told
-abbrev pub attach_refusal : AttachFault → Refusal
-attach_refusal attach.Unknown = refusal.Unknown
-attach_refusal attach.KindDiffers = refusal.KindDiffers
-attach_refusal attach.InUse = refusal.InUse
-
--- why a peripheral was not detached, as it is told
-abbrev pub detach_refusal : DetachFault → Refusal
-detach_refusal detach.Unknown = refusal.Unknown
-detach_refusal detach.Vacant = refusal.Vacant
-detach_refusal detach.InUse = refusal.InUse
-
--- what a response of the machine prints
-abbrev pub response_text : Response → List ℕ
-response_text (Made number) = reply_text reply.Ok
-response_text Full = reply_text reply.Full
-response_text (Answered answer) = reply_text (reply.Answered answer)
-response_text TakenIn = reply_text reply.Ok
-response_text NoDevice = reply_text reply.BadDevice
-response_text WrongInput = reply_text reply.BadInput
-response_text (Delivered event) = reply_text (reply.Delivered event)
-response_text (Shown plant) = plant_text plant
-response_text (Worked result) = reply_text (reply.Worked result)
-response_text Attached = reply_text reply.Ok
-response_text (NotAttached fault) = reply_text (reply.Refused (attach_refusal fault))
-response_text (Detached station) = reply_text reply.Ok
-response_text (NotDetached fault) = reply_text (reply.Refused (detach_refusal fault))
-response_text OutOfMemory = reply_text reply.Memory
+use Rattle.pos_script.specs.Text.{printed, reply_text, response_text}
 
 -- What a script has: the names of its controls, and its spares.
 pub record Session : Type 0 where
@@ -55,36 +20,40 @@ pub record Session : Type 0 where
 abbrev pub session_with : ControlNames → SpareStates → Session
 session_with names spares = record { names = names; spares = spares }
 
+-- as a script begins: no control has a name, and the spares are these
+abbrev pub begun_session : SpareStates → Session
+begun_session spares = session_with [] spares
+
 -- what a line asks of the machine, unless its control's name is in use or unknown, or its spare isn't there
-abbrev pub request_of : Session → Asking → Option Request
-request_of session (NewLine name category) =
-    if is_some (number_named session.names name) then None else Some (NewControl category)
-request_of session (CallLine name call) = option_map (λ number. CallOf number call) (number_named session.names name)
-request_of session (InputLine device input) = Some (InputTo device input)
-request_of session (DeliverLine name reply) =
+abbrev pub request_of : Session → LineRequest → Option Request
+request_of session (NewControl name category) =
+    if is_some (number_named session.names name) then None else Some (NewControl tt category)
+request_of session (CallOf name call) = option_map (λ number. CallOf number call) (number_named session.names name)
+request_of session (InputTo device input) = Some (InputTo device input)
+request_of session (Deliver name reply) =
     option_map (λ number. Deliver number reply) (number_named session.names name)
-request_of session (ShowLine device) = Some (Snapshot device)
-request_of session (WorkLine device) = Some (WorkOn device)
-request_of session (AttachLine device number) =
+request_of session (Snapshot device) = Some (Snapshot device)
+request_of session (WorkOn device) = Some (WorkOn device)
+request_of session (Attach device number) =
     option_map (λ spare. Attach device (station_of spare)) (spare_at session.spares number)
-request_of session (DetachLine device) = Some (Detach device)
+request_of session (Detach device) = Some (Detach device)
 
 -- what a line prints that asks nothing of the machine
-abbrev pub rebuke : Asking → List ℕ
-rebuke (AttachLine device number) = reply_text reply.BadSpare
+abbrev pub rebuke : LineRequest → List ℕ
+rebuke (Attach device number) = reply_text reply.BadSpare
 rebuke asking = reply_text reply.BadControl
 
 -- a new control has its name from then on, and the place of a spare that was attached is empty
-abbrev pub session_after : Session → Asking → Response → Session
-session_after session (NewLine name category) (Made number) =
+abbrev pub session_after : Session → LineRequest → Response → Session
+session_after session (NewControl name category) (Made number) =
     record session { names = session.names ++ (name, number) ∷ [] }
-session_after session (AttachLine device number) Attached =
+session_after session (Attach device number) Attached =
     record session { spares = with_spare session.spares number None }
 session_after session asking response = session
 
 -- whether a line gives a name, for which there may be no memory
-abbrev pub gives_name : Asking → Bool
-gives_name (NewLine name category) = true
+abbrev pub gives_name : LineRequest → Bool
+gives_name (NewControl name category) = true
 gives_name asking = false
 
 -- What becomes of a line: what it prints, its steps of the machine, and the session after it.
@@ -102,7 +71,7 @@ abbrev pub turned_down : Session → List ℕ → Outcome
 turned_down session text = record { reply = Some text; steps = []; session = session }
 
 -- it asks the machine, and prints the response
-abbrev pub responded : Session → Asking → Request → Response → Outcome
+abbrev pub responded : Session → LineRequest → Request → Response → Outcome
 responded session asking request response = record {
   reply = Some (response_text response);
   steps = (request, response) ∷ [];
@@ -110,19 +79,19 @@ responded session asking request response = record {
 }
 
 -- a request has one response; or there was no memory for the name that the line gives
-abbrev pub RequestBecomes : Session → Asking → Request → Outcome → Type 0
+abbrev pub RequestBecomes : Session → LineRequest → Request → Outcome → Type 0
 RequestBecomes session asking request outcome =
     (IsTrue (gives_name asking) × (outcome ≡ turned_down session (reply_text reply.Memory)))
     ⊎ ((response : Response) × (outcome ≡ responded session asking request response))
 
 -- what becomes of a line that asks this
-abbrev pub AskingBecomes : Session → Asking → Outcome → Type 0
+abbrev pub AskingBecomes : Session → LineRequest → Outcome → Type 0
 AskingBecomes session asking outcome =
     MatchOption (request_of session asking) (outcome ≡ turned_down session (rebuke asking))
     (λ request. RequestBecomes session asking request outcome)
 
 -- what becomes of a line as it was read: there may have been no memory for what is kept of it
-abbrev pub ReadingBecomes : Session → Reading Asking → Outcome → Type 0
+abbrev pub ReadingBecomes : Session → Reading LineRequest → Outcome → Type 0
 ReadingBecomes session reading outcome =
     MatchOption reading.value (outcome ≡ turned_down session (reply_text reply.BadLine))
     (λ asking. (IsTrue reading.is_kept × (outcome ≡ turned_down session (reply_text reply.Memory)))
@@ -145,13 +114,12 @@ LinesPrint session (line ∷ lines) steps text after =
 abbrev pub Leads : Type 0 → Type 1
 Leads C = C → List (Request × Response) → C → Type 0
 
--- From one state to another: what the lines ask is a run, this is its text, and this is the session then. At first no
--- control has a name, and the spares are these.
-pub record Transcript {C : Type 0} (Runs : Leads C) (old : C) (spares : SpareStates) (lines : List (List ℕ))
-    (text : List ℕ) (session : Session) (new : C) : Type 0 where
+-- From one state and session to others: what the lines ask is a run, and this is its text.
+pub record Transcript {C : Type 0} (Runs : Leads C) (old : C) (session : Session) (lines : List (List ℕ))
+    (text : List ℕ) (after : Session) (new : C) : Type 0 where
   pub steps : List (Request × Response)
   pub run : Runs old steps new
-  pub prints : LinesPrint (session_with [] spares) lines steps text session
+  pub prints : LinesPrint session lines steps text after
 
 -- What a part of the program does to a state, so that this becomes of a line.
 pub record CarriesOut {C : Type 0} (Runs : Leads C) (old : C) (Becomes : Outcome → Type 0) (reply : Option (List ℕ))

@@ -2,18 +2,23 @@
 //! profile, which are simulated (docs/CONSOLE.md).
 #![tactic(auto)]
 
+mod answers;
 mod devices;
 mod ending;
+mod lines;
 mod names;
 mod profiled;
-mod read;
+mod reading;
 mod scripts;
 mod session;
 mod simulation;
 mod spares;
+mod wrapped;
 
+pub use answers::AnswerWriter;
 pub use devices::end_counter;
 pub use ending::Ends;
 pub use profiled::run_over_profile;
+pub use reading::ScriptReader;
 pub use scripts::{RunFault, run};
 pub use spares::Spares;

@@ -1,7 +1,10 @@
 //! A run over the devices and the spares of any profile, which are simulated.
 ghost use Rattle.pos_run.specs.Simulating.{ProfileLeaves};
+ghost use Rattle.pos_run.specs.Streams.{streams_of};
 
+use crate::answers::AnswerWriter;
 use crate::devices::{end_counter, offer};
+use crate::reading::ScriptReader;
 use crate::scripts::{RunFault, run};
 use crate::simulation::simulate_boxed;
 use crate::spares::{Spares, end_boxes};
@@ -17,13 +20,13 @@ use std::io::{Read, Write};
 /// whose totals are on a disk.
 pub fn run_over_profile<R: Read, W: Write, D: Disk + Drop>(
     alloc: Global,
-    reader: &mut R,
-    writer: &mut W,
+    reader: &mut ScriptReader<R>,
+    writer: &mut AnswerWriter<W>,
     profile: &Profile,
     disk: D,
 ) -> Result<(), RunFault>
-    ensures { ProfileLeaves profile.now (D.honest disk) (D.state disk) (R.remaining reader.old)
-        (W.contents writer.old) (W.contents writer.new) result }
+    ensures { ProfileLeaves profile.now (D.honest disk) (D.state disk)
+        (streams_of R.remaining reader.old reader.new W.contents writer.old writer.new) result }
 {
     is_profile(profile);
     let Ok(mut counter) = Counter::new(alloc, profile, Vec::new(alloc), disk) else {

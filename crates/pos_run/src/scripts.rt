@@ -1,19 +1,23 @@
-ghost use Rattle.std.specs.Prelude.{◌≡◌};
-ghost use Rattle.pos_run.specs.declared.scripts.RunFault.TheVariants as run_fault;
-ghost use Rattle.pos_counter.specs.Counters.{IsCounterSound};
+ghost use Rattle.std.specs.Prelude.{[]};
+ghost use Rattle.pos_counter.specs.Counters.{IsCounterSound, IsRun};
+ghost use Rattle.pos_run.specs.Carried.{CarriesOutEnd, CarriesOutHeld, CarriesOutLast, CarriesOutPiece, RunsThrough, session_of};
+ghost use Rattle.pos_run.specs.Names.{ControlNames};
 ghost use Rattle.pos_run.specs.Running.{RunsScript};
-ghost use Rattle.pos_run.specs.Carried.{CarriesOutLines, RunsThrough};
+ghost use Rattle.pos_script.specs.LineBuffers.{StandsFor};
 ghost use Rattle.pos_run.specs.Spares.{AreSparesSound, spares_in};
+ghost use Rattle.pos_run.specs.Streams.{answers_of, streams_of, writing_of};
+ghost use Rattle.pos_run.specs.Transcript.{begun_session, session_with};
 
+use crate::answers::AnswerWriter;
 use crate::ending::Ends;
+use crate::lines::carry_out_line;
 use crate::names::Names;
-use crate::read::{ReadFault, read_input};
-use crate::session::carry_out_line;
+use crate::reading::{ReadFault, ScriptReader};
 use crate::spares::Spares;
 use pos_counter::Counter;
 use pos_disk::Disk;
-use pos_script::{WriteFault, next_line, print_line};
-use pos_service::{NoMemory, Peripheral};
+use pos_script::{LineBuffer, WriteFault, print_line};
+use pos_service::Peripheral;
 use std::alloc::Global;
 use std::io::{Read, Write};
 use thiserror::Error;
@@ -24,83 +28,187 @@ pub enum RunFault {
     /// A read failed or was interrupted, or the input didn't end.
     #[error("the script can't be read")]
     Read,
-    /// A write failed or was interrupted, or took nothing.
+    /// A write or a flush failed or was interrupted, or a write took nothing.
     #[error("the answers can't be written")]
     Write,
-    /// There was no memory for the input.
+    /// There was no memory to read lines into.
     #[error("no memory")]
     NoMemory,
 }
 
-impl From<ReadFault> for RunFault {
-    ghost from_gives = { λ _ fault. fault ≡ run_fault.Read };
+/// How many bytes are read at once, at most.
+const PIECE: usize = 65_536;
 
-    fn from(_: ReadFault) -> RunFault {
-        RunFault::Read
-    }
-}
-
-impl From<NoMemory> for RunFault {
-    ghost from_gives = { λ _ fault. fault ≡ run_fault.NoMemory };
-
-    fn from(_: NoMemory) -> RunFault {
-        RunFault::NoMemory
-    }
-}
-
-/// Carries out the lines of a script.
-fn carry_out_lines<W: Write, D: Disk, P: Peripheral + Ends>(
+/// Carries out the line that is held, and writes what it prints.
+fn carry_out_held<W: Write, D: Disk, P: Peripheral + Ends>(
     alloc: Global,
-    input: &[u8],
-    writer: &mut W,
+    held: &LineBuffer,
+    writer: &mut AnswerWriter<W>,
     counter: &mut Counter<D, P>,
+    names: &mut Names,
     spares: &mut Spares<P>,
 ) -> Result<(), WriteFault>
     requires sound { IsCounterSound P.Peripheral counter.old }
     requires spares { AreSparesSound P.Peripheral spares.old }
-    ensures lines { CarriesOutLines D.Disk P.Peripheral counter.old (spares_in P.Peripheral spares.old) input.now
-        (W.contents writer.old) (W.contents writer.new) result (spares_in P.Peripheral spares.new) counter.new }
+    ensures line { CarriesOutHeld D.Disk P.Peripheral counter.old (session_of P.Peripheral names.old spares.old)
+        held.now (answers_of W.contents writer.old) (answers_of W.contents writer.new) result
+        (session_of P.Peripheral names.new spares.new) counter.new }
     ensures sound { IsCounterSound P.Peripheral counter.new }
     ensures spares { AreSparesSound P.Peripheral spares.new }
 {
-    let mut names = Names::new(alloc);
-    let mut rest = input;
-    while !rest.is_empty() {
-        let (line, after) = next_line(rest);
-        let reply = carry_out_line(alloc, counter, &mut names, spares, line);
-        if print_line(writer, reply).is_err() {
+    let reply = carry_out_line(alloc, counter, names, spares, held.line());
+    print_line(writer, reply)
+}
+
+/// Carries out the lines that a piece ends, each before a later one, and writes what each prints.
+fn carry_out_piece<W: Write, D: Disk, P: Peripheral + Ends>(
+    alloc: Global,
+    piece: &[u8],
+    held: &mut LineBuffer,
+    writer: &mut AnswerWriter<W>,
+    counter: &mut Counter<D, P>,
+    names: &mut Names,
+    spares: &mut Spares<P>,
+) -> Result<(), WriteFault>
+    requires sound { IsCounterSound P.Peripheral counter.old }
+    requires spares { AreSparesSound P.Peripheral spares.old }
+    ensures piece { CarriesOutPiece D.Disk P.Peripheral counter.old (session_of P.Peripheral names.old spares.old)
+        held.old piece.now (answers_of W.contents writer.old) (answers_of W.contents writer.new) result held.new
+        (session_of P.Peripheral names.new spares.new) counter.new }
+    ensures sound { IsCounterSound P.Peripheral counter.new }
+    ensures spares { AreSparesSound P.Peripheral spares.new }
+{
+    let mut left = piece;
+    while let Some(rest) = held.feed(left) {
+        let Ok(()) = carry_out_held(alloc, held, writer, counter, names, spares) else {
             return Err(WriteFault);
-        }
-        rest = after;
+        };
+        held.clear();
+        left = rest;
     }
     Ok(())
 }
 
-/// Reads a script whole, carries out its lines in order, and writes what each prints (docs/CONSOLE.md), over a counter
-/// of any peripherals and any disk.
+/// Carries out the last line of a script, which its end ends, if there is one, and writes what it prints.
+fn carry_out_last<W: Write, D: Disk, P: Peripheral + Ends>(
+    alloc: Global,
+    held: &LineBuffer,
+    writer: &mut AnswerWriter<W>,
+    counter: &mut Counter<D, P>,
+    names: &mut Names,
+    spares: &mut Spares<P>,
+) -> Result<(), WriteFault>
+    requires sound { IsCounterSound P.Peripheral counter.old }
+    requires spares { AreSparesSound P.Peripheral spares.old }
+    ensures last { CarriesOutLast D.Disk P.Peripheral counter.old (session_of P.Peripheral names.old spares.old)
+        held.now (answers_of W.contents writer.old) (answers_of W.contents writer.new) result
+        (session_of P.Peripheral names.new spares.new) counter.new }
+    ensures sound { IsCounterSound P.Peripheral counter.new }
+    ensures spares { AreSparesSound P.Peripheral spares.new }
+{
+    if held.is_empty() {
+        return Ok(());
+    }
+    carry_out_held(alloc, held, writer, counter, names, spares)
+}
+
+/// Carries out the last line of a script, if there is one, and hands on and flushes all that was printed.
+fn carry_out_end<W: Write, D: Disk, P: Peripheral + Ends>(
+    alloc: Global,
+    held: &LineBuffer,
+    writer: &mut AnswerWriter<W>,
+    counter: &mut Counter<D, P>,
+    names: &mut Names,
+    spares: &mut Spares<P>,
+) -> Result<(), WriteFault>
+    requires sound { IsCounterSound P.Peripheral counter.old }
+    requires spares { AreSparesSound P.Peripheral spares.old }
+    ensures end { CarriesOutEnd D.Disk P.Peripheral counter.old (session_of P.Peripheral names.old spares.old)
+        held.now (writing_of W.contents writer.old) (writing_of W.contents writer.new) result
+        (session_of P.Peripheral names.new spares.new) counter.new }
+    ensures sound { IsCounterSound P.Peripheral counter.new }
+    ensures spares { AreSparesSound P.Peripheral spares.new }
+{
+    let Ok(()) = carry_out_last(alloc, held, writer, counter, names, spares) else {
+        return Err(WriteFault);
+    };
+    match writer.flush() {
+        Ok(()) => Ok(()),
+        Err(_) => Err(WriteFault),
+    }
+}
+
+/// Carries out the lines of a script from the first to the last. All that they print is handed on and flushed before
+/// each read, and at the end.
+fn carry_out_script<R: Read, W: Write, D: Disk, P: Peripheral + Ends>(
+    alloc: Global,
+    held: &mut LineBuffer,
+    reader: &mut ScriptReader<R>,
+    writer: &mut AnswerWriter<W>,
+    counter: &mut Counter<D, P>,
+    names: &mut Names,
+    spares: &mut Spares<P>,
+) -> Result<(), RunFault>
+    requires empty { StandsFor held.old [] }
+    requires sound { IsCounterSound P.Peripheral counter.old }
+    requires spares { AreSparesSound P.Peripheral spares.old }
+    ensures script { RunsScript (IsRun D.Disk P.Peripheral) counter.old
+        (session_of P.Peripheral names.old spares.old)
+        (streams_of R.remaining reader.old reader.new W.contents writer.old writer.new) result
+        (session_of P.Peripheral names.new spares.new) counter.new }
+    ensures sound { IsCounterSound P.Peripheral counter.new }
+    ensures spares { AreSparesSound P.Peripheral spares.new }
+{
+    let mut piece = [0u8; PIECE];
+    loop {
+        let Ok(()) = writer.flush() else {
+            return Err(RunFault::Write);
+        };
+        let Ok(count) = reader.read(writer, &mut piece) else {
+            return Err(RunFault::Read);
+        };
+        if count == 0 {
+            return match carry_out_end(alloc, held, writer, counter, names, spares) {
+                Ok(()) => Ok(()),
+                Err(WriteFault) => Err(RunFault::Write),
+            };
+        }
+        let Ok(()) = carry_out_piece(alloc, &piece[..count], held, writer, counter, names, spares)
+        else {
+            return Err(RunFault::Write);
+        };
+    }
+}
+
+/// Carries out the lines of a script in order, and writes what each prints (docs/CONSOLE.md), over a counter of any
+/// peripherals and any disk. One line is kept at a time, in room that is made before anything is read.
 ///
-/// At a fault of the reader, or want of memory for the input, no line was carried out and nothing is written. At a
-/// fault of the writer the earlier lines were carried out and their text is written; the line at which it came was
-/// carried out too, and no later one. A crash at any moment leaves what it may leave inside a step of the lines that
-/// were carried out.
+/// Each line is carried out before more is read, and all that the lines before print is handed on and flushed by then.
+/// So it is where a read fails, or there were as many as may be: the lines that a line feed ended were carried out. At
+/// a fault of the writer the earlier lines were carried out and the line at which it came, and no later one. At want of
+/// memory nothing was read. A crash at any moment leaves what it may leave inside a step of the lines that were carried
+/// out.
 pub fn run<R: Read, W: Write, D: Disk, P: Peripheral + Ends>(
     alloc: Global,
-    reader: &mut R,
-    writer: &mut W,
+    reader: &mut ScriptReader<R>,
+    writer: &mut AnswerWriter<W>,
     counter: &mut Counter<D, P>,
     spares: &mut Spares<P>,
 ) -> Result<(), RunFault>
     requires sound { IsCounterSound P.Peripheral counter.old }
     requires spares { AreSparesSound P.Peripheral spares.old }
-    ensures script { RunsScript (RunsThrough D.Disk P.Peripheral) counter.old (spares_in P.Peripheral spares.old)
-        (R.remaining reader.old) (W.contents writer.old) (W.contents writer.new) result
-        (spares_in P.Peripheral spares.new) counter.new }
+    ensures script { (names : ControlNames) × RunsScript (RunsThrough D.Disk P.Peripheral) counter.old
+        (begun_session (spares_in P.Peripheral spares.old))
+        (streams_of R.remaining reader.old reader.new W.contents writer.old writer.new) result
+        (session_with names (spares_in P.Peripheral spares.new)) counter.new }
     ensures sound { IsCounterSound P.Peripheral counter.new }
     ensures spares { AreSparesSound P.Peripheral spares.new }
 {
-    let input = read_input(alloc, reader)?;
-    match carry_out_lines(alloc, input.as_slice(), writer, counter, spares) {
-        Ok(()) => Ok(()),
-        Err(WriteFault) => Err(RunFault::Write),
-    }
+    let Ok(mut held) = LineBuffer::new(alloc) else {
+        return Err(RunFault::NoMemory);
+    };
+    let mut names = Names::new(alloc);
+    carry_out_script(
+        alloc, &mut held, reader, writer, counter, &mut names, spares,
+    )
 }

@@ -1,20 +1,16 @@
 ghost use Rattle.std.specs.Prelude.{◌≡◌};
 ghost use Rattle.pos_counter.specs.Counters.{IsCounterSound};
-ghost use Rattle.pos_script.specs.Commands.{NewLine, CallLine, InputLine, DeliverLine, ShowLine, WorkLine, AttachLine, DetachLine, asking};
-ghost use Rattle.pos_run.specs.Carried.{CarriesOutAsking, CarriesOutAtControl, CarriesOutAtDevice, CarriesOutLine, CarriesOutWithSpare, session_of};
+ghost use Rattle.pos_counter.specs.Steps.{NewControl, CallOf, InputTo, Deliver, Snapshot, WorkOn, Attach, Detach};
+ghost use Rattle.pos_run.specs.Carried.{CarriesOutAsking, CarriesOutAtControl, CarriesOutAtDevice, CarriesOutWithSpare, session_of};
 ghost use Rattle.pos_run.specs.Spares.{AreSparesSound, spares_in};
-ghost use Rattle.pos_run.specs.Transcript.{attach_refusal, detach_refusal};
 
 use crate::ending::Ends;
 use crate::names::Names;
 use crate::spares::Spares;
-use pos_counter::{
-    AttachFault, ControlFault, Counter, DetachFault, InputFault, SnapshotFault, WorkFault,
-};
+use pos_counter::{ControlFault, Counter, InputFault, SnapshotFault, WorkFault};
 use pos_disk::Disk;
-use pos_script::{Command, LineFault, Refusal, Reply, is_quiet_line, read_command};
-use pos_service::{Call, Category, ErrorReply, Input, Peripheral};
-use std::alloc::Global;
+use pos_script::{Command, Reply};
+use pos_service::{Call, Category, ErrorReply, Input, Peripheral, Request, Response};
 
 /// A new control, under a name that no control has.
 fn new_control<D: Disk, P: Peripheral>(
@@ -25,7 +21,7 @@ fn new_control<D: Disk, P: Peripheral>(
 ) -> Reply
     requires sound { IsCounterSound P.Peripheral counter.old }
     ensures asks { CarriesOutAtControl D.Disk P.Peripheral counter.old names.old
-        (NewLine name.now category) result names.new counter.new }
+        (NewControl name.now category) result names.new counter.new }
     ensures sound { IsCounterSound P.Peripheral counter.new }
 {
     if names.find(name).is_some() {
@@ -37,10 +33,10 @@ fn new_control<D: Disk, P: Peripheral>(
     match counter.control(category) {
         Ok(number) => {
             names.add(copy, number);
-            Reply::Ok
+            Reply::Responded(Response::Made(number))
         }
-        Err(ControlFault::Full) => Reply::Full,
-        Err(ControlFault::NoMemory) => Reply::Memory,
+        Err(ControlFault::Full) => Reply::Responded(Response::Full),
+        Err(ControlFault::NoMemory) => Reply::Responded(Response::OutOfMemory),
     }
 }
 
@@ -53,15 +49,15 @@ fn call_control<D: Disk, P: Peripheral>(
 ) -> Reply
     requires sound { IsCounterSound P.Peripheral counter.old }
     ensures asks { CarriesOutAtControl D.Disk P.Peripheral counter.old names.now
-        (CallLine name.now call.now) result names.now counter.new }
+        (CallOf name.now call.now) result names.now counter.new }
     ensures sound { IsCounterSound P.Peripheral counter.new }
 {
     let Some(number) = names.find(name) else {
         return Reply::BadControl;
     };
     match counter.call(number, call) {
-        Ok(answer) => Reply::Answered(answer),
-        Err(_) => Reply::Memory,
+        Ok(answer) => Reply::Responded(Response::Answered(answer)),
+        Err(_) => Reply::Responded(Response::OutOfMemory),
     }
 }
 
@@ -74,11 +70,11 @@ fn deliver_event<D: Disk, P: Peripheral>(
 ) -> Reply
     requires sound { IsCounterSound P.Peripheral counter.old }
     ensures asks { CarriesOutAtControl D.Disk P.Peripheral counter.old names.now
-        (DeliverLine name.now reply) result names.now counter.new }
+        (Deliver name.now reply) result names.now counter.new }
     ensures sound { IsCounterSound P.Peripheral counter.new }
 {
     match names.find(name) {
-        Some(number) => Reply::Delivered(counter.deliver(number, reply)),
+        Some(number) => Reply::Responded(Response::Delivered(counter.deliver(number, reply))),
         None => Reply::BadControl,
     }
 }
@@ -91,61 +87,39 @@ fn input_device<D: Disk, P: Peripheral>(
 ) -> Reply
     requires sound { IsCounterSound P.Peripheral counter.old }
     ensures asks { CarriesOutAtDevice D.Disk P.Peripheral counter.old
-        (InputLine name.now input.now) result counter.new }
+        (InputTo name.now input.now) result counter.new }
     ensures sound { IsCounterSound P.Peripheral counter.new }
 {
     match counter.input(name, input) {
-        Ok(()) => Reply::Ok,
-        Err(InputFault::NoDevice) => Reply::BadDevice,
-        Err(InputFault::WrongInput) => Reply::BadInput,
-        Err(InputFault::NoMemory) => Reply::Memory,
+        Ok(()) => Reply::Responded(Response::TakenIn),
+        Err(InputFault::NoDevice) => Reply::Responded(Response::NoDevice),
+        Err(InputFault::WrongInput) => Reply::Responded(Response::WrongInput),
+        Err(InputFault::NoMemory) => Reply::Responded(Response::OutOfMemory),
     }
 }
 
 /// What a device is physically.
 fn show_device<D: Disk, P: Peripheral>(counter: &Counter<D, P>, name: &[u8]) -> Reply
     requires sound { IsCounterSound P.Peripheral counter.now }
-    ensures { CarriesOutAtDevice D.Disk P.Peripheral counter.now (ShowLine name.now) result counter.now }
+    ensures { CarriesOutAtDevice D.Disk P.Peripheral counter.now (Snapshot name.now) result counter.now }
 {
     match counter.snapshot(name) {
-        Ok(snapshot) => Reply::Shown(snapshot),
-        Err(SnapshotFault::NoDevice) => Reply::BadDevice,
-        Err(SnapshotFault::NoMemory) => Reply::Memory,
+        Ok(snapshot) => Reply::Responded(Response::Shown(snapshot)),
+        Err(SnapshotFault::NoDevice) => Reply::Responded(Response::NoDevice),
+        Err(SnapshotFault::NoMemory) => Reply::Responded(Response::OutOfMemory),
     }
 }
 
 /// Work on a device's output.
 fn work_device<D: Disk, P: Peripheral>(counter: &mut Counter<D, P>, name: &[u8]) -> Reply
     requires sound { IsCounterSound P.Peripheral counter.old }
-    ensures asks { CarriesOutAtDevice D.Disk P.Peripheral counter.old (WorkLine name.now) result counter.new }
+    ensures asks { CarriesOutAtDevice D.Disk P.Peripheral counter.old (WorkOn name.now) result counter.new }
     ensures sound { IsCounterSound P.Peripheral counter.new }
 {
     match counter.work(name) {
-        Ok(worked) => Reply::Worked(worked),
-        Err(WorkFault::NoDevice) => Reply::BadDevice,
-        Err(WorkFault::NoMemory) => Reply::Memory,
-    }
-}
-
-/// Why a peripheral was not attached, as it is told.
-fn attach_refusal(fault: AttachFault) -> Refusal
-    ensures { result ≡ attach_refusal fault }
-{
-    match fault {
-        AttachFault::Unknown => Refusal::Unknown,
-        AttachFault::KindDiffers => Refusal::KindDiffers,
-        AttachFault::InUse => Refusal::InUse,
-    }
-}
-
-/// Why a peripheral was not detached, as it is told.
-fn detach_refusal(fault: DetachFault) -> Refusal
-    ensures { result ≡ detach_refusal fault }
-{
-    match fault {
-        DetachFault::Unknown => Refusal::Unknown,
-        DetachFault::Vacant => Refusal::Vacant,
-        DetachFault::InUse => Refusal::InUse,
+        Ok(worked) => Reply::Responded(Response::Worked(worked)),
+        Err(WorkFault::NoDevice) => Reply::Responded(Response::NoDevice),
+        Err(WorkFault::NoMemory) => Reply::Responded(Response::OutOfMemory),
     }
 }
 
@@ -159,7 +133,7 @@ fn attach_spare<D: Disk, P: Peripheral>(
     requires sound { IsCounterSound P.Peripheral counter.old }
     requires spares { AreSparesSound P.Peripheral spares.old }
     ensures asks { CarriesOutWithSpare D.Disk P.Peripheral counter.old (spares_in P.Peripheral spares.old)
-        (AttachLine name.now number) result (spares_in P.Peripheral spares.new) counter.new }
+        (Attach name.now number) result (spares_in P.Peripheral spares.new) counter.new }
     ensures sound { IsCounterSound P.Peripheral counter.new }
     ensures spares { AreSparesSound P.Peripheral spares.new }
 {
@@ -167,10 +141,10 @@ fn attach_spare<D: Disk, P: Peripheral>(
         return Reply::BadSpare;
     };
     match counter.attach(name, peripheral) {
-        Ok(()) => Reply::Ok,
+        Ok(()) => Reply::Responded(Response::Attached),
         Err((fault, peripheral)) => {
             spares.put(number, peripheral);
-            Reply::Refused(attach_refusal(fault))
+            Reply::Responded(Response::NotAttached(fault, ()))
         }
     }
 }
@@ -178,20 +152,20 @@ fn attach_spare<D: Disk, P: Peripheral>(
 /// A device is to be vacant. Its peripheral, which is out of service then, is ended.
 fn detach_device<D: Disk, P: Peripheral + Ends>(counter: &mut Counter<D, P>, name: &[u8]) -> Reply
     requires sound { IsCounterSound P.Peripheral counter.old }
-    ensures asks { CarriesOutAtDevice D.Disk P.Peripheral counter.old (DetachLine name.now) result counter.new }
+    ensures asks { CarriesOutAtDevice D.Disk P.Peripheral counter.old (Detach name.now) result counter.new }
     ensures sound { IsCounterSound P.Peripheral counter.new }
 {
     match counter.detach(name) {
         Ok(peripheral) => {
             peripheral.end();
-            Reply::Ok
+            Reply::Responded(Response::Detached(()))
         }
-        Err(fault) => Reply::Refused(detach_refusal(fault)),
+        Err(fault) => Reply::Responded(Response::NotDetached(fault)),
     }
 }
 
 /// Carries out what a line asks, and replies to it.
-fn carry_out_command<D: Disk, P: Peripheral + Ends>(
+pub fn carry_out_command<D: Disk, P: Peripheral + Ends>(
     counter: &mut Counter<D, P>,
     names: &mut Names,
     spares: &mut Spares<P>,
@@ -200,43 +174,20 @@ fn carry_out_command<D: Disk, P: Peripheral + Ends>(
     requires sound { IsCounterSound P.Peripheral counter.old }
     requires spares { AreSparesSound P.Peripheral spares.old }
     ensures asks { CarriesOutAsking D.Disk P.Peripheral counter.old (session_of P.Peripheral names.old spares.old)
-        (asking command.entry) result (session_of P.Peripheral names.new spares.new) counter.new }
+        command.entry result (session_of P.Peripheral names.new spares.new) counter.new }
     ensures sound { IsCounterSound P.Peripheral counter.new }
     ensures spares { AreSparesSound P.Peripheral spares.new }
 {
     match command {
-        Command::New(name, category) => new_control(counter, names, name, category),
-        Command::Call(name, call) => call_control(counter, names, name, &call),
-        Command::Input(name, input) => input_device(counter, name, &input),
-        Command::Deliver(name, reply) => deliver_event(counter, names, name, reply),
-        Command::Show(name) => show_device(counter, name),
-        Command::Work(name) => work_device(counter, name),
-        Command::Attach(name, number) => attach_spare(counter, spares, name, number),
-        Command::Detach(name) => detach_device(counter, name),
-    }
-}
-
-/// Carries out a line, and says what it prints, if it prints anything.
-pub fn carry_out_line<D: Disk, P: Peripheral + Ends>(
-    alloc: Global,
-    counter: &mut Counter<D, P>,
-    names: &mut Names,
-    spares: &mut Spares<P>,
-    line: &[u8],
-) -> Option<Reply>
-    requires sound { IsCounterSound P.Peripheral counter.old }
-    requires spares { AreSparesSound P.Peripheral spares.old }
-    ensures becomes { CarriesOutLine D.Disk P.Peripheral counter.old (session_of P.Peripheral names.old spares.old)
-        line.now result (session_of P.Peripheral names.new spares.new) counter.new }
-    ensures sound { IsCounterSound P.Peripheral counter.new }
-    ensures spares { AreSparesSound P.Peripheral spares.new }
-{
-    if is_quiet_line(line) {
-        return None;
-    }
-    match read_command(alloc, line) {
-        Ok(command) => Some(carry_out_command(counter, names, spares, command)),
-        Err(LineFault::WrongShape) => Some(Reply::BadLine),
-        Err(LineFault::NoMemory) => Some(Reply::Memory),
+        Request::NewControl(name, category) => {
+            new_control(counter, names, name.as_slice(), category)
+        }
+        Request::CallOf(name, call) => call_control(counter, names, name.as_slice(), &call),
+        Request::InputTo(name, input) => input_device(counter, name.as_slice(), &input),
+        Request::Deliver(name, reply) => deliver_event(counter, names, name.as_slice(), reply),
+        Request::Snapshot(name) => show_device(counter, name.as_slice()),
+        Request::WorkOn(name) => work_device(counter, name.as_slice()),
+        Request::Attach(name, number) => attach_spare(counter, spares, name.as_slice(), number),
+        Request::Detach(name) => detach_device(counter, name.as_slice()),
     }
 }

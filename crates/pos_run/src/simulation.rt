@@ -1,16 +1,16 @@
 //! What is simulated for the entries of a profile.
-ghost use Rattle.std.specs.Prelude.{◌≡◌, IfOk};
-ghost use Rattle.std.specs.Option.{option_map};
-ghost use Rattle.pos_run.specs.Simulating.{IsSimulable, boxed_state, simulated_for, state_of};
+ghost use Rattle.std.specs.Prelude.{◌≡◌, ◌≤◌, IfOk};
+ghost use Rattle.pos_run.specs.Simulating.{IsDeviceFor, IsDisplay, IsSimulable, IsSimulatedFor, boxed_state, simulated_for, state_of, unboxed};
 
+use crate::wrapped::{Wrapped, wrap};
 use pos_profile::Entry;
 use pos_service::{
     Category, Input, Kind, NoMemory, Order, Peripheral, Reply, Signs, Snapshot, Taken,
 };
-use pos_sims::{PlainDisplay, PlainDrawer, PlainScanner, RollPrinter};
+use pos_sims::{PlainDisplay, PlainDrawer, PlainScanner, RingDisplay, RollPrinter};
 use std::alloc::Global;
 
-/// A simulated peripheral.
+/// A simulated peripheral without a wrapper.
 #[derive(Drop)]
 pub enum Simulation {
     /// A cash drawer.
@@ -19,6 +19,8 @@ pub enum Simulation {
     Scanner(PlainScanner),
     /// A line display.
     Display(PlainDisplay),
+    /// A line display whose rows are a ring.
+    Ring(RingDisplay),
     /// A receipt printer.
     Printer(RollPrinter),
 }
@@ -31,6 +33,7 @@ impl Peripheral for Simulation {
             Simulation::Drawer(drawer) => drawer.kind(),
             Simulation::Scanner(scanner) => scanner.kind(),
             Simulation::Display(display) => display.kind(),
+            Simulation::Ring(ring) => ring.kind(),
             Simulation::Printer(printer) => printer.kind(),
         }
     }
@@ -40,6 +43,7 @@ impl Peripheral for Simulation {
             Simulation::Drawer(drawer) => drawer.signs(),
             Simulation::Scanner(scanner) => scanner.signs(),
             Simulation::Display(display) => display.signs(),
+            Simulation::Ring(ring) => ring.signs(),
             Simulation::Printer(printer) => printer.signs(),
         }
     }
@@ -49,6 +53,7 @@ impl Peripheral for Simulation {
             Simulation::Drawer(drawer) => drawer.ask(order),
             Simulation::Scanner(scanner) => scanner.ask(order),
             Simulation::Display(display) => display.ask(order),
+            Simulation::Ring(ring) => ring.ask(order),
             Simulation::Printer(printer) => printer.ask(order),
         }
     }
@@ -58,6 +63,7 @@ impl Peripheral for Simulation {
             Simulation::Drawer(drawer) => drawer.feed(input),
             Simulation::Scanner(scanner) => scanner.feed(input),
             Simulation::Display(display) => display.feed(input),
+            Simulation::Ring(ring) => ring.feed(input),
             Simulation::Printer(printer) => printer.feed(input),
         }
     }
@@ -67,6 +73,7 @@ impl Peripheral for Simulation {
             Simulation::Drawer(drawer) => drawer.snapshot(),
             Simulation::Scanner(scanner) => scanner.snapshot(),
             Simulation::Display(display) => display.snapshot(),
+            Simulation::Ring(ring) => ring.snapshot(),
             Simulation::Printer(printer) => printer.snapshot(),
         }
     }
@@ -76,6 +83,7 @@ impl Peripheral for Simulation {
             Simulation::Drawer(drawer) => drawer.park(),
             Simulation::Scanner(scanner) => scanner.park(),
             Simulation::Display(display) => display.park(),
+            Simulation::Ring(ring) => ring.park(),
             Simulation::Printer(printer) => printer.park(),
         }
     }
@@ -85,24 +93,46 @@ impl Peripheral for Simulation {
             Simulation::Drawer(drawer) => drawer.is_parked(),
             Simulation::Scanner(scanner) => scanner.is_parked(),
             Simulation::Display(display) => display.is_parked(),
+            Simulation::Ring(ring) => ring.is_parked(),
             Simulation::Printer(printer) => printer.is_parked(),
         }
     }
 }
 
-/// What is simulated for an entry, in service: a closed drawer, a scanner, a blank display of its rows and columns,
-/// or a printer of its characters a line with its lines of paper; none for Hard Totals.
-fn simulate_entry(alloc: Global, entry: &Entry) -> Result<Option<Simulation>, NoMemory>
+/// A blank line display in service, whose rows are a ring or not.
+fn simulate_display(
+    alloc: Global,
+    rows: u32,
+    columns: u32,
+    ring: bool,
+) -> Result<Simulation, NoMemory>
+    requires rows { (1 ≤ rows) × (rows ≤ 8) }
+    requires columns { (1 ≤ columns) × (columns ≤ 80) }
+    ensures { IfOk result (IsDisplay rows columns ring) }
+{
+    if ring {
+        Ok(Simulation::Ring(RingDisplay::new(alloc, rows, columns)?))
+    } else {
+        Ok(Simulation::Display(PlainDisplay::new(alloc, rows, columns)?))
+    }
+}
+
+/// What is simulated for an entry before it is wrapped, in service: a closed drawer, a scanner, a blank display of its
+/// rows and columns, whose rows are a ring where the entry says so, or a printer of its characters a line with its
+/// lines of paper; none for Hard Totals.
+fn simulate_device(alloc: Global, entry: &Entry) -> Result<Option<Simulation>, NoMemory>
     requires { IsSimulable entry.now }
-    ensures { IfOk result (λ made. option_map state_of made ≡ simulated_for entry.now) }
+    ensures { IfOk result (IsDeviceFor entry.now) }
 {
     match entry.category {
         Category::CashDrawer => Ok(Some(Simulation::Drawer(PlainDrawer::new()))),
         Category::Scanner => Ok(Some(Simulation::Scanner(PlainScanner::new()))),
-        Category::LineDisplay => {
-            let display = PlainDisplay::new(alloc, entry.rows, entry.columns)?;
-            Ok(Some(Simulation::Display(display)))
-        }
+        Category::LineDisplay => Ok(Some(simulate_display(
+            alloc,
+            entry.rows,
+            entry.columns,
+            entry.ring,
+        )?)),
         Category::PosPrinter => {
             let printer = RollPrinter::new(alloc, entry.chars, entry.lines, entry.near);
             Ok(Some(Simulation::Printer(printer)))
@@ -111,15 +141,17 @@ fn simulate_entry(alloc: Global, entry: &Entry) -> Result<Option<Simulation>, No
     }
 }
 
-/// What is simulated for an entry, in a box.
-pub fn simulate_boxed(alloc: Global, entry: &Entry) -> Result<Option<Box<Simulation>>, NoMemory>
+/// What is simulated for an entry, in a box: its device, round it a line that fails by the entry's numbers, and round
+/// that a recorder, each where the entry says so.
+pub fn simulate_boxed(alloc: Global, entry: &Entry) -> Result<Option<Box<Wrapped>>, NoMemory>
     requires { IsSimulable entry.now }
-    ensures { IfOk result (λ made. boxed_state made ≡ simulated_for entry.now) }
+    ensures simulated { IfOk result (λ made. IsSimulatedFor entry.now (unboxed made)) }
+    ensures state { IfOk result (λ made. boxed_state made ≡ simulated_for entry.now) }
 {
-    let Some(simulation) = simulate_entry(alloc, entry)? else {
+    let Some(device) = simulate_device(alloc, entry)? else {
         return Ok(None);
     };
-    match Box::new(alloc, simulation) {
+    match Box::new(alloc, wrap(device, entry.flaky, entry.recorded)) {
         Ok(kept) => Ok(Some(kept)),
         Err(_) => Err(NoMemory),
     }

@@ -1,4 +1,6 @@
 pub mod Pieces
+pub mod LineLemmas
+pub mod BufferLemmas
 pub mod WriteLemmas
 pub mod ReceiptLemmas
 pub mod Readings

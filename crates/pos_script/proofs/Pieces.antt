@@ -13,12 +13,13 @@ front_onto_push : (xs : List ℕ) (b : ℕ) (ps : List (List ℕ)) → front_ont
 front_onto_push [] b ps = refl
 front_onto_push (x ∷ xs) b ps = ap (onto_first x) (front_onto_push xs b ps)
 
-front_onto_nil : (xs : List ℕ) (ps : List (List ℕ)) → front_onto xs ([] ∷ ps) ≡ xs ∷ ps
+pub front_onto_nil : (xs : List ℕ) (ps : List (List ℕ)) → front_onto xs ([] ∷ ps) ≡ xs ∷ ps
 front_onto_nil [] ps = refl
 front_onto_nil (x ∷ xs) ps = ap (onto_first x) (front_onto_nil xs ps)
 
 -- one more byte that is no cut
-pub front_more : (c : ℕ) (text : List ℕ) (i : ℕ) (d : ℕ) → i < length text → eqb (get_or text i d) c ≡ false → pieces c text ≡ front_onto (take i text) (pieces c (drop i text)) → pieces c text ≡ front_onto (take (i + 1) text) (pieces c (drop (i + 1) text))
+pub front_more : (c : ℕ) (text : List ℕ) (i : ℕ) (d : ℕ) → i < length text → eqb (get_or text i d) c ≡ false
+    → pieces c text ≡ front_onto (take i text) (pieces c (drop i text)) → pieces c text ≡ front_onto (take (i + 1) text) (pieces c (drop (i + 1) text))
 front_more c text i d lt ne h =
     let b = get_or text i d in
     let rest = pieces c (drop (i + 1) text) in
@@ -26,7 +27,8 @@ front_more c text i d lt ne h =
     h ∙ ap (front_onto (take i text)) here ∙ sym (front_onto_push (take i text) b rest) ∙ ap (λ xs. front_onto xs rest) (sym (take_more text i d lt))
 
 -- a byte that is a cut
-pub front_cut : (c : ℕ) (text : List ℕ) (i : ℕ) (d : ℕ) → i < length text → eqb (get_or text i d) c ≡ true → pieces c text ≡ front_onto (take i text) (pieces c (drop i text)) → pieces c text ≡ take i text ∷ pieces c (drop (i + 1) text)
+pub front_cut : (c : ℕ) (text : List ℕ) (i : ℕ) (d : ℕ) → i < length text → eqb (get_or text i d) c ≡ true
+    → pieces c text ≡ front_onto (take i text) (pieces c (drop i text)) → pieces c text ≡ take i text ∷ pieces c (drop (i + 1) text)
 front_cut c text i d lt eq h =
     let b = get_or text i d in
     let rest = pieces c (drop (i + 1) text) in
@@ -34,7 +36,8 @@ front_cut c text i d lt eq h =
     h ∙ ap (front_onto (take i text)) here ∙ front_onto_nil (take i text) rest
 
 -- no cut at all
-pub front_end : (c : ℕ) (text : List ℕ) (i : ℕ) → length text ≤ i → pieces c text ≡ front_onto (take i text) (pieces c (drop i text)) → pieces c text ≡ text ∷ []
+pub front_end : (c : ℕ) (text : List ℕ) (i : ℕ) → length text ≤ i → pieces c text ≡ front_onto (take i text) (pieces c (drop i text))
+    → pieces c text ≡ text ∷ []
 front_end c text i le h =
     h ∙ ap (λ xs. front_onto (take i text) (pieces c xs)) (drop_all i text le) ∙ front_onto_nil (take i text) [] ∙ ap (λ xs. xs ∷ []) (take_all i text le)
 
@@ -51,7 +54,7 @@ cond_some : (t : Bool) (xs ys : List (List ℕ)) → 0 < length xs → 0 < lengt
 cond_some true xs ys h k = h
 cond_some false xs ys h k = k
 
-some_piece : (c : ℕ) (text : List ℕ) → 0 < length (pieces c text)
+pub some_piece : (c : ℕ) (text : List ℕ) → 0 < length (pieces c text)
 some_piece c [] = omega arith
 some_piece c (b ∷ bs) = cond_some (eqb b c) _ _ (omega arith) (onto_first_some b (pieces c bs))
 

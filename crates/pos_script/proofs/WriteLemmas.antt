@@ -10,7 +10,8 @@ use Rattle.pos_script.specs.Glyphs.{characters_text}
 use Rattle.pos_script.specs.Writing.{Writes}
 
 -- where one part is cut, so is the whole
-pub cut_at : {X : Type 0} (f : X → List ℕ) (ps : List X) (i : ℕ) (d : X) (bytes front back : List ℕ) → i < length ps → bytes ≡ f (get_or ps i d) → bytes ≡ front ++ back → flat_map f ps ≡ (flat_map f (take i ps) ++ front) ++ (back ++ flat_map f (drop (i + 1) ps))
+pub cut_at : {X : Type 0} (f : X → List ℕ) (ps : List X) (i : ℕ) (d : X) (bytes front back : List ℕ) → i < length ps → bytes ≡ f (get_or ps i d)
+    → bytes ≡ front ++ back → flat_map f ps ≡ (flat_map f (take i ps) ++ front) ++ (back ++ flat_map f (drop (i + 1) ps))
 cut_at f ps i d bytes front back lt is e =
     let a = flat_map f (take i ps) in
     let b = flat_map f (drop (i + 1) ps) in
@@ -27,7 +28,8 @@ hex_of_each [] = refl
 hex_of_each (b ∷ bs) = ap (λ rest. encode_lower (b ∷ []) ++ rest) (hex_of_each bs)
 
 -- characters in hex are each in turn
-pub hex_of_glyphs : {G : Type 0} (character : G → ℕ) (glyphs : List G) → flat_map (λ glyph. encode_lower (character glyph ∷ [])) glyphs ≡ characters_text character glyphs
+pub hex_of_glyphs : {G : Type 0} (character : G → ℕ) (glyphs : List G)
+    → flat_map (λ glyph. encode_lower (character glyph ∷ [])) glyphs ≡ characters_text character glyphs
 unfolding encode_with
 hex_of_glyphs character [] = refl
 hex_of_glyphs character (glyph ∷ glyphs) = ap (λ rest. encode_lower (character glyph ∷ []) ++ rest) (hex_of_glyphs character glyphs)
@@ -41,11 +43,13 @@ pub failed_front : {E F : Type 0} (a b : Option (List ℕ)) (first rest : List �
 failed_front a b first rest e f w = (w.0, w.1 ++ rest, ap (λ x. x ++ rest) w.2 ∙ append_assoc w.0 w.1 rest, longer w.1 rest w.3, w.4)
 
 -- a text behind one that was written
-pub behind : {E : Type 0} (a b c : Option (List ℕ)) (first second : List ℕ) (result : Result (Unit {0}) E) → Appends a b first → Writes b c second result → Writes a c (first ++ second) result
+pub behind : {E : Type 0} (a b c : Option (List ℕ)) (first second : List ℕ) (result : Result (Unit {0}) E) → Appends a b first
+    → Writes b c second result → Writes a c (first ++ second) result
 behind a b c first second (Ok u) done w = Appends-trans a b c first second done w
 behind a b c first second (Err e) done w =
     (first ++ w.0, w.1, ap (λ x. first ++ x) w.2 ∙ sym (append_assoc first w.0 w.1), w.3, Appends-trans a b c first w.0 done w.4)
 
 -- what fails behind a text that was written
-pub failed_behind : {E : Type 0} (a b c : Option (List ℕ)) (first second : List ℕ) (e : E) → Appends a b first → Writes b c second (Err e) → Writes a c (first ++ second) (Err e)
+pub failed_behind : {E : Type 0} (a b c : Option (List ℕ)) (first second : List ℕ) (e : E) → Appends a b first → Writes b c second (Err e)
+    → Writes a c (first ++ second) (Err e)
 failed_behind a b c first second e done w = behind a b c first second (Err e) done w

@@ -1,5 +1,5 @@
 -- What a line of a script asks (docs/CONSOLE.md, "Lines").
-use Rattle.std.specs.Prelude.{ℕ, true, false, List, [], ◌∷◌, bytes_eq, codes, if◌then◌else◌, Result, Ok, Err}
+use Rattle.std.specs.Prelude.{ℕ, true, false, List, [], ◌∷◌, bytes_eq, codes, if◌then◌else◌}
 use Rattle.pos_service.specs.declared.category.Category.{Category}
 use Rattle.pos_service.specs.declared.call.Call.{Call}
 use Rattle.pos_service.specs.declared.call.Call.TheVariants as call
@@ -7,78 +7,51 @@ use Rattle.pos_service.specs.declared.input.Input.{Input}
 use Rattle.pos_service.specs.declared.input.Input.TheVariants as input
 use Rattle.pos_service.specs.declared.event.ErrorReply.{ErrorReply}
 use Rattle.pos_service.specs.declared.event.ErrorReply.TheVariants as reply
-use Rattle.pos_script.specs.declared.arguments.LineFault.{LineFault}
-use Rattle.pos_script.specs.declared.command.Command.{Command}
-use Rattle.pos_script.specs.declared.command.Command.TheVariants as command
+use Rattle.pos_service.specs.declared.request.Request.{Request}
+use Rattle.pos_service.specs.declared.request.Request.TheVariants as request
 use Rattle.pos_script.specs.Lines.{words_of, is_well_spelled}
-use Rattle.pos_script.specs.Arguments.{Reading, Reads, misshapen, become, from_none, from_one, from_two, from_three}
+use Rattle.pos_script.specs.Arguments.{Reading, misshapen, become, one, from_none, from_one, from_two, from_three}
 use Rattle.pos_service.specs.Names.{is_device_name}
 use Rattle.pos_script.specs.Words.{bytes_shape, category_shape, count_shape, device_shape, number_shape, property_shape, value_shape, error_reply_shape}
 use Rattle.pos_script.specs.Methods.{call_of}
 
--- what a line asks of a control or a device, by its name
-pub data Asking : Type 0 where
-  NewLine : List ℕ → Category → Asking
-  CallLine : List ℕ → Call → Asking
-  InputLine : List ℕ → Input → Asking
-  DeliverLine : List ℕ → ErrorReply → Asking
-  ShowLine : List ℕ → Asking
-  WorkLine : List ℕ → Asking
-  AttachLine : List ℕ → ℕ → Asking
-  DetachLine : List ℕ → Asking
-
--- what a command of the program asks
-abbrev pub asking : Command → Asking
-asking (command.New name category) = NewLine name.now category
-asking (command.Call name call) = CallLine name.now call
-asking (command.Input name input) = InputLine name.now input
-asking (command.Deliver name reply) = DeliverLine name.now reply
-asking (command.Show name) = ShowLine name.now
-asking (command.Work name) = WorkLine name.now
-asking (command.Attach name spare) = AttachLine name.now spare
-asking (command.Detach name) = DetachLine name.now
-
--- what a command asks, or why there is none
-abbrev pub asked : Result Command LineFault → Result Asking LineFault
-asked (Ok command) = Ok (asking command)
-asked (Err fault) = Err fault
-
--- what reading a line answers
-abbrev pub ReadsLine : Reading Asking → Result Command LineFault → Type 0
-ReadsLine reading result = Reads reading (asked result)
+-- what a line asks: controls by their names, and the spare that is to serve a device by its number
+abbrev pub LineRequest : Type 0
+LineRequest = Request (List ℕ) (List ℕ) ℕ
 
 -- new CONTROL CATEGORY
-abbrev pub new_line : List ℕ → List (List ℕ) → Reading Asking
-new_line name words = from_one category_shape (λ category. NewLine name category) words
+abbrev pub new_line : List ℕ → List (List ℕ) → Reading LineRequest
+new_line name words = from_one category_shape (λ category. request.NewControl name category) words
 
 -- open CONTROL DEVICE
-abbrev pub open_line : List ℕ → List (List ℕ) → Reading Asking
-open_line name words = from_one device_shape (λ device. CallLine name (call.Open device.name)) words
+abbrev pub open_line : List ℕ → List (List ℕ) → Reading LineRequest
+open_line name words = from_one device_shape (λ device. request.CallOf name (call.Open device.name)) words
 
 -- close CONTROL
-abbrev pub close_line : List ℕ → List (List ℕ) → Reading Asking
-close_line name words = from_none (CallLine name call.Close) words
+abbrev pub close_line : List ℕ → List (List ℕ) → Reading LineRequest
+close_line name words = from_none (request.CallOf name call.Close) words
 
 -- claim CONTROL TIMEOUT
-abbrev pub claim_line : List ℕ → List (List ℕ) → Reading Asking
-claim_line name words = from_one number_shape (λ timeout. CallLine name (call.Claim timeout)) words
+abbrev pub claim_line : List ℕ → List (List ℕ) → Reading LineRequest
+claim_line name words = from_one number_shape (λ timeout. request.CallOf name (call.Claim timeout)) words
 
 -- release CONTROL
-abbrev pub release_line : List ℕ → List (List ℕ) → Reading Asking
-release_line name words = from_none (CallLine name call.Release) words
+abbrev pub release_line : List ℕ → List (List ℕ) → Reading LineRequest
+release_line name words = from_none (request.CallOf name call.Release) words
 
 -- set CONTROL PROPERTY VALUE
-abbrev pub set_line : List ℕ → List (List ℕ) → Reading Asking
-set_line name words = from_two property_shape value_shape (λ property v. CallLine name (call.Set property v)) words
+abbrev pub set_line : List ℕ → List (List ℕ) → Reading LineRequest
+set_line name words =
+    from_two property_shape value_shape (λ property v. request.CallOf name (call.Set property v)) words
 
 -- get CONTROL PROPERTY
-abbrev pub get_line : List ℕ → List (List ℕ) → Reading Asking
-get_line name words = from_one property_shape (λ property. CallLine name (call.Get property)) words
+abbrev pub get_line : List ℕ → List (List ℕ) → Reading LineRequest
+get_line name words = from_one property_shape (λ property. request.CallOf name (call.Get property)) words
 
 -- call CONTROL METHOD, and the method's arguments
-abbrev pub call_line : List ℕ → List (List ℕ) → Reading Asking
+abbrev pub call_line : List ℕ → List (List ℕ) → Reading LineRequest
 call_line name [] = misshapen
-call_line name (method ∷ words) = become (λ call. CallLine name call) (call_of method words)
+call_line name (method ∷ words) = become (λ call. request.CallOf name call) (call_of method words)
 
 -- what happens to a cover, by the words behind it
 abbrev pub cover_input_of : List (List ℕ) → Reading Input
@@ -103,52 +76,56 @@ input_of word words =
     else printer_input_of word words)))
 
 -- input DEVICE, and what happens there
-abbrev pub input_line : List ℕ → List (List ℕ) → Reading Asking
+abbrev pub input_line : List ℕ → List (List ℕ) → Reading LineRequest
 input_line name [] = misshapen
-input_line name (word ∷ words) = become (λ input. InputLine name input) (input_of word words)
+input_line name (word ∷ words) = become (λ input. request.InputTo name input) (input_of word words)
+
+-- the answer to an ErrorEvent, which is the default one where no word gives it
+abbrev pub reply_of : List (List ℕ) → Reading ErrorReply
+reply_of [] = from_none reply.Default []
+reply_of (word ∷ words) = one error_reply_shape (word ∷ words)
 
 -- deliver CONTROL, or deliver CONTROL REPLY
-abbrev pub deliver_line : List ℕ → List (List ℕ) → Reading Asking
-deliver_line name [] = from_none (DeliverLine name reply.Default) []
-deliver_line name (word ∷ words) = from_one error_reply_shape (λ reply. DeliverLine name reply) (word ∷ words)
+abbrev pub deliver_line : List ℕ → List (List ℕ) → Reading LineRequest
+deliver_line name words = become (λ reply. request.Deliver name reply) (reply_of words)
 
 -- show DEVICE
-abbrev pub show_line : List ℕ → List (List ℕ) → Reading Asking
-show_line name words = from_none (ShowLine name) words
+abbrev pub show_line : List ℕ → List (List ℕ) → Reading LineRequest
+show_line name words = from_none (request.Snapshot name) words
 
 -- work DEVICE
-abbrev pub work_line : List ℕ → List (List ℕ) → Reading Asking
-work_line name words = from_none (WorkLine name) words
+abbrev pub work_line : List ℕ → List (List ℕ) → Reading LineRequest
+work_line name words = from_none (request.WorkOn name) words
 
 -- attach DEVICE SPARE
-abbrev pub attach_line : List ℕ → List (List ℕ) → Reading Asking
-attach_line name words = from_one count_shape (λ spare. AttachLine name spare) words
+abbrev pub attach_line : List ℕ → List (List ℕ) → Reading LineRequest
+attach_line name words = from_one count_shape (λ spare. request.Attach name spare) words
 
 -- detach DEVICE
-abbrev pub detach_line : List ℕ → List (List ℕ) → Reading Asking
-detach_line name words = from_none (DetachLine name) words
+abbrev pub detach_line : List ℕ → List (List ℕ) → Reading LineRequest
+detach_line name words = from_none (request.Detach name) words
 
 -- a line about the peripheral of a device, by its verb
-abbrev pub exchange_line : List ℕ → List ℕ → List (List ℕ) → Reading Asking
+abbrev pub exchange_line : List ℕ → List ℕ → List (List ℕ) → Reading LineRequest
 exchange_line verb name words =
     if bytes_eq verb (codes "attach") then attach_line name words
     else (if bytes_eq verb (codes "detach") then detach_line name words else misshapen)
 
 -- a line that asks something of a device, by its verb
-abbrev pub device_line : List ℕ → List ℕ → List (List ℕ) → Reading Asking
+abbrev pub device_line : List ℕ → List ℕ → List (List ℕ) → Reading LineRequest
 device_line verb name words =
     if bytes_eq verb (codes "input") then input_line name words
     else (if bytes_eq verb (codes "show") then show_line name words
     else (if bytes_eq verb (codes "work") then work_line name words else exchange_line verb name words))
 
 -- a line that claims or releases a control's device, or asks something of a device, by its verb
-abbrev pub claims_line : List ℕ → List ℕ → List (List ℕ) → Reading Asking
+abbrev pub claims_line : List ℕ → List ℕ → List (List ℕ) → Reading LineRequest
 claims_line verb name words =
     if bytes_eq verb (codes "claim") then claim_line name words
     else (if bytes_eq verb (codes "release") then release_line name words else device_line verb name words)
 
 -- a line that asks something of a control or a device, by its verb
-abbrev pub verb_line : List ℕ → List ℕ → List (List ℕ) → Reading Asking
+abbrev pub verb_line : List ℕ → List ℕ → List (List ℕ) → Reading LineRequest
 verb_line verb name words =
     if bytes_eq verb (codes "new") then new_line name words
     else (if bytes_eq verb (codes "open") then open_line name words
@@ -159,11 +136,11 @@ verb_line verb name words =
     else (if bytes_eq verb (codes "deliver") then deliver_line name words else claims_line verb name words))))))
 
 -- what the words of a line ask: the second is the name of a control or a device
-abbrev pub asking_of : List (List ℕ) → Reading Asking
-asking_of [] = misshapen
-asking_of (verb ∷ []) = misshapen
-asking_of (verb ∷ name ∷ words) = if is_device_name name then verb_line verb name words else misshapen
+abbrev pub request_of_words : List (List ℕ) → Reading LineRequest
+request_of_words [] = misshapen
+request_of_words (verb ∷ []) = misshapen
+request_of_words (verb ∷ name ∷ words) = if is_device_name name then verb_line verb name words else misshapen
 
 -- what a line that isn't quiet asks
-abbrev pub asked_by : List ℕ → Reading Asking
-asked_by line = if is_well_spelled line then asking_of (words_of line) else misshapen
+abbrev pub asked_by : List ℕ → Reading LineRequest
+asked_by line = if is_well_spelled line then request_of_words (words_of line) else misshapen

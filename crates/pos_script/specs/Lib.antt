@@ -1,4 +1,5 @@
 pub mod Lines
+pub mod LineBuffers
 pub mod Arguments
 pub mod Words
 pub mod Methods

@@ -31,6 +31,30 @@ lines_in (line ∷ next ∷ more) = without_cr line ∷ lines_in (next ∷ more)
 abbrev pub lines_of : List ℕ → List (List ℕ)
 lines_of bytes = lines_in (pieces 10 bytes)
 
+-- the pieces that were ended by a line feed, which are all but the last
+abbrev pub ended_in : List (List ℕ) → List (List ℕ)
+ended_in [] = []
+ended_in (last ∷ []) = []
+ended_in (line ∷ next ∷ more) = without_cr line ∷ ended_in (next ∷ more)
+
+-- the last of some pieces
+abbrev pub last_in : List (List ℕ) → List ℕ
+last_in [] = []
+last_in (last ∷ []) = last
+last_in (line ∷ next ∷ more) = last_in (next ∷ more)
+
+-- the lines of a script that a line feed ended
+abbrev pub complete_lines : List ℕ → List (List ℕ)
+complete_lines bytes = ended_in (pieces 10 bytes)
+
+-- what stands behind the last line feed of a script
+abbrev pub unfinished : List ℕ → List ℕ
+unfinished bytes = last_in (pieces 10 bytes)
+
+-- the line that the end of a script ends: what stands behind the last line feed, where it isn't empty
+abbrev pub last_line : List ℕ → List (List ℕ)
+last_line rest = if is_nothing rest then [] else rest ∷ []
+
 -- the words of a line, with one or more spaces between them
 abbrev pub words_of : List ℕ → List (List ℕ)
 words_of line = filter (λ word. not (is_nothing word)) (pieces 32 line)

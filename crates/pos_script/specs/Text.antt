@@ -10,15 +10,19 @@ use Rattle.pos_service.specs.declared.code.Code.{Code}
 use Rattle.pos_service.specs.declared.code.Code.TheVariants as code
 use Rattle.pos_service.specs.declared.event.Event.{Event}
 use Rattle.pos_service.specs.declared.event.Event.TheVariants as event
+use Rattle.pos_service.specs.declared.exchange_fault.AttachFault.{AttachFault}
+use Rattle.pos_service.specs.declared.exchange_fault.AttachFault.TheVariants as attach
+use Rattle.pos_service.specs.declared.exchange_fault.DetachFault.{DetachFault}
+use Rattle.pos_service.specs.declared.exchange_fault.DetachFault.TheVariants as detach
 use Rattle.pos_service.specs.declared.plant.Plant.{Plant}
 use Rattle.pos_service.specs.declared.plant.Plant.TheVariants as plant
+use Rattle.pos_service.specs.declared.request.Response.{Response}
+use Rattle.pos_service.specs.declared.request.Response.TheVariants as response
 use Rattle.pos_service.specs.declared.worked.Worked.{Worked as WorkResult}
 use Rattle.pos_service.specs.declared.worked.Worked.TheVariants as worked
 use Rattle.pos_service.specs.Codes.{number_of, locus_number_of}
 use Rattle.pos_script.specs.Glyphs.{cells_text}
 use Rattle.pos_script.specs.ReceiptText.{printer_text}
-use Rattle.pos_script.specs.declared.reply.Refusal.{Refusal}
-use Rattle.pos_script.specs.declared.reply.Refusal.TheVariants as refusal
 use Rattle.pos_script.specs.declared.reply.Reply.{Reply}
 use Rattle.pos_script.specs.declared.reply.Reply.TheVariants as reply
 
@@ -79,28 +83,42 @@ plant_text plant.Scanner = codes "ok"
 plant_text (plant.Display shown) = codes "ok " ++ cells_text shown.cells
 plant_text (plant.Printer printed) = codes "ok " ++ printer_text printed
 
--- why a peripheral was not attached or detached
-abbrev pub refusal_text : Refusal → List ℕ
-refusal_text refusal.Unknown = codes "refused Unknown"
-refusal_text refusal.Vacant = codes "refused Vacant"
-refusal_text refusal.InUse = codes "refused InUse"
-refusal_text refusal.KindDiffers = codes "refused KindDiffers"
+-- why a peripheral was not attached
+abbrev pub attach_text : AttachFault → List ℕ
+attach_text attach.Unknown = codes "refused Unknown"
+attach_text attach.KindDiffers = codes "refused KindDiffers"
+attach_text attach.InUse = codes "refused InUse"
+
+-- why a peripheral was not detached
+abbrev pub detach_text : DetachFault → List ℕ
+detach_text detach.Unknown = codes "refused Unknown"
+detach_text detach.Vacant = codes "refused Vacant"
+detach_text detach.InUse = codes "refused InUse"
+
+-- what a counter answers
+abbrev pub response_text : {P : Type 0} → Response P → List ℕ
+response_text (response.Made number) = codes "ok"
+response_text response.Full = codes "refused Full"
+response_text (response.Answered answer) = answer_text answer
+response_text response.TakenIn = codes "ok"
+response_text response.NoDevice = codes "bad device"
+response_text response.WrongInput = codes "bad input"
+response_text (response.Worked result) = worked_text result
+response_text (response.Delivered event) = delivered_text event
+response_text (response.Shown snapshot) = plant_text snapshot.0
+response_text response.Attached = codes "ok"
+response_text (response.NotAttached fault peripheral) = attach_text fault
+response_text (response.Detached peripheral) = codes "ok"
+response_text (response.NotDetached fault) = detach_text fault
+response_text response.OutOfMemory = codes "memory"
 
 -- what the program says of a line
 abbrev pub reply_text : Reply → List ℕ
 reply_text reply.BadLine = codes "bad line"
 reply_text reply.BadControl = codes "bad control"
-reply_text reply.BadDevice = codes "bad device"
-reply_text reply.BadInput = codes "bad input"
 reply_text reply.BadSpare = codes "bad spare"
 reply_text reply.Memory = codes "memory"
-reply_text reply.Full = codes "refused Full"
-reply_text (reply.Refused refusal) = refusal_text refusal
-reply_text reply.Ok = codes "ok"
-reply_text (reply.Answered answer) = answer_text answer
-reply_text (reply.Delivered event) = delivered_text event
-reply_text (reply.Shown snapshot) = plant_text snapshot.0
-reply_text (reply.Worked result) = worked_text result
+reply_text (reply.Responded response) = response_text response
 
 -- what is printed for a line: nothing, or a line
 abbrev pub printed : Option (List ℕ) → List ℕ

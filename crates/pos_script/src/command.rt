@@ -1,97 +1,100 @@
-ghost use Rattle.std.specs.Prelude.{◌≡◌};
+ghost use Rattle.std.specs.Prelude.{◌≡◌, ◌∷◌};
 ghost use Rattle.pos_script.specs.Lines.{words_of};
 ghost use Rattle.pos_script.specs.Arguments.{Reads, from_three};
 ghost use Rattle.pos_script.specs.Words.{bytes_shape, count_shape};
 ghost use Rattle.pos_service.specs.declared.input.Input.TheVariants as input;
-ghost use Rattle.pos_script.specs.Commands.{ReadsLine, asked_by, asking_of, verb_line, claims_line, device_line, new_line, open_line, close_line, claim_line, release_line, set_line, get_line, call_line, input_of, printer_input_of, cover_input_of, input_line, deliver_line, show_line, work_line, attach_line, detach_line, exchange_line};
+ghost use Rattle.pos_script.specs.Commands.{request_of_words, verb_line, claims_line, device_line, new_line, open_line, close_line, claim_line, release_line, set_line, get_line, call_line, input_of, printer_input_of, cover_input_of, input_line, reply_of, deliver_line, show_line, work_line, attach_line, detach_line, exchange_line};
 
 use crate::arguments::{DeviceName, LineFault, read_none, read_one, read_three, read_two};
-use crate::lines::{is_well_spelled_line, next_word};
+use crate::lines::next_word;
 use crate::methods::read_call;
 use crate::words::is;
-use pos_service::{Call, Category, ErrorReply, Input, is_device_name};
+use pos_service::{Call, ErrorReply, Input, Name, Request, is_device_name};
 use std::alloc::Global;
 
-/// What a line of a script asks (docs/CONSOLE.md, "Lines"). The first part is the name of the control or of the
-/// device, as it stands in the line: 1 to 16 letters of ASCII, digits or hyphens.
-#[derive(Drop)]
-pub enum Command<'a> {
-    /// A control of a category, under a name: `new`.
-    New(&'a [u8], Category),
-    /// A call on a control: `open`, `claim`, `release`, `close`, `set`, `get` and `call`.
-    Call(&'a [u8], Call),
-    /// What happens at a device: `input`.
-    Input(&'a [u8], Input),
-    /// The delivery of an event to a control, with the reply to an ErrorEvent: `deliver`.
-    Deliver(&'a [u8], ErrorReply),
-    /// What a device is physically: `show`.
-    Show(&'a [u8]),
-    /// Work on a device's output: `work`.
-    Work(&'a [u8]),
-    /// The spare of a number is to serve a device: `attach`.
-    Attach(&'a [u8], u32),
-    /// A device is to be vacant: `detach`.
-    Detach(&'a [u8]),
-}
+/// What a line of a script asks (docs/CONSOLE.md, "Lines"): controls by their names, and the spare that is to serve a
+/// device by its number. A name stands in the line: 1 to 16 letters of ASCII, digits or hyphens.
+pub type Command<'a> = Request<'a, Name<'a>, Name<'a>, u32>;
 
 /// `new CONTROL CATEGORY`
-fn read_new<'a>(alloc: Global, name: &'a [u8], words: &[u8]) -> Result<Command<'a>, LineFault>
-    ensures { ReadsLine (new_line name.now (words_of words.now)) result }
+fn read_new<'a>(alloc: Global, name: Name<'a>, words: &[u8]) -> Result<Command<'a>, LineFault>
+    ensures { Reads (new_line name.entry (words_of words.now)) result }
 {
-    read_one(alloc, words).map(|category| Command::New(name, category))
+    match read_one(alloc, words) {
+        Ok(category) => Ok(Request::NewControl(name, category)),
+        Err(fault) => Err(fault),
+    }
 }
 
 /// `open CONTROL DEVICE`
-fn read_open<'a>(alloc: Global, name: &'a [u8], words: &[u8]) -> Result<Command<'a>, LineFault>
-    ensures { ReadsLine (open_line name.now (words_of words.now)) result }
+fn read_open<'a>(alloc: Global, name: Name<'a>, words: &[u8]) -> Result<Command<'a>, LineFault>
+    ensures { Reads (open_line name.entry (words_of words.now)) result }
 {
-    read_one(alloc, words).map(|device: DeviceName| Command::Call(name, Call::Open(device.name)))
+    match read_one::<DeviceName>(alloc, words) {
+        Ok(device) => Ok(Request::CallOf(name, Call::Open(device.name))),
+        Err(fault) => Err(fault),
+    }
 }
 
 /// `close CONTROL`
-fn read_close<'a>(name: &'a [u8], words: &[u8]) -> Result<Command<'a>, LineFault>
-    ensures { ReadsLine (close_line name.now (words_of words.now)) result }
+fn read_close<'a>(name: Name<'a>, words: &[u8]) -> Result<Command<'a>, LineFault>
+    ensures { Reads (close_line name.entry (words_of words.now)) result }
 {
-    read_none(words).map(|_| Command::Call(name, Call::Close))
+    match read_none(words) {
+        Ok(()) => Ok(Request::CallOf(name, Call::Close)),
+        Err(fault) => Err(fault),
+    }
 }
 
 /// `claim CONTROL TIMEOUT`
-fn read_claim<'a>(alloc: Global, name: &'a [u8], words: &[u8]) -> Result<Command<'a>, LineFault>
-    ensures { ReadsLine (claim_line name.now (words_of words.now)) result }
+fn read_claim<'a>(alloc: Global, name: Name<'a>, words: &[u8]) -> Result<Command<'a>, LineFault>
+    ensures { Reads (claim_line name.entry (words_of words.now)) result }
 {
-    read_one(alloc, words).map(|timeout| Command::Call(name, Call::Claim(timeout)))
+    match read_one(alloc, words) {
+        Ok(timeout) => Ok(Request::CallOf(name, Call::Claim(timeout))),
+        Err(fault) => Err(fault),
+    }
 }
 
 /// `release CONTROL`
-fn read_release<'a>(name: &'a [u8], words: &[u8]) -> Result<Command<'a>, LineFault>
-    ensures { ReadsLine (release_line name.now (words_of words.now)) result }
+fn read_release<'a>(name: Name<'a>, words: &[u8]) -> Result<Command<'a>, LineFault>
+    ensures { Reads (release_line name.entry (words_of words.now)) result }
 {
-    read_none(words).map(|_| Command::Call(name, Call::Release))
+    match read_none(words) {
+        Ok(()) => Ok(Request::CallOf(name, Call::Release)),
+        Err(fault) => Err(fault),
+    }
 }
 
 /// `set CONTROL PROPERTY VALUE`
-fn read_set<'a>(alloc: Global, name: &'a [u8], words: &[u8]) -> Result<Command<'a>, LineFault>
-    ensures { ReadsLine (set_line name.now (words_of words.now)) result }
+fn read_set<'a>(alloc: Global, name: Name<'a>, words: &[u8]) -> Result<Command<'a>, LineFault>
+    ensures { Reads (set_line name.entry (words_of words.now)) result }
 {
-    read_two(alloc, words).map(|(property, value)| Command::Call(name, Call::Set(property, value)))
+    match read_two(alloc, words) {
+        Ok((property, value)) => Ok(Request::CallOf(name, Call::Set(property, value))),
+        Err(fault) => Err(fault),
+    }
 }
 
 /// `get CONTROL PROPERTY`
-fn read_get<'a>(alloc: Global, name: &'a [u8], words: &[u8]) -> Result<Command<'a>, LineFault>
-    ensures { ReadsLine (get_line name.now (words_of words.now)) result }
+fn read_get<'a>(alloc: Global, name: Name<'a>, words: &[u8]) -> Result<Command<'a>, LineFault>
+    ensures { Reads (get_line name.entry (words_of words.now)) result }
 {
-    read_one(alloc, words).map(|property| Command::Call(name, Call::Get(property)))
+    match read_one(alloc, words) {
+        Ok(property) => Ok(Request::CallOf(name, Call::Get(property))),
+        Err(fault) => Err(fault),
+    }
 }
 
 /// `call CONTROL METHOD`, and the method's arguments
-fn read_method<'a>(alloc: Global, name: &'a [u8], words: &[u8]) -> Result<Command<'a>, LineFault>
-    ensures { ReadsLine (call_line name.now (words_of words.now)) result }
+fn read_method<'a>(alloc: Global, name: Name<'a>, words: &[u8]) -> Result<Command<'a>, LineFault>
+    ensures { Reads (call_line name.entry (words_of words.now)) result }
 {
     let Some((method, rest)) = next_word(words) else {
         return Err(LineFault::WrongShape);
     };
     match read_call(alloc, method, rest) {
-        Ok(call) => Ok(Command::Call(name, call)),
+        Ok(call) => Ok(Request::CallOf(name, call)),
         Err(fault) => Err(fault),
     }
 }
@@ -152,64 +155,86 @@ fn read_cover_event(words: &[u8]) -> Result<Input, LineFault>
 }
 
 /// `input DEVICE`, and what happens there
-fn read_input<'a>(alloc: Global, name: &'a [u8], words: &[u8]) -> Result<Command<'a>, LineFault>
-    ensures { ReadsLine (input_line name.now (words_of words.now)) result }
+fn read_input<'a>(alloc: Global, name: Name<'a>, words: &[u8]) -> Result<Command<'a>, LineFault>
+    ensures { Reads (input_line name.entry (words_of words.now)) result }
 {
     let Some((word, rest)) = next_word(words) else {
         return Err(LineFault::WrongShape);
     };
     match read_event(alloc, word, rest) {
-        Ok(input) => Ok(Command::Input(name, input)),
+        Ok(input) => Ok(Request::InputTo(name, input)),
         Err(fault) => Err(fault),
     }
 }
 
-/// `deliver CONTROL`, or `deliver CONTROL REPLY`
-fn read_deliver<'a>(alloc: Global, name: &'a [u8], words: &[u8]) -> Result<Command<'a>, LineFault>
-    ensures { ReadsLine (deliver_line name.now (words_of words.now)) result }
+/// The answer to an ErrorEvent, which is the default one where no word gives it.
+fn read_reply(alloc: Global, words: &[u8]) -> Result<ErrorReply, LineFault>
+    ensures { Reads (reply_of (words_of words.now)) result }
 {
     if next_word(words).is_none() {
-        return Ok(Command::Deliver(name, ErrorReply::Default));
+        return Ok(ErrorReply::Default);
     }
-    read_one(alloc, words).map(|reply| Command::Deliver(name, reply))
+    read_one(alloc, words)
+}
+
+/// `deliver CONTROL`, or `deliver CONTROL REPLY`
+fn read_deliver<'a>(alloc: Global, name: Name<'a>, words: &[u8]) -> Result<Command<'a>, LineFault>
+    ensures { Reads (deliver_line name.entry (words_of words.now)) result }
+{
+    match read_reply(alloc, words) {
+        Ok(reply) => Ok(Request::Deliver(name, reply)),
+        Err(fault) => Err(fault),
+    }
 }
 
 /// `show DEVICE`
-fn read_show<'a>(name: &'a [u8], words: &[u8]) -> Result<Command<'a>, LineFault>
-    ensures { ReadsLine (show_line name.now (words_of words.now)) result }
+fn read_show<'a>(name: Name<'a>, words: &[u8]) -> Result<Command<'a>, LineFault>
+    ensures { Reads (show_line name.entry (words_of words.now)) result }
 {
-    read_none(words).map(|_| Command::Show(name))
+    match read_none(words) {
+        Ok(()) => Ok(Request::Snapshot(name)),
+        Err(fault) => Err(fault),
+    }
 }
 
 /// `work DEVICE`
-fn read_work<'a>(name: &'a [u8], words: &[u8]) -> Result<Command<'a>, LineFault>
-    ensures { ReadsLine (work_line name.now (words_of words.now)) result }
+fn read_work<'a>(name: Name<'a>, words: &[u8]) -> Result<Command<'a>, LineFault>
+    ensures { Reads (work_line name.entry (words_of words.now)) result }
 {
-    read_none(words).map(|_| Command::Work(name))
+    match read_none(words) {
+        Ok(()) => Ok(Request::WorkOn(name)),
+        Err(fault) => Err(fault),
+    }
 }
 
 /// `attach DEVICE SPARE`
-fn read_attach<'a>(alloc: Global, name: &'a [u8], words: &[u8]) -> Result<Command<'a>, LineFault>
-    ensures { ReadsLine (attach_line name.now (words_of words.now)) result }
+fn read_attach<'a>(alloc: Global, name: Name<'a>, words: &[u8]) -> Result<Command<'a>, LineFault>
+    ensures { Reads (attach_line name.entry (words_of words.now)) result }
 {
-    read_one(alloc, words).map(|spare| Command::Attach(name, spare))
+    match read_one(alloc, words) {
+        Ok(spare) => Ok(Request::Attach(name, spare)),
+        Err(fault) => Err(fault),
+    }
 }
 
 /// `detach DEVICE`
-fn read_detach<'a>(name: &'a [u8], words: &[u8]) -> Result<Command<'a>, LineFault>
-    ensures { ReadsLine (detach_line name.now (words_of words.now)) result }
+fn read_detach<'a>(name: Name<'a>, words: &[u8]) -> Result<Command<'a>, LineFault>
+    ensures { Reads (detach_line name.entry (words_of words.now)) result }
 {
-    read_none(words).map(|_| Command::Detach(name))
+    match read_none(words) {
+        Ok(()) => Ok(Request::Detach(name)),
+        Err(fault) => Err(fault),
+    }
 }
 
 /// What a line asks about the peripheral of a device, by its verb.
 fn read_exchange_line<'a>(
     alloc: Global,
     verb: &[u8],
-    name: &'a [u8],
+    name: Name<'a>,
     words: &[u8],
 ) -> Result<Command<'a>, LineFault>
-    ensures { ReadsLine (exchange_line verb.now name.now (words_of words.now)) result }
+    ensures { Reads (exchange_line verb.now name.entry (words_of words.now)) result }
 {
     if is(verb, "attach") {
         return read_attach(alloc, name, words);
@@ -224,10 +249,10 @@ fn read_exchange_line<'a>(
 fn read_device_line<'a>(
     alloc: Global,
     verb: &[u8],
-    name: &'a [u8],
+    name: Name<'a>,
     words: &[u8],
 ) -> Result<Command<'a>, LineFault>
-    ensures { ReadsLine (device_line verb.now name.now (words_of words.now)) result }
+    ensures { Reads (device_line verb.now name.entry (words_of words.now)) result }
 {
     if is(verb, "input") {
         return read_input(alloc, name, words);
@@ -245,10 +270,10 @@ fn read_device_line<'a>(
 fn read_claims_line<'a>(
     alloc: Global,
     verb: &[u8],
-    name: &'a [u8],
+    name: Name<'a>,
     words: &[u8],
 ) -> Result<Command<'a>, LineFault>
-    ensures { ReadsLine (claims_line verb.now name.now (words_of words.now)) result }
+    ensures { Reads (claims_line verb.now name.entry (words_of words.now)) result }
 {
     if is(verb, "claim") {
         return read_claim(alloc, name, words);
@@ -263,10 +288,10 @@ fn read_claims_line<'a>(
 fn read_verb_line<'a>(
     alloc: Global,
     verb: &[u8],
-    name: &'a [u8],
+    name: Name<'a>,
     words: &[u8],
 ) -> Result<Command<'a>, LineFault>
-    ensures { ReadsLine (verb_line verb.now name.now (words_of words.now)) result }
+    ensures { Reads (verb_line verb.now name.entry (words_of words.now)) result }
 {
     if is(verb, "new") {
         return read_new(alloc, name, words);
@@ -292,30 +317,31 @@ fn read_verb_line<'a>(
     read_claims_line(alloc, verb, name, words)
 }
 
-/// What the words of a line ask.
-fn read_words(alloc: Global, line: &[u8]) -> Result<Command<'_>, LineFault>
-    ensures { ReadsLine (asking_of (words_of line.now)) result }
+/// What a line asks, by its verb and the text behind it, which begins with the name of a control or a device.
+fn read_behind_verb<'a>(
+    alloc: Global,
+    verb: &[u8],
+    text: &'a [u8],
+) -> Result<Command<'a>, LineFault>
+    ensures { Reads (request_of_words (verb.now ∷ words_of text.now)) result }
 {
-    let Some((verb, rest)) = next_word(line) else {
-        return Err(LineFault::WrongShape);
-    };
-    let Some((name, rest)) = next_word(rest) else {
+    let Some((name, words)) = next_word(text) else {
         return Err(LineFault::WrongShape);
     };
     if !is_device_name(name) {
         return Err(LineFault::WrongShape);
     }
-    read_verb_line(alloc, verb, name, rest)
+    read_verb_line(alloc, verb, Name::new(name), words)
 }
 
-/// What a line that isn't quiet asks. WrongShape is answered where its shape is wrong, before any memory is asked for
-/// (docs/CONSOLE.md, "Lines", "Methods" and "Words"), and NoMemory where there is none for what a call or an input
-/// keeps of it.
-pub fn read_command(alloc: Global, line: &[u8]) -> Result<Command<'_>, LineFault>
-    ensures { ReadsLine (asked_by line.now) result }
+/// What the words of a well spelled line ask that isn't quiet. WrongShape is answered where its shape is wrong, before
+/// any memory is asked for (docs/CONSOLE.md, "Lines", "Methods" and "Words"), and NoMemory where there is none for what
+/// a call or an input keeps of it.
+pub fn read_words(alloc: Global, line: &[u8]) -> Result<Command<'_>, LineFault>
+    ensures { Reads (request_of_words (words_of line.now)) result }
 {
-    if !is_well_spelled_line(line) {
-        return Err(LineFault::WrongShape);
+    match next_word(line) {
+        Some((verb, text)) => read_behind_verb(alloc, verb, text),
+        None => Err(LineFault::WrongShape),
     }
-    read_words(alloc, line)
 }

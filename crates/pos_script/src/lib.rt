@@ -4,6 +4,8 @@
 mod arguments;
 mod command;
 mod glyphs;
+mod laws;
+mod line_buffer;
 mod lines;
 mod methods;
 mod print;
@@ -13,8 +15,9 @@ mod words;
 mod write;
 
 pub use arguments::LineFault;
-pub use command::{Command, read_command};
-pub use lines::{is_quiet_line, next_line};
+pub use command::{Command, read_words};
+pub use laws::{lines_fall_in_two, lines_go_on};
+pub use line_buffer::{Line, LineBuffer};
 pub use print::print_line;
-pub use reply::{Refusal, Reply};
+pub use reply::Reply;
 pub use write::WriteFault;

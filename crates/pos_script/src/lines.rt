@@ -1,6 +1,6 @@
 ghost use Rattle.std.specs.Prelude.{◌≡◌, ◌<◌, ◌∷◌, [], length, MatchOption, IfSome, IfNone};
 ghost use Rattle.std.specs.List.{list_all};
-ghost use Rattle.pos_script.specs.Lines.{pieces, words_of, lines_of, without_cr, is_quiet, is_well_spelled, is_space, is_plain};
+ghost use Rattle.pos_script.specs.Lines.{pieces, words_of, without_cr, is_quiet, is_space, is_plain};
 
 /// The front of a text up to a byte, and what follows that byte, if it is there.
 fn cut(text: &[u8], at: u8) -> (&[u8], Option<&[u8]>)
@@ -35,7 +35,7 @@ pub fn next_word(line: &[u8]) -> Option<(&[u8], &[u8])>
 }
 
 /// A line without a carriage return at its end.
-fn strip_cr(line: &[u8]) -> &[u8]
+pub fn strip_cr(line: &[u8]) -> &[u8]
     ensures { result.now ≡ without_cr line.now }
 {
     let len = line.len();
@@ -46,30 +46,25 @@ fn strip_cr(line: &[u8]) -> &[u8]
     }
 }
 
-/// The first line of a text that isn't empty, without its end, and the text after it. Each line ends in a line feed but
-/// the last, which may lack it; a carriage return directly before the line feed doesn't count.
-pub fn next_line(text: &[u8]) -> (&[u8], &[u8])
-    requires { 0 < length text.now }
-    ensures lines { lines_of text.now ≡ result.0.now ∷ lines_of result.1.now }
-    ensures shorter { length result.1.now < length text.now }
-{
-    let (line, rest) = cut(text, b'\n');
-    match rest {
-        Some(rest) => (strip_cr(line), rest),
-        None => (line, b""),
-    }
-}
-
-fn all_spaces(line: &[u8]) -> bool
+/// Whether a line is nothing but spaces.
+pub fn all_spaces(line: &[u8]) -> bool
     ensures { result ≡ list_all is_space line.now }
 {
     line.iter().all(|b| *b == 32)
 }
 
-fn all_plain(line: &[u8]) -> bool
+/// Whether a byte is a space or a sign that ASCII prints.
+pub fn is_plain_byte(b: u8) -> bool
+    ensures { result ≡ is_plain b }
+{
+    32 <= b && b <= 126
+}
+
+/// Whether each byte of a line is a space or a sign that ASCII prints.
+pub fn all_plain(line: &[u8]) -> bool
     ensures { result ≡ list_all is_plain line.now }
 {
-    line.iter().all(|b| 32 <= *b && *b <= 126)
+    line.iter().all(|b| is_plain_byte(*b))
 }
 
 /// Whether a line prints nothing: it is empty or nothing but spaces, or its first byte is `#`.
@@ -77,11 +72,4 @@ pub fn is_quiet_line(line: &[u8]) -> bool
     ensures { result ≡ is_quiet line.now }
 {
     line.is_empty() || line[0] == b'#' || all_spaces(line)
-}
-
-/// Whether a line is of at most 140,000 bytes, each a space or a sign that ASCII prints.
-pub fn is_well_spelled_line(line: &[u8]) -> bool
-    ensures { result ≡ is_well_spelled line.now }
-{
-    line.len() <= 140_000 && all_plain(line)
 }

@@ -3,15 +3,18 @@ ghost use Rattle.std.specs.Fmt.{signed_decimal};
 ghost use Rattle.pos_script.specs.Writing.{Writes};
 ghost use Rattle.pos_script.specs.Glyphs.{cells_text};
 ghost use Rattle.pos_script.specs.ReceiptText.{printer_text};
-ghost use Rattle.pos_script.specs.Text.{answer_text, hex_text, event_text, delivered_text, plant_text, printed, refusal_text, reply_text, worked_text};
+ghost use Rattle.pos_script.specs.Text.{answer_text, attach_text, delivered_text, detach_text, event_text, hex_text, plant_text, printed, reply_text, response_text, worked_text};
 
 use crate::glyphs::write_glyphs;
 use crate::receipt::write_receipt;
-use crate::reply::{Refusal, Reply};
+use crate::reply::Reply;
 use crate::write::{WriteFault, write_hex, write_parts};
 use itoa::Buffer;
 use pos_service::display_text::DisplayCell;
-use pos_service::{Answer, Code, Event, Locus, Plant, Receipt, Snapshot, Value, Worked};
+use pos_service::{
+    Answer, AttachFault, Code, DetachFault, Event, Locus, Plant, Receipt, Response, Snapshot,
+    Value, Worked,
+};
 use std::io::Write;
 
 /// Writes `ok` and bytes.
@@ -199,15 +202,47 @@ fn print_worked<W: Write>(writer: &mut W, worked: Worked) -> Result<(), WriteFau
     }
 }
 
-/// Writes why a peripheral was not attached or detached.
-fn print_exchange<W: Write>(writer: &mut W, refusal: Refusal) -> Result<(), WriteFault>
-    ensures { Writes (W.contents writer.old) (W.contents writer.new) (refusal_text refusal ++ 10 ∷ []) result }
+/// Writes why a peripheral was not attached.
+fn print_attach_fault<W: Write>(writer: &mut W, fault: AttachFault) -> Result<(), WriteFault>
+    ensures { Writes (W.contents writer.old) (W.contents writer.new) (attach_text fault ++ 10 ∷ []) result }
 {
-    match refusal {
-        Refusal::Unknown => write_parts(writer, &["refused Unknown\n"]),
-        Refusal::Vacant => write_parts(writer, &["refused Vacant\n"]),
-        Refusal::InUse => write_parts(writer, &["refused InUse\n"]),
-        Refusal::KindDiffers => write_parts(writer, &["refused KindDiffers\n"]),
+    match fault {
+        AttachFault::Unknown => write_parts(writer, &["refused Unknown\n"]),
+        AttachFault::KindDiffers => write_parts(writer, &["refused KindDiffers\n"]),
+        AttachFault::InUse => write_parts(writer, &["refused InUse\n"]),
+    }
+}
+
+/// Writes why a peripheral was not detached.
+fn print_detach_fault<W: Write>(writer: &mut W, fault: DetachFault) -> Result<(), WriteFault>
+    ensures { Writes (W.contents writer.old) (W.contents writer.new) (detach_text fault ++ 10 ∷ []) result }
+{
+    match fault {
+        DetachFault::Unknown => write_parts(writer, &["refused Unknown\n"]),
+        DetachFault::Vacant => write_parts(writer, &["refused Vacant\n"]),
+        DetachFault::InUse => write_parts(writer, &["refused InUse\n"]),
+    }
+}
+
+/// Writes what a counter answers.
+fn print_response<W: Write>(writer: &mut W, response: Response<()>) -> Result<(), WriteFault>
+    ensures { Writes (W.contents writer.old) (W.contents writer.new) (response_text response ++ 10 ∷ []) result }
+{
+    match response {
+        Response::Made(_) => write_parts(writer, &["ok\n"]),
+        Response::Full => write_parts(writer, &["refused Full\n"]),
+        Response::Answered(answer) => print_answer(writer, answer),
+        Response::TakenIn => write_parts(writer, &["ok\n"]),
+        Response::NoDevice => write_parts(writer, &["bad device\n"]),
+        Response::WrongInput => write_parts(writer, &["bad input\n"]),
+        Response::Worked(worked) => print_worked(writer, worked),
+        Response::Delivered(event) => print_delivered(writer, event),
+        Response::Shown(snapshot) => print_plant(writer, snapshot),
+        Response::Attached => write_parts(writer, &["ok\n"]),
+        Response::NotAttached(fault, _) => print_attach_fault(writer, fault),
+        Response::Detached(_) => write_parts(writer, &["ok\n"]),
+        Response::NotDetached(fault) => print_detach_fault(writer, fault),
+        Response::OutOfMemory => write_parts(writer, &["memory\n"]),
     }
 }
 
@@ -218,17 +253,9 @@ fn print_reply<W: Write>(writer: &mut W, reply: Reply) -> Result<(), WriteFault>
     match reply {
         Reply::BadLine => write_parts(writer, &["bad line\n"]),
         Reply::BadControl => write_parts(writer, &["bad control\n"]),
-        Reply::BadDevice => write_parts(writer, &["bad device\n"]),
-        Reply::BadInput => write_parts(writer, &["bad input\n"]),
         Reply::BadSpare => write_parts(writer, &["bad spare\n"]),
         Reply::Memory => write_parts(writer, &["memory\n"]),
-        Reply::Full => write_parts(writer, &["refused Full\n"]),
-        Reply::Refused(refusal) => print_exchange(writer, refusal),
-        Reply::Ok => write_parts(writer, &["ok\n"]),
-        Reply::Answered(answer) => print_answer(writer, answer),
-        Reply::Delivered(event) => print_delivered(writer, event),
-        Reply::Shown(snapshot) => print_plant(writer, snapshot),
-        Reply::Worked(worked) => print_worked(writer, worked),
+        Reply::Responded(response) => print_response(writer, response),
     }
 }
 

@@ -64,13 +64,18 @@ next_place columns start k some =
           ∙ sym (first_free columns (right_of last) lt)
     ]
 
-run_more : (columns : ℕ) (start : Place) (k : ℕ) (run : List ℕ) (b : ℕ) → run_from columns start k (run ++ b ∷ []) ≡ run_from columns start k run ++ placed_at (place_of columns start (k + length run)) b ∷ []
+run_more : (columns : ℕ) (start : Place) (k : ℕ) (run : List ℕ) (b : ℕ)
+    → run_from columns start k (run ++ b ∷ []) ≡ run_from columns start k run ++ placed_at (place_of columns start (k + length run)) b ∷ []
 run_more columns start k [] b = ap (λ n. placed_at (place_of columns start n) b ∷ []) (let e : k ≡ k + 0 = omega arith in e)
 run_more columns start k (c ∷ run) b =
-    ap (λ ps. placed_at (place_of columns start k) c ∷ ps) (run_more columns start (k + 1) run b ∙ ap (λ n. run_from columns start (k + 1) run ++ placed_at (place_of columns start n) b ∷ []) (let e : k + 1 + length run ≡ k + suc (length run) = omega arith in e))
+    ap (λ ps. placed_at (place_of columns start k) c ∷ ps)
+    (run_more columns start (k + 1) run b
+    ∙ ap (λ n. run_from columns start (k + 1) run ++ placed_at (place_of columns start n) b ∷ [])
+    (let e : k + 1 + length run ≡ k + suc (length run) = omega arith in e))
 
 -- one character more in a run
-with_run_more : (columns : ℕ) (run : List ℕ) (b : ℕ) (strip : Strip) → 0 < columns → with_run columns (run ++ b ∷ []) strip ≡ with_run columns (b ∷ []) (with_run columns run strip)
+with_run_more : (columns : ℕ) (run : List ℕ) (b : ℕ) (strip : Strip) → 0 < columns
+    → with_run columns (run ++ b ∷ []) strip ≡ with_run columns (b ∷ []) (with_run columns run strip)
 with_run_more columns [] b strip some = refl
 with_run_more columns (c ∷ run) b strip some =
     let start = strip.place in
@@ -79,8 +84,10 @@ with_run_more columns (c ∷ run) b strip some =
     let count : length (run ++ b ∷ []) ≡ n + 1 = omega (arith, length_push run b) in
     let next = next_place columns start n some in
     ap (λ k. strip_at (strip.placed ++ run_from columns start 0 (c ∷ run ++ b ∷ [])) (right_of (place_of columns start k))) count
-    ∙ ap (λ ps. strip_at (strip.placed ++ ps) (right_of (place_of columns start (n + 1)))) (run_more columns start 0 (c ∷ run) b ∙ ap (λ k. first ++ placed_at (place_of columns start k) b ∷ []) (let e : 0 + suc n ≡ n + 1 = omega arith in e))
-    ∙ ap (λ ps. strip_at ps (right_of (place_of columns start (n + 1)))) (sym (append_assoc strip.placed first (placed_at (place_of columns start (n + 1)) b ∷ [])))
+    ∙ ap (λ ps. strip_at (strip.placed ++ ps) (right_of (place_of columns start (n + 1))))
+    (run_more columns start 0 (c ∷ run) b ∙ ap (λ k. first ++ placed_at (place_of columns start k) b ∷ []) (let e : 0 + suc n ≡ n + 1 = omega arith in e))
+    ∙ ap (λ ps. strip_at ps (right_of (place_of columns start (n + 1))))
+    (sym (append_assoc strip.placed first (placed_at (place_of columns start (n + 1)) b ∷ [])))
     ∙ ap (λ at. strip_at ((strip.placed ++ first) ++ placed_at at b ∷ []) (right_of at)) next
 
 by_byte : (t u : Bool) (f : Strip → Strip) (x y z x' y' z' : Strip) → x ≡ f x' → y ≡ f y' → z ≡ f z' → cond t x (cond u y z) ≡ f (cond t x' (cond u y' z'))
@@ -89,12 +96,15 @@ by_byte false true f x y z x' y' z' a b c = b
 by_byte false false f x y z x' y' z' a b c = c
 
 -- one byte more in a text
-pub with_text_more : (columns : ℕ) (bytes run : List ℕ) (b : ℕ) (strip : Strip) → 0 < columns → with_text columns run (bytes ++ b ∷ []) strip ≡ with_text columns [] (b ∷ []) (with_text columns run bytes strip)
+pub with_text_more : (columns : ℕ) (bytes run : List ℕ) (b : ℕ) (strip : Strip) → 0 < columns
+    → with_text columns run (bytes ++ b ∷ []) strip ≡ with_text columns [] (b ∷ []) (with_text columns run bytes strip)
 with_text_more columns [] run b strip some =
-    ap (λ s. cond (eqb b 10) (fed (with_run columns run strip)) (cond (eqb b 13) (returned (with_run columns run strip)) s)) (with_run_more columns run b strip some)
+    ap (λ s. cond (eqb b 10) (fed (with_run columns run strip)) (cond (eqb b 13) (returned (with_run columns run strip)) s))
+    (with_run_more columns run b strip some)
 with_text_more columns (c ∷ bytes) run b strip some =
     let old = with_run columns run strip in
-    by_byte (eqb c 10) (eqb c 13) (with_text columns [] (b ∷ [])) _ _ _ (with_text columns [] bytes (fed old)) (with_text columns [] bytes (returned old)) (with_text columns (run ++ c ∷ []) bytes strip)
+    by_byte (eqb c 10) (eqb c 13) (with_text columns [] (b ∷ [])) _ _ _ (with_text columns [] bytes (fed old))
+    (with_text columns [] bytes (returned old)) (with_text columns (run ++ c ∷ []) bytes strip)
     (with_text_more columns bytes [] b (fed old) some)
     (with_text_more columns bytes [] b (returned old) some)
     (with_text_more columns bytes (run ++ c ∷ []) b strip some)
@@ -120,7 +130,8 @@ return_text columns b strip e =
     rw (t, u)
 
 -- the cursor after a character that stands at its place
-pub cursor_free : (rows columns b : ℕ) (place : Place) (strip : Strip) → b ≢ 10 → b ≢ 13 → place.column < columns → place ≡ place_in_window rows strip.place → place_at place.row (place.column + 1) ≡ place_in_window rows (with_text columns [] (b ∷ []) strip).place
+pub cursor_free : (rows columns b : ℕ) (place : Place) (strip : Strip) → b ≢ 10 → b ≢ 13 → place.column < columns
+    → place ≡ place_in_window rows strip.place → place_at place.row (place.column + 1) ≡ place_in_window rows (with_text columns [] (b ∷ []) strip).place
 cursor_free rows columns b place strip e f lt h =
     let column : place.column ≡ strip.place.column = ap (λ (p : Place). p.column) h in
     ap right_of h
@@ -128,7 +139,8 @@ cursor_free rows columns b place strip e f lt h =
     ∙ ap (λ (s : Strip). place_in_window rows s.place) (sym (character_text columns b strip e f))
 
 -- a text and one byte more
-pub text_more : (columns : ℕ) (start : Place) (bytes : List ℕ) (i : ℕ) → 0 < columns → i < length bytes → text_from columns start (take (i + 1) bytes) ≡ with_text columns [] (get_or bytes i 0 ∷ []) (text_from columns start (take i bytes))
+pub text_more : (columns : ℕ) (start : Place) (bytes : List ℕ) (i : ℕ) → 0 < columns → i < length bytes
+    → text_from columns start (take (i + 1) bytes) ≡ with_text columns [] (get_or bytes i 0 ∷ []) (text_from columns start (take i bytes))
 text_more columns start bytes i some lt =
     ap (text_from columns start) (take_more bytes i 0 lt)
     ∙ with_text_more columns (take i bytes) [] (get_or bytes i 0) (strip_at [] start) some

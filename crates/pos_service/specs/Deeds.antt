@@ -1,6 +1,6 @@
 -- What a call comes to that nothing refuses, at a device with a peripheral (common chapter, and those of the
 -- categories).
-use Rattle.std.specs.Prelude.{◌≡◌, ⊤, Bool, true, false, ℕ, ◌==◌, List, [], ◌∷◌, Option, Some, None, Result, IsTrue, MatchOption, MatchResult, slice_get, slice_set}
+use Rattle.std.specs.Prelude.{◌≡◌, ◌⊎◌, ⊤, Bool, true, false, ℕ, ◌==◌, List, [], ◌∷◌, Option, Some, None, Result, IsTrue, MatchOption, MatchResult, slice_get, slice_set}
 use Rattle.pos_service.specs.declared.answer.Answer.{Answer}
 use Rattle.pos_service.specs.declared.answer.Answer.TheVariants as answer
 use Rattle.pos_service.specs.declared.answer.Value.TheVariants as value
@@ -20,10 +20,16 @@ use Rattle.pos_service.specs.Calls.{takes_memory}
 use Rattle.pos_service.specs.Codes.{code_by, extended_by}
 use Rattle.pos_service.specs.Controls.{Control, all_listening, heard, queued, with_place, without_input, without_output, without_scan}
 use Rattle.pos_service.specs.Output.{last_output_id}
-use Rattle.pos_service.specs.Peripherals.{Performs, PrintersTake, Rose, order_fits, signs_of}
+use Rattle.pos_service.specs.Peripherals.{Performs, PrintersTake, Rose, counted, order_fits, signs_of}
 use Rattle.pos_service.specs.Refusals.{Row, Decided, first_refusal, when}
 use Rattle.pos_service.specs.Stations.{Station, SameStation, Effect}
 use Rattle.pos_service.specs.Statuses.{status_events}
+
+-- One more order was given than before; or, where memory was wanted before there was room for what comes of it, none.
+abbrev pub GivesOne : {T : Type 0} → Result T NoMemory → ℕ → ℕ → Type 0
+GivesOne outcome old new = MatchResult outcome
+    (λ done. new ≡ counted old)
+    (λ want. (new ≡ old) ⊎ (new ≡ counted old))
 
 -- The peripheral has carried out an order, and each control that listens hears the statuses that have changed.
 pub record CarriedOut (given : Order) (place : ℕ)
@@ -120,6 +126,12 @@ Does (deed.Changes what) number place result old before new after =
     ChangesItself what number result old before new after
 Does (deed.Queues given) number place result old before new after =
     QueuesOrder given number result old before new after
+
+-- how many orders the peripheral was given before and after: a deed gives one, or none
+abbrev pub OrdersBy : {T : Type 0} → Deed → Result T NoMemory → ℕ → ℕ → Type 0
+OrdersBy (deed.Gives given what) outcome old new = GivesOne outcome old new
+OrdersBy (deed.Changes what) outcome old new = new ≡ old
+OrdersBy (deed.Queues given) outcome old new = new ≡ old
 
 -- it may want memory: for the room of events, or for a request
 abbrev pub may_want : Deed → Bool

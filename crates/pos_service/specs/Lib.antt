@@ -17,6 +17,7 @@ pub mod PrinterCalls
 pub mod Properties
 pub mod Receipts
 pub mod Refusals
+pub mod Requests
 pub mod ScannerCalls
 pub mod Stations
 pub mod Statuses

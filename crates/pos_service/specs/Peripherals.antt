@@ -1,5 +1,5 @@
 -- What contracts see of a peripheral, and what its calls do.
-use Rattle.std.specs.Prelude.{◌≡◌, ℕ, ◌-◌, ◌*◌, ◌^◌, ◌<◌, ◌≤◌, ◌⊎◌, nat_le, Bool, true, false, ◌&&◌, Some, List, length, ⊤, Result, MatchResult}
+use Rattle.std.specs.Prelude.{◌≡◌, ℕ, ◌+◌, ◌-◌, ◌*◌, ◌^◌, ◌<◌, ◌≤◌, ◌⊎◌, min, nat_le, Bool, true, false, ◌&&◌, Some, List, length, ⊤, Result, MatchResult}
 use Rattle.pos_service.specs.declared.display_text.Attribute.{Attribute}
 use Rattle.pos_service.specs.declared.display_text.Direction.{Direction}
 use Rattle.pos_service.specs.declared.display_text.Place.{Place}
@@ -24,12 +24,14 @@ use Rattle.pos_service.specs.Displays.{Display, ShowsText, Scrolls, blank_displa
 use Rattle.pos_service.specs.Kinds.{is_drawer, is_display, is_printer, rows_of, columns_of, near_of}
 use Rattle.pos_service.specs.Receipts.{Prints, pieces, cut_pieces, is_printable_text, paper_level}
 
--- a peripheral: what it is, what it is physically, whether it is out of service, and how often its line has failed
+-- a peripheral: what it is, what it is physically, whether it is out of service, how often its line has failed, and
+-- how many orders it was given
 pub record PeripheralState : Type 0 where
   pub kind : Kind
   pub plant : Plant
   pub is_parked : Bool
   pub failures : ℕ
+  pub orders : ℕ
 
 -- the numbers of a kind are ones that a profile may give
 abbrev pub IsInRange : Kind → Type 0
@@ -94,6 +96,10 @@ input_fits kind.Scanner input.ScanFault = true
 input_fits (kind.Printer chars near) (input.CoverMoved is_open) = true
 input_fits (kind.Printer chars near) (input.PaperLoaded lines) = nat_le lines 100000
 input_fits is of_another = false
+
+-- one more; the last value stays
+abbrev pub counted : ℕ → ℕ
+counted n = min (n + 1) (2 ^ 64 - 1)
 
 -- the count rose, or it stays at its last value
 abbrev pub Rose : ℕ → ℕ → Type 0
@@ -164,15 +170,16 @@ Replies old order reply.CoverOpen new =
 Replies old order reply.PaperEnd new =
     Performs old.kind order old.plant reply.PaperEnd new.plant × (new.failures ≡ old.failures)
 
--- plant and count are as they were
+-- the plant and the count of failures are as they were
 abbrev pub IsUntouched : PeripheralState → PeripheralState → Type 0
 IsUntouched old new = (new.plant ≡ old.plant) × (new.failures ≡ old.failures)
 
--- An order was given: it got a reply, or found no memory and did nothing.
+-- An order was given, and counted: it got a reply, or found no memory and did nothing.
 pub record Asked (old : PeripheralState) (order : Order) (outcome : Result Reply NoMemory) (new : PeripheralState)
     : Type 0 where
   pub kind : new.kind ≡ old.kind
   pub unparked : new.is_parked ≡ false
+  pub orders : new.orders ≡ counted old.orders
   pub answer : MatchResult outcome (λ reply. Replies old order reply new) (λ want. IsUntouched old new)
 
 -- An input was handed in: it was taken, or found no memory and did nothing. The line has no part in it.
@@ -181,6 +188,7 @@ pub record Fed (old : PeripheralState) (input : Input) (outcome : Result Taken N
   pub kind : new.kind ≡ old.kind
   pub unparked : new.is_parked ≡ false
   pub failures : new.failures ≡ old.failures
+  pub orders : new.orders ≡ old.orders
   pub answer : MatchResult outcome
       (λ taken. Takes old.kind input old.plant taken new.plant)
       (λ want. new.plant ≡ old.plant)

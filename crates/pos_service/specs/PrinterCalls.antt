@@ -18,7 +18,7 @@ use Rattle.pos_service.specs.declared.worked.Worked.{Worked}
 use Rattle.pos_service.specs.declared.worked.Worked.TheVariants as worked
 use Rattle.pos_service.specs.Codes.{code_by, extended_by}
 use Rattle.pos_service.specs.Controls.{Control, listens, completed, output_failed}
-use Rattle.pos_service.specs.Deeds.{ChangesOne, Ordered}
+use Rattle.pos_service.specs.Deeds.{ChangesOne, GivesOne, Ordered}
 use Rattle.pos_service.specs.Kinds.{is_printer}
 use Rattle.pos_service.specs.Numbers.{is_up_to}
 use Rattle.pos_service.specs.Output.{is_outstanding, request_to_do}
@@ -114,6 +114,11 @@ pub record WorksOn (due : DueRequest) (place : ℕ) (result : Worked)
   pub ordered : Ordered due.given place said old before controls after
   pub worked : ChangesOne (after_work due.id said) due.holder controls new
   pub answer : result ≡ worked_by due.id said
+
+-- how many orders the printer was given before and after: work on a request gives one, and idle work none
+abbrev pub OrdersOfWork : Result Worked NoMemory → ℕ → ℕ → Type 0
+OrdersOfWork (Ok worked.Idle) old new = new ≡ old
+OrdersOfWork outcome old new = GivesOne outcome old new
 
 -- Work at a place whose device this control holds: on the request that is to be done there now, where there is one.
 -- Memory is wanted for such a request alone, and then nothing changes.

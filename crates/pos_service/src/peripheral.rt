@@ -13,7 +13,7 @@ use crate::signs::Signs;
 /// What is asked of one that is out of service, or that doesn't fit its kind, it may answer and do as it likes. A box
 /// of one ends only parked: see `PeripheralBox`.
 pub trait Peripheral {
-    /// Its kind, its plant, whether it is parked, and how often its line has failed.
+    /// Its kind, its plant, whether it is parked, how often its line has failed, and how many orders it was given.
     ghost state: { Self → PeripheralState };
 
     /// What it is, which never changes.
@@ -26,8 +26,9 @@ pub trait Peripheral {
     fn signs(&self) -> Signs
         ensures { result ≡ signs_of (state self.now).kind (state self.now).plant };
 
-    /// Carries out an order whole, or says why it did nothing. It counts each failure of its line, and stays at the
-    /// count's last value, 18,446,744,073,709,551,615. Want of memory changes nothing.
+    /// Carries out an order whole, or says why it did nothing. Each order counts, whatever comes of it, and each
+    /// failure of the line; a count stays at its last value, 18,446,744,073,709,551,615. Want of memory changes nothing
+    /// else.
     fn ask(&mut self, order: &Order) -> Result<Reply, NoMemory>
         ensures { (state self.old).is_parked ≡ false → order_fits (state self.old).kind order.now ≡ true →
             Asked (state self.old) order.now result (state self.new) };

@@ -8,14 +8,17 @@ use Rattle.pos_service.specs.Receipts.{Item, Line, SegmentCharacter, Printout, a
 use Rattle.pos_sims.specs.Tapes.{put, pushed, ended}
 
 -- all fits into one chunk
-pub fitting : (most chars : ℕ) (segment : List SegmentCharacter) → length segment ≤ chars → in_chunks most chars segment ≡ record { items = []; buffer = characters_of segment }
+pub fitting : (most chars : ℕ) (segment : List SegmentCharacter) → length segment ≤ chars
+    → in_chunks most chars segment ≡ record { items = []; buffer = characters_of segment }
 fitting zero chars segment le = refl
 fitting (suc most) chars segment le =
     let t : leb (length segment) chars ≡ true = grind (arith, nat_tests) in
     rw t
 
 -- it does not
-passing : (most chars : ℕ) (segment : List SegmentCharacter) → chars < length segment → in_chunks (suc most) chars segment ≡ after_items (Line (first_alignment (drop chars segment)) (characters_of (take chars segment)) ∷ []) (in_chunks most chars (drop chars segment))
+passing : (most chars : ℕ) (segment : List SegmentCharacter) → chars < length segment
+    → in_chunks (suc most) chars segment ≡ after_items (Line (first_alignment (drop chars segment)) (characters_of (take chars segment)) ∷ [])
+    (in_chunks most chars (drop chars segment))
 passing most chars segment lt =
     let t : leb (length segment) chars ≡ false = grind (arith, nat_tests) in
     rw t
@@ -30,12 +33,16 @@ put_free chars a c made e =
     let t : eqb (length made.buffer) chars ≡ false = grind (arith, nat_tests) in
     rw t
 
-cond_behind : (t : Bool) (items : List Item) (a : Alignment) (c : PrintedCharacter) (made : Printout) → cond t (pushed c (ended a (after_items items made))) (pushed c (after_items items made)) ≡ after_items items (cond t (pushed c (ended a made)) (pushed c made))
-cond_behind true items a c made = ap (λ (xs : List Item). let r : Printout = record { items = xs; buffer = c ∷ [] } in r) (append_assoc items made.items (Line a made.buffer ∷ []))
+cond_behind : (t : Bool) (items : List Item) (a : Alignment) (c : PrintedCharacter) (made : Printout)
+    → cond t (pushed c (ended a (after_items items made))) (pushed c (after_items items made)) ≡ after_items items
+    (cond t (pushed c (ended a made)) (pushed c made))
+cond_behind true items a c made =
+    ap (λ (xs : List Item). let r : Printout = record { items = xs; buffer = c ∷ [] } in r) (append_assoc items made.items (Line a made.buffer ∷ []))
 cond_behind false items a c made = refl
 
 -- items before do not matter
-pub put_behind : (chars : ℕ) (items : List Item) (a : Alignment) (c : PrintedCharacter) (made : Printout) → put chars a c (after_items items made) ≡ after_items items (put chars a c made)
+pub put_behind : (chars : ℕ) (items : List Item) (a : Alignment) (c : PrintedCharacter) (made : Printout)
+    → put chars a c (after_items items made) ≡ after_items items (put chars a c made)
 put_behind chars items a c made = cond_behind (eqb (length made.buffer) chars) items a c made
 
 pushed_cells : (segment : List SegmentCharacter) (s : SegmentCharacter) → characters_of (segment ++ s ∷ []) ≡ characters_of segment ++ s.character ∷ []
@@ -54,7 +61,8 @@ abbrev chunk_line : List SegmentCharacter → List SegmentCharacter → Printout
 chunk_line chunk rest made = after_items (Line (first_alignment rest) (characters_of chunk) ∷ []) made
 
 -- a chunk that has room
-more_fits : (most chars : ℕ) (segment : List SegmentCharacter) (s : SegmentCharacter) → length segment < chars → in_chunks (suc most) chars (segment ++ s ∷ []) ≡ put chars s.alignment s.character (in_chunks most chars segment)
+more_fits : (most chars : ℕ) (segment : List SegmentCharacter) (s : SegmentCharacter) → length segment < chars
+    → in_chunks (suc most) chars (segment ++ s ∷ []) ≡ put chars s.alignment s.character (in_chunks most chars segment)
 more_fits most chars segment s lt =
     let small : length (segment ++ s ∷ []) ≤ chars = omega (arith, length_push segment s) in
     let free : length (characters_of segment) ≢ chars = λ e. omega (arith, length-map segment (λ (x : SegmentCharacter). x.character)) in
@@ -64,7 +72,8 @@ more_fits most chars segment s lt =
     ∙ ap (put chars s.alignment s.character) (sym (fitting most chars segment (omega arith)))
 
 -- a chunk that is full
-more_ends : (most chars : ℕ) (segment : List SegmentCharacter) (s : SegmentCharacter) → 0 < chars → length segment ≡ chars → in_chunks (suc most) chars (segment ++ s ∷ []) ≡ put chars s.alignment s.character (in_chunks most chars segment)
+more_ends : (most chars : ℕ) (segment : List SegmentCharacter) (s : SegmentCharacter) → 0 < chars → length segment ≡ chars
+    → in_chunks (suc most) chars (segment ++ s ∷ []) ≡ put chars s.alignment s.character (in_chunks most chars segment)
 more_ends most chars segment s some e =
     let large : chars < length (segment ++ s ∷ []) = omega (arith, length_push segment s) in
     let full : length (characters_of segment) ≡ chars = length-map segment (λ (x : SegmentCharacter). x.character) ∙ e in
@@ -79,7 +88,8 @@ order : (a b : ℕ) → (a < b) ⊎ ((a ≡ b) ⊎ (b < a))
 order a b = grind (arith, nat_tests)
 
 -- one more character behind a segment
-pub chunked_more : (most chars : ℕ) (segment : List SegmentCharacter) (s : SegmentCharacter) → 0 < chars → length segment ≤ most → in_chunks (suc most) chars (segment ++ s ∷ []) ≡ put chars s.alignment s.character (in_chunks most chars segment)
+pub chunked_more : (most chars : ℕ) (segment : List SegmentCharacter) (s : SegmentCharacter) → 0 < chars → length segment ≤ most
+    → in_chunks (suc most) chars (segment ++ s ∷ []) ≡ put chars s.alignment s.character (in_chunks most chars segment)
 chunked_more zero chars segment s some le = more_fits zero chars segment s (omega arith)
 chunked_more (suc most) chars segment s some le =
     elim (order (length segment) chars) [
@@ -91,11 +101,15 @@ chunked_more (suc most) chars segment s some le =
           let short : length (drop chars segment) ≤ most = omega (arith, length-drop chars segment) in
           let left : 0 < length (drop chars segment) = omega (arith, length-drop chars segment) in
           passing (suc most) chars (segment ++ s ∷ []) large
-          ∙ ap (λ rest. chunk_line (take chars (segment ++ s ∷ [])) rest (in_chunks (suc most) chars rest)) (drop-append-le chars segment (s ∷ []) (omega arith))
-          ∙ ap (λ chunk. chunk_line chunk (drop chars segment ++ s ∷ []) (in_chunks (suc most) chars (drop chars segment ++ s ∷ []))) (take-append-le chars segment (s ∷ []) (omega arith))
-          ∙ ap (λ a. after_items (Line a (characters_of (take chars segment)) ∷ []) (in_chunks (suc most) chars (drop chars segment ++ s ∷ []))) (first_pushed (drop chars segment) s left)
+          ∙ ap (λ rest. chunk_line (take chars (segment ++ s ∷ [])) rest (in_chunks (suc most) chars rest))
+          (drop-append-le chars segment (s ∷ []) (omega arith))
+          ∙ ap (λ chunk. chunk_line chunk (drop chars segment ++ s ∷ []) (in_chunks (suc most) chars (drop chars segment ++ s ∷ [])))
+          (take-append-le chars segment (s ∷ []) (omega arith))
+          ∙ ap (λ a. after_items (Line a (characters_of (take chars segment)) ∷ []) (in_chunks (suc most) chars (drop chars segment ++ s ∷ [])))
+          (first_pushed (drop chars segment) s left)
           ∙ ap (chunk_line (take chars segment) (drop chars segment)) (chunked_more most chars (drop chars segment) s some short)
-          ∙ sym (put_behind chars (Line (first_alignment (drop chars segment)) (characters_of (take chars segment)) ∷ []) s.alignment s.character (in_chunks most chars (drop chars segment)))
+          ∙ sym (put_behind chars (Line (first_alignment (drop chars segment)) (characters_of (take chars segment)) ∷ []) s.alignment s.character
+          (in_chunks most chars (drop chars segment)))
           ∙ ap (put chars s.alignment s.character) (sym (passing most chars segment gt))
     ]
 

@@ -1,5 +1,6 @@
 pub mod WindowLemmas
 pub mod ScrollLemmas
+pub mod RingLemmas
 pub mod ChunkLemmas
 pub mod RequestLemmas
 pub mod TapeLemmas

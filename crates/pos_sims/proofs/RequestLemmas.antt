@@ -15,18 +15,22 @@ abbrev work_of : Style → Printout → ℕ → Work
 work_of style made used = record { style = style; made = made; used = used }
 
 -- a work is known by its parts
-same_work : (work : Work) (style : Style) (made : Printout) → work.style ≡ style → work.made ≡ made → work ≡ record { style = style; made = made; used = work.used }
+same_work : (work : Work) (style : Style) (made : Printout) → work.style ≡ style → work.made ≡ made
+    → work ≡ record { style = style; made = made; used = work.used }
 same_work work style made s m = ap (λ (t : Style). work_of t work.made work.used) s ∙ ap (λ (l : Printout). work_of style l work.used) m
 
 style_put : (t : Bool) (character : PrintedCharacter) (work : Work) → (put_character character (cond t (end_line work) work)).style ≡ work.style
 style_put true character work = refl
 style_put false character work = refl
 
-made_put : (t : Bool) (character : PrintedCharacter) (work : Work) → (put_character character (cond t (end_line work) work)).made ≡ cond t (pushed character (ended work.style.alignment work.made)) (pushed character work.made)
+made_put : (t : Bool) (character : PrintedCharacter) (work : Work)
+    → (put_character character (cond t (end_line work) work)).made ≡ cond t (pushed character (ended work.style.alignment work.made))
+    (pushed character work.made)
 made_put true character work = refl
 made_put false character work = refl
 
-ended_segment : (chars : ℕ) (style : Style) (items : List Item) (segment : List SegmentCharacter) → ended style.alignment (after_items items (chunks_of chars segment)) ≡ after_items (items ++ lines_of chars style.alignment segment) (chunks_of chars [])
+ended_segment : (chars : ℕ) (style : Style) (items : List Item) (segment : List SegmentCharacter)
+    → ended style.alignment (after_items items (chunks_of chars segment)) ≡ after_items (items ++ lines_of chars style.alignment segment) (chunks_of chars [])
 ended_segment chars style items segment =
     let all = items ++ lines_of chars style.alignment segment in
     ap (λ (xs : List Item). let made : Printout = record { items = xs; buffer = [] } in made)
@@ -36,38 +40,47 @@ behind_behind : (xs ys : List Item) (made : Printout) → after_items (xs ++ ys)
 behind_behind xs ys made = ap (λ (zs : List Item). let l : Printout = record { items = zs; buffer = made.buffer } in l) (append_assoc xs ys made.items)
 
 -- a segment that has begun has a buffer
-begun_some : (chars : ℕ) (s : SegmentCharacter) (segment : List SegmentCharacter) (style : Style) (items : List Item) (used : ℕ) → end_begun (work_of style (after_items items (chunks_of chars (s ∷ segment))) used) ≡ end_line (work_of style (after_items items (chunks_of chars (s ∷ segment))) used)
+begun_some : (chars : ℕ) (s : SegmentCharacter) (segment : List SegmentCharacter) (style : Style) (items : List Item) (used : ℕ)
+    → end_begun (work_of style (after_items items (chunks_of chars (s ∷ segment))) used) ≡ end_line
+    (work_of style (after_items items (chunks_of chars (s ∷ segment))) used)
 begun_some chars s segment style items used =
     let some = chunked_some (length (s ∷ segment)) chars (s ∷ segment) (omega arith) in
     let t : eqb (length (chunks_of chars (s ∷ segment)).buffer) 0 ≡ false = grind (arith, nat_tests) in
     ap (λ b. let work = work_of style (after_items items (chunks_of chars (s ∷ segment))) used in cond b work (end_line work)) t
 
-put_segment : (chars : ℕ) → 0 < chars → (style : Style) (byte : ℕ) (segment : List SegmentCharacter) (items : List Item) → put chars style.alignment (in_style style byte).character (after_items items (chunks_of chars segment)) ≡ after_items items (chunks_of chars (segment ++ in_style style byte ∷ []))
+put_segment : (chars : ℕ) → 0 < chars → (style : Style) (byte : ℕ) (segment : List SegmentCharacter) (items : List Item)
+    → put chars style.alignment (in_style style byte).character (after_items items (chunks_of chars segment)) ≡ after_items items
+    (chunks_of chars (segment ++ in_style style byte ∷ []))
 put_segment chars some style byte segment items =
     let s = in_style style byte in
     let count : suc (length segment) ≡ length (segment ++ s ∷ []) = omega (arith, length_push segment s) in
     put_behind chars items style.alignment s.character (chunks_of chars segment)
     ∙ ap (after_items items) (sym (chunked_more (length segment) chars segment s some (omega arith)) ∙ ap (λ n. in_chunks n chars (segment ++ s ∷ [])) count)
 
-cut_nothing : (chars n : ℕ) (items : List Item) → record { items = (items ++ []) ++ CutAt n ∷ []; buffer = [] } ≡ after_items (items ++ CutAt n ∷ []) (chunks_of chars [])
+cut_nothing : (chars n : ℕ) (items : List Item)
+    → record { items = (items ++ []) ++ CutAt n ∷ []; buffer = [] } ≡ after_items (items ++ CutAt n ∷ []) (chunks_of chars [])
 cut_nothing chars n items =
     ap (λ (xs : List Item). let l : Printout = record { items = xs; buffer = [] } in l)
     (ap (λ (xs : List Item). xs ++ CutAt n ∷ []) (append-nil items) ∙ sym (append-nil (items ++ CutAt n ∷ [])))
 
-cut_segment : (chars n : ℕ) (items lines : List Item) → record { items = (items ++ lines) ++ CutAt n ∷ []; buffer = [] } ≡ after_items (items ++ (lines ++ CutAt n ∷ [])) (chunks_of chars [])
+cut_segment : (chars n : ℕ) (items lines : List Item)
+    → record { items = (items ++ lines) ++ CutAt n ∷ []; buffer = [] } ≡ after_items (items ++ (lines ++ CutAt n ∷ [])) (chunks_of chars [])
 cut_segment chars n items lines =
     ap (λ (xs : List Item). let l : Printout = record { items = xs; buffer = [] } in l)
     (append_assoc items lines (CutAt n ∷ []) ∙ sym (append-nil (items ++ (lines ++ CutAt n ∷ []))))
 
 -- the run and the definition
-pub same_made : (chars : ℕ) → 0 < chars → (ps : List Piece) (style : Style) (segment : List SegmentCharacter) (items : List Item) (used : ℕ) → (steps chars (work_of style (after_items items (chunks_of chars segment)) used) ps).made ≡ after_items items (printed_from chars style segment ps)
+pub same_made : (chars : ℕ) → 0 < chars → (ps : List Piece) (style : Style) (segment : List SegmentCharacter) (items : List Item) (used : ℕ)
+    → (steps chars (work_of style (after_items items (chunks_of chars segment)) used) ps).made ≡ after_items items (printed_from chars style segment ps)
 same_made chars some [] style segment items used = refl
 same_made chars some (piece.Character byte ∷ ps) style segment items used =
     let s = in_style style byte in
     let work = work_of style (after_items items (chunks_of chars segment)) used in
     let next = step chars work (piece.Character byte) in
     let t = eqb (length work.made.buffer) chars in
-    ap (λ w. (steps chars w ps).made) (same_work next style (after_items items (chunks_of chars (segment ++ s ∷ []))) (style_put t s.character work) (made_put t s.character work ∙ put_segment chars some style byte segment items))
+    ap (λ w. (steps chars w ps).made)
+    (same_work next style (after_items items (chunks_of chars (segment ++ s ∷ []))) (style_put t s.character work)
+    (made_put t s.character work ∙ put_segment chars some style byte segment items))
     ∙ same_made chars some ps style (segment ++ in_style style byte ∷ []) items next.used
 same_made chars some (piece.LineEnd ∷ ps) style segment items used =
     let lines = lines_of chars style.alignment segment in
@@ -89,12 +102,15 @@ same_made chars some (piece.Cut n ∷ ps) style (s ∷ segment) items used =
     let lines = lines_of chars style.alignment (s ∷ segment) in
     let chunks = chunks_of chars (s ∷ segment) in
     ap (λ w. (steps chars (add_cut n w) ps).made) (begun_some chars s segment style items used)
-    ∙ ap (λ (xs : List Item). (steps chars (work_of style (record { items = xs ++ CutAt n ∷ []; buffer = [] }) (used + 1)) ps).made) (append_assoc items chunks.items (Line style.alignment chunks.buffer ∷ []))
+    ∙ ap (λ (xs : List Item). (steps chars (work_of style (record { items = xs ++ CutAt n ∷ []; buffer = [] }) (used + 1)) ps).made)
+    (append_assoc items chunks.items (Line style.alignment chunks.buffer ∷ []))
     ∙ ap (λ made. (steps chars (work_of style made (used + 1)) ps).made) (cut_segment chars n items lines)
     ∙ same_made chars some ps style [] (items ++ (lines ++ CutAt n ∷ [])) (used + 1)
     ∙ behind_behind items (lines ++ CutAt n ∷ []) (printed_from chars style [] ps)
-same_made chars some (piece.Bold ∷ ps) style segment items used = same_made chars some ps (record { is_bold = true; alignment = style.alignment }) segment items used
-same_made chars some (piece.Align to ∷ ps) style segment items used = same_made chars some ps (record { is_bold = style.is_bold; alignment = to }) segment items used
+same_made chars some (piece.Bold ∷ ps) style segment items used =
+    same_made chars some ps (record { is_bold = true; alignment = style.alignment }) segment items used
+same_made chars some (piece.Align to ∷ ps) style segment items used =
+    same_made chars some ps (record { is_bold = style.is_bold; alignment = to }) segment items used
 same_made chars some (piece.Normal ∷ ps) style segment items used = same_made chars some ps plain segment items used
 same_made chars some (piece.OutOfRange ∷ ps) style segment items used = same_made chars some ps style segment items used
 
@@ -147,20 +163,24 @@ counts chars (p ∷ ps) work =
     record { lines = omega (arith, h.lines, more.lines); rises = omega (arith, h.rises, more.rises) }
 
 -- paper that ends within the pieces ends before their end
-pub past_front : (chars : ℕ) (work all : Work) (front back ps : List Piece) (limit : ℕ) → ps ≡ front ++ back → steps chars work ps ≡ all → limit < (steps chars work front).used → limit < all.used
+pub past_front : (chars : ℕ) (work all : Work) (front back ps : List Piece) (limit : ℕ) → ps ≡ front ++ back → steps chars work ps ≡ all
+    → limit < (steps chars work front).used → limit < all.used
 past_front chars work all front back ps limit e is lt =
     let more = counts chars back (steps chars work front) in
     let same : steps chars (steps chars work front) back ≡ all = sym (fold-append (step chars) work front back) ∙ ap (steps chars work) (sym e) ∙ is in
     omega (arith, more.rises, ap (λ (w : Work). w.used) same)
 
-pub past_line : (chars : ℕ) (work all : Work) (count i limit : ℕ) → i < count → steps chars work (replicate (count - i) piece.LineEnd) ≡ all → limit < (end_line work).used → limit < all.used
+pub past_line : (chars : ℕ) (work all : Work) (count i limit : ℕ) → i < count → steps chars work (replicate (count - i) piece.LineEnd) ≡ all
+    → limit < (end_line work).used → limit < all.used
 past_line chars work all count i limit lt is h =
     let n = count - (i + 1) in
     let e : count - i ≡ suc n = omega arith in
-    past_front chars work all (piece.LineEnd ∷ []) (replicate n piece.LineEnd) (replicate (count - i) piece.LineEnd) limit (ap (λ k. replicate k piece.LineEnd) e) is h
+    past_front chars work all (piece.LineEnd ∷ []) (replicate n piece.LineEnd) (replicate (count - i) piece.LineEnd) limit
+    (ap (λ k. replicate k piece.LineEnd) e) is h
 
 -- one line end of some
-pub one_line : (chars : ℕ) (work next all : Work) (count i : ℕ) → i < count → steps chars work (replicate (count - i) piece.LineEnd) ≡ all → next ≡ end_line work → steps chars next (replicate (count - (i + 1)) piece.LineEnd) ≡ all
+pub one_line : (chars : ℕ) (work next all : Work) (count i : ℕ) → i < count → steps chars work (replicate (count - i) piece.LineEnd) ≡ all
+    → next ≡ end_line work → steps chars next (replicate (count - (i + 1)) piece.LineEnd) ≡ all
 one_line chars work next all count i lt is h =
     let n = count - (i + 1) in
     let e : count - i ≡ suc n = omega arith in
@@ -174,19 +194,29 @@ cells_unaligned [] = refl
 cells_unaligned (character ∷ buffer) = ap (λ characters. character ∷ characters) (cells_unaligned buffer)
 
 -- a request begins with one chunk, the old buffer
-begins_so : (chars : ℕ) (items : List Item) (buffer : List PrintedCharacter) → length buffer ≤ chars → record { items = items; buffer = buffer } ≡ after_items items (chunks_of chars (unaligned buffer))
+begins_so : (chars : ℕ) (items : List Item) (buffer : List PrintedCharacter) → length buffer ≤ chars
+    → record { items = items; buffer = buffer } ≡ after_items items (chunks_of chars (unaligned buffer))
 begins_so chars items buffer le =
-    let short : length (unaligned buffer) ≤ chars = omega (arith, length-map buffer (λ (character : PrintedCharacter). let s : SegmentCharacter = record { character = character; alignment = alignment.Left } in s)) in
+    let short : length (unaligned buffer) ≤ chars =
+    omega (
+      arith,
+      length-map buffer
+          (λ (character : PrintedCharacter). let s : SegmentCharacter = record { character = character; alignment = alignment.Left } in s),
+    ) in
     ap (λ (characters : List PrintedCharacter). let l : Printout = record { items = items; buffer = characters } in l) (sym (cells_unaligned buffer))
     ∙ ap (λ (xs : List Item). let l : Printout = record { items = xs; buffer = characters_of (unaligned buffer) } in l) (sym (append-nil items))
     ∙ ap (after_items items) (sym (fitting (length (unaligned buffer)) chars (unaligned buffer) short))
 
-pub request_run : (chars : ℕ) (items : List Item) (buffer : List PrintedCharacter) (ps : List Piece) → 0 < chars → length buffer ≤ chars → (steps chars (record { style = plain; made = record { items = items; buffer = buffer }; used = 0 }) ps).made ≡ after_items items (printed_by chars buffer ps)
+pub request_run : (chars : ℕ) (items : List Item) (buffer : List PrintedCharacter) (ps : List Piece) → 0 < chars → length buffer ≤ chars
+    → (steps chars (record { style = plain; made = record { items = items; buffer = buffer }; used = 0 }) ps).made ≡ after_items items
+    (printed_by chars buffer ps)
 request_run chars items buffer ps some le =
     ap (λ made. (steps chars (work_of plain made 0) ps).made) (begins_so chars items buffer le)
     ∙ same_made chars some ps plain (unaligned buffer) items 0
 
-pub request_used : (chars : ℕ) (items : List Item) (buffer : List PrintedCharacter) (ps : List Piece) → 0 < chars → length buffer ≤ chars → (steps chars (record { style = plain; made = record { items = items; buffer = buffer }; used = 0 }) ps).used ≡ lines_needed (printed_by chars buffer ps).items
+pub request_used : (chars : ℕ) (items : List Item) (buffer : List PrintedCharacter) (ps : List Piece) → 0 < chars → length buffer ≤ chars
+    → (steps chars (record { style = plain; made = record { items = items; buffer = buffer }; used = 0 }) ps).used ≡ lines_needed
+    (printed_by chars buffer ps).items
 request_used chars items buffer ps some le =
     let work = work_of plain (record { items = items; buffer = buffer }) 0 in
     let h = (counts chars ps work).lines in

@@ -22,7 +22,8 @@ rows_before columns row column units le =
     omega (arith, f)
 
 -- up
-pub scrolls_up : (rows columns units : ℕ) (old new : List DisplayCell) → length old ≡ rows * columns → length new ≡ length old → ShiftsToFront (units * columns) old new → Scrolls (display_of rows columns old) direction.Up units (display_of rows columns new)
+pub scrolls_up : (rows columns units : ℕ) (old new : List DisplayCell) → length old ≡ rows * columns → length new ≡ length old
+    → ShiftsToFront (units * columns) old new → Scrolls (display_of rows columns old) direction.Up units (display_of rows columns new)
 scrolls_up rows columns units old new count same moved = record {
   rows = refl;
   columns = refl;
@@ -30,7 +31,8 @@ scrolls_up rows columns units old new count same moved = record {
   cells = λ row column r c.
       shifted old new (units * columns) moved (row * columns + column) (omega (arith, count, in_window rows columns row column r c))
       ∙ ap (λ k. get_or old k blank) (rows_later columns row column units)
-      ∙ elim (two_ways (row + units) rows) as (λ _. cell_at columns old (row + units) column ≡ (if nat_lt (row + units) rows then cell_at columns old (row + units) column else blank)) [
+      ∙ elim (two_ways (row + units) rows) as
+      (λ _. cell_at columns old (row + units) column ≡ (if nat_lt (row + units) rows then cell_at columns old (row + units) column else blank)) [
         | inl inside ↦
             let t : nat_lt (row + units) rows ≡ true = grind (arith, nat_tests, inside) in
             rw t
@@ -46,7 +48,8 @@ before_all columns row column units c lt =
     omega (arith, h)
 
 -- down
-pub scrolls_down : (rows columns units : ℕ) (old new : List DisplayCell) → length old ≡ rows * columns → length new ≡ length old → ShiftsToEnd (units * columns) old new → Scrolls (display_of rows columns old) direction.Down units (display_of rows columns new)
+pub scrolls_down : (rows columns units : ℕ) (old new : List DisplayCell) → length old ≡ rows * columns → length new ≡ length old
+    → ShiftsToEnd (units * columns) old new → Scrolls (display_of rows columns old) direction.Down units (display_of rows columns new)
 scrolls_down rows columns units old new count same moved = record {
   rows = refl;
   columns = refl;
@@ -55,7 +58,9 @@ scrolls_down rows columns units old new count same moved = record {
       let k = row * columns + column in
       let lt : k < length old = omega (arith, count, in_window rows columns row column r c) in
       moved k lt
-      ∙ elim (two_ways row units) as (λ _. (if nat_le (units * columns) k then get_or old (k - units * columns) blank else blank) ≡ (if nat_le units row then cell_at columns old (row - units) column else blank)) [
+      ∙ elim (two_ways row units) as
+      (λ _. (if nat_le (units * columns) k then get_or old (k - units * columns) blank else blank) ≡
+      (if nat_le units row then cell_at columns old (row - units) column else blank)) [
         | inl outside ↦
             let t : nat_le units row ≡ false = grind (arith, nat_tests, outside) in
             let before = before_all columns row column units c outside in
@@ -70,7 +75,8 @@ scrolls_down rows columns units old new count same moved = record {
 }
 
 -- left
-pub scrolls_left : (rows columns units : ℕ) (old new : List DisplayCell) → length old ≡ rows * columns → length new ≡ length old → MovesToFront columns units old new → Scrolls (display_of rows columns old) direction.Left units (display_of rows columns new)
+pub scrolls_left : (rows columns units : ℕ) (old new : List DisplayCell) → length old ≡ rows * columns → length new ≡ length old
+    → MovesToFront columns units old new → Scrolls (display_of rows columns old) direction.Left units (display_of rows columns new)
 scrolls_left rows columns units old new count same moved = record {
   rows = refl;
   columns = refl;
@@ -79,11 +85,13 @@ scrolls_left rows columns units old new count same moved = record {
       let k = row * columns + column in
       moved k (omega (arith, count, in_window rows columns row column r c))
       ∙ ap (λ n. if nat_lt (n + units) columns then get_or old (k + units) blank else blank) (mod-mul-add row columns column c)
-      ∙ ap (λ n. if nat_lt (column + units) columns then get_or old n blank else blank) (let e : k + units ≡ row * columns + (column + units) = omega arith in e);
+      ∙ ap (λ n. if nat_lt (column + units) columns then get_or old n blank else blank)
+      (let e : k + units ≡ row * columns + (column + units) = omega arith in e);
 }
 
 -- right
-pub scrolls_right : (rows columns units : ℕ) (old new : List DisplayCell) → length old ≡ rows * columns → length new ≡ length old → MovesToEnd columns units old new → Scrolls (display_of rows columns old) direction.Right units (display_of rows columns new)
+pub scrolls_right : (rows columns units : ℕ) (old new : List DisplayCell) → length old ≡ rows * columns → length new ≡ length old
+    → MovesToEnd columns units old new → Scrolls (display_of rows columns old) direction.Right units (display_of rows columns new)
 scrolls_right rows columns units old new count same moved = record {
   rows = refl;
   columns = refl;
@@ -92,10 +100,13 @@ scrolls_right rows columns units old new count same moved = record {
       let k = row * columns + column in
       moved k (omega (arith, count, in_window rows columns row column r c))
       ∙ ap (λ n. if nat_le units n then get_or old (k - units) blank else blank) (mod-mul-add row columns column c)
-      ∙ elim (two_ways column units) as (λ _. (if nat_le units column then get_or old (k - units) blank else blank) ≡ (if nat_le units column then cell_at columns old row (column - units) else blank)) [
+      ∙ elim (two_ways column units) as
+      (λ _. (if nat_le units column then get_or old (k - units) blank else blank) ≡
+      (if nat_le units column then cell_at columns old row (column - units) else blank)) [
         | inl outside ↦
             let t : nat_le units column ≡ false = grind (arith, nat_tests, outside) in
             rw t
-        | inr inside ↦ ap (λ n. if nat_le units column then get_or old n blank else blank) (let e : k - units ≡ row * columns + (column - units) = omega (arith, inside) in e)
+        | inr inside ↦ ap (λ n. if nat_le units column then get_or old n blank else blank)
+            (let e : k - units ≡ row * columns + (column - units) = omega (arith, inside) in e)
       ];
 }

@@ -15,7 +15,8 @@ use Rattle.pos_service.specs.declared.receipt_text.Piece.{Piece}
 use Rattle.pos_sims.proofs.RequestLemmas.{request_run, request_used}
 
 -- characters behind the lines make no item
-pub items_of_more : (marks : List Mark) (characters more : List PrintedCharacter) → characters_in marks ≤ length characters → items_from marks (characters ++ more) ≡ items_from marks characters
+pub items_of_more : (marks : List Mark) (characters more : List PrintedCharacter) → characters_in marks ≤ length characters
+    → items_from marks (characters ++ more) ≡ items_from marks characters
 items_of_more [] characters more le = refl
 items_of_more (mark.Line a n ∷ marks) characters more le =
     ap (λ front. Line a front ∷ items_from marks (drop n (characters ++ more))) (take-append-le n characters more (omega arith))
@@ -24,7 +25,8 @@ items_of_more (mark.Line a n ∷ marks) characters more le =
 items_of_more (mark.Cut n ∷ marks) characters more le = ap (λ items. CutAt n ∷ items) (items_of_more marks characters more le)
 
 -- a line more
-items_more : (marks : List Mark) (characters : List PrintedCharacter) (a : Alignment) (n : ℕ) → items_from (marks ++ mark.Line a n ∷ []) characters ≡ items_from marks characters ++ Line a (take n (drop (characters_in marks) characters)) ∷ []
+items_more : (marks : List Mark) (characters : List PrintedCharacter) (a : Alignment) (n : ℕ)
+    → items_from (marks ++ mark.Line a n ∷ []) characters ≡ items_from marks characters ++ Line a (take n (drop (characters_in marks) characters)) ∷ []
 items_more [] characters a n = refl
 items_more (mark.Line b m ∷ marks) characters a n =
     ap (λ items. Line b (take m characters) ∷ items)
@@ -32,14 +34,16 @@ items_more (mark.Line b m ∷ marks) characters a n =
     ∙ ap (λ rest. items_from marks (drop m characters) ++ Line a (take n rest) ∷ []) (drop-drop (characters_in marks) m characters))
 items_more (mark.Cut m ∷ marks) characters a n = ap (λ items. CutAt m ∷ items) (items_more marks characters a n)
 
-pub items_line : (marks : List Mark) (characters : List PrintedCharacter) (a : Alignment) (start : ℕ) → characters_in marks ≡ start → items_from (marks ++ mark.Line a (length characters - start) ∷ []) characters ≡ items_from marks characters ++ Line a (drop start characters) ∷ []
+pub items_line : (marks : List Mark) (characters : List PrintedCharacter) (a : Alignment) (start : ℕ) → characters_in marks ≡ start
+    → items_from (marks ++ mark.Line a (length characters - start) ∷ []) characters ≡ items_from marks characters ++ Line a (drop start characters) ∷ []
 items_line marks characters a start e =
     items_more marks characters a (length characters - start)
     ∙ ap (λ k. items_from marks characters ++ Line a (take (length characters - start) (drop k characters)) ∷ []) e
     ∙ ap (λ rest. items_from marks characters ++ Line a rest ∷ []) (take_rest characters start)
 
 -- a cut more
-pub items_cut : (marks : List Mark) (characters : List PrintedCharacter) (n : ℕ) → items_from (marks ++ mark.Cut n ∷ []) characters ≡ items_from marks characters ++ CutAt n ∷ []
+pub items_cut : (marks : List Mark) (characters : List PrintedCharacter) (n : ℕ)
+    → items_from (marks ++ mark.Cut n ∷ []) characters ≡ items_from marks characters ++ CutAt n ∷ []
 items_cut [] characters n = refl
 items_cut (mark.Line b m ∷ marks) characters n = ap (λ items. Line b (take m characters) ∷ items) (items_cut marks (drop m characters) n)
 items_cut (mark.Cut m ∷ marks) characters n = ap (λ items. CutAt m ∷ items) (items_cut marks characters n)
@@ -65,15 +69,19 @@ extends_more xs ys zs a b = record { more = a.more ++ b.more; is = b.is ∙ ap (
 abbrev work_by : Style → List Item → List PrintedCharacter → ℕ → Work
 work_by style items buffer used = record { style = style; made = record { items = items; buffer = buffer }; used = used }
 
-pub work_line : (style : Style) (marks now : List Mark) (characters : List PrintedCharacter) (start end used : ℕ) → now ≡ marks ++ mark.Line style.alignment (end - start) ∷ [] → end ≡ length characters → characters_in marks ≡ start →
-    work_by style (items_from now characters) (drop end characters) used ≡ work_by style (items_from marks characters ++ Line style.alignment (drop start characters) ∷ []) [] used
+pub work_line : (style : Style) (marks now : List Mark) (characters : List PrintedCharacter) (start end used : ℕ)
+    → now ≡ marks ++ mark.Line style.alignment (end - start) ∷ [] → end ≡ length characters → characters_in marks ≡ start →
+    work_by style (items_from now characters) (drop end characters) used ≡ work_by style
+    (items_from marks characters ++ Line style.alignment (drop start characters) ∷ []) [] used
 work_line style marks now characters start end used is at covered =
     ap (λ ms. work_by style (items_from ms characters) (drop end characters) used) is
     ∙ ap (λ n. work_by style (items_from (marks ++ mark.Line style.alignment (n - start) ∷ []) characters) (drop n characters) used) at
     ∙ ap (λ items. work_by style items (drop (length characters) characters) used) (items_line marks characters style.alignment start covered)
-    ∙ ap (λ rest. work_by style (items_from marks characters ++ Line style.alignment (drop start characters) ∷ []) rest used) (drop_all (length characters) characters (omega arith))
+    ∙ ap (λ rest. work_by style (items_from marks characters ++ Line style.alignment (drop start characters) ∷ []) rest used)
+    (drop_all (length characters) characters (omega arith))
 
-pub work_cell : (style : Style) (marks : List Mark) (characters now : List PrintedCharacter) (character : PrintedCharacter) (start used : ℕ) → now ≡ characters ++ character ∷ [] → start ≤ length characters → characters_in marks ≡ start →
+pub work_cell : (style : Style) (marks : List Mark) (characters now : List PrintedCharacter) (character : PrintedCharacter) (start used : ℕ)
+    → now ≡ characters ++ character ∷ [] → start ≤ length characters → characters_in marks ≡ start →
     work_by style (items_from marks now) (drop start now) used ≡ work_by style (items_from marks characters) (drop start characters ++ character ∷ []) used
 work_cell style marks characters now character start used is within covered =
     ap (λ cs. work_by style (items_from marks cs) (drop start cs) used) is
@@ -95,16 +103,24 @@ adds_more {a = a} {b = b} {c = c} h k = record {
 }
 
 -- a request on a roll, by the run of its pieces
-begins : (roll : Tape) (n : ℕ) (reading_at : Work) (ps : List Piece) → n ≡ roll.chars → reading_at ≡ record { style = plain; made = printed_on roll; used = 0 } → steps n reading_at ps ≡ steps roll.chars (record { style = plain; made = printed_on roll; used = 0 }) ps
+begins : (roll : Tape) (n : ℕ) (reading_at : Work) (ps : List Piece) → n ≡ roll.chars
+    → reading_at ≡ record { style = plain; made = printed_on roll; used = 0 }
+    → steps n reading_at ps ≡ steps roll.chars (record { style = plain; made = printed_on roll; used = 0 }) ps
 begins roll n reading_at ps e h = ap (λ k. steps k reading_at ps) e ∙ ap (λ work. steps roll.chars work ps) h
 
 short : (roll : Tape) → length (drop roll.start roll.characters.items) ≤ roll.chars
 short roll = omega (arith, length-drop roll.start roll.characters.items, roll.characters.ok.0, roll.bounded)
 
-pub asked_made : (roll : Tape) (n : ℕ) (reading_at next : Work) (ps : List Piece) → n ≡ roll.chars → reading_at ≡ record { style = plain; made = printed_on roll; used = 0 } → next ≡ steps n reading_at ps → next.made ≡ after_items (printed_on roll).items (request_on roll ps)
+pub asked_made : (roll : Tape) (n : ℕ) (reading_at next : Work) (ps : List Piece) → n ≡ roll.chars
+    → reading_at ≡ record { style = plain; made = printed_on roll; used = 0 } → next ≡ steps n reading_at ps
+    → next.made ≡ after_items (printed_on roll).items (request_on roll ps)
 asked_made roll n reading_at next ps e h is =
-    ap (λ (work : Work). work.made) (is ∙ begins roll n reading_at ps e h) ∙ request_run roll.chars (printed_on roll).items (printed_on roll).buffer ps roll.some (short roll)
+    ap (λ (work : Work). work.made) (is ∙ begins roll n reading_at ps e h)
+    ∙ request_run roll.chars (printed_on roll).items (printed_on roll).buffer ps roll.some (short roll)
 
-pub asked_used : (roll : Tape) (n : ℕ) (reading_at next : Work) (ps : List Piece) → n ≡ roll.chars → reading_at ≡ record { style = plain; made = printed_on roll; used = 0 } → next ≡ steps n reading_at ps → next.used ≡ lines_needed (request_on roll ps).items
+pub asked_used : (roll : Tape) (n : ℕ) (reading_at next : Work) (ps : List Piece) → n ≡ roll.chars
+    → reading_at ≡ record { style = plain; made = printed_on roll; used = 0 } → next ≡ steps n reading_at ps
+    → next.used ≡ lines_needed (request_on roll ps).items
 asked_used roll n reading_at next ps e h is =
-    ap (λ (work : Work). work.used) (is ∙ begins roll n reading_at ps e h) ∙ request_used roll.chars (printed_on roll).items (printed_on roll).buffer ps roll.some (short roll)
+    ap (λ (work : Work). work.used) (is ∙ begins roll n reading_at ps e h)
+    ∙ request_used roll.chars (printed_on roll).items (printed_on roll).buffer ps roll.some (short roll)

@@ -5,15 +5,16 @@ use Rattle.pos_service.specs.declared.plant.Plant.TheVariants as plant
 use Rattle.pos_service.specs.Peripherals.{PeripheralState}
 use Rattle.pos_sims.specs.declared.plain_drawer.PlainDrawer.{PlainDrawer}
 
--- a drawer that is open or not, out of service or not, and whose line never fails
+-- a drawer that is open or not, out of service or not, whose line never fails, and that was given no order
 abbrev pub drawer_state : Bool → Bool → PeripheralState
 drawer_state is_open is_parked = record {
   kind = kind.Drawer;
   plant = plant.Drawer is_open;
   is_parked = is_parked;
   failures = 0;
+  orders = 0;
 }
 
 -- what contracts see of a plain drawer
 abbrev pub state_of : PlainDrawer → PeripheralState
-state_of drawer = drawer_state drawer.is_open drawer.is_parked
+state_of drawer = record (drawer_state drawer.is_open drawer.is_parked) { orders = drawer.orders }

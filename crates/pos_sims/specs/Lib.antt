@@ -4,3 +4,7 @@ pub mod LineDisplays
 pub mod Windows
 pub mod Tapes
 pub mod ReceiptPrinters
+pub mod Rings
+pub mod RingDisplays
+pub mod Flakies
+pub mod Recorders

@@ -6,15 +6,16 @@ use Rattle.pos_service.specs.Displays.{Display}
 use Rattle.pos_service.specs.Peripherals.{PeripheralState}
 use Rattle.pos_sims.specs.declared.plain_display.PlainDisplay.{PlainDisplay}
 
--- a display that shows this, out of service or not, and whose line never fails
+-- a display that shows this, out of service or not, whose line never fails, and that was given no order
 abbrev pub display_state : Display → Bool → PeripheralState
 display_state shown is_parked = record {
   kind = kind.Display shown.rows shown.columns;
   plant = plant.Display shown;
   is_parked = is_parked;
   failures = 0;
+  orders = 0;
 }
 
 -- what contracts see of a plain display
 abbrev pub state_of : PlainDisplay → PeripheralState
-state_of display = display_state display.window display.is_parked
+state_of display = record (display_state display.window display.is_parked) { orders = display.orders }

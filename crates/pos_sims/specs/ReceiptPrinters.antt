@@ -10,18 +10,20 @@ use Rattle.pos_service.specs.Receipts.{Printer}
 use Rattle.pos_service.specs.Peripherals.{PeripheralState}
 use Rattle.pos_sims.specs.declared.roll_printer.RollPrinter.{RollPrinter}
 
--- a printer with this paper, which is near its end at so many lines, out of service or not, and whose line never fails
+-- a printer with this paper, which is near its end at so many lines, out of service or not, whose line never fails, and
+-- that was given no order
 abbrev pub printer_state : Printer → ℕ → Bool → PeripheralState
 printer_state printed near is_parked = record {
   kind = kind.Printer printed.chars near;
   plant = plant.Printer printed;
   is_parked = is_parked;
   failures = 0;
+  orders = 0;
 }
 
 -- what contracts see of a roll printer
 abbrev pub state_of : RollPrinter → PeripheralState
-state_of printer = printer_state printer.roll printer.near printer.is_parked
+state_of printer = record (printer_state printer.roll printer.near printer.is_parked) { orders = printer.orders }
 
 -- what a printer replies, once this has come of a request
 abbrev pub reply_of : Outcome → Reply

@@ -5,15 +5,16 @@ use Rattle.pos_service.specs.declared.plant.Plant.TheVariants as plant
 use Rattle.pos_service.specs.Peripherals.{PeripheralState}
 use Rattle.pos_sims.specs.declared.plain_scanner.PlainScanner.{PlainScanner}
 
--- a scanner that is out of service or not, and whose line has failed so often
+-- a scanner that is out of service or not, and that was given so many orders, at each of which its line failed
 abbrev pub scanner_state : Bool → ℕ → PeripheralState
-scanner_state is_parked failures = record {
+scanner_state is_parked orders = record {
   kind = kind.Scanner;
   plant = plant.Scanner;
   is_parked = is_parked;
-  failures = failures;
+  failures = orders;
+  orders = orders;
 }
 
 -- what contracts see of a plain scanner
 abbrev pub state_of : PlainScanner → PeripheralState
-state_of scanner = scanner_state scanner.is_parked scanner.failures
+state_of scanner = scanner_state scanner.is_parked scanner.orders

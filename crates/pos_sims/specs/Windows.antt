@@ -69,3 +69,9 @@ abbrev pub MovesToEnd : ℕ → ℕ → List DisplayCell → List DisplayCell �
 MovesToEnd width places old new =
     (k : ℕ) → k < length old →
     get_or new k blank ≡ (if nat_le places (k % width) then get_or old (k - places) blank else blank)
+
+-- a display keeps its size, and has as many cells
+pub record SameSize (old new : Display) : Type 0 where
+  pub rows : new.rows ≡ old.rows
+  pub columns : new.columns ≡ old.columns
+  pub count : length new.cells ≡ length old.cells

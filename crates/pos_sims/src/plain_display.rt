@@ -18,6 +18,7 @@ pub struct PlainDisplay {
     alloc: Global,
     window: Window,
     is_parked: bool,
+    orders: u64,
 }
 
 impl PlainDisplay {
@@ -32,6 +33,7 @@ impl PlainDisplay {
             alloc,
             window,
             is_parked: false,
+            orders: 0,
         })
     }
 }
@@ -56,6 +58,7 @@ impl Peripheral for PlainDisplay {
             Asked (state_of self.old) order.now result (state_of self.new) }
         ensures takes_no_memory { IsOk result }
     {
+        self.orders = self.orders.saturating_add(1);
         if !order.fits(self.kind()) {
             return Ok(Reply::LineFault);
         }

@@ -11,6 +11,7 @@ use pos_service::{
 pub struct PlainDrawer {
     is_open: bool,
     is_parked: bool,
+    orders: u64,
 }
 
 impl PlainDrawer {
@@ -21,6 +22,7 @@ impl PlainDrawer {
         PlainDrawer {
             is_open: false,
             is_parked: false,
+            orders: 0,
         }
     }
 }
@@ -45,6 +47,7 @@ impl Peripheral for PlainDrawer {
             Asked (state_of self.old) order.now result (state_of self.new) }
         ensures takes_no_memory { IsOk result }
     {
+        self.orders = self.orders.saturating_add(1);
         match order {
             Order::OpenDrawer => {
                 self.is_open = true;

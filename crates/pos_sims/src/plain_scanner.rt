@@ -10,7 +10,7 @@ use pos_service::{
 #[derive(Drop)]
 pub struct PlainScanner {
     is_parked: bool,
-    failures: u64,
+    orders: u64,
 }
 
 impl PlainScanner {
@@ -20,7 +20,7 @@ impl PlainScanner {
     {
         PlainScanner {
             is_parked: false,
-            failures: 0,
+            orders: 0,
         }
     }
 }
@@ -46,7 +46,7 @@ impl Peripheral for PlainScanner {
         ensures takes_no_memory { IsOk result }
     {
         let _ = order;
-        self.failures = self.failures.saturating_add(1);
+        self.orders = self.orders.saturating_add(1);
         Ok(Reply::LineFault)
     }
 

@@ -13,5 +13,6 @@ pub struct RollPrinter {
     roll: Roll,
     near: u32,
     is_parked: bool,
+    orders: u64,
     ghost near_in_range: { near ≤ 100000 },
 }

@@ -4,8 +4,9 @@ ghost use Rattle.pos_service.specs.declared.plant.Plant.TheVariants as plant;
 ghost use Rattle.pos_service.specs.Displays.{ShowsText, Scrolls, blank_display, is_cursor_place, most_units};
 ghost use Rattle.pos_service.specs.Peripherals.{IsInRange, IsPlantOf};
 
+use crate::grid::Grid;
 use crate::laying::{Manner, lay_text};
-use crate::scrolling::scroll_cells;
+use crate::scrolling::{scroll_cells, shift_to_front};
 use pos_service::display_text::{Attribute, BLANK, Direction, DisplayCell, Place};
 use pos_service::{Kind, NoMemory};
 use std::alloc::Global;
@@ -93,7 +94,7 @@ impl Window {
             columns: self.columns,
             attribute,
         };
-        lay_text(self.cells.as_mut_slice(), manner, start, bytes);
+        lay_text(self, manner, start, bytes);
     }
 
     /// Moves what is shown in a direction by 0 to as many units as there are rows (up, down) or columns (left,
@@ -111,5 +112,18 @@ impl Window {
         ensures { self.new ≡ blank_display self.old.rows self.old.columns }
     {
         self.cells.fill(BLANK);
+    }
+}
+
+impl Grid for Window {
+    ghost shown = { λ window. window };
+
+    fn put_cell(&mut self, at: usize, cell: DisplayCell) {
+        self.cells[at] = cell;
+    }
+
+    fn feed_row(&mut self) {
+        let columns = self.columns as usize;
+        shift_to_front(self.cells.as_mut_slice(), columns);
     }
 }

@@ -1,23 +1,24 @@
 -- What an append or a renewal of the log means for the files.
-use Rattle.std.proofs.Common.{◌≡◌, ◌≢◌, true, false, cond, ◌+◌, length, inl, inr, ⊎_elim, ℕ, List, [], Ok, Err, refl, sym, ap, subst, ◌∙◌}
+use Rattle.std.proofs.Common.{◌≡◌, ◌≢◌, true, false, cond, ◌+◌, length, inl, inr, ⊎_elim, ℕ, List, [], ◌∷◌, Ok, Err, refl, sym, ap, subst, ◌∙◌}
 use Rattle.pos_dir.specs.Changes.{outcome_of_all, IsGroup}
-use Rattle.pos_dir.specs.Files.{IsDirectory}
+use Rattle.pos_dir.specs.Files.{IsDirectory, directory_of}
 use Rattle.pos_dir.specs.Spelling.{spelling, group_spelling}
 use Rattle.pos_dir.specs.declared.change.Change.{Change}
 use Rattle.pos_dir.specs.declared.file.File.{File}
 use Rattle.pos_dir.specs.declared.limits.TheConstants.{LAYOUT_1}
 use Rattle.pos_disk.proofs.Moments.{weaker}
-use Rattle.pos_disk.specs.State.{LeavesOnly, CountsNow, Rises}
+use Rattle.pos_disk.specs.State.{LeavesOnly, CountsNow, HasNotFailed, Rises}
 use Rattle.pos_disk.specs.Keeps.{KeepsDisk}
 use Rattle.pos_disk.specs.declared.device.Disk.{Ghosts}
+use Rattle.pos_image.specs.Images.{IsReady}
 use Rattle.pos_image.specs.Standing as image
 use Rattle.pos_log.specs.Logs.{LogView, IsLogReady, KeepsRecords, HasOldOrNew, Appends, Renews}
-use Rattle.pos_store.proofs.Held.{shows_now, still_holds, has_image_holds, holds_more, holds_new, leaves_files}
-use Rattle.pos_store.specs.Commits.{Commits, IsExhausted, IsLast, before_or_after, left_by, fits_behind, sequence_after}
+use Rattle.pos_store.proofs.FilesOnDisk.{shows_now, still_holds, has_image_holds, holds_more, holds_new, leaves_files}
+use Rattle.pos_store.specs.Commits.{Commits, IsExhausted, IsLast, left_by, fits_behind, sequence_after, tail_after}
 use Rattle.pos_store.specs.Modes.{Ready, view_of}
-use Rattle.pos_store.specs.Standing.{HoldsFiles, IsStep, StandsForOneOf}
+use Rattle.pos_store.specs.Standing.{Stands, HoldsFiles, IsStep, StandsForEither, StandsForOneOf}
 use Rattle.pos_store.specs.declared.fault.StoreFault.TheVariants as fault
-use Rattle.pos_store.specs.declared.medium.Medium.TheVariants as medium
+use Rattle.pos_store.specs.declared.parts.Parts.TheVariants as parts
 
 -- A group that is applicable, over a log that is ready with the files before it.
 pub record IsGiven {D : Type 0} (bound : Ghosts D) (log : LogView D) (files after : List File) (changes : List Change) : Type 0 where
@@ -30,7 +31,8 @@ pub record IsGiven {D : Type 0} (bound : Ghosts D) (log : LogView D) (files afte
 pub fits_not : (tail : ℕ) (changes : List Change) (sequence : ℕ) → fits_behind tail changes ≡ true → IsExhausted tail changes sequence → ⊥
 fits_not tail changes sequence fits exhausted = absurd (let over = exhausted.0 in cc)
 
-module _ {D : Type 0} (bound : Ghosts D) (log : LogView D) (files after : List File) (changes : List Change) (given : IsGiven bound log files after changes) where
+module _ {D : Type 0} (bound : Ghosts D) (log : LogView D) (files after : List File) (changes : List Change)
+    (given : IsGiven bound log files after changes) where
   step : IsStep files (group_spelling changes) after
   step = record { changes = changes; group = given.group; some = given.some; spelled = refl; outcome = given.outcome }
 
@@ -38,49 +40,58 @@ module _ {D : Type 0} (bound : Ghosts D) (log : LogView D) (files after : List F
   shows honest = shows_now bound log.images given.ready.images honest
 
   -- which sequence the files have after the group
-  stays : fits_behind log.tail changes ≡ true → sequence_after log.tail changes log.images.sequence ≡ log.images.sequence
+  pub stays : fits_behind log.tail changes ≡ true → sequence_after log.tail changes log.images.sequence ≡ log.images.sequence
   stays fits = ap (λ b. cond b log.images.sequence (log.images.sequence + 1)) fits
 
-  rises : fits_behind log.tail changes ≡ false → sequence_after log.tail changes log.images.sequence ≡ log.images.sequence + 1
+  pub rises : fits_behind log.tail changes ≡ false → sequence_after log.tail changes log.images.sequence ≡ log.images.sequence + 1
   rises over = ap (λ b. cond b log.images.sequence (log.images.sequence + 1)) over
 
-  -- bytes that stand for the files before it or after it
-  among : (then_sequence : ℕ) → sequence_after log.tail changes log.images.sequence ≡ then_sequence → (c : List ℕ)
-      → StandsForOneOf (before_or_after files log.images.sequence then_sequence (Ok after)) c → StandsForOneOf (left_by files log.images.sequence log.tail changes) c
-  among then_sequence is c one = rw (is, given.outcome) one
+  -- bytes that stand for the files before it, or for those after it
+  abbrev Around : ℕ → List ℕ → Type 0
+  Around then_sequence = StandsForEither (Stands files log.images.sequence ∷ []) (Stands after then_sequence ∷ [])
+
+  -- they are among what a commit in which the disk fails may leave
+  among : (then_sequence : ℕ) → sequence_after log.tail changes log.images.sequence ≡ then_sequence → (c : List ℕ) → Around then_sequence c
+      → StandsForOneOf (left_by files log.images.sequence log.tail changes) c
+  among then_sequence is c either = rw (is, given.outcome) (⊎_elim (λ old. ⊎_elim (λ this. inl this) (λ none. absurd none) old) (λ new. inr new) either)
 
   -- the old records, with the new one or without
-  pub appending_stands : fits_behind log.tail changes ≡ true → bound.honest log.images.disk → (c : List ℕ)
-      → KeepsRecords log.images.body log.images.sequence (image.log_of (bound.state log.images.disk).reading) (group_spelling changes) c → StandsForOneOf (left_by files log.images.sequence log.tail changes) c
-  appending_stands fits honest c keeps =
+  pub appending_stands : bound.honest log.images.disk → (c : List ℕ)
+      → KeepsRecords log.images.body log.images.sequence (image.log_of (bound.state log.images.disk).reading) (group_spelling changes) c
+      → Around log.images.sequence c
+  appending_stands honest c keeps =
       let holds = given.holds honest in
-      among log.images.sequence (stays fits) c (⊎_elim
-      (λ old. inl (still_holds files log.images.sequence (bound.state log.images.disk).reading log.images.body c holds (shows honest) keeps.image old))
-      (λ more. inr (inl (holds_more files log.images.sequence (bound.state log.images.disk).reading log.images.body c holds (shows honest) after (group_spelling changes) step keeps.image more)))
-      (keeps.log holds.texts holds.log))
+      ⊎_elim
+      (λ old. inl (inl (still_holds files log.images.sequence (bound.state log.images.disk).reading log.images.body c holds (shows honest) keeps.image old)))
+      (λ more. inr (inl (holds_more files log.images.sequence (bound.state log.images.disk).reading log.images.body c holds (shows honest) after
+      (group_spelling changes) step keeps.image more)))
+      (keeps.log holds.texts holds.log)
 
   -- the old image with its records, or the new one with none
-  pub renewing_stands : fits_behind log.tail changes ≡ false → (body : List ℕ) → IsDirectory LAYOUT_1 after → body ≡ spelling after → bound.honest log.images.disk → (c : List ℕ)
-      → HasOldOrNew log.images.body body log.images.sequence (image.log_of (bound.state log.images.disk).reading) c → StandsForOneOf (left_by files log.images.sequence log.tail changes) c
-  renewing_stands over body sound spelled honest c either =
-      among (log.images.sequence + 1) (rises over) c (⊎_elim
-      (λ old. inl (has_image_holds files log.images.sequence (bound.state log.images.disk).reading log.images.body c (given.holds honest) (shows honest) old))
+  pub renewing_stands : (body : List ℕ) → IsDirectory LAYOUT_1 after → body ≡ spelling after → bound.honest log.images.disk → (c : List ℕ)
+      → HasOldOrNew log.images.body body log.images.sequence (image.log_of (bound.state log.images.disk).reading) c → Around (log.images.sequence + 1) c
+  renewing_stands body sound spelled honest c either =
+      ⊎_elim
+      (λ old. inl (inl (has_image_holds files log.images.sequence (bound.state log.images.disk).reading log.images.body c (given.holds honest)
+      (shows honest) old)))
       (λ new. inr (inl (holds_new after (log.images.sequence + 1) body c sound spelled new)))
-      either)
+      either
 
   -- a commit that met a fault of the disk
-  pub failed_commits : (failed : D) → (IsExhausted log.tail changes log.images.sequence → ⊥)
-      → (bound.honest log.images.disk → LeavesOnly (bound.state log.images.disk) (bound.state failed) (StandsForOneOf (left_by files log.images.sequence log.tail changes)))
+  pub failed_commits : (failed : D) (then_sequence : ℕ) → sequence_after log.tail changes log.images.sequence ≡ then_sequence
+      → (IsExhausted log.tail changes log.images.sequence → ⊥)
+      → (bound.honest log.images.disk → LeavesOnly (bound.state log.images.disk) (bound.state failed) (Around then_sequence))
       → (bound.honest log.images.disk → (bytes : List ℕ) → CountsNow (bound.state failed) (bound.state log.images.disk).moment bytes)
       → (bound.honest log.images.disk → Rises (bound.state log.images.disk).failures (bound.state failed).failures)
       → KeepsDisk bound log.images.disk failed
-      → Commits bound (view_of (medium.Ready log files)) changes (Err fault.Device) (view_of (medium.Off failed))
-  failed_commits failed more any_moment counts device keeps = record {
+      → Commits bound (view_of (parts.Ready log (directory_of LAYOUT_1 files))) changes (Err fault.Device) (view_of (parts.Off failed))
+  failed_commits failed then_sequence is more any_moment counts device keeps = record {
     answer = rw given.outcome (more, refl);
     unchanged = λ err. inl refl;
-    any_moment = any_moment;
-    now = λ h. tt;
-    in_doubt = λ h is bytes may. (any_moment h).each bytes (counts h bytes (any_moment h).later may);
+    crash = λ h. record {
+      any_moment = weaker (bound.state log.images.disk) (bound.state failed) _ _ (λ c either. inr (among then_sequence is c either)) (any_moment h);
+      now = λ bytes may. among then_sequence is bytes ((any_moment h).each bytes (counts h bytes (any_moment h).later may));
+    };
     device = λ h is. device h;
     counts = λ h. inl refl;
     keeps = keeps;
@@ -90,6 +101,26 @@ module _ {D : Type 0} (bound : Ghosts D) (log : LogView D) (files after : List F
     -- the disk of the log holds the files after the group
     abbrev HasAfter : Type 0
     HasAfter = bound.honest new.images.disk → HoldsFiles after new.images.sequence (bound.state new.images.disk).reading
+
+    -- a commit that put the group down
+    put_commits : (then_sequence : ℕ) → sequence_after log.tail changes log.images.sequence ≡ then_sequence → new.images.sequence ≡ then_sequence
+        → new.tail ≡ tail_after log.tail changes → (IsExhausted log.tail changes log.images.sequence → ⊥)
+        → IsReady bound new.images → HasAfter
+        → (bound.honest log.images.disk → LeavesOnly (bound.state log.images.disk) (bound.state new.images.disk) (Around then_sequence))
+        → (bound.honest log.images.disk → HasNotFailed (bound.state log.images.disk) (bound.state new.images.disk))
+        → KeepsDisk bound log.images.disk new.images.disk
+        → Commits bound (view_of (parts.Ready log (directory_of LAYOUT_1 files))) changes (Ok tt) (view_of (parts.Ready new (directory_of LAYOUT_1 after)))
+    put_commits then_sequence is same tail more ready holds any_moment counts keeps = record {
+      answer = rw given.outcome (more, ap (λ (n : ℕ). Ready after n) (same ∙ sym is), tail);
+      unchanged = λ err. absurd cc;
+      crash = λ h. record {
+        any_moment = subst (λ (n : ℕ). LeavesOnly (bound.state log.images.disk) (bound.state new.images.disk) (Around n)) (sym same) (any_moment h);
+        now = leaves_files bound new.images after ready holds (keeps.honest.0 h);
+      };
+      device = λ h is. absurd cc;
+      counts = λ h. inr (counts h);
+      keeps = keeps;
+    }
 
     module _ (fits : fits_behind log.tail changes ≡ true) (appends : Appends bound log (group_spelling changes) (Ok tt) new) where
       same_sequence : new.images.sequence ≡ log.images.sequence
@@ -102,44 +133,33 @@ module _ {D : Type 0} (bound : Ghosts D) (log : LogView D) (files after : List F
           let holds = given.holds was in
           let body_is = ap (λ (l : LogView D). l.images.body) appends.appended in
           subst (λ (n : ℕ). HoldsFiles after n (bound.state new.images.disk).reading) (sym same_sequence)
-          (holds_more files log.images.sequence (bound.state log.images.disk).reading log.images.body (bound.state new.images.disk).reading holds (shows was) after (group_spelling changes) step
-          (shows_now bound new.images appends.ready.images honest ∙ (λ i. image.OneImage (body_is i) (same_sequence i))) (appends.records was holds.texts holds.log))
+          (holds_more files log.images.sequence (bound.state log.images.disk).reading log.images.body (bound.state new.images.disk).reading holds
+          (shows was) after (group_spelling changes) step
+          (shows_now bound new.images appends.ready.images honest ∙ (λ i. image.OneImage (body_is i) (same_sequence i)))
+          (appends.records was holds.texts holds.log))
 
-      pub appended_commits : Commits bound (view_of (medium.Ready log files)) changes (Ok tt) (view_of (medium.Ready new after))
-      appended_commits = record {
-        answer = rw given.outcome (
-          fits_not log.tail changes log.images.sequence fits,
-          ap (λ (n : ℕ). Ready after n) (same_sequence ∙ sym (stays fits)),
-          ap (λ (l : LogView D). l.tail) appends.appended ∙ sym (ap (λ b. cond b (log.tail + 5 + length (group_spelling changes)) 16384) fits),
-        );
-        unchanged = λ err. absurd cc;
-        any_moment = λ h. weaker (bound.state log.images.disk) (bound.state new.images.disk) _ _ (appending_stands fits h) (appends.any_moment h);
-        now = λ h. leaves_files bound new.images after appends.ready.images appended_holds (appends.keeps.honest.0 h);
-        in_doubt = λ h is. absurd cc;
-        device = λ h is. absurd cc;
-        counts = λ h. ⊎_elim (λ is. absurd cc) (λ same. inr same) (appends.counts h);
-        keeps = appends.keeps;
-      }
+      pub appended_commits : Commits bound (view_of (parts.Ready log (directory_of LAYOUT_1 files))) changes (Ok tt)
+          (view_of (parts.Ready new (directory_of LAYOUT_1 after)))
+      appended_commits = put_commits log.images.sequence (stays fits) same_sequence
+          (ap (λ (l : LogView D). l.tail) appends.appended ∙ sym (ap (λ b. cond b (log.tail + 5 + length (group_spelling changes)) 16384) fits))
+          (fits_not log.tail changes log.images.sequence fits) appends.ready.images appended_holds
+          (λ h. weaker (bound.state log.images.disk) (bound.state new.images.disk) _ _ (appending_stands h) (appends.any_moment h))
+          (λ h. ⊎_elim (λ is. absurd cc) (λ same. same) (appends.counts h))
+          appends.keeps
 
-    module _ (over : fits_behind log.tail changes ≡ false) (body : List ℕ) (sound : IsDirectory LAYOUT_1 after) (spelled : body ≡ spelling after) (renews : Renews bound log body (Ok tt) new) where
+    module _ (over : fits_behind log.tail changes ≡ false) (body : List ℕ) (sound : IsDirectory LAYOUT_1 after) (spelled : body ≡ spelling after)
+        (renews : Renews bound log body (Ok tt) new) where
       -- a group for which the image was renewed
       pub renewed_holds : HasAfter
       renewed_holds honest =
           subst (λ (n : ℕ). HoldsFiles after n (bound.state new.images.disk).reading) (sym renews.sequence_is)
           (holds_new after (log.images.sequence + 1) body (bound.state new.images.disk).reading sound spelled (renews.image (renews.keeps.honest.1 honest)))
 
-      pub renewed_commits : ¬ (IsLast log.images.sequence) → Commits bound (view_of (medium.Ready log files)) changes (Ok tt) (view_of (medium.Ready new after))
-      renewed_commits more = record {
-        answer = rw given.outcome (
-          (λ exhausted. more exhausted.1),
-          ap (λ (n : ℕ). Ready after n) (renews.sequence_is ∙ sym (rises over)),
-          renews.tail_is ∙ sym (ap (λ b. cond b (log.tail + 5 + length (group_spelling changes)) 16384) over),
-        );
-        unchanged = λ err. absurd cc;
-        any_moment = λ h. weaker (bound.state log.images.disk) (bound.state new.images.disk) _ _ (renewing_stands over body sound spelled h) (renews.any_moment h);
-        now = λ h. leaves_files bound new.images after renews.ready.images renewed_holds (renews.keeps.honest.0 h);
-        in_doubt = λ h is. absurd cc;
-        device = λ h is. absurd cc;
-        counts = λ h. ⊎_elim (λ is. absurd cc) (λ same. inr same) (renews.counts h);
-        keeps = renews.keeps;
-      }
+      pub renewed_commits : ¬ (IsLast log.images.sequence)
+          → Commits bound (view_of (parts.Ready log (directory_of LAYOUT_1 files))) changes (Ok tt) (view_of (parts.Ready new (directory_of LAYOUT_1 after)))
+      renewed_commits more = put_commits (log.images.sequence + 1) (rises over) renews.sequence_is
+          (renews.tail_is ∙ sym (ap (λ b. cond b (log.tail + 5 + length (group_spelling changes)) 16384) over))
+          (λ exhausted. more exhausted.1) renews.ready.images renewed_holds
+          (λ h. weaker (bound.state log.images.disk) (bound.state new.images.disk) _ _ (renewing_stands body sound spelled h) (renews.any_moment h))
+          (λ h. ⊎_elim (λ is. absurd cc) (λ same. same) (renews.counts h))
+          renews.keeps

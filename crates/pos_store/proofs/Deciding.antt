@@ -24,7 +24,8 @@ use Rattle.pos_store.specs.Standing.{Standing, Unformatted, Damaged, Stands, Sta
 
 -- what is shown is the body in the current slot
 shown : (none damaged fits : Bool) (there body : List ℕ) (number sequence : ℕ)
-    → cond none image.NoImage (cond damaged image.DamagedImage (cond fits (image.OneImage there number) image.DamagedImage)) ≡ image.OneImage body sequence → there ≡ body
+    → cond none image.NoImage (cond damaged image.DamagedImage
+    (cond fits (image.OneImage there number) image.DamagedImage)) ≡ image.OneImage body sequence → there ≡ body
 shown true damaged fits there body number sequence is = absurd cc
 shown false true fits there body number sequence is = absurd cc
 shown false false false there body number sequence is = absurd cc
@@ -33,7 +34,8 @@ shown false false true there body number sequence is = cc
 body_bytes : (bytes body : List ℕ) (sequence : ℕ) → IsBytes bytes → image.image_on bytes ≡ image.OneImage body sequence → IsBytes body
 unfolding image.image_on body_at
 body_bytes bytes body sequence each is =
-    subst IsBytes (shown _ _ _ (body_at bytes (image.current_at bytes)) body (sequence_at bytes (image.current_at bytes)) sequence is) (IsBytes-take _ _ (IsBytes-drop _ bytes each))
+    subst IsBytes (shown _ _ _ (body_at bytes (image.current_at bytes)) body (sequence_at bytes (image.current_at bytes)) sequence is)
+    (IsBytes-take _ _ (IsBytes-drop _ bytes each))
 
 -- the bytes of the log, and of each group in it
 log_bytes : (bytes : List ℕ) → IsBytes bytes → IsBytes (image.log_of bytes)
@@ -43,8 +45,10 @@ log_bytes bytes each = IsBytes-take 16384 (drop (image.current_at bytes + 16384)
 spelled_bytes : (groups : List (List ℕ)) → IsBytes (log.spelling groups) → AllByRecursion IsBytes groups
 spelled_bytes [] each = tt
 spelled_bytes (group ∷ groups) each = (
-  subst IsBytes (take_at group (log.spelling groups) (length group) refl) (IsBytes-take (length group) (group ++ log.spelling groups) (IsBytes-drop 5 (log.record_spelling group ++ log.spelling groups) each)),
-  spelled_bytes groups (subst IsBytes (drop_at (log.record_spelling group) (log.spelling groups) (length (log.record_spelling group)) refl) (IsBytes-drop (length (log.record_spelling group)) (log.record_spelling group ++ log.spelling groups) each)),
+  subst IsBytes (take_at group (log.spelling groups) (length group) refl)
+      (IsBytes-take (length group) (group ++ log.spelling groups) (IsBytes-drop 5 (log.record_spelling group ++ log.spelling groups) each)),
+  spelled_bytes groups (subst IsBytes (drop_at (log.record_spelling group) (log.spelling groups) (length (log.record_spelling group)) refl)
+      (IsBytes-drop (length (log.record_spelling group)) (log.record_spelling group ++ log.spelling groups) each)),
 )
 
 text_bytes : (groups : List (List ℕ)) (span : List ℕ) → IsBytes span → log.HoldsRecords groups span → AllByRecursion IsBytes groups
@@ -59,7 +63,8 @@ never_ok cause next is = absurd cc
 
 carried_out : (files : List File) (text : List ℕ) (first : Change) (changes : List Change) → IsGroup (first ∷ changes) → text ≡ group_spelling (first ∷ changes)
     → (outcome : Result (List File) DirectoryFault) → outcome_of_all LAYOUT_1 files (first ∷ changes) ≡ outcome → StepOrNone files text
-carried_out files text first changes group spelled (Ok next) is = inl (next, record { changes = first ∷ changes; group = group; some = (λ none. absurd cc); spelled = spelled; outcome = is })
+carried_out files text first changes group spelled (Ok next) is =
+    inl (next, record { changes = first ∷ changes; group = group; some = (λ none. absurd cc); spelled = spelled; outcome = is })
 carried_out files text first changes group spelled (Err cause) is = inr (λ next step.
     let same = one_group_spelling step.changes (first ∷ changes) step.group group (sym step.spelled ∙ spelled) in
     never_ok cause next (sym is ∙ ap (outcome_of_all LAYOUT_1 files) (sym same) ∙ step.outcome))
@@ -72,20 +77,23 @@ step_or_none files text each (Some (first ∷ changes)) is =
     carried_out files text first changes takes.0 takes.1 (outcome_of_all LAYOUT_1 files (first ∷ changes)) refl
 
 -- texts lead to some files, or to none
-texts_or_none : (texts : List (List ℕ)) (files : List File) → AllByRecursion IsBytes texts → ((last : List File) × Applies files texts last) ⊎ ((last : List File) → Applies files texts last → ⊥)
+texts_or_none : (texts : List (List ℕ)) (files : List File) → AllByRecursion IsBytes texts
+    → ((last : List File) × Applies files texts last) ⊎ ((last : List File) → Applies files texts last → ⊥)
 texts_or_none [] files each = inl (files, refl)
 texts_or_none (text ∷ texts) files each =
     ⊎_elim
     (λ step. ⊎_elim
     (λ more. inl (more.0, (step.0, step.1, more.1)))
-    (λ none. inr (λ last applies. none last (subst (λ (next : List File). Applies next texts last) (one_step files text applies.0 step.0 applies.1 step.1) applies.2)))
+    (λ none. inr (λ last applies. none last
+    (subst (λ (next : List File). Applies next texts last) (one_step files text applies.0 step.0 applies.1 step.1) applies.2)))
     (texts_or_none texts step.0 each.1))
     (λ none. inr (λ last applies. none applies.0 applies.1))
     (step_or_none files text each.0 (group_at text) refl)
 
 module _ (bytes : List ℕ) (each : IsBytes bytes) where
   -- an image whose body spells files
-  with_base : (base : List File) (body : List ℕ) (sequence : ℕ) → image.image_on bytes ≡ image.OneImage body sequence → directory_at LAYOUT_1 body ≡ Some base → (standing : Standing) × StandsFor standing bytes
+  with_base : (base : List File) (body : List ℕ) (sequence : ℕ) → image.image_on bytes ≡ image.OneImage body sequence
+      → directory_at LAYOUT_1 body ≡ Some base → (standing : Standing) × StandsFor standing bytes
   with_base base body sequence is read =
       let takes = directory_takes LAYOUT_1 body base (body_bytes bytes body sequence each is) read in
       ⊎_elim
@@ -106,8 +114,10 @@ module _ (bytes : List ℕ) (each : IsBytes bytes) where
       (λ none. (Damaged, no_log_stands bytes body sequence is none))
       (records_or_none (image.log_of bytes) (let long = image_length body sequence bytes is in omega arith))
 
-  with_body : (body : List ℕ) (sequence : ℕ) → image.image_on bytes ≡ image.OneImage body sequence → (read : Option (List File)) → directory_at LAYOUT_1 body ≡ read → (standing : Standing) × StandsFor standing bytes
-  with_body body sequence is None read = (Damaged, no_body_stands bytes body sequence is (λ spelled. no_body LAYOUT_1 body spelled.0 layout_1_writable read spelled.1 spelled.2))
+  with_body : (body : List ℕ) (sequence : ℕ) → image.image_on bytes ≡ image.OneImage body sequence → (read : Option (List File))
+      → directory_at LAYOUT_1 body ≡ read → (standing : Standing) × StandsFor standing bytes
+  with_body body sequence is None read =
+      (Damaged, no_body_stands bytes body sequence is (λ spelled. no_body LAYOUT_1 body spelled.0 layout_1_writable read spelled.1 spelled.2))
   with_body body sequence is (Some base) read = with_base base body sequence is read
 
   with_image : (standing : image.ImageStanding) → image.image_on bytes ≡ standing → (standing : Standing) × StandsFor standing bytes

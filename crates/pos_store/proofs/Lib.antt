@@ -1,7 +1,8 @@
 mod Committed
 pub mod Deciding
 mod Drafted
+pub mod FilesOnDisk
 pub mod Found
-pub mod Held
+pub mod Passing
 mod Recovered
 mod Stepped

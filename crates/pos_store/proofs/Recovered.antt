@@ -52,7 +52,9 @@ off_recovers bound disk result new finds watches now ends device counts keeps = 
 }
 
 -- images aren't exhausted where they are opened
-never_exhausted : (images.Exhausted ≡ images.TooSmall) ⊎ ((images.Exhausted ≡ images.Unformatted) ⊎ ((images.Exhausted ≡ images.Damaged) ⊎ ((images.Exhausted ≡ images.Device) ⊎ (images.Exhausted ≡ images.NoMemory)))) → ⊥
+never_exhausted : (images.Exhausted ≡ images.TooSmall) ⊎
+    ((images.Exhausted ≡ images.Unformatted) ⊎
+    ((images.Exhausted ≡ images.Damaged) ⊎ ((images.Exhausted ≡ images.Device) ⊎ (images.Exhausted ≡ images.NoMemory)))) → ⊥
 never_exhausted known = ⊎_elim (λ e. cc) (⊎_elim (λ e. cc) (⊎_elim (λ e. cc) (⊎_elim (λ e. cc) (λ e. cc)))) known
 
 -- what is found where the images weren't opened
@@ -95,9 +97,11 @@ one_body : (body other : List ℕ) (sequence after : ℕ) → image.OneImage bod
 one_body body other sequence after same = cc
 
 -- and it is told wherever it is answered
-pub told_counts : {T : Type 0} (before now : ℕ) (cause : ImageFault) (told : StoreFault) → Tells cause told → IsErrOf {T = T} (Err cause) images.Device ⊎ (now ≡ before) → IsErrOf {T = Unit {0}} (Err told) fault.Device ⊎ (now ≡ before)
+pub told_counts : {T : Type 0} (before now : ℕ) (cause : ImageFault) (told : StoreFault) → Tells cause told
+    → IsErrOf {T = T} (Err cause) images.Device ⊎ (now ≡ before) → IsErrOf {T = Unit {0}} (Err told) fault.Device ⊎ (now ≡ before)
 told_counts before now cause told tells counts =
-    ⊎_elim (λ is. inl (ap (λ (f : StoreFault). Err f) (subst (λ (f : ImageFault). Tells f told) (let e : cause ≡ images.Device = cc in e) tells))) (λ same. inr same) counts
+    ⊎_elim (λ is. inl (ap (λ (f : StoreFault). Err f) (subst (λ (f : ImageFault). Tells f told) (let e : cause ≡ images.Device = cc in e) tells)))
+    (λ same. inr same) counts
 
 -- a damaged image is damage
 pub damaged_stands : (bytes : List ℕ) → image_on bytes ≡ image.DamagedImage → StandsFor Damaged bytes
@@ -114,14 +118,16 @@ no_body_stands bytes body sequence same none = (
 )
 
 -- one behind which no records stand
-pub no_log_stands : (bytes body : List ℕ) (sequence : ℕ) → image_on bytes ≡ image.OneImage body sequence → ¬ (HoldsSome (image.log_of bytes)) → StandsFor Damaged bytes
+pub no_log_stands : (bytes body : List ℕ) (sequence : ℕ) → image_on bytes ≡ image.OneImage body sequence → ¬ (HoldsSome (image.log_of bytes))
+    → StandsFor Damaged bytes
 no_log_stands bytes body sequence same none = (
   (λ empty. one_differs (sym same ∙ empty)),
   (λ files after holds. none (holds.texts, holds.log)),
 )
 
 -- and one whose records spell no applicable groups
-pub no_groups_stand : (bytes body : List ℕ) (sequence : ℕ) (base : List File) (texts : List (List ℕ)) → image_on bytes ≡ image.OneImage body sequence → IsDirectory LAYOUT_1 base → body ≡ spelling base → HoldsRecords texts (image.log_of bytes)
+pub no_groups_stand : (bytes body : List ℕ) (sequence : ℕ) (base : List File) (texts : List (List ℕ)) → image_on bytes ≡ image.OneImage body sequence
+    → IsDirectory LAYOUT_1 base → body ≡ spelling base → HoldsRecords texts (image.log_of bytes)
     → ((last : List File) → ¬ (Applies base texts last)) → StandsFor Damaged bytes
 no_groups_stand bytes body sequence base texts same sound spelled held none = (
   (λ empty. one_differs (sym same ∙ empty)),
@@ -129,7 +135,8 @@ no_groups_stand bytes body sequence base texts same sound spelled held none = (
       let text = one_body body (spelling holds.base) sequence after (sym same ∙ holds.shows) in
       let is_base = one_spelling LAYOUT_1 holds.base base layout_1_writable holds.directory sound (sym text ∙ spelled) in
       let is_texts = one_log holds.texts texts (image.log_of bytes) holds.log held in
-      none files (subst (λ (ts : List (List ℕ)). Applies base ts files) is_texts (subst (λ (b : List File). Applies b holds.texts files) is_base holds.applies))),
+      none files (subst (λ (ts : List (List ℕ)). Applies base ts files) is_texts
+      (subst (λ (b : List File). Applies b holds.texts files) is_base holds.applies))),
 )
 
 -- malformed bytes spell no directory
@@ -137,7 +144,8 @@ pub malformed_none : (bytes : List ℕ) (cause : DirectoryFault) → cause ≡ d
 malformed_none bytes cause same decodes = subst (λ (f : DirectoryFault). Decodes LAYOUT_1 bytes (Err f)) same decodes
 
 -- what is found where the log wasn't opened
-pub told_log_finds : (P : Standing → Type 0) (cause : LogFault) (told : StoreFault) → TellsLog cause told → (cause ≡ logs.Damaged → P Damaged) → FindsStanding P (Err told) Off
+pub told_log_finds : (P : Standing → Type 0) (cause : LogFault) (told : StoreFault) → TellsLog cause told → (cause ≡ logs.Damaged → P Damaged)
+    → FindsStanding P (Err told) Off
 told_log_finds P logs.Full told tells damaged = absurd tells
 told_log_finds P logs.Damaged told tells damaged = rw tells (damaged refl, refl)
 told_log_finds P logs.Device told tells damaged = rw tells refl
@@ -151,9 +159,11 @@ told_log_device logs.Device told tells is = refl
 told_log_device logs.NoMemory told tells is = cc
 
 -- and it is told wherever it is answered
-pub told_log_counts : {T : Type 0} (before now : ℕ) (cause : LogFault) (told : StoreFault) → TellsLog cause told → IsErrOf {T = T} (Err cause) logs.Device ⊎ (now ≡ before) → IsErrOf {T = Unit {0}} (Err told) fault.Device ⊎ (now ≡ before)
+pub told_log_counts : {T : Type 0} (before now : ℕ) (cause : LogFault) (told : StoreFault) → TellsLog cause told
+    → IsErrOf {T = T} (Err cause) logs.Device ⊎ (now ≡ before) → IsErrOf {T = Unit {0}} (Err told) fault.Device ⊎ (now ≡ before)
 told_log_counts before now cause told tells counts =
-    ⊎_elim (λ is. inl (ap (λ (f : StoreFault). Err f) (subst (λ (f : LogFault). TellsLog f told) (let e : cause ≡ logs.Device = cc in e) tells))) (λ same. inr same) counts
+    ⊎_elim (λ is. inl (ap (λ (f : StoreFault). Err f) (subst (λ (f : LogFault). TellsLog f told) (let e : cause ≡ logs.Device = cc in e) tells)))
+    (λ same. inr same) counts
 
 -- calls that answered no fault of the disk left its count
 pub never_failed : {T : Type 0} (before now : ℕ) (made : T) → IsErrOf {E = ImageFault} (Ok made) images.Device ⊎ (now ≡ before) → now ≡ before
@@ -163,7 +173,8 @@ pub never_failed_log : {T : Type 0} (before now : ℕ) (made : T) → IsErrOf {E
 never_failed_log before now made counts = ⊎_elim (λ is. absurd cc) (λ same. same) counts
 
 -- what is found where the records weren't applied
-pub told_text_finds : (P : Standing → Type 0) (cause : StoreFault) → (cause ≡ fault.Damaged) ⊎ (cause ≡ fault.NoMemory) → (cause ≡ fault.Damaged → P Damaged) → FindsStanding P (Err cause) Off
+pub told_text_finds : (P : Standing → Type 0) (cause : StoreFault) → (cause ≡ fault.Damaged) ⊎ (cause ≡ fault.NoMemory)
+    → (cause ≡ fault.Damaged → P Damaged) → FindsStanding P (Err cause) Off
 told_text_finds P cause known damaged = ⊎_elim (λ is. rw is (damaged is, refl)) (λ is. rw is refl) known
 
 -- two runs of calls keep the disk
@@ -175,7 +186,8 @@ both_keep bound old mid new first second = record {
 }
 
 -- failures that rose in a later call rose since an earlier one
-pub later : {D : Type 0} (bound : Ghosts D) (old mid new : D) → KeepsDisk bound old mid → KeepsDisk bound mid new → bound.honest old → Rises (bound.state mid).failures (bound.state new).failures → Rises (bound.state old).failures (bound.state new).failures
+pub later : {D : Type 0} (bound : Ghosts D) (old mid new : D) → KeepsDisk bound old mid → KeepsDisk bound mid new → bound.honest old
+    → Rises (bound.state mid).failures (bound.state new).failures → Rises (bound.state old).failures (bound.state new).failures
 later bound old mid new first second honest rises =
     let one = first.later honest in
     let two = second.later (first.honest.0 honest) in

@@ -1,6 +1,6 @@
 -- What a commit answers, and what a crash during it may leave.
 use Rattle.std.specs.Prelude.{◌≡◌, ◌⊎◌, ◌≤◌, ◌+◌, ◌^◌, ℕ, Bool, true, false, nat_le, if◌then◌else◌, List, [], ◌∷◌, length, Result, Ok, Err, IsErr, IsErrOf, ⊤, MatchResult}
-use Rattle.pos_disk.specs.State.{DiskState, LeavesOnly, MayLeave, Rises, HasNotFailed}
+use Rattle.pos_disk.specs.State.{DiskState, Rises, HasNotFailed}
 use Rattle.pos_disk.specs.Keeps.{KeepsDisk}
 use Rattle.pos_disk.specs.declared.device.Disk.{Ghosts}
 use Rattle.pos_dir.specs.Changes.{outcome_of_all}
@@ -9,11 +9,12 @@ use Rattle.pos_dir.specs.Spelling.{spelling, group_spelling, body_limit}
 use Rattle.pos_dir.specs.declared.change.Change.{Change}
 use Rattle.pos_dir.specs.declared.fault.DirectoryFault.{DirectoryFault}
 use Rattle.pos_dir.specs.declared.file.File.{File}
+use Rattle.pos_dir.specs.declared.limits.Limits.{Limits}
 use Rattle.pos_dir.specs.declared.limits.TheConstants.{LAYOUT_1}
 use Rattle.pos_image.specs.Layout.{log_place, slot_size}
 use Rattle.pos_log.specs.Records.{end_of}
-use Rattle.pos_store.specs.Modes.{StoreState, StoreView, Off, Ready, LeavesItsFiles}
-use Rattle.pos_store.specs.Standing.{Standing, Stands, StandsForOneOf, LeavesOneOf}
+use Rattle.pos_store.specs.Modes.{StoreState, StoreView, Off, Ready, settled}
+use Rattle.pos_store.specs.Standing.{Standing, Stands, Passes}
 use Rattle.pos_store.specs.declared.draft.Draft.{Draft}
 use Rattle.pos_store.specs.declared.draft.Draft.TheVariants as draft
 use Rattle.pos_store.specs.declared.fault.StoreFault.{StoreFault}
@@ -42,12 +43,12 @@ abbrev pub IsExhausted : ℕ → List Change → ℕ → Type 0
 IsExhausted tail changes sequence = (fits_behind tail changes ≡ false) × IsLast sequence
 
 -- what goes to the disk for a group: its record where it fits, else the body that spells the files after it
-abbrev pub IsDraft : ℕ → List Change → ℕ → List File → Draft → Type 0
-IsDraft tail changes sequence after (draft.Record text) =
+abbrev pub IsDraft : Limits → ℕ → List Change → ℕ → List File → Draft → Type 0
+IsDraft limits tail changes sequence after (draft.Record text) =
     (fits_behind tail changes ≡ true) × (text.items ≡ group_spelling changes)
-IsDraft tail changes sequence after (draft.Image body) =
-    (fits_behind tail changes ≡ false) × ¬ (IsLast sequence) × IsDirectory LAYOUT_1 after
-    × (body.items ≡ spelling after) × (length body.items ≤ body_limit LAYOUT_1)
+IsDraft limits tail changes sequence after (draft.Image body) =
+    (fits_behind tail changes ≡ false) × ¬ (IsLast sequence) × IsDirectory limits after
+    × (body.items ≡ spelling after) × (length body.items ≤ body_limit limits)
 
 -- why none is made of an applicable group: memory, or it wants a new image, for which there is no sequence
 abbrev pub IsUnmade : ℕ → List Change → ℕ → StoreFault → Type 0
@@ -89,16 +90,12 @@ abbrev pub left_by : List File → ℕ → ℕ → List Change → List Standing
 left_by files sequence tail changes =
     before_or_after files sequence (sequence_after tail changes sequence) (outcome_of_all LAYOUT_1 files changes)
 
--- what a crash during a commit may leave: bytes that stand for the files before it, or for those after the whole group
-abbrev pub IsBeforeOrAfter : DiskState → StoreState → ℕ → List Change → List ℕ → Type 0
-IsBeforeOrAfter disk Off tail changes bytes = MayLeave disk bytes
-IsBeforeOrAfter disk (Ready files sequence) tail changes bytes =
-    StandsForOneOf (left_by files sequence tail changes) bytes
-
--- a crash at this moment leaves the files before a group or those after the whole of it, where the store was ready
-abbrev pub LeavesInDoubt : StoreState → ℕ → List Change → DiskState → Type 0
-LeavesInDoubt Off tail changes disk = ⊤
-LeavesInDoubt (Ready files sequence) tail changes disk = LeavesOneOf (left_by files sequence tail changes) disk
+-- what a crash leaves around a group that a store is to put down, by its states before and after: its files before
+-- it, and then the files that it has; where it is off then, those before the group or those after the whole of it
+abbrev pub LeavesBeforeOrAfter : StoreState → ℕ → List Change → StoreState → DiskState → DiskState → Type 0
+LeavesBeforeOrAfter Off tail changes now old new = ⊤
+LeavesBeforeOrAfter (Ready files sequence) tail changes now old new =
+    Passes old new (Stands files sequence ∷ []) (settled now (left_by files sequence tail changes))
 
 -- What a commit does. Of the disk itself, and of what a crash may leave, it speaks where the disk is honest.
 pub record Commits {D : Type 0} (bound : Ghosts D) (old : StoreView D) (changes : List Change)
@@ -106,14 +103,10 @@ pub record Commits {D : Type 0} (bound : Ghosts D) (old : StoreView D) (changes 
   pub answer : Answers old.state old changes result new
   -- but after a fault of the disk, a refusal changes nothing and hasn't touched the disk
   pub unchanged : IsErr result → IsErrOf result fault.Device ⊎ (new ≡ old)
-  -- a crash at any moment of the call leaves the files before the group or those after the whole of it
-  pub any_moment : bound.honest old.disk → LeavesOnly (bound.state old.disk) (bound.state new.disk)
-      (IsBeforeOrAfter (bound.state old.disk) old.state old.tail changes)
-  -- a crash now leaves the files that the store has alone
-  pub now : bound.honest old.disk → LeavesItsFiles new.state (bound.state new.disk)
-  -- after a fault of the disk the group is in doubt: a crash now leaves the files before it or those after it
-  pub in_doubt : bound.honest old.disk → IsErrOf result fault.Device
-      → LeavesInDoubt old.state old.tail changes (bound.state new.disk)
+  -- a crash at any moment of the call leaves the files before the group or those after the whole of it, and a crash
+  -- now the files that the store has alone; after a fault of the disk the group is in doubt
+  pub crash : bound.honest old.disk
+      → LeavesBeforeOrAfter old.state old.tail changes new.state (bound.state old.disk) (bound.state new.disk)
   -- the disk failed where its fault is answered
   pub device : bound.honest old.disk → IsErrOf result fault.Device
       → Rises (bound.state old.disk).failures (bound.state new.disk).failures

@@ -1,12 +1,13 @@
 -- What contracts see of a store.
-use Rattle.std.specs.Prelude.{ℕ, List, [], ◌∷◌, Option, Some, None, ⊤}
+use Rattle.std.specs.Prelude.{◌≡◌, ℕ, List, [], ◌∷◌, Option, Some, None, ⊤}
 use Rattle.pos_disk.specs.State.{DiskState}
 use Rattle.pos_disk.specs.declared.device.Disk.{Ghosts}
 use Rattle.pos_dir.specs.declared.file.File.{File}
+use Rattle.pos_dir.specs.declared.limits.TheConstants.{LAYOUT_1}
 use Rattle.pos_log.specs.Logs.{IsLogReady}
-use Rattle.pos_store.specs.Standing.{Stands, HoldsFiles, LeavesOneOf}
-use Rattle.pos_store.specs.declared.medium.Medium.{Medium}
-use Rattle.pos_store.specs.declared.medium.Medium.TheVariants as medium
+use Rattle.pos_store.specs.Standing.{Standing, Stands, HoldsFiles, LeavesOneOf}
+use Rattle.pos_store.specs.declared.parts.Parts.{Parts}
+use Rattle.pos_store.specs.declared.parts.Parts.TheVariants as parts
 use Rattle.pos_store.specs.declared.mode.Mode.{Mode}
 use Rattle.pos_store.specs.declared.mode.Mode.TheVariants as mode
 
@@ -42,20 +43,27 @@ abbrev pub WhenReady : StoreState → Type 0 → Type 0
 WhenReady Off P = ⊤
 WhenReady (Ready files sequence) P = P
 
+-- for what the bytes stand that a crash leaves: where it is ready, for its files alone, and else for one of others
+abbrev pub settled : StoreState → List Standing → List Standing
+settled Off otherwise = otherwise
+settled (Ready files sequence) otherwise = Stands files sequence ∷ []
+
 -- where it is ready, a crash at this moment leaves its files and their sequence alone
 abbrev pub LeavesItsFiles : StoreState → DiskState → Type 0
 LeavesItsFiles Off disk = ⊤
 LeavesItsFiles (Ready files sequence) disk = LeavesOneOf (Stands files sequence ∷ []) disk
 
 -- what the parts of a store mean
-abbrev pub view_of : {D : Type 0} → Medium D → StoreView D
-view_of (medium.Off disk) = record { disk = disk; state = Off; tail = 0 }
-view_of (medium.Ready log directory) =
-    record { disk = log.images.disk; state = Ready directory log.images.sequence; tail = log.tail }
+abbrev pub view_of : {D : Type 0} → Parts D → StoreView D
+view_of (parts.Off disk) = record { disk = disk; state = Off; tail = 0 }
+view_of (parts.Ready log directory) =
+    record { disk = log.images.disk; state = Ready directory.files log.images.sequence; tail = log.tail }
 
--- where it is ready, so is its log, and the disk holds the files
-abbrev pub HasItsFiles : {D : Type 0} → Ghosts D → Medium D → Type 0
-HasItsFiles bound (medium.Off disk) = ⊤
-HasItsFiles bound (medium.Ready log directory) =
+-- where it is ready, so is its log, the disk holds the files, and the directory has the limits of layout 1
+abbrev pub HasItsFiles : {D : Type 0} → Ghosts D → Parts D → Type 0
+HasItsFiles bound (parts.Off disk) = ⊤
+HasItsFiles bound (parts.Ready log directory) =
     IsLogReady bound log
-    × (bound.honest log.images.disk → HoldsFiles directory log.images.sequence (bound.state log.images.disk).reading)
+    × (bound.honest log.images.disk
+    → HoldsFiles directory.files log.images.sequence (bound.state log.images.disk).reading)
+    × (directory.limits ≡ LAYOUT_1)

@@ -1,6 +1,6 @@
 -- What the bytes of a totals disk stand for, and what a crash of the disk may leave.
 use Rattle.std.specs.Prelude.{◌≡◌, ◌≢◌, ◌⊎◌, ◌<◌, ℕ, List, [], ◌∷◌, get_or, Ok}
-use Rattle.pos_disk.specs.State.{DiskState, MayLeave}
+use Rattle.pos_disk.specs.State.{DiskState, LeavesOnly, MayLeave}
 use Rattle.pos_image.specs.Standing as image
 use Rattle.pos_log.specs.Records.{HoldsRecords}
 use Rattle.pos_dir.specs.Changes.{outcome_of_all, IsGroup}
@@ -63,3 +63,13 @@ StandsForOneOf (candidate ∷ candidates) bytes = StandsFor candidate bytes ⊎ 
 -- a crash at this moment leaves only bytes that stand for one of the candidates
 abbrev pub LeavesOneOf : List Standing → DiskState → Type 0
 LeavesOneOf candidates disk = (bytes : List ℕ) → MayLeave disk bytes → StandsForOneOf candidates bytes
+
+-- the bytes stand for one of these candidates, or for one of those
+abbrev pub StandsForEither : List Standing → List Standing → List ℕ → Type 0
+StandsForEither before after bytes = StandsForOneOf before bytes ⊎ StandsForOneOf after bytes
+
+-- Calls lead a disk from what a crash leaves before them to what one leaves after them: a crash at any moment of the
+-- calls leaves bytes that stand for one of either, and a crash after them bytes that stand for one of the latter.
+pub record Passes (old new : DiskState) (before after : List Standing) : Type 0 where
+  pub any_moment : LeavesOnly old new (StandsForEither before after)
+  pub now : LeavesOneOf after new

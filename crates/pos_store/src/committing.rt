@@ -1,14 +1,13 @@
 // A change of the files, from one whole store to the next.
 ghost use Rattle.std.specs.Prelude.{◌≡◌, ◌<◌, Err, OnErr, MatchResult, length};
 ghost use Rattle.pos_dir.specs.Changes.{outcome_of_all};
-ghost use Rattle.pos_dir.specs.declared.limits.TheConstants.{LAYOUT_1};
 ghost use Rattle.pos_log.specs.Logs.{IsLogReady};
 ghost use Rattle.pos_store.specs.Commits.{Commits, IsDraft, IsUnmade};
 ghost use Rattle.pos_store.specs.Modes.{HasItsFiles, view_of};
 
 use crate::draft::Draft;
 use crate::fault::{StoreFault, tell_directory};
-use crate::medium::Medium;
+use crate::parts::Parts;
 use pos_dir::laws::is_group;
 use pos_dir::{
     Directory, Group, apply_and_encode, apply_applicable, check_group, encode_group, measure_group,
@@ -26,11 +25,13 @@ fn make_draft<D: Disk>(
     group: &Group,
 ) -> Result<Draft, StoreFault>
     requires { IsLogReady D.Disk log.now }
-    ensures made { MatchResult (outcome_of_all LAYOUT_1 directory.old group.now)
+    ensures made { MatchResult (outcome_of_all directory.old.limits directory.old.files group.now)
         (λ after. MatchResult result
-        (λ draft. (directory.new ≡ after) × IsDraft log.now.tail group.now log.now.images.sequence after draft)
+        (λ draft. (directory.new.files ≡ after)
+        × IsDraft directory.new.limits log.now.tail group.now log.now.images.sequence after draft)
         (λ fault. IsUnmade log.now.tail group.now log.now.images.sequence fault))
         (λ refusal. result ≡ Err (StoreFault.Refused refusal)) }
+    ensures limits { directory.new.limits ≡ directory.old.limits }
     ensures unchanged { OnErr result (directory.new ≡ directory.old) }
 {
     if let Err(fault) = check_group(directory, group) {
@@ -56,35 +57,35 @@ fn make_draft<D: Disk>(
 
 /// Commits a group: its record goes behind the current image where it fits, else a new image has the files after it.
 pub fn commit_group<D: Disk>(
-    medium: Medium<D>,
+    parts: Parts<D>,
     call: (Global, &Group),
-) -> (Medium<D>, Result<(), StoreFault>)
-    requires sound { HasItsFiles D.Disk medium }
+) -> (Parts<D>, Result<(), StoreFault>)
+    requires sound { HasItsFiles D.Disk parts }
     requires some { 0 < length call.1.now }
     ensures sound { HasItsFiles D.Disk result.0 }
-    ensures commits { Commits D.Disk (view_of medium) call.entry.1.now result.1 (view_of result.0) }
+    ensures commits { Commits D.Disk (view_of parts) call.entry.1.now result.1 (view_of result.0) }
 {
     let (alloc, group) = call;
     is_group(group);
-    let (mut log, mut directory) = match medium {
-        Medium::Off(disk) => return (Medium::Off(disk), Err(StoreFault::Off)),
-        Medium::Ready(log, directory) => (log, directory),
+    let (mut log, mut directory) = match parts {
+        Parts::Off(disk) => return (Parts::Off(disk), Err(StoreFault::Off)),
+        Parts::Ready(log, directory) => (log, directory),
     };
     match make_draft(alloc, &log, &mut directory, group) {
         Ok(Draft::Record(text)) => match log.append(&text) {
-            Ok(()) => (Medium::Ready(log, directory), Ok(())),
+            Ok(()) => (Parts::Ready(log, directory), Ok(())),
             Err(_) => (
-                Medium::Off(log.into_images().into_disk()),
+                Parts::Off(log.into_images().into_disk()),
                 Err(StoreFault::Device),
             ),
         },
         Ok(Draft::Image(body)) => match log.renew(body) {
-            Ok(()) => (Medium::Ready(log, directory), Ok(())),
+            Ok(()) => (Parts::Ready(log, directory), Ok(())),
             Err(_) => (
-                Medium::Off(log.into_images().into_disk()),
+                Parts::Off(log.into_images().into_disk()),
                 Err(StoreFault::Device),
             ),
         },
-        Err(fault) => (Medium::Ready(log, directory), Err(fault)),
+        Err(fault) => (Parts::Ready(log, directory), Err(fault)),
     }
 }

@@ -6,8 +6,8 @@ mod committing;
 mod draft;
 mod fault;
 pub mod laws;
-mod medium;
 mod mode;
+mod parts;
 mod recovering;
 mod store;
 

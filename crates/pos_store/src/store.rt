@@ -1,9 +1,9 @@
-ghost use Rattle.std.specs.Prelude.{◌≡◌, ◌<◌, length};
+ghost use Rattle.std.specs.Prelude.{◌≡◌, ◌<◌, length, IfSome};
 
 use crate::committing::commit_group;
 use crate::fault::StoreFault;
-use crate::medium::Medium;
 use crate::mode::Mode;
+use crate::parts::Parts;
 use crate::recovering::recover_files;
 use core::mem::replace_with;
 use pos_dir::{Directory, Group};
@@ -16,7 +16,7 @@ use std::marker::Model;
 #[derive(Drop)]
 pub struct Store<D: Disk> {
     alloc: Global,
-    pub(crate) medium: Medium<D>,
+    pub(crate) parts: Parts<D>,
 }
 
 impl<D: Disk> Model for Store<D> {
@@ -24,13 +24,14 @@ impl<D: Disk> Model for Store<D> {
 
     ghost Value = { StoreView D };
 
-    ghost view = { λ s. view_of s.medium };
+    ghost view = { λ s. view_of s.parts };
 
-    ghost invariant = { λ s. HasItsFiles D.Disk s.medium };
+    ghost invariant = { λ s. HasItsFiles D.Disk s.parts };
 }
 
 impl<D: Disk> Store<D> {
-    ghost use Rattle.std.specs.Option.{option_copied};
+    ghost use Rattle.std.specs.Option.{option_map};
+    ghost use Rattle.pos_dir.specs.declared.limits.TheConstants.{LAYOUT_1};
     ghost use Rattle.pos_disk.specs.State.{IsAtRest};
     ghost use Rattle.pos_store.specs.Modes.{Off, WhenReady, files_of, mode_of};
     ghost use Rattle.pos_store.specs.Commits.{Commits};
@@ -42,7 +43,7 @@ impl<D: Disk> Store<D> {
     {
         Store {
             alloc,
-            medium: Medium::Off(disk),
+            parts: Parts::Off(disk),
         }
     }
 
@@ -58,7 +59,7 @@ impl<D: Disk> Store<D> {
     pub fn recover(&mut self) -> Result<(), StoreFault>
         ensures { Recovers D.Disk self.old result self.new }
     {
-        replace_with(&mut self.medium, self.alloc, recover_files)
+        replace_with(&mut self.parts, self.alloc, recover_files)
     }
 
     /// Carries out all changes of a group, or none. At Ok they are on the disk: as a record behind the
@@ -75,16 +76,17 @@ impl<D: Disk> Store<D> {
         requires { 0 < length group.now }
         ensures { Commits D.Disk self.old group.now result self.new }
     {
-        replace_with(&mut self.medium, (self.alloc, group), commit_group)
+        replace_with(&mut self.parts, (self.alloc, group), commit_group)
     }
 
-    /// The files, or None while the store is off.
+    /// The files, within the limits of layout 1, or None while the store is off.
     pub fn files(&self) -> Option<&Directory>
-        ensures { option_copied result ≡ files_of self.now.state }
+        ensures files { option_map (λ directory. directory.now.files) result ≡ files_of self.now.state }
+        ensures limits { IfSome result (λ directory. directory.now.limits ≡ LAYOUT_1) }
     {
-        match &self.medium {
-            Medium::Off(_) => None,
-            Medium::Ready(_, directory) => Some(directory),
+        match &self.parts {
+            Parts::Off(_) => None,
+            Parts::Ready(_, directory) => Some(directory),
         }
     }
 
@@ -92,9 +94,9 @@ impl<D: Disk> Store<D> {
     pub fn mode(&self) -> Mode
         ensures { result ≡ mode_of self.now.state }
     {
-        match &self.medium {
-            Medium::Off(_) => Mode::Off,
-            Medium::Ready(log, _) => Mode::Ready {
+        match &self.parts {
+            Parts::Off(_) => Mode::Off,
+            Parts::Ready(log, _) => Mode::Ready {
                 sequence: log.sequence(),
             },
         }
@@ -105,9 +107,9 @@ impl<D: Disk> Store<D> {
         ensures disk { result ≡ self.disk }
         ensures at_rest { D.honest self.disk → WhenReady self.state (IsAtRest (D.state self.disk)) }
     {
-        match self.medium {
-            Medium::Off(disk) => disk,
-            Medium::Ready(log, _) => log.into_images().into_disk(),
+        match self.parts {
+            Parts::Off(disk) => disk,
+            Parts::Ready(log, _) => log.into_images().into_disk(),
         }
     }
 }

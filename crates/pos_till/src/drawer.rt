@@ -11,6 +11,7 @@ use pos_service::{
 pub struct Drawer {
     is_open: bool,
     is_parked: bool,
+    orders: u64,
 }
 
 impl Drawer {
@@ -21,6 +22,7 @@ impl Drawer {
         Drawer {
             is_open: false,
             is_parked: false,
+            orders: 0,
         }
     }
 }
@@ -31,6 +33,7 @@ impl Peripheral for Drawer {
       plant = plant.Drawer drawer.is_open;
       is_parked = drawer.is_parked;
       failures = 0;
+      orders = drawer.orders;
     } };
 
     fn kind(&self) -> Kind {
@@ -46,6 +49,7 @@ impl Peripheral for Drawer {
     }
 
     fn ask(&mut self, _: &Order) -> Result<Reply, NoMemory> {
+        self.orders = self.orders.saturating_add(1);
         self.is_open = true;
         Ok(Reply::Done)
     }

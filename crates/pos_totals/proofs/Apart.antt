@@ -16,7 +16,7 @@ use Rattle.pos_totals.specs.Numbering.{given_after, tags_from}
 use Rattle.pos_totals.specs.Tables.{new_tag, tag_claimed, tag_released}
 use Rattle.pos_totals.specs.Views.{with_tags, totals_of, AreApart, IsSound}
 use Rattle.pos_totals.specs.declared.handles.Tag.{Tag}
-use Rattle.pos_totals.specs.declared.ledger.Ledger.{Ledger}
+use Rattle.pos_totals.specs.declared.holdings.Holdings.{Holdings}
 
 -- nobody but the holder has claimed a file
 abbrev NoOther : ℕ → List Tag → Type 0
@@ -29,9 +29,7 @@ IsApart area tags = IfSome area (λ holder. NoOther holder tags)
 no_other_after : (holder : ℕ) (tags : List Tag) (next : ℕ) (made : FileChange) → NoOther holder tags → NoOther holder (given_after tags next made)
 no_other_after holder tags next (file.Create name size) apart = all_with (λ tag. is_foreign holder tag.claim ≡ false) tags (new_tag next) apart refl
 no_other_after holder tags next (file.Delete index) apart = all_without (λ tag. is_foreign holder tag.claim ≡ false) tags index apart
-no_other_after holder tags next (file.Rename index name) apart = apart
-no_other_after holder tags next (file.Write index offset bytes) apart = apart
-no_other_after holder tags next (file.SetAll index n) apart = apart
+no_other_after holder tags next other apart = apart
 
 pub apart_after : (area : Option ℕ) (tags : List Tag) (next : ℕ) (made : FileChange) → IsApart area tags → IsApart area (given_after tags next made)
 apart_after None tags next made apart = tt
@@ -47,7 +45,8 @@ apart_new None first count = tt
 apart_new (Some holder) first count = no_other_new holder first count
 
 -- a file is claimed
-no_other_claimed : (holder number : ℕ) (claim : Option ℕ) (tags : List Tag) → is_foreign holder claim ≡ false → NoOther holder tags → NoOther holder (map (tag_claimed number claim) tags)
+no_other_claimed : (holder number : ℕ) (claim : Option ℕ) (tags : List Tag) → is_foreign holder claim ≡ false → NoOther holder tags
+    → NoOther holder (map (tag_claimed number claim) tags)
 no_other_claimed holder number claim [] own apart = tt
 no_other_claimed holder number claim (tag ∷ tags) own apart = (by (nat_eq tag.handle number), no_other_claimed holder number claim tags own apart.1)
   where
@@ -60,7 +59,8 @@ same_holder holder control own =
     let same = eqb-true holder control (not-false (nat_eq holder control) own) in
     ap not (eq-eqb control holder (sym same))
 
-pub apart_claimed : (area : Option ℕ) (control number : ℕ) (tags : List Tag) → is_foreign control area ≡ false → IsApart area tags → IsApart area (map (tag_claimed number (Some control)) tags)
+pub apart_claimed : (area : Option ℕ) (control number : ℕ) (tags : List Tag) → is_foreign control area ≡ false → IsApart area tags
+    → IsApart area (map (tag_claimed number (Some control)) tags)
 apart_claimed None control number tags own apart = tt
 apart_claimed (Some holder) control number tags own apart = no_other_claimed holder number (Some control) tags (same_holder holder control own) apart
 
@@ -77,7 +77,8 @@ no_other_dropped holder control (tag ∷ tags) apart = (by (is_own control tag.c
     by true = refl
     by false = apart.0
 
-pub apart_dropped : (area : Option ℕ) (control : ℕ) (tags : List Tag) → IsApart area tags → IsApart (foreign_area control area) (map (tag_released control) tags)
+pub apart_dropped : (area : Option ℕ) (control : ℕ) (tags : List Tag) → IsApart area tags
+    → IsApart (foreign_area control area) (map (tag_released control) tags)
 apart_dropped None control tags apart = tt
 apart_dropped (Some holder) control tags apart = by (nat_eq holder control)
   where
@@ -86,32 +87,37 @@ apart_dropped (Some holder) control tags apart = by (nat_eq holder control)
     by false = no_other_dropped holder control tags apart
 
 -- the area is claimed where no other control has claimed a file
-no_other_left : (control : ℕ) (tags : List Tag) (files : List PlainFile) → length tags ≡ length files → list_any (is_foreign_claim control) (with_tags tags files) ≡ false → NoOther control tags
+no_other_left : (control : ℕ) (tags : List Tag) (files : List PlainFile) → length tags ≡ length files
+    → list_any (is_foreign_claim control) (with_tags tags files) ≡ false → NoOther control tags
 no_other_left control [] files same none = tt
 no_other_left control (tag ∷ tags) [] same none = absurd (omega (arith, same))
 no_other_left control (tag ∷ tags) (file ∷ files) same none =
     let both = neither (is_foreign control tag.claim) (list_any (is_foreign_claim control) (with_tags tags files)) none in
     (both.0, no_other_left control tags files (omega (arith, same)) both.1)
 
-pub sound_claimed : (state : State) (ledger : Ledger) (control : ℕ) → is_area_taken (totals_of state ledger) control ≡ false → IsSound state ledger → IsSound state (record ledger { area = Some control })
-sound_claimed StoreOff ledger control free sound = record { handles = tt; buffers = sound.buffers; apart = tt }
-sound_claimed (StoreReady files sequence) ledger control free sound = record {
+pub sound_claimed : (state : State) (holdings : Holdings) (control : ℕ) → is_area_taken (totals_of state holdings) control ≡ false
+    → IsSound state holdings → IsSound state (record holdings { area = Some control })
+sound_claimed StoreOff holdings control free sound = record { handles = tt; buffers = sound.buffers; apart = tt }
+sound_claimed (StoreReady files sequence) holdings control free sound = record {
   handles = sound.handles;
   buffers = sound.buffers;
-  apart = no_other_left control ledger.handles.given files sound.handles.count (neither (is_foreign control ledger.area) _ free).1;
+  apart = no_other_left control holdings.handles.given files sound.handles.count (neither (is_foreign control holdings.area) _ free).1;
 }
 
 -- the same of the files
-no_other_file : (holder : ℕ) (tags : List Tag) (files : List PlainFile) → NoOther holder tags → AllByRecursion (λ file. is_foreign_claim holder file ≡ false) (with_tags tags files)
+no_other_file : (holder : ℕ) (tags : List Tag) (files : List PlainFile) → NoOther holder tags
+    → AllByRecursion (λ file. is_foreign_claim holder file ≡ false) (with_tags tags files)
 no_other_file holder [] files apart = tt
 no_other_file holder (tag ∷ tags) [] apart = tt
 no_other_file holder (tag ∷ tags) (file ∷ files) apart = (apart.0, no_other_file holder tags files apart.1)
 
-pub files_apart : (area : Option ℕ) (tags : List Tag) (files : List PlainFile) → IsApart area tags → IfSome area (λ holder. AllByRecursion (λ file. is_foreign_claim holder file ≡ false) (with_tags tags files))
+pub files_apart : (area : Option ℕ) (tags : List Tag) (files : List PlainFile) → IsApart area tags
+    → IfSome area (λ holder. AllByRecursion (λ file. is_foreign_claim holder file ≡ false) (with_tags tags files))
 files_apart None tags files apart = tt
 files_apart (Some holder) tags files apart = no_other_file holder tags files apart
 
 -- what holds of the tags holds where the store is ready
-pub apart_so : (state : State) (area later : Option ℕ) (tags others : List Tag) → (IsApart area tags → IsApart later others) → AreApart state area tags → AreApart state later others
+pub apart_so : (state : State) (area later : Option ℕ) (tags others : List Tag) → (IsApart area tags → IsApart later others)
+    → AreApart state area tags → AreApart state later others
 apart_so StoreOff area later tags others so apart = tt
 apart_so (StoreReady files sequence) area later tags others so apart = so apart

@@ -26,7 +26,8 @@ given_more next later (pos h) more given = omega (arith, given, more)
 given_more next later (negsuc n) more given = absurd given
 
 -- no given handle is that of a new file
-new_handle : (next : ℕ) (handle : ℤ) (name bytes : List ℕ) → IsGiven next handle → is_called handle (record { handle = next; name = name; bytes = bytes; claim = None }) ≡ true → ⊥
+new_handle : (next : ℕ) (handle : ℤ) (name bytes : List ℕ) → IsGiven next handle
+    → is_called handle (record { handle = next; name = name; bytes = bytes; claim = None }) ≡ true → ⊥
 new_handle next (pos h) name bytes given called = let same = eqb-true next h called in omega (arith, given, same)
 new_handle next (negsuc n) name bytes given called = absurd given
 
@@ -35,102 +36,110 @@ set_keeps : (file : File) (n : ℕ) → outline (record file { bytes = replicate
 set_keeps file n = ap (λ size. (file.handle, size)) (length-replicate (length file.bytes) n)
 
 -- a range that fits the file with a handle fits each such file
-pub all_fit : (files : List File) (handle offset : ℤ) (count : ℕ) → AreDistinct (handles_of files) → is_range_of (find (is_called handle) files) offset (pos count) ≡ true
+pub all_fit : (files : List File) (handle offset : ℤ) (count : ℕ) → AreDistinct (handles_of files)
+    → is_range_of (find (is_called handle) files) offset (pos count) ≡ true
     → AllByRecursion (λ file. is_called handle file ≡ true → is_range (length file.bytes) offset (pos count) ≡ true) files
 all_fit files handle offset count distinct fits =
     let found = ranged (find (is_called handle) files) offset (pos count) fits in
-    one_meets (is_called handle) (λ file. is_range (length file.bytes) offset (pos count) ≡ true) files found.0 (only_called files handle distinct) found.1 found.2
+    one_meets (is_called handle) (λ file. is_range (length file.bytes) offset (pos count) ≡ true) files found.0
+    (only_called files handle distinct) found.1 found.2
 
 -- a Write that fits keeps all sizes
-writes_keep : (files : List File) (handle offset : ℤ) (bytes : List ℕ) → AllByRecursion (λ file. is_called handle file ≡ true → is_range (length file.bytes) offset (pos (length bytes)) ≡ true) files
+writes_keep : (files : List File) (handle offset : ℤ) (bytes : List ℕ)
+    → AllByRecursion (λ file. is_called handle file ≡ true → is_range (length file.bytes) offset (pos (length bytes)) ≡ true) files
     → outlines (with_each (is_called handle) (λ file. record file { bytes = overwritten file.bytes (nat_abs offset) bytes }) files) ≡ outlines files
 writes_keep files handle offset bytes fits =
     outlines_kept (is_called handle) (λ file. record file { bytes = overwritten file.bytes (nat_abs offset) bytes }) files
     (all_so (λ file. is_called handle file ≡ true → is_range (length file.bytes) offset (pos (length bytes)) ≡ true)
-    (λ file. is_called handle file ≡ true → outline (record file { bytes = overwritten file.bytes (nat_abs offset) bytes }) ≡ outline file) files (λ file fits called. write_keeps file offset bytes (fits called)) fits)
+    (λ file. is_called handle file ≡ true → outline (record file { bytes = overwritten file.bytes (nat_abs offset) bytes }) ≡ outline file) files
+    (λ file fits called. write_keeps file offset bytes (fits called)) fits)
 
 -- so does a SetAll
-sets_keep : (files : List File) (handle n : ℤ) → outlines (with_each (is_called handle) (λ file. record file { bytes = replicate (length file.bytes) (nat_abs n) }) files) ≡ outlines files
+sets_keep : (files : List File) (handle n : ℤ)
+    → outlines (with_each (is_called handle) (λ file. record file { bytes = replicate (length file.bytes) (nat_abs n) }) files) ≡ outlines files
 sets_keep files handle n =
-    outlines_kept (is_called handle) (λ file. record file { bytes = replicate (length file.bytes) (nat_abs n) }) files (all_files _ files (λ file called. set_keeps file (nat_abs n)))
+    outlines_kept (is_called handle) (λ file. record file { bytes = replicate (length file.bytes) (nat_abs n) }) files
+    (all_files _ files (λ file called. set_keeps file (nat_abs n)))
 
 -- what is buffered stays so after a change that nothing refuses
-pub buffered_after : (files : List File) (control : ℕ) (spent : Option ℕ) (change : Change) (next : ℕ) (buffered : Change) → AreDistinct (handles_of files) → first_refusal (change_rows layout_1 files control spent change) ≡ None
+pub buffered_after : (files : List File) (control : ℕ) (spent : Option ℕ) (change : Change) (next : ℕ) (buffered : Change)
+    → AreDistinct (handles_of files) → first_refusal (change_rows layout_1 files control spent change) ≡ None
     → IsBuffered files next buffered → IsBuffered (files_after next files change) (next_after next change) buffered
-buffered_after files control spent change next (Create name size) distinct unrefused is = absurd is
-buffered_after files control spent change next (Delete name) distinct unrefused is = absurd is
-buffered_after files control spent change next (Rename handle name) distinct unrefused is = absurd is
 buffered_after files control spent change next (SetAll handle n) distinct unrefused is = is
 buffered_after files control spent (Create name size) next (Write handle offset bytes) distinct unrefused is = (
   given_more next (next + 1) handle (omega arith) is.0,
-  all_more (λ file. is_called handle file ≡ true → is_range (length file.bytes) offset (pos (length bytes)) ≡ true) files _ is.1 (λ called. absurd (new_handle next handle name (replicate (nat_abs size) 0) is.0 called)),
+  all_more (λ file. is_called handle file ≡ true → is_range (length file.bytes) offset (pos (length bytes)) ≡ true) files _ is.1
+      (λ called. absurd (new_handle next handle name (replicate (nat_abs size) 0) is.0 called)),
 )
-buffered_after files control spent (Delete name) next (Write handle offset bytes) distinct unrefused is = (is.0, all_left _ (λ file. not (is_named name file)) files is.1)
+buffered_after files control spent (Delete name) next (Write handle offset bytes) distinct unrefused is =
+    (is.0, all_left _ (λ file. not (is_named name file)) files is.1)
 buffered_after files control spent (Rename other name) next (Write handle offset bytes) distinct unrefused is =
-    same_buffered files (files_after next files (Rename other name)) next (Write handle offset bytes) (sym (outlines_kept (is_called other) (λ file. record file { name = name }) files (all_files _ files (λ file called. refl)))) is
+    same_buffered files (files_after next files (Rename other name)) next (Write handle offset bytes)
+    (sym (outlines_kept (is_called other) (λ file. record file { name = name }) files (all_files _ files (λ file called. refl)))) is
 buffered_after files control spent (Write other place text) next (Write handle offset bytes) distinct unrefused is =
     same_buffered files (files_after next files (Write other place text)) next (Write handle offset bytes)
     (sym (writes_keep files other place text (all_fit files other place (length text) distinct (range_fits files control spent other place text unrefused)))) is
 buffered_after files control spent (SetAll other n) next (Write handle offset bytes) distinct unrefused is =
     same_buffered files (files_after next files (SetAll other n)) next (Write handle offset bytes) (sym (sets_keep files other n)) is
+buffered_after files control spent change next other distinct unrefused is = absurd is
 
 -- ---- one group of all that is buffered
 
 -- the others are buffered as before
-others_buffered : (files after : List File) (next : ℕ) (changes : List Change) → outlines after ≡ outlines files → AllByRecursion (IsBuffered files next) changes → AllByRecursion (IsBuffered after next) changes
-others_buffered files after next changes same all = all_so (IsBuffered files next) (IsBuffered after next) changes (λ change is. same_buffered files after next change (sym same) is) all
+others_buffered : (files after : List File) (next : ℕ) (changes : List Change) → outlines after ≡ outlines files
+    → AllByRecursion (IsBuffered files next) changes → AllByRecursion (IsBuffered after next) changes
+others_buffered files after next changes same all =
+    all_so (IsBuffered files next) (IsBuffered after next) changes (λ change is. same_buffered files after next change (sym same) is) all
 
 -- the files after what is buffered have the same handles, claims and sizes
-pub outlines_after : (files : List File) (next : ℕ) (changes : List Change) → AllByRecursion (IsBuffered files next) changes → outlines (files_after_all next files changes) ≡ outlines files
+pub outlines_after : (files : List File) (next : ℕ) (changes : List Change) → AllByRecursion (IsBuffered files next) changes
+    → outlines (files_after_all next files changes) ≡ outlines files
 outlines_after files next [] all = refl
-outlines_after files next (Create name size ∷ changes) all = absurd all.0
-outlines_after files next (Delete name ∷ changes) all = absurd all.0
-outlines_after files next (Rename handle name ∷ changes) all = absurd all.0
 outlines_after files next (Write handle offset bytes ∷ changes) all =
     let same = writes_keep files handle offset bytes all.0.1 in
     outlines_after (files_after next files (Write handle offset bytes)) next changes (others_buffered files _ next changes same all.1) ∙ same
 outlines_after files next (SetAll handle n ∷ changes) all =
     let same = sets_keep files handle n in
     outlines_after (files_after next files (SetAll handle n)) next changes (others_buffered files _ next changes same all.1) ∙ same
+outlines_after files next (other ∷ changes) all = absurd all.0
 
-pub tags_after : (files : List File) (next : ℕ) (changes : List Change) → AllByRecursion (IsBuffered files next) changes → tags_of (files_after_all next files changes) ≡ tags_of files
+pub tags_after : (files : List File) (next : ℕ) (changes : List Change) → AllByRecursion (IsBuffered files next) changes
+    → tags_of (files_after_all next files changes) ≡ tags_of files
 tags_after files next [] all = refl
-tags_after files next (Create name size ∷ changes) all = absurd all.0
-tags_after files next (Delete name ∷ changes) all = absurd all.0
-tags_after files next (Rename handle name ∷ changes) all = absurd all.0
 tags_after files next (Write handle offset bytes ∷ changes) all =
-    tags_after (files_after next files (Write handle offset bytes)) next changes (others_buffered files _ next changes (writes_keep files handle offset bytes all.0.1) all.1)
+    tags_after (files_after next files (Write handle offset bytes)) next changes
+    (others_buffered files _ next changes (writes_keep files handle offset bytes all.0.1) all.1)
     ∙ same_tags (is_called handle) (λ file. record file { bytes = overwritten file.bytes (nat_abs offset) bytes }) files (λ file. refl)
 tags_after files next (SetAll handle n ∷ changes) all =
     tags_after (files_after next files (SetAll handle n)) next changes (others_buffered files _ next changes (sets_keep files handle n) all.1)
     ∙ same_tags (is_called handle) (λ file. record file { bytes = replicate (length file.bytes) (nat_abs n) }) files (λ file. refl)
+tags_after files next (other ∷ changes) all = absurd all.0
 
 pub next_stays : (files : List File) (next : ℕ) (changes : List Change) → AllByRecursion (IsBuffered files next) changes → next_after_all next changes ≡ next
 next_stays files next [] all = refl
-next_stays files next (Create name size ∷ changes) all = absurd all.0
-next_stays files next (Delete name ∷ changes) all = absurd all.0
-next_stays files next (Rename handle name ∷ changes) all = absurd all.0
 next_stays files next (Write handle offset bytes ∷ changes) all = next_stays files next changes all.1
 next_stays files next (SetAll handle n ∷ changes) all = next_stays files next changes all.1
+next_stays files next (other ∷ changes) all = absurd all.0
 
 is_there : (found : Option File) → is_none found ≡ false → is_some found ≡ true
 is_there None none = absurd cc
 is_there (Some file) none = refl
 
 -- the first change is made, and then the others
-first_made : (files : List File) (next : ℕ) (change : Change) (changes : List Change) → Makes files change next → group_of files changes ≡ group_of (files_after next files change) changes
-    → outcome_of_all LAYOUT_1 (plain (files_after next files change)) (group_of (files_after next files change) changes) ≡ Ok (plain (files_after_all next (files_after next files change) changes))
+first_made : (files : List File) (next : ℕ) (change : Change) (changes : List Change) → Makes files change next
+    → group_of files changes ≡ group_of (files_after next files change) changes
+    → outcome_of_all LAYOUT_1 (plain (files_after next files change)) (group_of (files_after next files change) changes) ≡ Ok
+    (plain (files_after_all next (files_after next files change) changes))
     → outcome_of_all LAYOUT_1 (plain files) (group_of files (change ∷ changes)) ≡ Ok (plain (files_after_all next (files_after next files change) changes))
 first_made files next change changes one same others =
-    ap (λ r. and_then r (λ fs. outcome_of_all LAYOUT_1 fs (group_of files changes))) one ∙ ap (λ (g : List FileChange). outcome_of_all LAYOUT_1 (plain (files_after next files change)) g) same ∙ others
+    ap (λ r. and_then r (λ fs. outcome_of_all LAYOUT_1 fs (group_of files changes))) one
+    ∙ ap (λ (g : List FileChange). outcome_of_all LAYOUT_1 (plain (files_after next files change)) g) same ∙ others
 
 -- where no file is gone, the group of all that is buffered makes of the plain files those after it
-pub makes_all : (files : List File) (next : ℕ) (changes : List Change) → AreDistinct (handles_of files) → AllByRecursion (IsBuffered files next) changes → list_any (is_of_none files) changes ≡ false
+pub makes_all : (files : List File) (next : ℕ) (changes : List Change) → AreDistinct (handles_of files)
+    → AllByRecursion (IsBuffered files next) changes → list_any (is_of_none files) changes ≡ false
     → outcome_of_all LAYOUT_1 (plain files) (group_of files changes) ≡ Ok (plain (files_after_all next files changes))
 makes_all files next [] distinct all there = refl
-makes_all files next (Create name size ∷ changes) distinct all there = absurd all.0
-makes_all files next (Delete name ∷ changes) distinct all there = absurd all.0
-makes_all files next (Rename handle name ∷ changes) distinct all there = absurd all.0
 makes_all files next (Write handle offset bytes ∷ changes) distinct all there =
     let after = files_after next files (Write handle offset bytes) in
     let both = neither (is_none (find (is_called handle) files)) (list_any (is_of_none files) changes) there in
@@ -139,25 +148,32 @@ makes_all files next (Write handle offset bytes ∷ changes) distinct all there 
     ap (λ (o : Option File). is_range_of o offset (pos (length bytes))) found.1
     ∙ found_has (is_called handle) (λ file. is_range (length file.bytes) offset (pos (length bytes)) ≡ true) files found.0 all.0.1 found.1 in
     let same = writes_keep files handle offset bytes all.0.1 in
-    first_made files next (Write handle offset bytes) changes (made_write files handle offset bytes next distinct fits) (same_group files after next changes (sym same) all.1)
-    (makes_all after next changes (same_distinct files after (sym same) distinct) (others_buffered files after next changes same all.1) (sym (same_gone files after next changes (sym same) all.1) ∙ both.1))
+    first_made files next (Write handle offset bytes) changes (made_write files handle offset bytes next distinct fits)
+    (same_group files after next changes (sym same) all.1)
+    (makes_all after next changes (same_distinct files after (sym same) distinct) (others_buffered files after next changes same all.1)
+    (sym (same_gone files after next changes (sym same) all.1) ∙ both.1))
 makes_all files next (SetAll handle n ∷ changes) distinct all there =
     let after = files_after next files (SetAll handle n) in
     let both = neither (is_none (find (is_called handle) files)) (list_any (is_of_none files) changes) there in
     let same = sets_keep files handle n in
-    first_made files next (SetAll handle n) changes (made_set_all files handle n next distinct (is_there (find (is_called handle) files) both.0)) (same_group files after next changes (sym same) all.1)
-    (makes_all after next changes (same_distinct files after (sym same) distinct) (others_buffered files after next changes same all.1) (sym (same_gone files after next changes (sym same) all.1) ∙ both.1))
+    first_made files next (SetAll handle n) changes (made_set_all files handle n next distinct (is_there (find (is_called handle) files) both.0))
+    (same_group files after next changes (sym same) all.1)
+    (makes_all after next changes (same_distinct files after (sym same) distinct) (others_buffered files after next changes same all.1)
+    (sym (same_gone files after next changes (sym same) all.1) ∙ both.1))
+makes_all files next (other ∷ changes) distinct all there = absurd all.0
 
 -- ---- what all controls hold
 
 -- the transaction of a control may be held
-pub held_at : (mode : Mode) (next : ℕ) (transactions : List (Option (List Change))) (control : ℕ) (buffer : List Change) → HaveBuffers mode next transactions → transaction_at transactions control ≡ Some buffer → MayHold mode next (Some buffer)
+pub held_at : (mode : Mode) (next : ℕ) (transactions : List (Option (List Change))) (control : ℕ) (buffer : List Change)
+    → HaveBuffers mode next transactions → transaction_at transactions control ≡ Some buffer → MayHold mode next (Some buffer)
 held_at mode next [] control buffer all is = absurd cc
 held_at mode next (first ∷ others) zero buffer all is = subst (MayHold mode next) is all.0
 held_at mode next (first ∷ others) (suc control) buffer all is = held_at mode next others control buffer all.1 is
 
 -- another transaction of a control that may be held
-pub held_with : (mode : Mode) (next : ℕ) (transactions : List (Option (List Change))) (control : ℕ) (transaction : Option (List Change)) → HaveBuffers mode next transactions → MayHold mode next transaction → HaveBuffers mode next (slice_set transactions control transaction)
+pub held_with : (mode : Mode) (next : ℕ) (transactions : List (Option (List Change))) (control : ℕ) (transaction : Option (List Change))
+    → HaveBuffers mode next transactions → MayHold mode next transaction → HaveBuffers mode next (slice_set transactions control transaction)
 held_with mode next [] control transaction all may = tt
 held_with mode next (first ∷ others) zero transaction all may = (may, all.1)
 held_with mode next (first ∷ others) (suc control) transaction all may = (all.0, held_with mode next others control transaction all.1 may)
@@ -172,17 +188,22 @@ none_hold mode next [] = tt
 none_hold mode next (first ∷ others) = (none_held mode next, none_hold mode next others)
 
 -- what is held of files is held of others for which it may be buffered
-pub holds_so : (files after : List File) (sequence later next following : ℕ) (transactions : List (Option (List Change))) → ((change : Change) → IsBuffered files next change → IsBuffered after following change)
+pub holds_so : (files after : List File) (sequence later next following : ℕ) (transactions : List (Option (List Change)))
+    → ((change : Change) → IsBuffered files next change → IsBuffered after following change)
     → HaveBuffers (Ready files sequence) next transactions → HaveBuffers (Ready after later) following transactions
-holds_so files after sequence later next following transactions so all = all_so (MayHold (Ready files sequence) next) (MayHold (Ready after later) following) transactions each all
+holds_so files after sequence later next following transactions so all =
+    all_so (MayHold (Ready files sequence) next) (MayHold (Ready after later) following) transactions each all
   where
     each : (transaction : Option (List Change)) → MayHold (Ready files sequence) next transaction → MayHold (Ready after later) following transaction
     each None may = tt
     each (Some buffer) may = all_so (IsBuffered files next) (IsBuffered after following) buffer so may
 
 -- nothing is held while the totals are off
-pub off_holds : (files : List File) (sequence next following : ℕ) (transactions : List (Option (List Change))) → HaveBuffers Off next transactions → HaveBuffers (Ready files sequence) following transactions
-off_holds files sequence next following transactions all = all_so (MayHold Off next) (MayHold (Ready files sequence) following) transactions (λ transaction none. subst (MayHold (Ready files sequence) following) (sym none) tt) all
+pub off_holds : (files : List File) (sequence next following : ℕ) (transactions : List (Option (List Change))) → HaveBuffers Off next transactions
+    → HaveBuffers (Ready files sequence) following transactions
+off_holds files sequence next following transactions all =
+    all_so (MayHold Off next) (MayHold (Ready files sequence) following) transactions
+    (λ transaction none. subst (MayHold (Ready files sequence) following) (sym none) tt) all
 
 -- what is held doesn't change with the next handle while the totals are off
 pub still_off : (next following : ℕ) (transactions : List (Option (List Change))) → HaveBuffers Off next transactions → HaveBuffers Off following transactions

@@ -17,7 +17,7 @@ use Rattle.pos_service.specs.declared.answer.Value.TheVariants as value
 use Rattle.pos_service.specs.declared.code.Code.TheVariants as code
 use Rattle.pos_service.specs.declared.memory.NoMemory.{NoMemory}
 use Rattle.pos_service.specs.Claims.{is_foreign}
-use Rattle.pos_totals.specs.HardTotals.{File, Off, Ready, Totals, Change, Create, Delete, Rename, Write, SetAll, last_number, layout_1, after_disk_fault, transaction_at, with_transaction}
+use Rattle.pos_totals.specs.HardTotals.{File, Off, Ready, Totals, Change, Create, Delete, Write, SetAll, last_number, layout_1, after_disk_fault, transaction_at, with_transaction}
 use Rattle.pos_totals.specs.TotalsFiles.{is_name, is_named, is_called, has_file, has_room, free_data, is_foreign_file, is_range_of}
 use Rattle.pos_service.specs.Numbers.{is_natural, is_up_to}
 use Rattle.pos_totals.specs.TotalsChanges.{is_create, change_rows, refusals_of_change, group_by_change, number_rows, files_after, next_after, after_changes, given_by, spent_by, cost_of, cost_of_all, is_over, Changed, DoesChange, Done, RunsOut}
@@ -43,17 +43,21 @@ use Rattle.pos_totals.specs.Groups.{file_change, group_of}
 use Rattle.pos_totals.specs.Numbering.{lacks, HasPlace, given_after, following, value_after}
 use Rattle.pos_totals.specs.Views.{TotalsView, plain, tag_of, tags_of, handles_of, totals_of, view_of, with_tags, AreDistinct, AreHandles, HasDirectory, HasItsFiles, IsSound}
 use Rattle.pos_totals.specs.declared.handles.Tag.{Tag}
-use Rattle.pos_totals.specs.declared.ledger.Ledger.{Ledger}
+use Rattle.pos_totals.specs.declared.holdings.Holdings.{Holdings}
 use Rattle.pos_totals.specs.declared.request.Checked.{Checked}
 use Rattle.pos_totals.specs.declared.request.Checked.TheVariants as checked
 
 -- ---- the table of a change
 
 -- a change that is let through
-pub passed : (state : State) (ledger : Ledger) (control : ℕ) (change : Change) (made : Checked) → ChecksAt (totals_of state ledger) control change (Ok made) → first_refusal (refusals_of_change layout_1 (totals_of state ledger) control change) ≡ None
-passed StoreOff ledger control change made checks = absurd checks.1
-passed (StoreReady files sequence) ledger control change made checks =
-    ap (λ b. cond b (Some (answer.Refused code.Claimed 0)) (first_refusal (change_rows layout_1 (with_tags ledger.handles.given files) control (spent_by (totals_of (StoreReady files sequence) ledger) control) change))) checks.0
+pub passed : (state : State) (holdings : Holdings) (control : ℕ) (change : Change) (made : Checked)
+    → ChecksAt (totals_of state holdings) control change (Ok made)
+    → first_refusal (refusals_of_change layout_1 (totals_of state holdings) control change) ≡ None
+passed StoreOff holdings control change made checks = absurd checks.1
+passed (StoreReady files sequence) holdings control change made checks =
+    ap (λ b. cond b (Some (answer.Refused code.Claimed 0))
+    (first_refusal (change_rows layout_1 (with_tags holdings.handles.given files) control
+    (spent_by (totals_of (StoreReady files sequence) holdings) control) change))) checks.0
     ∙ checks.1.unrefused
 
 -- outside a transaction nothing is buffered
@@ -62,107 +66,112 @@ outside None none = refl
 outside (Some buffer) none = absurd cc
 
 -- the group of a change that its table lets through: none where it is buffered; and of one that is refused
-grouped : (totals : Totals) (control : ℕ) (change : Change) (is_buffered : Bool) → first_refusal (refusals_of_change layout_1 totals control change) ≡ None → is_some (transaction_at totals.transactions control) ≡ is_buffered
+grouped : (totals : Totals) (control : ℕ) (change : Change) (is_buffered : Bool)
+    → first_refusal (refusals_of_change layout_1 totals control change) ≡ None → is_some (transaction_at totals.transactions control) ≡ is_buffered
     → group_by_change layout_1 totals control change ≡ cond (not is_buffered) (change ∷ []) []
 grouped totals control change is_buffered unrefused is =
-    ap (λ (o : Option Answer). cond (is_none o && not (is_some (transaction_at totals.transactions control))) (change ∷ []) []) unrefused ∙ ap (λ b. cond (not b) (change ∷ []) []) is
+    ap (λ (o : Option Answer). cond (is_none o && not (is_some (transaction_at totals.transactions control))) (change ∷ []) []) unrefused
+    ∙ ap (λ b. cond (not b) (change ∷ []) []) is
 
-no_group : (totals : Totals) (control : ℕ) (change : Change) (refusal : Answer) → first_refusal (refusals_of_change layout_1 totals control change) ≡ Some refusal → group_by_change layout_1 totals control change ≡ []
-no_group totals control change refusal refused = ap (λ (o : Option Answer). cond (is_none o && not (is_some (transaction_at totals.transactions control))) (change ∷ []) []) refused
+no_group : (totals : Totals) (control : ℕ) (change : Change) (refusal : Answer)
+    → first_refusal (refusals_of_change layout_1 totals control change) ≡ Some refusal → group_by_change layout_1 totals control change ≡ []
+no_group totals control change refusal refused =
+    ap (λ (o : Option Answer). cond (is_none o && not (is_some (transaction_at totals.transactions control))) (change ∷ []) []) refused
 
 -- what a change does outside a transaction
-pub does_outside : (DiskFailed : Type 0) (old : Totals) (control : ℕ) (change : Change) (result : Answer) (new : Totals) → transaction_at old.transactions control ≡ None
-    → Decided (number_rows old change) result (new ≡ old) (RunsOut old result new ⊎ Done DiskFailed old (change ∷ []) (given_by old.next change) result new) → DoesChange DiskFailed old control change result new
+pub does_outside : (DiskFailed : Type 0) (old : Totals) (control : ℕ) (change : Change) (result : Answer) (new : Totals)
+    → transaction_at old.transactions control ≡ None
+    → Decided (number_rows old change) result (new ≡ old)
+    (RunsOut old result new ⊎ Done DiskFailed old (change ∷ []) (given_by old.next change) result new) → DoesChange DiskFailed old control change result new
 does_outside DiskFailed old control change result new none does =
-    subst (λ (t : Option (List Change)). MatchOption t (Decided (number_rows old change) result (new ≡ old) (RunsOut old result new ⊎ Done DiskFailed old (change ∷ []) (given_by old.next change) result new))
+    subst (λ (t : Option (List Change)). MatchOption t
+    (Decided (number_rows old change) result (new ≡ old) (RunsOut old result new ⊎ Done DiskFailed old (change ∷ []) (given_by old.next change) result new))
     (λ buffer. (result ≡ answer.Done value.Empty) × (new ≡ with_transaction old control (Some (buffer ++ change ∷ []))))) (sym none) does
 
 -- and what it does inside one
-does_inside : (DiskFailed : Type 0) (old : Totals) (control : ℕ) (change : Change) (buffer : List Change) → transaction_at old.transactions control ≡ Some buffer
+does_inside : (DiskFailed : Type 0) (old : Totals) (control : ℕ) (change : Change) (buffer : List Change)
+    → transaction_at old.transactions control ≡ Some buffer
     → DoesChange DiskFailed old control change (answer.Done value.Empty) (with_transaction old control (Some (buffer ++ change ∷ [])))
 does_inside DiskFailed old control change buffer some =
     let result : Answer = answer.Done value.Empty in
     let new = with_transaction old control (Some (buffer ++ change ∷ [])) in
-    subst (λ (t : Option (List Change)). MatchOption t (Decided (number_rows old change) result (new ≡ old) (RunsOut old result new ⊎ Done DiskFailed old (change ∷ []) (given_by old.next change) result new))
+    subst (λ (t : Option (List Change)). MatchOption t
+    (Decided (number_rows old change) result (new ≡ old) (RunsOut old result new ⊎ Done DiskFailed old (change ∷ []) (given_by old.next change) result new))
     (λ buffer. (result ≡ answer.Done value.Empty) × (new ≡ with_transaction old control (Some (buffer ++ change ∷ []))))) (sym some) (refl, refl)
 
 -- ---- where nothing changes
 
-module _ {D : Type 0} (bound : Ghosts D) (disk : D) (only : bound.honest disk → (bytes : List ℕ) → (bound.state disk).left_since (bound.state disk).moment bytes → MayLeave (bound.state disk) bytes) where
+module _ {D : Type 0} (bound : Ghosts D) (disk : D)
+    (only : bound.honest disk → (bytes : List ℕ) → (bound.state disk).left_since (bound.state disk).moment bytes → MayLeave (bound.state disk) bytes) where
   -- the group of a change of files that are sound is one
-  pub is_group : (state : State) (ledger : Ledger) (control : ℕ) (change : Change) → HasDirectory state → IsSound state ledger
-      → IsOneGroup (totals_of state ledger) (group_by_change layout_1 (totals_of state ledger) control change)
-  is_group StoreOff ledger control change directory sound = rw (no_groups (is_foreign control ledger.area)) refl
+  pub is_group : (state : State) (holdings : Holdings) (control : ℕ) (change : Change) → HasDirectory state → IsSound state holdings
+      → IsOneGroup (totals_of state holdings) (group_by_change layout_1 (totals_of state holdings) control change)
+  is_group StoreOff holdings control change directory sound = rw (no_groups (is_foreign control holdings.area)) refl
     where
-      no_groups : (b : Bool) → cond (is_none (cond b (Some (answer.Refused code.Claimed 0)) (Some (answer.Refused code.Failure 0))) && not (is_some (transaction_at ledger.transactions control))) (change ∷ []) [] ≡ []
+      no_groups : (b : Bool) → cond (is_none (cond b (Some (answer.Refused code.Claimed 0)) (Some (answer.Refused code.Failure 0))) && not
+          (is_some (transaction_at holdings.transactions control))) (change ∷ []) [] ≡ []
       no_groups true = refl
       no_groups false = refl
-  is_group (StoreReady files sequence) ledger control change directory sound =
-      let xs = with_tags ledger.handles.given files in
-      let both = sound_files ledger.handles.given files ledger.handles.next directory sound.handles in
-      let spent = spent_by (totals_of (StoreReady files sequence) ledger) control in
-      by (is_foreign control ledger.area) (first_refusal (change_rows layout_1 xs control spent change)) (is_some (transaction_at ledger.transactions control))
-      (λ unrefused. makes_group xs control spent change ledger.handles.next both.0 both.1 unrefused)
+  is_group (StoreReady files sequence) holdings control change directory sound =
+      let xs = with_tags holdings.handles.given files in
+      let both = sound_files holdings.handles.given files holdings.handles.next directory sound.handles in
+      let spent = spent_by (totals_of (StoreReady files sequence) holdings) control in
+      by (is_foreign control holdings.area) (first_refusal (change_rows layout_1 xs control spent change))
+      (is_some (transaction_at holdings.transactions control))
+      (λ unrefused. makes_group xs control spent change holdings.handles.next both.0 both.1 unrefused)
     where
-      by : (b : Bool) (o : Option Answer) (inside : Bool) → (o ≡ None → IsOneGroup (totals_of (StoreReady files sequence) ledger) (change ∷ []))
-          → IsOneGroup (totals_of (StoreReady files sequence) ledger) (cond (is_none (cond b (Some (answer.Refused code.Claimed 0)) o) && not inside) (change ∷ []) [])
+      by : (b : Bool) (o : Option Answer) (inside : Bool) → (o ≡ None → IsOneGroup (totals_of (StoreReady files sequence) holdings) (change ∷ []))
+          → IsOneGroup (totals_of (StoreReady files sequence) holdings)
+          (cond (is_none (cond b (Some (answer.Refused code.Claimed 0)) o) && not inside) (change ∷ []) [])
       by true o inside made = refl
       by false (Some refusal) inside made = refl
       by false None true made = refl
       by false None false made = made refl
 
   -- a change that changes nothing
-  pub stays : (state : State) (ledger : Ledger) (control : ℕ) (change : Change) (outcome : Result Answer NoMemory) → HasDirectory state → IsSound state ledger → (bound.honest disk → LeavesItsFiles state (bound.state disk))
-      → ((DiskFailed : Type 0) → Changed layout_1 DiskFailed (totals_of state ledger) control change outcome (totals_of state ledger))
-      → Changes bound (view_at disk state ledger) control change outcome (view_at disk state ledger)
-  stays state ledger control change outcome directory sound leaves changed = record {
+  pub stays : (state : State) (holdings : Holdings) (control : ℕ) (change : Change) (outcome : Result Answer NoMemory) → HasDirectory state
+      → IsSound state holdings → (bound.honest disk → LeavesItsFiles state (bound.state disk))
+      → ((DiskFailed : Type 0) → Changed layout_1 DiskFailed (totals_of state holdings) control change outcome (totals_of state holdings))
+      → Changes bound (view_at disk state holdings) control change outcome (view_at disk state holdings)
+  stays state holdings control change outcome directory sound leaves changed = record {
     answer = changed (HasFailed bound disk disk);
-    disk = rests bound disk only (totals_of state ledger) (group_by_change layout_1 (totals_of state ledger) control change) outcome
-        (is_group state ledger control change directory sound)
-        (λ h. their_files ledger.handles.given state ledger.handles.next (bound.state disk) sound.handles (leaves h));
+    disk = rests bound disk only (totals_of state holdings) (group_by_change layout_1 (totals_of state holdings) control change) outcome
+        (is_group state holdings control change directory sound)
+        (λ h. their_files holdings.handles.given state holdings.handles.next (bound.state disk) sound.handles (leaves h));
   }
 
 -- the answer of a change that its table refuses
 pub refused : (old : Totals) (control : ℕ) (change : Change) (refusal : Answer) → ChecksAt old control change (Err refusal)
     → (DiskFailed : Type 0) → Changed layout_1 DiskFailed old control change (Ok refusal) old
-refused old control change refusal checks DiskFailed = closed_table (refusals_of_change layout_1 old control change) refusal refusal (old ≡ old) _ checks refl refl
+refused old control change refusal checks DiskFailed =
+    closed_table (refusals_of_change layout_1 old control change) refusal refusal (old ≡ old) _ checks refl refl
 
 -- the answer of a change that finds no memory
-pub wants : (state : State) (ledger : Ledger) (control : ℕ) (change : Change) (made : Checked) → ChecksAt (totals_of state ledger) control change (Ok made) → (want : NoMemory)
-    → (DiskFailed : Type 0) → Changed layout_1 DiskFailed (totals_of state ledger) control change (Err want) (totals_of state ledger)
-wants state ledger control change made checks want DiskFailed = (passed state ledger control change made checks, refl)
+pub wants : (state : State) (holdings : Holdings) (control : ℕ) (change : Change) (made : Checked)
+    → ChecksAt (totals_of state holdings) control change (Ok made) → (want : NoMemory)
+    → (DiskFailed : Type 0) → Changed layout_1 DiskFailed (totals_of state holdings) control change (Err want) (totals_of state holdings)
+wants state holdings control change made checks want DiskFailed = (passed state holdings control change made checks, refl)
 
 -- ---- a change that is buffered
 
 -- in a transaction nothing but a Write or a SetAll is let through
-may_be_buffered : (files : List File) (control spent : ℕ) (change : Change) (made : Checked) → Passes files control (Some spent) change made → is_bufferable made ≡ true
-may_be_buffered files control spent (Create name size) made passes = absurd (let r = passes.unrefused in cc)
-may_be_buffered files control spent (Delete name) made passes = absurd (let r = passes.unrefused in cc)
-may_be_buffered files control spent (Rename handle name) made passes = absurd (let r = passes.unrefused in cc)
-may_be_buffered files control spent (Write handle offset bytes) (checked.Create name size) passes = absurd (let m = passes.made in cc)
-may_be_buffered files control spent (Write handle offset bytes) (checked.Delete index) passes = absurd (let m = passes.made in cc)
-may_be_buffered files control spent (Write handle offset bytes) (checked.Rename index name) passes = absurd (let m = passes.made in cc)
-may_be_buffered files control spent (Write handle offset bytes) (checked.Write index number place text) passes = refl
-may_be_buffered files control spent (Write handle offset bytes) (checked.SetAll index number n) passes = refl
-may_be_buffered files control spent (SetAll handle n) (checked.Create name size) passes = absurd (let m = passes.made in cc)
-may_be_buffered files control spent (SetAll handle n) (checked.Delete index) passes = absurd (let m = passes.made in cc)
-may_be_buffered files control spent (SetAll handle n) (checked.Rename index name) passes = absurd (let m = passes.made in cc)
-may_be_buffered files control spent (SetAll handle n) (checked.Write index number place text) passes = refl
-may_be_buffered files control spent (SetAll handle n) (checked.SetAll index number m) passes = refl
+may_be_buffered : (files : List File) (control spent : ℕ) (change : Change) (made : Checked) → Passes files control (Some spent) change made
+    → is_bufferable made ≡ true
+may_be_buffered files control spent change (checked.Write index number place text) passes = refl
+may_be_buffered files control spent change (checked.SetAll index number n) passes = refl
+may_be_buffered files control spent (Write handle offset bytes) other passes = absurd (let m = passes.made in cc)
+may_be_buffered files control spent (SetAll handle n) other passes = absurd (let m = passes.made in cc)
+may_be_buffered files control spent other made passes = absurd (let r = passes.unrefused in cc)
 
 -- it costs what was asked for
 cost_is : (change : Change) (made : Checked) → is_bufferable made ≡ true → IsAsked change made → cost_of change ≡ cost_of_checked made
-cost_is change (checked.Create name size) may asked = absurd cc
-cost_is change (checked.Delete index) may asked = absurd cc
-cost_is change (checked.Rename index name) may asked = absurd cc
 cost_is change (checked.Write index handle offset bytes) may asked = ap cost_of asked
 cost_is change (checked.SetAll index handle n) may asked = ap cost_of asked
+cost_is change other may asked = absurd cc
 
 -- and that is left
-is_left : (files : List File) (control spent : ℕ) (change : Change) → first_refusal (change_rows layout_1 files control (Some spent) change) ≡ None → spent + cost_of change ≤ 8192
-is_left files control spent (Create name size) unrefused = absurd cc
-is_left files control spent (Delete name) unrefused = absurd cc
-is_left files control spent (Rename handle name) unrefused = absurd cc
+is_left : (files : List File) (control spent : ℕ) (change : Change) → first_refusal (change_rows layout_1 files control (Some spent) change) ≡ None
+    → spent + cost_of change ≤ 8192
 is_left files control spent (Write handle offset bytes) unrefused =
     let fits = not_refused (not (is_range_of (find (is_called handle) files) offset (pos (length bytes)))) _ _ unrefused in
     let own = not_refused (is_foreign_file control (find (is_called handle) files)) _ _ fits.1 in
@@ -173,184 +182,209 @@ is_left files control spent (SetAll handle n) unrefused =
     let own = not_refused (is_foreign_file control (find (is_called handle) files)) _ _ good.1 in
     let left = not_refused (is_over layout_1 (Some spent) (cost_of (SetAll handle n))) _ _ own.1 in
     leb-true _ _ (not-false (nat_le (spent + cost_of (SetAll handle n)) 8192) left.0)
+is_left files control spent other unrefused = absurd cc
 
 -- the change may be buffered
-pub may_buffer : (state : State) (ledger : Ledger) (control : ℕ) (change : Change) (made : Checked) → ChecksAt (totals_of state ledger) control change (Ok made) → is_some (transaction_at ledger.transactions control) ≡ true → MayBuffer ledger.transactions control made
-may_buffer StoreOff ledger control change made checks inside = absurd checks.1
-may_buffer (StoreReady files sequence) ledger control change made checks inside =
-    let both = by (transaction_at ledger.transactions control) inside checks.1 in record { bufferable = both.0; left = both.1 }
+pub may_buffer : (state : State) (holdings : Holdings) (control : ℕ) (change : Change) (made : Checked)
+    → ChecksAt (totals_of state holdings) control change (Ok made) → is_some (transaction_at holdings.transactions control) ≡ true
+    → MayBuffer holdings.transactions control made
+may_buffer StoreOff holdings control change made checks inside = absurd checks.1
+may_buffer (StoreReady files sequence) holdings control change made checks inside =
+    let both = by (transaction_at holdings.transactions control) inside checks.1 in record { bufferable = both.0; left = both.1 }
   where
-    by : (o : Option (List Change)) → is_some o ≡ true → Passes (with_tags ledger.handles.given files) control (option_map cost_of_all o) change made → (is_bufferable made ≡ true) × HasLeft o (cost_of_checked made)
+    by : (o : Option (List Change)) → is_some o ≡ true
+        → Passes (with_tags holdings.handles.given files) control (option_map cost_of_all o) change made
+        → (is_bufferable made ≡ true) × HasLeft o (cost_of_checked made)
     by None some passes = absurd cc
     by (Some buffer) some passes =
-        let may = may_be_buffered (with_tags ledger.handles.given files) control (cost_of_all buffer) change made passes in
-        (may, let left = is_left (with_tags ledger.handles.given files) control (cost_of_all buffer) change passes.unrefused in omega (arith, left, cost_is change made may passes.asked))
+        let may = may_be_buffered (with_tags holdings.handles.given files) control (cost_of_all buffer) change made passes in (
+          may,
+          let left = is_left (with_tags holdings.handles.given files) control (cost_of_all buffer) change passes.unrefused in omega
+              (arith, left, cost_is change made may passes.asked),
+        )
 
 -- a buffered change is the one that was asked for
 same_asked : (change other : Change) (made : Checked) → is_bufferable made ≡ true → IsAsked change made → IsAsked other made → other ≡ change
-same_asked change other (checked.Create name size) may asked again = absurd cc
-same_asked change other (checked.Delete index) may asked again = absurd cc
-same_asked change other (checked.Rename index name) may asked again = absurd cc
 same_asked change other (checked.Write index handle offset bytes) may asked again = again ∙ sym asked
 same_asked change other (checked.SetAll index handle n) may asked again = again ∙ sym asked
+same_asked change other made may asked again = absurd cc
 
 inside_some : (transaction : Option (List Change)) → is_some transaction ≡ true → (buffer : List Change) × (transaction ≡ Some buffer)
 inside_some None some = absurd cc
 inside_some (Some buffer) some = (buffer, refl)
 
 -- the handle of a file that was found was given
-given_below : (handle : ℤ) (files : List File) (next : ℕ) → AllByRecursion (λ h. h < next) (handles_of files) → AllByRecursion (λ file. is_called handle file ≡ true → IsGiven next handle) files
+given_below : (handle : ℤ) (files : List File) (next : ℕ) → AllByRecursion (λ h. h < next) (handles_of files)
+    → AllByRecursion (λ file. is_called handle file ≡ true → IsGiven next handle) files
 given_below handle [] next below = tt
-given_below (pos h) (first ∷ files) next below = (λ called. let same = eqb-true first.handle h called in let lt = below.0 in omega (arith, same, lt), given_below (pos h) files next below.1)
+given_below (pos h) (first ∷ files) next below =
+    (λ called. let same = eqb-true first.handle h called in let lt = below.0 in omega (arith, same, lt), given_below (pos h) files next below.1)
 given_below (negsuc n) (first ∷ files) next below = (λ called. absurd cc, given_below (negsuc n) files next below.1)
 
 -- a change that is let through and bufferable is what may be buffered
-is_buffered : (files : List File) (control : ℕ) (spent : Option ℕ) (change : Change) (next : ℕ) → AreDistinct (handles_of files) → AllByRecursion (λ h. h < next) (handles_of files) → first_refusal (change_rows layout_1 files control spent change) ≡ None → is_some spent ≡ true
+is_buffered : (files : List File) (control : ℕ) (spent : Option ℕ) (change : Change) (next : ℕ) → AreDistinct (handles_of files)
+    → AllByRecursion (λ h. h < next) (handles_of files) → first_refusal (change_rows layout_1 files control spent change) ≡ None → is_some spent ≡ true
     → IsBuffered files next change
 is_buffered files control None change next distinct below unrefused inside = absurd cc
-is_buffered files control (Some spent) (Create name size) next distinct below unrefused inside = absurd cc
-is_buffered files control (Some spent) (Delete name) next distinct below unrefused inside = absurd cc
-is_buffered files control (Some spent) (Rename handle name) next distinct below unrefused inside = absurd cc
 is_buffered files control (Some spent) (Write handle offset bytes) next distinct below unrefused inside =
     let fits = range_fits files control (Some spent) handle offset bytes unrefused in
-    let found = ranged (find (is_called handle) files) offset (pos (length bytes)) fits in
-    (found_has (is_called handle) (λ file. IsGiven next handle) files found.0 (given_below handle files next below) found.1, all_fit files handle offset (length bytes) distinct fits)
+    let found = ranged (find (is_called handle) files) offset (pos (length bytes)) fits in (
+      found_has (is_called handle) (λ file. IsGiven next handle) files found.0 (given_below handle files next below) found.1,
+      all_fit files handle offset (length bytes) distinct fits,
+    )
 is_buffered files control (Some spent) (SetAll handle n) next distinct below unrefused inside = (value_fits files control (Some spent) handle n unrefused).1
+is_buffered files control (Some spent) other next distinct below unrefused inside = absurd cc
 
-module _ {D : Type 0} (bound : Ghosts D) (disk : D) (only : bound.honest disk → (bytes : List ℕ) → (bound.state disk).left_since (bound.state disk).moment bytes → MayLeave (bound.state disk) bytes)
-    (files : List PlainFile) (sequence : ℕ) (ledger : Ledger) (control : ℕ) (change : Change) (made : Checked)
-    (checks : ChecksAt (totals_of (StoreReady files sequence) ledger) control change (Ok made)) (directory : IsDirectory LAYOUT_1 files) (sound : IsSound (StoreReady files sequence) ledger)
+module _ {D : Type 0} (bound : Ghosts D) (disk : D)
+    (only : bound.honest disk → (bytes : List ℕ) → (bound.state disk).left_since (bound.state disk).moment bytes → MayLeave (bound.state disk) bytes)
+    (files : List PlainFile) (sequence : ℕ) (holdings : Holdings) (control : ℕ) (change : Change) (made : Checked)
+    (checks : ChecksAt (totals_of (StoreReady files sequence) holdings) control change (Ok made)) (directory : IsDirectory LAYOUT_1 files)
+    (sound : IsSound (StoreReady files sequence) holdings)
     (leaves : bound.honest disk → LeavesItsFiles (StoreReady files sequence) (bound.state disk)) where
   abbrev before : Totals
-  before = totals_of (StoreReady files sequence) ledger
+  before = totals_of (StoreReady files sequence) holdings
 
   abbrev old_view : TotalsView D
-  old_view = view_at disk (StoreReady files sequence) ledger
+  old_view = view_at disk (StoreReady files sequence) holdings
 
-  abbrev with_change : List Change → Ledger
-  with_change buffer = record ledger { transactions = slice_set ledger.transactions control (Some (buffer ++ change ∷ [])) }
+  abbrev with_change : List Change → Holdings
+  with_change buffer = record holdings { transactions = slice_set holdings.transactions control (Some (buffer ++ change ∷ [])) }
 
   -- the change is buffered
-  pub is_added : (buffer : List Change) → transaction_at ledger.transactions control ≡ Some buffer
+  pub is_added : (buffer : List Change) → transaction_at holdings.transactions control ≡ Some buffer
       → Changes bound old_view control change (Ok (answer.Done value.Empty)) (view_at disk (StoreReady files sequence) (with_change buffer))
       × IsSound (StoreReady files sequence) (with_change buffer)
   is_added buffer some =
-      let xs = with_tags ledger.handles.given files in
-      let unrefused = passed (StoreReady files sequence) ledger control change made checks in
+      let xs = with_tags holdings.handles.given files in
+      let unrefused = passed (StoreReady files sequence) holdings control change made checks in
       let none : group_by_change layout_1 before control change ≡ [] = grouped before control change true unrefused (ap is_some some) in
-      let both = sound_files ledger.handles.given files ledger.handles.next directory sound.handles in (
+      let both = sound_files holdings.handles.given files holdings.handles.next directory sound.handles in (
         record {
           answer = open_table (refusals_of_change layout_1 before control change) _ _ _ unrefused (does_inside _ before control change buffer some);
-          disk = rw none (idles bound disk only before (totals_of (StoreReady files sequence) (with_change buffer)) [] _ refl refl (λ refused. absurd (refused tt))
-              (λ h. their_files ledger.handles.given (StoreReady files sequence) ledger.handles.next (bound.state disk) sound.handles (leaves h)));
+          disk = rw none (idles bound disk only before (totals_of (StoreReady files sequence) (with_change buffer)) [] _ refl refl
+              (λ refused. absurd (refused tt))
+              (λ h. their_files holdings.handles.given (StoreReady files sequence) holdings.handles.next (bound.state disk) sound.handles (leaves h)));
         },
         record {
           handles = sound.handles;
           apart = sound.apart;
-          buffers = held_with (Ready xs sequence) ledger.handles.next ledger.transactions control (Some (buffer ++ change ∷ [])) sound.buffers
-              (all_with (IsBuffered xs ledger.handles.next) buffer change (held_at (Ready xs sequence) ledger.handles.next ledger.transactions control buffer sound.buffers some)
-              (is_buffered xs control (spent_by before control) change ledger.handles.next both.1 (subst (AllByRecursion (λ h. h < ledger.handles.next)) (sym (numbers_in ledger.handles.given files sound.handles.count)) sound.handles.below) checks.1.unrefused
+          buffers = held_with (Ready xs sequence) holdings.handles.next holdings.transactions control (Some (buffer ++ change ∷ [])) sound.buffers
+              (all_with (IsBuffered xs holdings.handles.next) buffer change
+              (held_at (Ready xs sequence) holdings.handles.next holdings.transactions control buffer sound.buffers some)
+              (is_buffered xs control (spent_by before control) change holdings.handles.next both.1
+              (subst (AllByRecursion (λ h. h < holdings.handles.next))
+              (sym (numbers_in holdings.handles.given files sound.handles.count)) sound.handles.below) checks.1.unrefused
               (ap (λ (t : Option (List Change)). is_some (option_map cost_of_all t)) some)));
         },
       )
 
-  pub buffers : (outcome : Result Answer NoMemory) (new : List (Option (List Change))) → is_some (transaction_at ledger.transactions control) ≡ true → Buffers ledger.transactions control made outcome new
-      → Changes bound old_view control change outcome (view_at disk (StoreReady files sequence) (record ledger { transactions = new })) × IsSound (StoreReady files sequence) (record ledger { transactions = new })
+  pub buffers : (outcome : Result Answer NoMemory) (new : List (Option (List Change)))
+      → is_some (transaction_at holdings.transactions control) ≡ true → Buffers holdings.transactions control made outcome new
+      → Changes bound old_view control change outcome (view_at disk (StoreReady files sequence) (record holdings { transactions = new })) × IsSound
+      (StoreReady files sequence) (record holdings { transactions = new })
   buffers (Err want) new inside same = rw same (
-    stays bound disk only (StoreReady files sequence) ledger control change (Err want) directory sound leaves (wants (StoreReady files sequence) ledger control change made checks want),
+    stays bound disk only (StoreReady files sequence) holdings control change (Err want) directory sound leaves
+        (wants (StoreReady files sequence) holdings control change made checks want),
     sound,
   )
   buffers (Ok result) new inside did =
-      let some = inside_some (transaction_at ledger.transactions control) inside in
-      let may = may_buffer (StoreReady files sequence) ledger control change made checks inside in
+      let some = inside_some (transaction_at holdings.transactions control) inside in
+      let may = may_buffer (StoreReady files sequence) holdings control change made checks inside in
       let is : new ≡ (with_change some.0).transactions =
-      did.1.added ∙ ap (with_buffered ledger.transactions control) (same_asked change did.1.change made may.bufferable checks.1.asked did.1.asked)
-      ∙ ap (λ (t : Option (List Change)). slice_set ledger.transactions control (option_map (λ b. b ++ change ∷ []) t)) some.1 in
+      did.1.added ∙ ap (with_buffered holdings.transactions control) (same_asked change did.1.change made may.bufferable checks.1.asked did.1.asked)
+      ∙ ap (λ (t : Option (List Change)). slice_set holdings.transactions control (option_map (λ b. b ++ change ∷ []) t)) some.1 in
       rw (is, did.0) (is_added some.0 some.1)
 
 -- ---- a change outside a transaction
 
 lacks_is : (files : List File) (change : Change) (next : ℕ) → lacks next (file_change files change) ≡ (is_create change && nat_eq next last_number)
 lacks_is files (Create name size) next = refl
-lacks_is files (Delete name) next = refl
-lacks_is files (Rename handle name) next = refl
-lacks_is files (Write handle offset bytes) next = refl
-lacks_is files (SetAll handle n) next = refl
+lacks_is files other next = refl
 
-lacks_so : (files : List File) (change : Change) (next : ℕ) (made : Checked) (b : Bool) → file_change files change ≡ file_change_of made → lacks next (file_change_of made) ≡ b → (is_create change && nat_eq next last_number) ≡ b
+lacks_so : (files : List File) (change : Change) (next : ℕ) (made : Checked) (b : Bool) → file_change files change ≡ file_change_of made
+    → lacks next (file_change_of made) ≡ b → (is_create change && nat_eq next last_number) ≡ b
 lacks_so files change next made b same lacking = sym (lacks_is files change next) ∙ ap (lacks next) same ∙ lacking
 
 -- the answer of a change that has no handle
-pub lacking : (state : State) (ledger : Ledger) (control : ℕ) (change : Change) (made : Checked) → ChecksAt (totals_of state ledger) control change (Ok made) → is_some (transaction_at ledger.transactions control) ≡ false
-    → lacks ledger.handles.next (file_change_of made) ≡ true
-    → (DiskFailed : Type 0) → Changed layout_1 DiskFailed (totals_of state ledger) control change (Ok (answer.Refused code.Failure 0)) (totals_of state ledger)
-lacking StoreOff ledger control change made checks free out DiskFailed = absurd checks.1
-lacking (StoreReady files sequence) ledger control change made checks free out DiskFailed =
-    let before = totals_of (StoreReady files sequence) ledger in
-    let lacking = lacks_so (with_tags ledger.handles.given files) change ledger.handles.next made true checks.1.made out in
-    open_table (refusals_of_change layout_1 before control change) _ _ _ (passed (StoreReady files sequence) ledger control change made checks)
-    (does_outside DiskFailed before control change _ before (outside (transaction_at ledger.transactions control) free)
-    (closed_table (number_rows before change) _ (answer.Refused code.Failure 0) _ _ (ap (λ b. cond b (Some (answer.Refused code.Failure 0)) None) lacking) refl refl))
+pub lacking : (state : State) (holdings : Holdings) (control : ℕ) (change : Change) (made : Checked)
+    → ChecksAt (totals_of state holdings) control change (Ok made) → is_some (transaction_at holdings.transactions control) ≡ false
+    → lacks holdings.handles.next (file_change_of made) ≡ true
+    → (DiskFailed : Type 0) → Changed layout_1 DiskFailed (totals_of state holdings) control change (Ok (answer.Refused code.Failure 0))
+    (totals_of state holdings)
+lacking StoreOff holdings control change made checks free out DiskFailed = absurd checks.1
+lacking (StoreReady files sequence) holdings control change made checks free out DiskFailed =
+    let before = totals_of (StoreReady files sequence) holdings in
+    let lacking = lacks_so (with_tags holdings.handles.given files) change holdings.handles.next made true checks.1.made out in
+    open_table (refusals_of_change layout_1 before control change) _ _ _ (passed (StoreReady files sequence) holdings control change made checks)
+    (does_outside DiskFailed before control change _ before (outside (transaction_at holdings.transactions control) free)
+    (closed_table (number_rows before change) _ (answer.Refused code.Failure 0) _ _
+    (ap (λ b. cond b (Some (answer.Refused code.Failure 0)) None) lacking) refl refl))
 
 -- the tags have a place for what the change does to them
-has_place : (files : List File) (control : ℕ) (spent : Option ℕ) (change : Change) (next : ℕ) → first_refusal (change_rows layout_1 files control spent change) ≡ None → (is_create change && nat_eq next last_number) ≡ false → next < 2 ^ 64
+has_place : (files : List File) (control : ℕ) (spent : Option ℕ) (change : Change) (next : ℕ)
+    → first_refusal (change_rows layout_1 files control spent change) ≡ None → (is_create change && nat_eq next last_number) ≡ false → next < 2 ^ 64
     → HasPlace (tags_of files) next (file_change files change)
 has_place files control spent (Create name size) next unrefused left small =
     let good = not_refused (is_some spent || not (is_name name && is_natural size)) _ _ unrefused in
     let free = not_refused (has_file (is_named name) files) _ _ good.1 in
     let room = not_refused (not (has_room layout_1 files size)) _ _ free.1 in
-    let few = ltb-true (length files) 64 (and_parts (is_up_to (free_data layout_1 files) size) (nat_lt (length files) 64) (not-false (has_room layout_1 files size) room.0)).1 in
+    let few = ltb-true (length files) 64
+    (and_parts (is_up_to (free_data layout_1 files) size) (nat_lt (length files) 64) (not-false (has_room layout_1 files size) room.0)).1 in
     let other = eqb-false next last_number left in
     (omega (arith, length-map files tag_of, few), omega (arith, other, small))
 has_place files control spent (Delete name) next unrefused left small =
     let found = deleted files control spent name unrefused in
     let inside = found_inside (is_named name) files found.0 found.1 in
     omega (arith, length-map files tag_of, inside)
-has_place files control spent (Rename handle name) next unrefused left small = tt
-has_place files control spent (Write handle offset bytes) next unrefused left small = tt
-has_place files control spent (SetAll handle n) next unrefused left small = tt
+has_place files control spent other next unrefused left small = tt
 
-pub place : (state : State) (ledger : Ledger) (control : ℕ) (change : Change) (made : Checked) → IsSound state ledger → ChecksAt (totals_of state ledger) control change (Ok made) → lacks ledger.handles.next (file_change_of made) ≡ false → ledger.handles.next < 2 ^ 64
-    → HasPlace ledger.handles.given ledger.handles.next (file_change_of made)
-place StoreOff ledger control change made sound checks left small = absurd checks.1
-place (StoreReady files sequence) ledger control change made sound checks left small =
-    let xs = with_tags ledger.handles.given files in
-    subst (λ (tags : List Tag). HasPlace tags ledger.handles.next (file_change_of made)) (tags_in ledger.handles.given files sound.handles.count)
-    (subst (λ (file : FileChange). HasPlace (tags_of xs) ledger.handles.next file) checks.1.made
-    (has_place xs control (spent_by (totals_of (StoreReady files sequence) ledger) control) change ledger.handles.next checks.1.unrefused (lacks_so xs change ledger.handles.next made false checks.1.made left) small))
+pub place : (state : State) (holdings : Holdings) (control : ℕ) (change : Change) (made : Checked) → IsSound state holdings
+    → ChecksAt (totals_of state holdings) control change (Ok made) → lacks holdings.handles.next (file_change_of made) ≡ false → holdings.handles.next < 2 ^ 64
+    → HasPlace holdings.handles.given holdings.handles.next (file_change_of made)
+place StoreOff holdings control change made sound checks left small = absurd checks.1
+place (StoreReady files sequence) holdings control change made sound checks left small =
+    let xs = with_tags holdings.handles.given files in
+    subst (λ (tags : List Tag). HasPlace tags holdings.handles.next (file_change_of made)) (tags_in holdings.handles.given files sound.handles.count)
+    (subst (λ (file : FileChange). HasPlace (tags_of xs) holdings.handles.next file) checks.1.made
+    (has_place xs control (spent_by (totals_of (StoreReady files sequence) holdings) control) change holdings.handles.next checks.1.unrefused
+    (lacks_so xs change holdings.handles.next made false checks.1.made left) small))
 
--- the ledger after a change that was done
-abbrev pub kept_ledger : Ledger → FileChange → Ledger
-kept_ledger ledger made = record ledger { handles = record { given = given_after ledger.handles.given ledger.handles.next made; next = following ledger.handles.next made } }
+-- the holdings after a change that was done
+abbrev pub kept_holdings : Holdings → FileChange → Holdings
+kept_holdings holdings made = record holdings
+    { handles = record { given = given_after holdings.handles.given holdings.handles.next made; next = following holdings.handles.next made } }
 
--- the ledger after a call whose group the store refused
-abbrev pub refused_ledger : Ledger → StoreFault → Ledger
-refused_ledger ledger cause = record ledger { transactions = transactions_after cause ledger.transactions }
+-- the holdings after a call whose group the store refused
+abbrev pub refused_holdings : Holdings → StoreFault → Holdings
+refused_holdings holdings cause = record holdings { transactions = transactions_after cause holdings.transactions }
 
-module _ {D : Type 0} (bound : Ghosts D) (disk : D) (only : bound.honest disk → (bytes : List ℕ) → (bound.state disk).left_since (bound.state disk).moment bytes → MayLeave (bound.state disk) bytes)
-    (files : List PlainFile) (sequence tail : ℕ) (ledger : Ledger) (control : ℕ) (change : Change) (made : Checked)
-    (checks : ChecksAt (totals_of (StoreReady files sequence) ledger) control change (Ok made)) (free : is_some (transaction_at ledger.transactions control) ≡ false)
-    (directory : IsDirectory LAYOUT_1 files) (sound : IsSound (StoreReady files sequence) ledger) (leaves : bound.honest disk → LeavesItsFiles (StoreReady files sequence) (bound.state disk)) where
+module _ {D : Type 0} (bound : Ghosts D) (disk : D)
+    (only : bound.honest disk → (bytes : List ℕ) → (bound.state disk).left_since (bound.state disk).moment bytes → MayLeave (bound.state disk) bytes)
+    (files : List PlainFile) (sequence tail : ℕ) (holdings : Holdings) (control : ℕ) (change : Change) (made : Checked)
+    (checks : ChecksAt (totals_of (StoreReady files sequence) holdings) control change (Ok made))
+    (free : is_some (transaction_at holdings.transactions control) ≡ false)
+    (directory : IsDirectory LAYOUT_1 files) (sound : IsSound (StoreReady files sequence) holdings)
+    (leaves : bound.honest disk → LeavesItsFiles (StoreReady files sequence) (bound.state disk)) where
   abbrev ready : Totals
-  ready = totals_of (StoreReady files sequence) ledger
+  ready = totals_of (StoreReady files sequence) holdings
 
   abbrev ready_store : StoreView D
   ready_store = record { disk = disk; state = StoreReady files sequence; tail = tail }
 
   abbrev there : List File
-  there = with_tags ledger.handles.given files
+  there = with_tags holdings.handles.given files
 
   abbrev group : List FileChange
   group = group_of there (change ∷ [])
 
   abbrev next : ℕ
-  next = ledger.handles.next
+  next = holdings.handles.next
 
   let_through : first_refusal (refusals_of_change layout_1 ready control change) ≡ None
-  let_through = passed (StoreReady files sequence) ledger control change made checks
+  let_through = passed (StoreReady files sequence) holdings control change made checks
 
   both : IsDirectory LAYOUT_1 (plain there) × AreDistinct (handles_of there)
-  both = sound_files ledger.handles.given files next directory sound.handles
+  both = sound_files holdings.handles.given files next directory sound.handles
 
   one : IsOneGroup ready (change ∷ [])
   one = makes_group there control (spent_by ready control) change next both.0 both.1 checks.1.unrefused
@@ -364,127 +398,160 @@ module _ {D : Type 0} (bound : Ghosts D) (disk : D) (only : bound.honest disk �
 
   -- what the change is answered, the handle being there
   answered : (DiskFailed : Type 0) (result : Answer) (new : Totals) → (is_create change && nat_eq next last_number) ≡ false
-      → RunsOut ready result new ⊎ Done DiskFailed ready (change ∷ []) (given_by next change) result new → Changed layout_1 DiskFailed ready control change (Ok result) new
+      → RunsOut ready result new ⊎ Done DiskFailed ready (change ∷ []) (given_by next change) result new
+      → Changed layout_1 DiskFailed ready control change (Ok result) new
   answered DiskFailed result new left does =
       open_table (refusals_of_change layout_1 ready control change) _ _ _ let_through
-      (does_outside DiskFailed ready control change result new (outside (transaction_at ledger.transactions control) free)
+      (does_outside DiskFailed ready control change result new (outside (transaction_at holdings.transactions control) free)
       (open_table (number_rows ready change) _ _ _ (ap (λ b. cond b (Some (answer.Refused code.Failure 0)) None) left) does))
 
   -- a change that the store has put down
   done : (new : StoreView D) → Commits bound ready_store group (Ok tt) new → (is_create change && nat_eq next last_number) ≡ false
-      → Changes bound (view_of ready_store ledger) control change (Ok (answer.Done (given_by next change))) (record { disk = new.disk; totals = after_changes ready (change ∷ []) then_sequence })
+      → Changes bound (view_of ready_store holdings) control change (Ok (answer.Done (given_by next change)))
+      (record { disk = new.disk; totals = after_changes ready (change ∷ []) then_sequence })
   done new commits left =
-      let down = put_down bound disk files sequence tail ledger change [] sound.handles one (Ok tt) new commits.answer in
+      let down = put_down bound disk files sequence tail holdings change [] sound.handles one (Ok tt) new commits.answer in
       record {
-        answer = answered (HasFailed bound disk new.disk) _ _ left (inr (inl (refl, record { sequence = then_sequence; follows = follows tail group sequence down.0; totals = refl })));
-        disk = rw is_ungrouped (put_group bound disk files sequence tail ledger change [] sound.handles one new (after_changes ready (change ∷ []) then_sequence) (given_by next change) commits refl);
+        answer = answered (HasFailed bound disk new.disk) _ _ left
+            (inr (inl (refl, record { sequence = then_sequence; follows = follows tail group sequence down.0; totals = refl })));
+        disk = rw is_ungrouped (put_group bound disk files sequence tail holdings change [] sound.handles one new
+            (after_changes ready (change ∷ []) then_sequence) (given_by next change) commits refl);
       }
 
   abbrev as_made : FileChange
   as_made = file_change there change
 
-  -- the totals after it, by the store and the ledger
+  -- the totals after it, by the store and the holdings
   after_done : (new : StoreView D) → Commits bound ready_store group (Ok tt) new → (is_create change && nat_eq next last_number) ≡ false
-      → Changes bound (view_of ready_store ledger) control change (Ok (answer.Done (value_after next as_made))) (view_of new (kept_ledger ledger as_made))
+      → Changes bound (view_of ready_store holdings) control change (Ok (answer.Done (value_after next as_made))) (view_of new (kept_holdings holdings as_made))
   after_done new commits left =
-      let down = put_down bound disk files sequence tail ledger change [] sound.handles one (Ok tt) new commits.answer in
-      let given : given_after ledger.handles.given next as_made ≡ tags_of (files_after next there change) =
-      ap (λ (tags : List Tag). given_after tags next as_made) (sym (tags_in ledger.handles.given files sound.handles.count)) ∙ given_is there control (spent_by ready control) change next both.0.distinct checks.1.unrefused in
+      let down = put_down bound disk files sequence tail holdings change [] sound.handles one (Ok tt) new commits.answer in
+      let given : given_after holdings.handles.given next as_made ≡ tags_of (files_after next there change) =
+      ap (λ (tags : List Tag). given_after tags next as_made) (sym (tags_in holdings.handles.given files sound.handles.count))
+      ∙ given_is there control (spent_by ready control) change next both.0.distinct checks.1.unrefused in
       rw (down.1, given, value_is there change next, next_is there change next, called_again (files_after next there change)) (done new commits left)
 
-  sound_after : (new : StoreView D) → Commits bound ready_store group (Ok tt) new → IsSound new.state (kept_ledger ledger as_made)
+  sound_after : (new : StoreView D) → Commits bound ready_store group (Ok tt) new → IsSound new.state (kept_holdings holdings as_made)
   sound_after new commits =
-      let down = put_down bound disk files sequence tail ledger change [] sound.handles one (Ok tt) new commits.answer in
+      let down = put_down bound disk files sequence tail holdings change [] sound.handles one (Ok tt) new commits.answer in
       let spent = spent_by ready control in
       let after = files_after next there change in
-      let old : AreHandles (tags_of there) (plain there) next = rw (tags_in ledger.handles.given files sound.handles.count, plain_of ledger.handles.given files sound.handles.count) sound.handles in
-      let given : given_after ledger.handles.given next as_made ≡ tags_of after =
-      ap (λ (tags : List Tag). given_after tags next as_made) (sym (tags_in ledger.handles.given files sound.handles.count)) ∙ given_is there control spent change next both.0.distinct checks.1.unrefused in
-      let buffers : HaveBuffers (Ready after then_sequence) (next_after next change) ledger.transactions =
-      holds_so there after sequence then_sequence next (next_after next change) ledger.transactions (λ other is. buffered_after there control spent change next other both.1 checks.1.unrefused is) sound.buffers in
+      let old : AreHandles (tags_of there) (plain there) next =
+      rw (tags_in holdings.handles.given files sound.handles.count, plain_of holdings.handles.given files sound.handles.count) sound.handles in
+      let given : given_after holdings.handles.given next as_made ≡ tags_of after =
+      ap (λ (tags : List Tag). given_after tags next as_made) (sym (tags_in holdings.handles.given files sound.handles.count))
+      ∙ given_is there control spent change next both.0.distinct checks.1.unrefused in
+      let buffers : HaveBuffers (Ready after then_sequence) (next_after next change) holdings.transactions =
+      holds_so there after sequence then_sequence next (next_after next change) holdings.transactions
+      (λ other is. buffered_after there control spent change next other both.1 checks.1.unrefused is) sound.buffers in
       rw down.1 (record {
-        handles = subst (λ (tags : List Tag). AreHandles (given_after tags next as_made) (plain after) (following next as_made)) (tags_in ledger.handles.given files sound.handles.count)
+        handles = subst (λ (tags : List Tag). AreHandles (given_after tags next as_made) (plain after) (following next as_made))
+            (tags_in holdings.handles.given files sound.handles.count)
             (are_after there control spent change next both.0.distinct old checks.1.unrefused);
         buffers = rw (given, called_again after, next_is there change next) buffers;
-        apart = apart_after ledger.area ledger.handles.given next as_made sound.apart;
+        apart = apart_after holdings.area holdings.handles.given next as_made sound.apart;
       })
 
   -- a change in which the store met a fault
   failed : (new : StoreView D) (cause : StoreFault) → (is_create change && nat_eq next last_number) ≡ false → Commits bound ready_store group (Err cause) new
-      → Changes bound (view_of ready_store ledger) control change (answer_of cause) (view_of new (refused_ledger ledger cause)) × IsSound new.state (refused_ledger ledger cause)
-  failed new fault.Off left commits = absurd (put_down bound disk files sequence tail ledger change [] sound.handles one (Err fault.Off) new commits.answer)
-  failed new (fault.Refused refusal) left commits = absurd (put_down bound disk files sequence tail ledger change [] sound.handles one (Err (fault.Refused refusal)) new commits.answer)
-  failed new fault.Unformatted left commits = absurd (put_down bound disk files sequence tail ledger change [] sound.handles one (Err fault.Unformatted) new commits.answer)
-  failed new fault.Damaged left commits = absurd (put_down bound disk files sequence tail ledger change [] sound.handles one (Err fault.Damaged) new commits.answer)
+      → Changes bound (view_of ready_store holdings) control change (answer_of cause)
+      (view_of new (refused_holdings holdings cause)) × IsSound new.state (refused_holdings holdings cause)
+  failed new fault.Off left commits = absurd (put_down bound disk files sequence tail holdings change [] sound.handles one (Err fault.Off) new commits.answer)
+  failed new (fault.Refused refusal) left commits =
+      absurd (put_down bound disk files sequence tail holdings change [] sound.handles one (Err (fault.Refused refusal)) new commits.answer)
+  failed new fault.Unformatted left commits =
+      absurd (put_down bound disk files sequence tail holdings change [] sound.handles one (Err fault.Unformatted) new commits.answer)
+  failed new fault.Damaged left commits =
+      absurd (put_down bound disk files sequence tail holdings change [] sound.handles one (Err fault.Damaged) new commits.answer)
   failed new fault.NoMemory left commits =
       let same : new ≡ ready_store = ⊎_elim (λ is. absurd cc) (λ e. e) (commits.unchanged refl) in
-      rw same (stays bound disk only (StoreReady files sequence) ledger control change _ directory sound leaves (wants (StoreReady files sequence) ledger control change made checks (record {})), sound)
+      rw same (
+        stays bound disk only (StoreReady files sequence) holdings control change _ directory sound leaves
+            (wants (StoreReady files sequence) holdings control change made checks (record {})),
+        sound,
+      )
   failed new fault.Exhausted left commits =
-      let down = put_down bound disk files sequence tail ledger change [] sound.handles one (Err fault.Exhausted) new commits.answer in
+      let down = put_down bound disk files sequence tail holdings change [] sound.handles one (Err fault.Exhausted) new commits.answer in
       let last : nat_eq sequence last_number ≡ true = eq-eqb sequence last_number (let l = down.0.1 in omega (arith, l)) in
       rw down.1 (
-        stays bound disk only (StoreReady files sequence) ledger control change _ directory sound leaves (λ DiskFailed. answered DiskFailed _ _ left (inl (last, refl, refl))),
+        stays bound disk only (StoreReady files sequence) holdings control change _ directory sound leaves
+            (λ DiskFailed. answered DiskFailed _ _ left (inl (last, refl, refl))),
         sound,
       )
   failed new fault.Device left commits =
-      let down = put_down bound disk files sequence tail ledger change [] sound.handles one (Err fault.Device) new commits.answer in
+      let down = put_down bound disk files sequence tail holdings change [] sound.handles one (Err fault.Device) new commits.answer in
       rw down.1 (
         record {
           answer = answered (HasFailed bound disk new.disk) _ _ left (inr (inr (refl, λ h. commits.device h refl, refl)));
-          disk = rw is_ungrouped (doubt_group bound disk files sequence tail ledger change [] sound.handles one new (after_disk_fault ready) _ commits refl);
+          disk = rw is_ungrouped (doubt_group bound disk files sequence tail holdings change [] sound.handles one new (after_disk_fault ready) _ commits refl);
         },
-        record { handles = tt; buffers = none_hold Off next ledger.transactions; apart = tt },
+        record { handles = tt; buffers = none_hold Off next holdings.transactions; apart = tt },
       )
 
 -- ---- the same for a store in any state, by what the checks found
 
-module _ {D : Type 0} (bound : Ghosts D) (disk : D) (only : bound.honest disk → (bytes : List ℕ) → (bound.state disk).left_since (bound.state disk).moment bytes → MayLeave (bound.state disk) bytes)
-    (ledger : Ledger) (control : ℕ) (change : Change) (made : Checked) where
-  pub store_buffers : (state : State) → HasDirectory state → IsSound state ledger → (bound.honest disk → LeavesItsFiles state (bound.state disk)) → ChecksAt (totals_of state ledger) control change (Ok made)
-      → is_some (transaction_at ledger.transactions control) ≡ true → (outcome : Result Answer NoMemory) (new : List (Option (List Change))) → Buffers ledger.transactions control made outcome new
-      → Changes bound (view_at disk state ledger) control change outcome (view_at disk state (record ledger { transactions = new })) × IsSound state (record ledger { transactions = new })
+module _ {D : Type 0} (bound : Ghosts D) (disk : D)
+    (only : bound.honest disk → (bytes : List ℕ) → (bound.state disk).left_since (bound.state disk).moment bytes → MayLeave (bound.state disk) bytes)
+    (holdings : Holdings) (control : ℕ) (change : Change) (made : Checked) where
+  pub store_buffers : (state : State) → HasDirectory state → IsSound state holdings → (bound.honest disk → LeavesItsFiles state (bound.state disk))
+      → ChecksAt (totals_of state holdings) control change (Ok made)
+      → is_some (transaction_at holdings.transactions control) ≡ true → (outcome : Result Answer NoMemory) (new : List (Option (List Change)))
+      → Buffers holdings.transactions control made outcome new
+      → Changes bound (view_at disk state holdings) control change outcome
+      (view_at disk state (record holdings { transactions = new })) × IsSound state (record holdings { transactions = new })
   store_buffers StoreOff directory sound leaves checks inside outcome new did = absurd checks.1
   store_buffers (StoreReady files sequence) directory sound leaves checks inside outcome new did =
-      buffers bound disk only files sequence ledger control change made checks directory sound leaves outcome new inside did
+      buffers bound disk only files sequence holdings control change made checks directory sound leaves outcome new inside did
 
-  pub store_done : (state : State) (tail : ℕ) (new : StoreView D) → HasDirectory state → IsSound state ledger → (bound.honest disk → LeavesItsFiles state (bound.state disk)) → ChecksAt (totals_of state ledger) control change (Ok made)
-      → is_some (transaction_at ledger.transactions control) ≡ false → lacks ledger.handles.next (file_change_of made) ≡ false → Commits bound (record { disk = disk; state = state; tail = tail }) (file_change_of made ∷ []) (Ok tt) new
-      → Changes bound (view_at disk state ledger) control change (Ok (answer.Done (value_after ledger.handles.next (file_change_of made)))) (view_of new (kept_ledger ledger (file_change_of made)))
-      × IsSound new.state (kept_ledger ledger (file_change_of made))
+  pub store_done : (state : State) (tail : ℕ) (new : StoreView D) → HasDirectory state → IsSound state holdings
+      → (bound.honest disk → LeavesItsFiles state (bound.state disk)) → ChecksAt (totals_of state holdings) control change (Ok made)
+      → is_some (transaction_at holdings.transactions control) ≡ false → lacks holdings.handles.next (file_change_of made) ≡ false
+      → Commits bound (record { disk = disk; state = state; tail = tail }) (file_change_of made ∷ []) (Ok tt) new
+      → Changes bound (view_at disk state holdings) control change (Ok (answer.Done (value_after holdings.handles.next (file_change_of made))))
+      (view_of new (kept_holdings holdings (file_change_of made)))
+      × IsSound new.state (kept_holdings holdings (file_change_of made))
   store_done StoreOff tail new directory sound leaves checks free left commits = absurd checks.1
   store_done (StoreReady files sequence) tail new directory sound leaves checks free left commits =
-      let xs = with_tags ledger.handles.given files in
-      let before = subst (λ (file : FileChange). Commits bound (record { disk = disk; state = StoreReady files sequence; tail = tail }) (file ∷ []) (Ok tt) new) (sym checks.1.made) commits in
-      let numbers = lacks_so xs change ledger.handles.next made false checks.1.made left in
-      subst (λ (file : FileChange). Changes bound (view_at disk (StoreReady files sequence) ledger) control change (Ok (answer.Done (value_after ledger.handles.next file))) (view_of new (kept_ledger ledger file))
-      × IsSound new.state (kept_ledger ledger file)) checks.1.made (
-        after_done bound disk only files sequence tail ledger control change made checks free directory sound leaves new before numbers,
-        sound_after bound disk only files sequence tail ledger control change made checks free directory sound leaves new before,
+      let xs = with_tags holdings.handles.given files in
+      let before = subst (λ (file : FileChange). Commits bound (record { disk = disk; state = StoreReady files sequence; tail = tail }) (file ∷ [])
+      (Ok tt) new) (sym checks.1.made) commits in
+      let numbers = lacks_so xs change holdings.handles.next made false checks.1.made left in
+      subst (λ (file : FileChange). Changes bound (view_at disk (StoreReady files sequence) holdings) control change
+      (Ok (answer.Done (value_after holdings.handles.next file))) (view_of new (kept_holdings holdings file))
+      × IsSound new.state (kept_holdings holdings file)) checks.1.made (
+        after_done bound disk only files sequence tail holdings control change made checks free directory sound leaves new before numbers,
+        sound_after bound disk only files sequence tail holdings control change made checks free directory sound leaves new before,
       )
 
   -- whatever fault the store has
-  pub store_refused : (state : State) (tail : ℕ) (new : StoreView D) (cause : StoreFault) → HasDirectory state → IsSound state ledger → (bound.honest disk → LeavesItsFiles state (bound.state disk)) → ChecksAt (totals_of state ledger) control change (Ok made)
-      → is_some (transaction_at ledger.transactions control) ≡ false → lacks ledger.handles.next (file_change_of made) ≡ false → Commits bound (record { disk = disk; state = state; tail = tail }) (file_change_of made ∷ []) (Err cause) new
-      → Changes bound (view_at disk state ledger) control change (answer_of cause) (view_of new (refused_ledger ledger cause)) × IsSound new.state (refused_ledger ledger cause)
+  pub store_refused : (state : State) (tail : ℕ) (new : StoreView D) (cause : StoreFault) → HasDirectory state → IsSound state holdings
+      → (bound.honest disk → LeavesItsFiles state (bound.state disk)) → ChecksAt (totals_of state holdings) control change (Ok made)
+      → is_some (transaction_at holdings.transactions control) ≡ false → lacks holdings.handles.next (file_change_of made) ≡ false
+      → Commits bound (record { disk = disk; state = state; tail = tail }) (file_change_of made ∷ []) (Err cause) new
+      → Changes bound (view_at disk state holdings) control change (answer_of cause)
+      (view_of new (refused_holdings holdings cause)) × IsSound new.state (refused_holdings holdings cause)
   store_refused StoreOff tail new cause directory sound leaves checks free left commits = absurd checks.1
   store_refused (StoreReady files sequence) tail new cause directory sound leaves checks free left commits =
-      failed bound disk only files sequence tail ledger control change made checks free directory sound leaves new cause (lacks_so (with_tags ledger.handles.given files) change ledger.handles.next made false checks.1.made left)
-      (subst (λ (file : FileChange). Commits bound (record { disk = disk; state = StoreReady files sequence; tail = tail }) (file ∷ []) (Err cause) new) (sym checks.1.made) commits)
+      failed bound disk only files sequence tail holdings control change made checks free directory sound leaves new cause
+      (lacks_so (with_tags holdings.handles.given files) change holdings.handles.next made false checks.1.made left)
+      (subst (λ (file : FileChange). Commits bound (record { disk = disk; state = StoreReady files sequence; tail = tail }) (file ∷ [])
+      (Err cause) new) (sym checks.1.made) commits)
 
 -- the files of a store that is ready have handles of their own, what is buffered fits them, and claims are apart
-pub theirs : (state : State) (ledger : Ledger) → HasDirectory state → IsSound state ledger → HasItsFiles (totals_of state ledger)
-theirs StoreOff ledger directory sound = record { files = tt; buffers = sound.buffers; apart = none_apart ledger.area }
+pub theirs : (state : State) (holdings : Holdings) → HasDirectory state → IsSound state holdings → HasItsFiles (totals_of state holdings)
+theirs StoreOff holdings directory sound = record { files = tt; buffers = sound.buffers; apart = none_apart holdings.area }
   where
     none_apart : (area : Option ℕ) → IfSome area (λ holder. AllByRecursion (λ file. is_foreign_claim holder file ≡ false) [])
     none_apart None = tt
     none_apart (Some holder) = tt
-theirs (StoreReady files sequence) ledger directory sound =
-    let both = sound_files ledger.handles.given files ledger.handles.next directory sound.handles in record {
+theirs (StoreReady files sequence) holdings directory sound =
+    let both = sound_files holdings.handles.given files holdings.handles.next directory sound.handles in record {
       files = record {
         distinct = both.1;
-        below = subst (AllByRecursion (λ handle. handle < ledger.handles.next)) (sym (numbers_in ledger.handles.given files sound.handles.count)) sound.handles.below;
+        below = subst (AllByRecursion (λ handle. handle < holdings.handles.next))
+            (sym (numbers_in holdings.handles.given files sound.handles.count)) sound.handles.below;
         directory = both.0;
       };
       buffers = sound.buffers;
-      apart = files_apart ledger.area ledger.handles.given files sound.apart;
+      apart = files_apart holdings.area holdings.handles.given files sound.apart;
     }

@@ -25,11 +25,12 @@ use Rattle.pos_totals.specs.Tables.{HandleTable, tag_claimed, tag_released}
 use Rattle.pos_totals.specs.Views.{called, with_tags, numbers_of, mode_of, totals_of, AreDistinct, AreApart, HasHandles, IsSound}
 use Rattle.pos_totals.specs.declared.files.Files.{Files}
 use Rattle.pos_totals.specs.declared.handles.Tag.{Tag}
-use Rattle.pos_totals.specs.declared.ledger.Ledger.{Ledger}
+use Rattle.pos_totals.specs.declared.holdings.Holdings.{Holdings}
 
 -- ---- other claims
 
-claimed_files : (handle : ℕ) (claim : Option ℕ) (tags : List Tag) (files : List PlainFile) → with_tags (map (tag_claimed handle claim) tags) files ≡ with_each (is_called (pos handle)) (claimed claim) (with_tags tags files)
+claimed_files : (handle : ℕ) (claim : Option ℕ) (tags : List Tag) (files : List PlainFile)
+    → with_tags (map (tag_claimed handle claim) tags) files ≡ with_each (is_called (pos handle)) (claimed claim) (with_tags tags files)
 claimed_files handle claim [] files = refl
 claimed_files handle claim (tag ∷ tags) [] = refl
 claimed_files handle claim (tag ∷ tags) (file ∷ files) = by (nat_eq tag.handle handle) (claimed_files handle claim tags files)
@@ -40,7 +41,8 @@ claimed_files handle claim (tag ∷ tags) (file ∷ files) = by (nat_eq tag.hand
     by true rest = ap (λ fs. claimed claim (called tag file) ∷ fs) rest
     by false rest = ap (λ fs. called tag file ∷ fs) rest
 
-released_files : (control : ℕ) (tags : List Tag) (files : List PlainFile) → with_tags (map (tag_released control) tags) files ≡ with_each (is_own_claim control) (claimed None) (with_tags tags files)
+released_files : (control : ℕ) (tags : List Tag) (files : List PlainFile)
+    → with_tags (map (tag_released control) tags) files ≡ with_each (is_own_claim control) (claimed None) (with_tags tags files)
 released_files control [] files = refl
 released_files control (tag ∷ tags) [] = refl
 released_files control (tag ∷ tags) (file ∷ files) = by (is_own control tag.claim) (released_files control tags files)
@@ -51,11 +53,13 @@ released_files control (tag ∷ tags) (file ∷ files) = by (is_own control tag.
     by true rest = ap (λ fs. claimed None (called tag file) ∷ fs) rest
     by false rest = ap (λ fs. called tag file ∷ fs) rest
 
-claimed_mode : (handle : ℕ) (claim : Option ℕ) (tags : List Tag) (state : State) → mode_of (map (tag_claimed handle claim) tags) state ≡ with_files (with_each (is_called (pos handle)) (claimed claim)) (mode_of tags state)
+claimed_mode : (handle : ℕ) (claim : Option ℕ) (tags : List Tag) (state : State)
+    → mode_of (map (tag_claimed handle claim) tags) state ≡ with_files (with_each (is_called (pos handle)) (claimed claim)) (mode_of tags state)
 claimed_mode handle claim tags StoreOff = refl
 claimed_mode handle claim tags (StoreReady files sequence) = ap (λ fs. Ready fs sequence) (claimed_files handle claim tags files)
 
-pub released_mode : (control : ℕ) (tags : List Tag) (state : State) → mode_of (map (tag_released control) tags) state ≡ with_files (with_each (is_own_claim control) (claimed None)) (mode_of tags state)
+pub released_mode : (control : ℕ) (tags : List Tag) (state : State)
+    → mode_of (map (tag_released control) tags) state ≡ with_files (with_each (is_own_claim control) (claimed None)) (mode_of tags state)
 released_mode control tags StoreOff = refl
 released_mode control tags (StoreReady files sequence) = ap (λ fs. Ready fs sequence) (released_files control tags files)
 
@@ -65,7 +69,9 @@ claimed_numbers : (handle : ℕ) (claim : Option ℕ) (tags : List Tag) → numb
 claimed_numbers handle claim [] = refl
 claimed_numbers handle claim (tag ∷ tags) = by (nat_eq tag.handle handle) (claimed_numbers handle claim tags)
   where
-    by : (b : Bool) → numbers_of (map (tag_claimed handle claim) tags) ≡ numbers_of tags → ◌≡◌ {A = List ℕ} ((cond b (record tag { claim = claim }) tag).handle ∷ numbers_of (map (tag_claimed handle claim) tags)) (tag.handle ∷ numbers_of tags)
+    by : (b : Bool) → numbers_of (map (tag_claimed handle claim) tags) ≡ numbers_of tags
+        → ◌≡◌ {A = List ℕ} ((cond b (record tag { claim = claim }) tag).handle ∷ numbers_of (map (tag_claimed handle claim) tags))
+        (tag.handle ∷ numbers_of tags)
     by true rest = ap (λ ns. tag.handle ∷ ns) rest
     by false rest = ap (λ ns. tag.handle ∷ ns) rest
 
@@ -73,7 +79,8 @@ pub released_numbers : (control : ℕ) (tags : List Tag) → numbers_of (map (ta
 released_numbers control [] = refl
 released_numbers control (tag ∷ tags) = by (is_own control tag.claim) (released_numbers control tags)
   where
-    by : (b : Bool) → numbers_of (map (tag_released control) tags) ≡ numbers_of tags → ◌≡◌ {A = List ℕ} ((cond b (record tag { claim = None }) tag).handle ∷ numbers_of (map (tag_released control) tags)) (tag.handle ∷ numbers_of tags)
+    by : (b : Bool) → numbers_of (map (tag_released control) tags) ≡ numbers_of tags
+        → ◌≡◌ {A = List ℕ} ((cond b (record tag { claim = None }) tag).handle ∷ numbers_of (map (tag_released control) tags)) (tag.handle ∷ numbers_of tags)
     by true rest = ap (λ ns. tag.handle ∷ ns) rest
     by false rest = ap (λ ns. tag.handle ∷ ns) rest
 
@@ -88,95 +95,121 @@ same_outlines (x ∷ xs) (y ∷ ys) (file ∷ files) same =
     ap (λ n. (n, length file.bytes) ∷ outlines (with_tags xs files)) first ∙ ap (λ os. (y.handle, length file.bytes) ∷ os) (same_outlines xs ys files others)
 
 -- tags of the same handles are as sound
-pub sound_retagged : (state : State) (ledger : Ledger) (tags : List Tag) → numbers_of tags ≡ numbers_of ledger.handles.given → IsSound state ledger
-    → HasHandles state tags ledger.handles.next × HaveBuffers (mode_of tags state) ledger.handles.next ledger.transactions
-sound_retagged StoreOff ledger tags same sound = (tt, sound.buffers)
-sound_retagged (StoreReady files sequence) ledger tags same sound = (
+pub sound_retagged : (state : State) (holdings : Holdings) (tags : List Tag) → numbers_of tags ≡ numbers_of holdings.handles.given → IsSound state holdings
+    → HasHandles state tags holdings.handles.next × HaveBuffers (mode_of tags state) holdings.handles.next holdings.transactions
+sound_retagged StoreOff holdings tags same sound = (tt, sound.buffers)
+sound_retagged (StoreReady files sequence) holdings tags same sound = (
   record {
-    count = sym (length-map tags (λ tag. tag.handle)) ∙ ap length same ∙ length-map ledger.handles.given (λ tag. tag.handle) ∙ sound.handles.count;
+    count = sym (length-map tags (λ tag. tag.handle)) ∙ ap length same ∙ length-map holdings.handles.given (λ tag. tag.handle) ∙ sound.handles.count;
     distinct = subst AreDistinct (sym same) sound.handles.distinct;
-    below = subst (AllByRecursion (λ handle. handle < ledger.handles.next)) (sym same) sound.handles.below;
+    below = subst (AllByRecursion (λ handle. handle < holdings.handles.next)) (sym same) sound.handles.below;
   },
-  holds_so (with_tags ledger.handles.given files) (with_tags tags files) sequence sequence ledger.handles.next ledger.handles.next ledger.transactions
-      (λ change is. same_buffered (with_tags ledger.handles.given files) (with_tags tags files) ledger.handles.next change (sym (same_outlines tags ledger.handles.given files same)) is) sound.buffers,
+  holds_so (with_tags holdings.handles.given files) (with_tags tags files) sequence sequence holdings.handles.next holdings.handles.next holdings.transactions
+      (λ change is. same_buffered (with_tags holdings.handles.given files) (with_tags tags files) holdings.handles.next change
+      (sym (same_outlines tags holdings.handles.given files same)) is) sound.buffers,
 )
 
 -- ---- claims of a file
 
 -- the file is claimed, or no longer
-with_claim : (state : State) (ledger : Ledger) (table : HandleTable) (number : ℕ) (claim : Option ℕ) → table.given ≡ map (tag_claimed number claim) ledger.handles.given → table.next ≡ ledger.handles.next → IsSound state ledger → AreApart state ledger.area (map (tag_claimed number claim) ledger.handles.given)
-    → (totals_of state (record ledger { handles = table }) ≡ record (totals_of state ledger) { mode = with_files (with_each (is_called (pos number)) (claimed claim)) (mode_of ledger.handles.given state) }) × IsSound state (record ledger { handles = table })
-with_claim state ledger table number claim given next sound apart = rw (given, next) (
-  ap (λ (m : Mode). record (totals_of state ledger) { mode = m }) (claimed_mode number claim ledger.handles.given state),
-  let still = sound_retagged state ledger (map (tag_claimed number claim) ledger.handles.given) (claimed_numbers number claim ledger.handles.given) sound in
+with_claim : (state : State) (holdings : Holdings) (table : HandleTable) (number : ℕ) (claim : Option ℕ)
+    → table.given ≡ map (tag_claimed number claim) holdings.handles.given → table.next ≡ holdings.handles.next → IsSound state holdings
+    → AreApart state holdings.area (map (tag_claimed number claim) holdings.handles.given)
+    → (totals_of state (record holdings { handles = table }) ≡ record
+    (totals_of state holdings) {
+      mode = with_files (with_each (is_called (pos number)) (claimed claim))
+          (mode_of holdings.handles.given state);
+    }) × IsSound state (record holdings { handles = table })
+with_claim state holdings table number claim given next sound apart = rw (given, next) (
+  ap (λ (m : Mode). record (totals_of state holdings) { mode = m }) (claimed_mode number claim holdings.handles.given state),
+  let still = sound_retagged state holdings (map (tag_claimed number claim) holdings.handles.given)
+      (claimed_numbers number claim holdings.handles.given) sound in
       record { handles = still.0; buffers = still.1; apart = apart },
 )
 
 -- who claims a file doesn't find the area claimed by another
-still_apart : (state : State) (ledger : Ledger) (control : ℕ) (handle timeout : ℤ) (number : ℕ) → first_refusal (refusals_of_arrangement (totals_of state ledger) control (ClaimFile handle timeout)) ≡ None → AreApart state ledger.area ledger.handles.given
-    → AreApart state ledger.area (map (tag_claimed number (Some control)) ledger.handles.given)
-still_apart StoreOff ledger control handle timeout number passes apart = tt
-still_apart (StoreReady files sequence) ledger control handle timeout number passes apart =
-    let xs = with_tags ledger.handles.given files in
+still_apart : (state : State) (holdings : Holdings) (control : ℕ) (handle timeout : ℤ) (number : ℕ)
+    → first_refusal (refusals_of_arrangement (totals_of state holdings) control (ClaimFile handle timeout)) ≡ None
+    → AreApart state holdings.area holdings.handles.given
+    → AreApart state holdings.area (map (tag_claimed number (Some control)) holdings.handles.given)
+still_apart StoreOff holdings control handle timeout number passes apart = tt
+still_apart (StoreReady files sequence) holdings control handle timeout number passes apart =
+    let xs = with_tags holdings.handles.given files in
     let good = not_refused (not (has_file (is_called handle) xs && is_timeout timeout)) _ _ passes in
-    let own = not_refused (is_foreign control ledger.area || is_foreign_file control (find (is_called handle) xs)) _ _ good.1 in
-    apart_claimed ledger.area control number ledger.handles.given (neither (is_foreign control ledger.area) _ own.0).0 apart
+    let own = not_refused (is_foreign control holdings.area || is_foreign_file control (find (is_called handle) xs)) _ _ good.1 in
+    apart_claimed holdings.area control number holdings.handles.given (neither (is_foreign control holdings.area) _ own.0).0 apart
 
-pub file_claimed : (state : State) (ledger : Ledger) (control : ℕ) (handle timeout : ℤ) (number : ℕ) (table : HandleTable) → LetsThroughAt (totals_of state ledger) control (ClaimFile handle timeout) handle (Ok number)
-    → table.given ≡ map (tag_claimed number (Some control)) ledger.handles.given → table.next ≡ ledger.handles.next → IsSound state ledger
-    → Arranges (totals_of state ledger) control (ClaimFile handle timeout) (answer.Done value.Empty) (totals_of state (record ledger { handles = table })) × IsSound state (record ledger { handles = table })
-file_claimed state ledger control handle timeout number table through given next sound =
-    let both = with_claim state ledger table number (Some control) given next sound (still_apart state ledger control handle timeout number through.0 sound.apart) in
+pub file_claimed : (state : State) (holdings : Holdings) (control : ℕ) (handle timeout : ℤ) (number : ℕ) (table : HandleTable)
+    → LetsThroughAt (totals_of state holdings) control (ClaimFile handle timeout) handle (Ok number)
+    → table.given ≡ map (tag_claimed number (Some control)) holdings.handles.given → table.next ≡ holdings.handles.next → IsSound state holdings
+    → Arranges (totals_of state holdings) control (ClaimFile handle timeout) (answer.Done value.Empty)
+    (totals_of state (record holdings { handles = table })) × IsSound state (record holdings { handles = table })
+file_claimed state holdings control handle timeout number table through given next sound =
+    let both = with_claim state holdings table number (Some control) given next sound
+    (still_apart state holdings control handle timeout number through.0 sound.apart) in
     let is : handle ≡ pos number = through.1 in (
-      open_table (refusals_of_arrangement (totals_of state ledger) control (ClaimFile handle timeout)) _ _ _ through.0
-          (refl, both.0 ∙ ap (λ (h : ℤ). after_arrangement (totals_of state ledger) control (ClaimFile h timeout)) (sym is)),
+      open_table (refusals_of_arrangement (totals_of state holdings) control (ClaimFile handle timeout)) _ _ _ through.0
+          (refl, both.0 ∙ ap (λ (h : ℤ). after_arrangement (totals_of state holdings) control (ClaimFile h timeout)) (sym is)),
       both.1,
     )
 
-pub file_released : (state : State) (ledger : Ledger) (control : ℕ) (handle : ℤ) (number : ℕ) (table : HandleTable) → LetsThroughAt (totals_of state ledger) control (ReleaseFile handle) handle (Ok number)
-    → table.given ≡ map (tag_claimed number None) ledger.handles.given → table.next ≡ ledger.handles.next → IsSound state ledger
-    → Arranges (totals_of state ledger) control (ReleaseFile handle) (answer.Done value.Empty) (totals_of state (record ledger { handles = table })) × IsSound state (record ledger { handles = table })
-file_released state ledger control handle number table through given next sound =
-    let both = with_claim state ledger table number None given next sound
-    (apart_so state ledger.area ledger.area ledger.handles.given _ (apart_released ledger.area number ledger.handles.given) sound.apart) in
+pub file_released : (state : State) (holdings : Holdings) (control : ℕ) (handle : ℤ) (number : ℕ) (table : HandleTable)
+    → LetsThroughAt (totals_of state holdings) control (ReleaseFile handle) handle (Ok number)
+    → table.given ≡ map (tag_claimed number None) holdings.handles.given → table.next ≡ holdings.handles.next → IsSound state holdings
+    → Arranges (totals_of state holdings) control (ReleaseFile handle) (answer.Done value.Empty)
+    (totals_of state (record holdings { handles = table })) × IsSound state (record holdings { handles = table })
+file_released state holdings control handle number table through given next sound =
+    let both = with_claim state holdings table number None given next sound
+    (apart_so state holdings.area holdings.area holdings.handles.given _ (apart_released holdings.area number holdings.handles.given) sound.apart) in
     let is : handle ≡ pos number = through.1 in (
-      open_table (refusals_of_arrangement (totals_of state ledger) control (ReleaseFile handle)) _ _ _ through.0
-          (refl, both.0 ∙ ap (λ (h : ℤ). after_arrangement (totals_of state ledger) control (ReleaseFile h)) (sym is)),
+      open_table (refusals_of_arrangement (totals_of state holdings) control (ReleaseFile handle)) _ _ _ through.0
+          (refl, both.0 ∙ ap (λ (h : ℤ). after_arrangement (totals_of state holdings) control (ReleaseFile h)) (sym is)),
       both.1,
     )
 
 -- ---- claims of others
 
-foreign_tags : (control : ℕ) (tags : List Tag) (files : List PlainFile) → length tags ≡ length files → list_any (λ tag. is_foreign control tag.claim) tags ≡ list_any (is_foreign_claim control) (with_tags tags files)
+foreign_tags : (control : ℕ) (tags : List Tag) (files : List PlainFile) → length tags ≡ length files
+    → list_any (λ tag. is_foreign control tag.claim) tags ≡ list_any (is_foreign_claim control) (with_tags tags files)
 foreign_tags control [] [] same = refl
 foreign_tags control [] (file ∷ files) same = absurd (omega (arith, same))
 foreign_tags control (tag ∷ tags) [] same = absurd (omega (arith, same))
 foreign_tags control (tag ∷ tags) (file ∷ files) same = ap (λ b. is_foreign control tag.claim || b) (foreign_tags control tags files (omega (arith, same)))
 
 -- another control has claimed a file of those that are seen
-pub foreign_seen : (mode : Mode) (files : Files) (control : ℕ) → IsSeen mode (Some (files_in files)) → length files.tags.now ≡ length files.directory.now
+pub foreign_seen : (mode : Mode) (files : Files) (control : ℕ) → IsSeen mode (Some (files_in files)) → length files.tags.now ≡ length files.directory.now.files
     → list_any (λ tag. is_foreign control tag.claim) files.tags.now ≡ list_any (is_foreign_claim control) (files_of mode)
 foreign_seen Off files control seen same = absurd seen
-foreign_seen (Ready fs sequence) files control seen same = foreign_tags control files.tags.now files.directory.now same ∙ ap (list_any (is_foreign_claim control)) seen
+foreign_seen (Ready fs sequence) files control seen same =
+    foreign_tags control files.tags.now files.directory.now.files same ∙ ap (list_any (is_foreign_claim control)) seen
 
 -- ---- the end of all that a control has
 
 -- one more place, where there is no transaction
-pub held_more : (mode : Mode) (next : ℕ) (transactions : List (Option (List Change))) → HaveBuffers mode next transactions → HaveBuffers mode next (transactions ++ None ∷ [])
+pub held_more : (mode : Mode) (next : ℕ) (transactions : List (Option (List Change))) → HaveBuffers mode next transactions
+    → HaveBuffers mode next (transactions ++ None ∷ [])
 held_more mode next [] all = (none_held mode next, tt)
 held_more mode next (first ∷ others) all = (all.0, held_more mode next others all.1)
 
-pub control_dropped : (state : State) (ledger : Ledger) (control : ℕ) (table : HandleTable) → table.given ≡ map (tag_released control) ledger.handles.given → table.next ≡ ledger.handles.next → IsSound state ledger
-    → (totals_of state (record { handles = table; area = foreign_area control ledger.area; transactions = slice_set ledger.transactions control None }) ≡ without_control (totals_of state ledger) control)
-    × IsSound state (record { handles = table; area = foreign_area control ledger.area; transactions = slice_set ledger.transactions control None })
-control_dropped state ledger control table given next sound =
-    let tags = map (tag_released control) ledger.handles.given in
-    let still = sound_retagged state ledger tags (released_numbers control ledger.handles.given) sound in
+pub control_dropped : (state : State) (holdings : Holdings) (control : ℕ) (table : HandleTable)
+    → table.given ≡ map (tag_released control) holdings.handles.given → table.next ≡ holdings.handles.next → IsSound state holdings
+    → (totals_of state (record {
+      handles = table;
+      area = foreign_area control holdings.area;
+      transactions = slice_set holdings.transactions control
+          None;
+    }) ≡ without_control (totals_of state holdings) control)
+    × IsSound state (record { handles = table; area = foreign_area control holdings.area; transactions = slice_set holdings.transactions control None })
+control_dropped state holdings control table given next sound =
+    let tags = map (tag_released control) holdings.handles.given in
+    let still = sound_retagged state holdings tags (released_numbers control holdings.handles.given) sound in
     rw (given, next) (
-      ap (λ (m : Mode). record (without_control (totals_of state ledger) control) { mode = m }) (released_mode control ledger.handles.given state),
+      ap (λ (m : Mode). record (without_control (totals_of state holdings) control) { mode = m }) (released_mode control holdings.handles.given state),
       record {
         handles = still.0;
-        buffers = held_with (mode_of tags state) ledger.handles.next ledger.transactions control None still.1 (none_held (mode_of tags state) ledger.handles.next);
-        apart = apart_so state ledger.area (foreign_area control ledger.area) ledger.handles.given tags (apart_dropped ledger.area control ledger.handles.given) sound.apart;
+        buffers = held_with (mode_of tags state) holdings.handles.next holdings.transactions control None still.1
+            (none_held (mode_of tags state) holdings.handles.next);
+        apart = apart_so state holdings.area (foreign_area control holdings.area) holdings.handles.given tags
+            (apart_dropped holdings.area control holdings.handles.given) sound.apart;
       },
     )

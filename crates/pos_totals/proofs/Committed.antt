@@ -27,7 +27,7 @@ use Rattle.pos_store.specs.Modes.{Off as StoreOff, Ready as StoreReady, StoreVie
 use Rattle.pos_store.specs.declared.fault.StoreFault.{StoreFault}
 use Rattle.pos_store.specs.declared.fault.StoreFault.TheVariants as fault
 use Rattle.pos_totals.proofs.Buffered.{makes_all, outlines_after, tags_after, next_stays, held_at, held_with, holds_so, none_held, none_hold}
-use Rattle.pos_totals.proofs.Changed.{refused_ledger}
+use Rattle.pos_totals.proofs.Changed.{refused_holdings}
 use Rattle.pos_totals.proofs.Grouped.{not_refused}
 use Rattle.pos_totals.proofs.Outlined.{same_buffered}
 use Rattle.pos_totals.proofs.Pairs.{tags_in, called_again}
@@ -38,55 +38,70 @@ use Rattle.pos_totals.specs.Checks.{answer_of, Gathers}
 use Rattle.pos_totals.specs.Groups.{group_of}
 use Rattle.pos_totals.specs.Views.{TotalsView, plain, plain_file, tag_of, tags_of, mode_of, totals_of, view_of, with_tags, HasDirectory, IsSound, LeavesTheirFiles}
 use Rattle.pos_totals.specs.declared.handles.Tag.{Tag}
-use Rattle.pos_totals.specs.declared.ledger.Ledger.{Ledger}
+use Rattle.pos_totals.specs.declared.holdings.Holdings.{Holdings}
 
 -- ---- the plan
 
 -- what is buffered and isn't nothing makes a group
-pub gathers : (files : List File) (changes : List Change) (group : List FileChange) → nat_eq (length changes) 0 ≡ false → group ≡ group_of files changes → Gathers files (Some changes) group
+pub gathers : (files : List File) (changes : List Change) (group : List FileChange) → nat_eq (length changes) 0 ≡ false
+    → group ≡ group_of files changes → Gathers files (Some changes) group
 gathers files [] group some made = absurd cc
 gathers files (first ∷ others) group some made = record { first = first; others = others; buffered = refl; made = made }
 
 -- nothing refuses the commit
-pub unrefused : (files : List File) (control : ℕ) (changes : List Change) → list_any (is_of_none files) changes ≡ false → list_any (is_of_foreign files control) changes ≡ false → first_refusal (commit_rows files control (Some changes)) ≡ None
+pub unrefused : (files : List File) (control : ℕ) (changes : List Change) → list_any (is_of_none files) changes ≡ false
+    → list_any (is_of_foreign files control) changes ≡ false → first_refusal (commit_rows files control (Some changes)) ≡ None
 unrefused files control changes there own =
-    ap (λ b. cond b (Some (answer.Refused code.NoExist 0)) (cond (list_any (is_of_foreign files control) changes) (Some (answer.Refused code.Claimed 0)) None)) there
+    ap (λ b. cond b (Some (answer.Refused code.NoExist 0))
+    (cond (list_any (is_of_foreign files control) changes) (Some (answer.Refused code.Claimed 0)) None)) there
     ∙ ap (λ b. cond b (Some (answer.Refused code.Claimed 0)) None) own
 
 -- ---- the table of a commit
 
 -- the group of a commit that is refused
-no_group : (totals : Totals) (control : ℕ) (refusal : Answer) → first_refusal (refusals_of_commit totals control) ≡ Some refusal → group_by_commit totals control ≡ []
+no_group : (totals : Totals) (control : ℕ) (refusal : Answer) → first_refusal (refusals_of_commit totals control) ≡ Some refusal
+    → group_by_commit totals control ≡ []
 no_group totals control refusal refused = ap (λ (o : Option Answer). cond (is_none o) (changes_in (transaction_of totals control)) []) refused
 
 -- and of one that is let through
-whole_group : (totals : Totals) (control : ℕ) (buffer : List Change) → first_refusal (refusals_of_commit totals control) ≡ None → transaction_at totals.transactions control ≡ Some buffer → group_by_commit totals control ≡ buffer
-whole_group totals control buffer passes some = ap (λ (o : Option Answer). cond (is_none o) (changes_in (transaction_of totals control)) []) passes ∙ ap changes_in some
+whole_group : (totals : Totals) (control : ℕ) (buffer : List Change) → first_refusal (refusals_of_commit totals control) ≡ None
+    → transaction_at totals.transactions control ≡ Some buffer → group_by_commit totals control ≡ buffer
+whole_group totals control buffer passes some =
+    ap (λ (o : Option Answer). cond (is_none o) (changes_in (transaction_of totals control)) []) passes ∙ ap changes_in some
 
 -- the files of what is let through are there
-all_there : (files : List PlainFile) (sequence : ℕ) (ledger : Ledger) (control : ℕ) (buffer : List Change) → first_refusal (refusals_of_commit (totals_of (StoreReady files sequence) ledger) control) ≡ None → transaction_at ledger.transactions control ≡ Some buffer
-    → list_any (is_of_none (with_tags ledger.handles.given files)) buffer ≡ false
-all_there files sequence ledger control buffer passes some =
-    let xs = with_tags ledger.handles.given files in
-    let rows : first_refusal (commit_rows xs control (transaction_at ledger.transactions control)) ≡ None = (not_refused (is_foreign control ledger.area) _ _ passes).1 in
+all_there : (files : List PlainFile) (sequence : ℕ) (holdings : Holdings) (control : ℕ) (buffer : List Change)
+    → first_refusal (refusals_of_commit (totals_of (StoreReady files sequence) holdings) control) ≡ None
+    → transaction_at holdings.transactions control ≡ Some buffer
+    → list_any (is_of_none (with_tags holdings.handles.given files)) buffer ≡ false
+all_there files sequence holdings control buffer passes some =
+    let xs = with_tags holdings.handles.given files in
+    let rows : first_refusal (commit_rows xs control (transaction_at holdings.transactions control)) ≡ None =
+    (not_refused (is_foreign control holdings.area) _ _ passes).1 in
     (not_refused (list_any (is_of_none xs) buffer) _ _ (subst (λ (t : Option (List Change)). first_refusal (commit_rows xs control t) ≡ None) some rows)).0
 
 -- while the totals are off each commit is refused
-off_refused : (ledger : Ledger) (control : ℕ) → first_refusal (refusals_of_commit (totals_of StoreOff ledger) control) ≡ None → ⊥
-off_refused ledger control passes = absurd (let rest = (not_refused (is_foreign control ledger.area) _ _ passes).1 in cc)
+off_refused : (holdings : Holdings) (control : ℕ) → first_refusal (refusals_of_commit (totals_of StoreOff holdings) control) ≡ None → ⊥
+off_refused holdings control passes = absurd (let rest = (not_refused (is_foreign control holdings.area) _ _ passes).1 in cc)
 
 -- all that is buffered for files is one group
-one_group : (files : List PlainFile) (sequence : ℕ) (ledger : Ledger) (control : ℕ) (buffer : List Change) → IsDirectory LAYOUT_1 files → IsSound (StoreReady files sequence) ledger
-    → first_refusal (refusals_of_commit (totals_of (StoreReady files sequence) ledger) control) ≡ None → transaction_at ledger.transactions control ≡ Some buffer → IsOneGroup (totals_of (StoreReady files sequence) ledger) buffer
-one_group files sequence ledger control buffer directory sound passes some =
-    let xs = with_tags ledger.handles.given files in
-    makes_all xs ledger.handles.next buffer (sound_files ledger.handles.given files ledger.handles.next directory sound.handles).1
-    (held_at (Ready xs sequence) ledger.handles.next ledger.transactions control buffer sound.buffers some) (all_there files sequence ledger control buffer passes some)
+one_group : (files : List PlainFile) (sequence : ℕ) (holdings : Holdings) (control : ℕ) (buffer : List Change) → IsDirectory LAYOUT_1 files
+    → IsSound (StoreReady files sequence) holdings
+    → first_refusal (refusals_of_commit (totals_of (StoreReady files sequence) holdings) control) ≡ None
+    → transaction_at holdings.transactions control ≡ Some buffer → IsOneGroup (totals_of (StoreReady files sequence) holdings) buffer
+one_group files sequence holdings control buffer directory sound passes some =
+    let xs = with_tags holdings.handles.given files in
+    makes_all xs holdings.handles.next buffer (sound_files holdings.handles.given files holdings.handles.next directory sound.handles).1
+    (held_at (Ready xs sequence) holdings.handles.next holdings.transactions control buffer sound.buffers some)
+    (all_there files sequence holdings control buffer passes some)
 
 -- in a transaction, whatever it has
-in_some : (totals : Totals) (control : ℕ) → first_refusal (refusals_of_commit totals control) ≡ None → (mode : Mode) → totals.mode ≡ mode → (transaction : Option (List Change)) → transaction_at totals.transactions control ≡ transaction → (buffer : List Change) × (transaction_at totals.transactions control ≡ Some buffer)
+in_some : (totals : Totals) (control : ℕ) → first_refusal (refusals_of_commit totals control) ≡ None → (mode : Mode) → totals.mode ≡ mode
+    → (transaction : Option (List Change)) → transaction_at totals.transactions control ≡ transaction
+    → (buffer : List Change) × (transaction_at totals.transactions control ≡ Some buffer)
 in_some totals control passes Off is transaction some =
-    absurd (let rest = (not_refused (is_foreign control totals.area) _ _ passes).1 in let off = subst (λ (m : Mode). first_refusal (while_ready m (λ files. commit_rows files control (transaction_of totals control))) ≡ None) is rest in cc)
+    absurd (let rest = (not_refused (is_foreign control totals.area) _ _ passes).1 in let off = subst
+    (λ (m : Mode). first_refusal (while_ready m (λ files. commit_rows files control (transaction_of totals control))) ≡ None) is rest in cc)
 in_some totals control passes (Ready files sequence) is None some =
     absurd (
     let rest = (not_refused (is_foreign control totals.area) _ _ passes).1 in
@@ -96,16 +111,18 @@ in_some totals control passes (Ready files sequence) is (Some buffer) some = (bu
 
 -- ---- where the disk isn't used
 
-module _ {D : Type 0} (bound : Ghosts D) (disk : D) (only : bound.honest disk → (bytes : List ℕ) → (bound.state disk).left_since (bound.state disk).moment bytes → MayLeave (bound.state disk) bytes)
-    (state : State) (ledger : Ledger) (control : ℕ) (directory : HasDirectory state) (sound : IsSound state ledger) (leaves : bound.honest disk → LeavesItsFiles state (bound.state disk)) where
+module _ {D : Type 0} (bound : Ghosts D) (disk : D)
+    (only : bound.honest disk → (bytes : List ℕ) → (bound.state disk).left_since (bound.state disk).moment bytes → MayLeave (bound.state disk) bytes)
+    (state : State) (holdings : Holdings) (control : ℕ) (directory : HasDirectory state) (sound : IsSound state holdings)
+    (leaves : bound.honest disk → LeavesItsFiles state (bound.state disk)) where
   abbrev totals : Totals
-  totals = totals_of state ledger
+  totals = totals_of state holdings
 
   abbrev view : TotalsView D
-  view = view_at disk state ledger
+  view = view_at disk state holdings
 
   their : bound.honest disk → LeavesTheirFiles totals.mode (bound.state disk)
-  their h = their_files ledger.handles.given state ledger.handles.next (bound.state disk) sound.handles (leaves h)
+  their h = their_files holdings.handles.given state holdings.handles.next (bound.state disk) sound.handles (leaves h)
 
   -- a commit that is refused
   pub refuses : (refusal : Answer) → first_refusal (refusals_of_commit totals control) ≡ Some refusal → CommitsBuffer bound view control (Ok refusal) view
@@ -115,50 +132,69 @@ module _ {D : Type 0} (bound : Ghosts D) (disk : D) (only : bound.honest disk �
   }
 
   -- a commit of nothing
-  pub ends : first_refusal (refusals_of_commit totals control) ≡ None → transaction_at ledger.transactions control ≡ Some [] → (new : List (Option (List Change))) → new ≡ slice_set ledger.transactions control None
-      → CommitsBuffer bound view control (Ok (answer.Done value.Empty)) (view_at disk state (record ledger { transactions = new }))
-      × IsSound state (record ledger { transactions = new })
+  pub ends : first_refusal (refusals_of_commit totals control) ≡ None → transaction_at holdings.transactions control ≡ Some []
+      → (new : List (Option (List Change))) → new ≡ slice_set holdings.transactions control None
+      → CommitsBuffer bound view control (Ok (answer.Done value.Empty)) (view_at disk state (record holdings { transactions = new }))
+      × IsSound state (record holdings { transactions = new })
   ends passes none new is = rw is (
     record {
       answer = open_table (refusals_of_commit totals control) _ _ _ passes
-          (subst (λ (t : Option (List Change)). DoesCommit (HasFailed bound disk disk) totals (with_transaction totals control None) (changes_in t) (answer.Done value.Empty) (with_transaction totals control None)) (sym none) (refl, refl));
-      disk = rw (whole_group totals control [] passes none) (idles bound disk only totals (with_transaction totals control None) [] _ refl refl (λ refused. absurd (refused tt)) their);
+          (subst (λ (t : Option (List Change)). DoesCommit (HasFailed bound disk disk) totals (with_transaction totals control None) (changes_in t)
+          (answer.Done value.Empty) (with_transaction totals control None)) (sym none) (refl, refl));
+      disk = rw (whole_group totals control [] passes none)
+          (idles bound disk only totals (with_transaction totals control None) [] _ refl refl (λ refused. absurd (refused tt)) their);
     },
-    record { handles = sound.handles; buffers = held_with (mode_of ledger.handles.given state) ledger.handles.next ledger.transactions control None sound.buffers (none_held (mode_of ledger.handles.given state) ledger.handles.next); apart = sound.apart },
+    record {
+      handles = sound.handles;
+      buffers = held_with
+          (mode_of holdings.handles.given state) holdings.handles.next holdings.transactions control None sound.buffers
+          (none_held (mode_of holdings.handles.given state) holdings.handles.next);
+      apart = sound.apart;
+    },
   )
 
 -- the group of a commit that is let through is one
-let_through : (state : State) (ledger : Ledger) (control : ℕ) → HasDirectory state → IsSound state ledger → first_refusal (refusals_of_commit (totals_of state ledger) control) ≡ None → IsOneGroup (totals_of state ledger) (group_by_commit (totals_of state ledger) control)
-let_through StoreOff ledger control directory sound passes = absurd (off_refused ledger control passes)
-let_through (StoreReady files sequence) ledger control directory sound passes =
-    let totals = totals_of (StoreReady files sequence) ledger in
-    let some = in_some totals control passes totals.mode refl (transaction_at ledger.transactions control) refl in
-    rw (whole_group totals control some.0 passes some.1) (one_group files sequence ledger control some.0 directory sound passes some.1)
+let_through : (state : State) (holdings : Holdings) (control : ℕ) → HasDirectory state → IsSound state holdings
+    → first_refusal (refusals_of_commit (totals_of state holdings) control) ≡ None
+    → IsOneGroup (totals_of state holdings) (group_by_commit (totals_of state holdings) control)
+let_through StoreOff holdings control directory sound passes = absurd (off_refused holdings control passes)
+let_through (StoreReady files sequence) holdings control directory sound passes =
+    let totals = totals_of (StoreReady files sequence) holdings in
+    let some = in_some totals control passes totals.mode refl (transaction_at holdings.transactions control) refl in
+    rw (whole_group totals control some.0 passes some.1) (one_group files sequence holdings control some.0 directory sound passes some.1)
 
 -- a commit that finds no memory
-pub finds_none : {D : Type 0} (bound : Ghosts D) (disk : D) (only : bound.honest disk → (bytes : List ℕ) → (bound.state disk).left_since (bound.state disk).moment bytes → MayLeave (bound.state disk) bytes)
-    (state : State) (ledger : Ledger) (control : ℕ) → HasDirectory state → IsSound state ledger → (bound.honest disk → LeavesItsFiles state (bound.state disk)) → first_refusal (refusals_of_commit (totals_of state ledger) control) ≡ None → (want : NoMemory)
-    → CommitsBuffer bound (view_at disk state ledger) control (Err want) (view_at disk state ledger)
-finds_none bound disk only state ledger control directory sound leaves passes want = record {
+pub finds_none : {D : Type 0} (bound : Ghosts D) (disk : D)
+    (only : bound.honest disk → (bytes : List ℕ) → (bound.state disk).left_since (bound.state disk).moment bytes → MayLeave (bound.state disk) bytes)
+    (state : State) (holdings : Holdings) (control : ℕ) → HasDirectory state → IsSound state holdings
+    → (bound.honest disk → LeavesItsFiles state (bound.state disk))
+    → first_refusal (refusals_of_commit (totals_of state holdings) control) ≡ None → (want : NoMemory)
+    → CommitsBuffer bound (view_at disk state holdings) control (Err want) (view_at disk state holdings)
+finds_none bound disk only state holdings control directory sound leaves passes want = record {
   answer = (passes, refl);
-  disk = rests bound disk only (totals_of state ledger) (group_by_commit (totals_of state ledger) control) (Err want) (let_through state ledger control directory sound passes)
-      (λ h. their_files ledger.handles.given state ledger.handles.next (bound.state disk) sound.handles (leaves h));
+  disk = rests bound disk only (totals_of state holdings) (group_by_commit (totals_of state holdings) control) (Err want)
+      (let_through state holdings control directory sound passes)
+      (λ h. their_files holdings.handles.given state holdings.handles.next (bound.state disk) sound.handles (leaves h));
 }
 
 -- ---- a group on the disk
 
 -- no transaction is left where one more was dropped
-none_left : (transactions : List (Option (List Change))) (control : ℕ) → without_transactions (slice_set transactions control None) ≡ without_transactions transactions
+none_left : (transactions : List (Option (List Change))) (control : ℕ)
+    → without_transactions (slice_set transactions control None) ≡ without_transactions transactions
 none_left [] control = refl
 none_left (first ∷ others) zero = refl
 none_left (first ∷ others) (suc control) = ap (λ ts. None ∷ ts) (none_left others control)
 
-module _ {D : Type 0} (bound : Ghosts D) (disk : D) (only : bound.honest disk → (bytes : List ℕ) → (bound.state disk).left_since (bound.state disk).moment bytes → MayLeave (bound.state disk) bytes)
-    (files : List PlainFile) (sequence tail : ℕ) (ledger : Ledger) (control : ℕ) (first : Change) (others : List Change)
-    (passes : first_refusal (refusals_of_commit (totals_of (StoreReady files sequence) ledger) control) ≡ None) (some : transaction_at ledger.transactions control ≡ Some (first ∷ others))
-    (directory : IsDirectory LAYOUT_1 files) (sound : IsSound (StoreReady files sequence) ledger) (leaves : bound.honest disk → LeavesItsFiles (StoreReady files sequence) (bound.state disk)) where
+module _ {D : Type 0} (bound : Ghosts D) (disk : D)
+    (only : bound.honest disk → (bytes : List ℕ) → (bound.state disk).left_since (bound.state disk).moment bytes → MayLeave (bound.state disk) bytes)
+    (files : List PlainFile) (sequence tail : ℕ) (holdings : Holdings) (control : ℕ) (first : Change) (others : List Change)
+    (passes : first_refusal (refusals_of_commit (totals_of (StoreReady files sequence) holdings) control) ≡ None)
+    (some : transaction_at holdings.transactions control ≡ Some (first ∷ others))
+    (directory : IsDirectory LAYOUT_1 files) (sound : IsSound (StoreReady files sequence) holdings)
+    (leaves : bound.honest disk → LeavesItsFiles (StoreReady files sequence) (bound.state disk)) where
   abbrev ready : Totals
-  ready = totals_of (StoreReady files sequence) ledger
+  ready = totals_of (StoreReady files sequence) holdings
 
   abbrev ended : Totals
   ended = with_transaction ready control None
@@ -167,25 +203,26 @@ module _ {D : Type 0} (bound : Ghosts D) (disk : D) (only : bound.honest disk �
   ready_store = record { disk = disk; state = StoreReady files sequence; tail = tail }
 
   abbrev there : List File
-  there = with_tags ledger.handles.given files
+  there = with_tags holdings.handles.given files
 
   abbrev next : ℕ
-  next = ledger.handles.next
+  next = holdings.handles.next
 
   abbrev after : List File
   after = files_after_all next there (first ∷ others)
 
-  abbrev ended_ledger : Ledger
-  ended_ledger = record ledger { transactions = slice_set ledger.transactions control None }
+  abbrev ended_holdings : Holdings
+  ended_holdings = record holdings { transactions = slice_set holdings.transactions control None }
 
   one : IsOneGroup ready (first ∷ others)
-  one = one_group files sequence ledger control (first ∷ others) directory sound passes some
+  one = one_group files sequence holdings control (first ∷ others) directory sound passes some
 
   buffered : AllByRecursion (IsBuffered there next) (first ∷ others)
-  buffered = held_at (Ready there sequence) next ledger.transactions control (first ∷ others) sound.buffers some
+  buffered = held_at (Ready there sequence) next holdings.transactions control (first ∷ others) sound.buffers some
 
   -- what the commit is answered
-  answered : (DiskFailed : Type 0) (result : Answer) (new : Totals) → RunsOut ready result new ⊎ Done DiskFailed ended (first ∷ others) value.Empty result new → Committed DiskFailed ready control (Ok result) new
+  answered : (DiskFailed : Type 0) (result : Answer) (new : Totals)
+      → RunsOut ready result new ⊎ Done DiskFailed ended (first ∷ others) value.Empty result new → Committed DiskFailed ready control (Ok result) new
   answered DiskFailed result new does =
       open_table (refusals_of_commit ready control) _ _ _ passes
       (subst (λ (t : Option (List Change)). DoesCommit DiskFailed ready ended (changes_in t) result new) (sym some) does)
@@ -195,23 +232,36 @@ module _ {D : Type 0} (bound : Ghosts D) (disk : D) (only : bound.honest disk �
   then_sequence = sequence_after tail (group_of there (first ∷ others)) sequence
 
   -- the tags are those of the files after it
-  given : ledger.handles.given ≡ tags_of after
-  given = sym (tags_after there next (first ∷ others) buffered ∙ tags_in ledger.handles.given files sound.handles.count)
+  given : holdings.handles.given ≡ tags_of after
+  given = sym (tags_after there next (first ∷ others) buffered ∙ tags_in holdings.handles.given files sound.handles.count)
 
   -- a group that the store has put down
   pub done : (new : StoreView D) → Commits bound ready_store (group_of there (first ∷ others)) (Ok tt) new
-      → CommitsBuffer bound (view_of ready_store ledger) control (Ok (answer.Done value.Empty)) (view_of new ended_ledger) × IsSound new.state ended_ledger
+      → CommitsBuffer bound (view_of ready_store holdings) control (Ok (answer.Done value.Empty))
+      (view_of new ended_holdings) × IsSound new.state ended_holdings
   done new commits =
-      let down = put_down bound disk files sequence tail ledger first others sound.handles one (Ok tt) new commits.answer in
-      let mode : with_tags ledger.handles.given (plain after) ≡ after = ap (λ (tags : List Tag). with_tags tags (plain after)) given ∙ called_again after in
-      let totals : totals_of (StoreReady (plain after) then_sequence) ended_ledger ≡ after_changes ended (first ∷ others) then_sequence =
-      ap (λ (fs : List File). record ended { mode = Ready fs then_sequence }) mode ∙ ap (λ n. record ended { mode = Ready after then_sequence; next = n }) (sym (next_stays there next (first ∷ others) buffered)) in
+      let down = put_down bound disk files sequence tail holdings first others sound.handles one (Ok tt) new commits.answer in
+      let mode : with_tags holdings.handles.given (plain after) ≡ after = ap (λ (tags : List Tag). with_tags tags (plain after)) given ∙ called_again after in
+      let totals : totals_of (StoreReady (plain after) then_sequence) ended_holdings ≡ after_changes ended (first ∷ others) then_sequence =
+      ap (λ (fs : List File). record ended { mode = Ready fs then_sequence }) mode
+      ∙ ap (λ n. record ended { mode = Ready after then_sequence; next = n }) (sym (next_stays there next (first ∷ others) buffered)) in
       let same = outlines_after there next (first ∷ others) buffered in
       rw down.1 (
         record {
-          answer = answered (HasFailed bound disk new.disk) _ _ (inr (inl (refl, record { sequence = then_sequence; follows = follows tail (group_of there (first ∷ others)) sequence down.0; totals = totals })));
+          answer = answered (HasFailed bound disk new.disk) _ _
+              (inr (inl (
+                refl,
+                record {
+                  sequence = then_sequence;
+                  follows = follows tail
+                      (group_of there (first ∷ others)) sequence down.0;
+                  totals = totals;
+                },
+              )));
           disk = rw (whole_group ready control (first ∷ others) passes some)
-              (put_group bound disk files sequence tail ledger first others sound.handles one new (totals_of (StoreReady (plain after) then_sequence) ended_ledger) value.Empty commits (ap (λ (fs : List File). Ready fs then_sequence) mode));
+              (put_group bound disk files sequence tail holdings first others sound.handles one new
+              (totals_of (StoreReady (plain after) then_sequence) ended_holdings) value.Empty commits
+              (ap (λ (fs : List File). Ready fs then_sequence) mode));
         },
         record {
           handles = record {
@@ -221,60 +271,78 @@ module _ {D : Type 0} (bound : Ghosts D) (disk : D) (only : bound.honest disk �
           };
           apart = sound.apart;
           buffers = rw mode (
-              held_with (Ready after then_sequence) next ledger.transactions control None
-              (holds_so there after sequence then_sequence next next ledger.transactions (λ change is. same_buffered there after next change (sym same) is) sound.buffers)
+              held_with (Ready after then_sequence) next holdings.transactions control None
+              (holds_so there after sequence then_sequence next next holdings.transactions
+              (λ change is. same_buffered there after next change (sym same) is) sound.buffers)
               (none_held (Ready after then_sequence) next));
         },
       )
 
   -- a group in which the store met a fault
   pub failed : (new : StoreView D) (cause : StoreFault) → Commits bound ready_store (group_of there (first ∷ others)) (Err cause) new
-      → CommitsBuffer bound (view_of ready_store ledger) control (answer_of cause) (view_of new (refused_ledger ledger cause)) × IsSound new.state (refused_ledger ledger cause)
-  failed new fault.Off commits = absurd (put_down bound disk files sequence tail ledger first others sound.handles one (Err fault.Off) new commits.answer)
-  failed new (fault.Refused refusal) commits = absurd (put_down bound disk files sequence tail ledger first others sound.handles one (Err (fault.Refused refusal)) new commits.answer)
-  failed new fault.Unformatted commits = absurd (put_down bound disk files sequence tail ledger first others sound.handles one (Err fault.Unformatted) new commits.answer)
-  failed new fault.Damaged commits = absurd (put_down bound disk files sequence tail ledger first others sound.handles one (Err fault.Damaged) new commits.answer)
+      → CommitsBuffer bound (view_of ready_store holdings) control (answer_of cause)
+      (view_of new (refused_holdings holdings cause)) × IsSound new.state (refused_holdings holdings cause)
+  failed new fault.Off commits = absurd (put_down bound disk files sequence tail holdings first others sound.handles one (Err fault.Off) new commits.answer)
+  failed new (fault.Refused refusal) commits =
+      absurd (put_down bound disk files sequence tail holdings first others sound.handles one (Err (fault.Refused refusal)) new commits.answer)
+  failed new fault.Unformatted commits =
+      absurd (put_down bound disk files sequence tail holdings first others sound.handles one (Err fault.Unformatted) new commits.answer)
+  failed new fault.Damaged commits =
+      absurd (put_down bound disk files sequence tail holdings first others sound.handles one (Err fault.Damaged) new commits.answer)
   failed new fault.NoMemory commits =
       let same : new ≡ ready_store = ⊎_elim (λ is. absurd cc) (λ e. e) (commits.unchanged refl) in
-      rw same (finds_none bound disk only (StoreReady files sequence) ledger control directory sound leaves passes (record {}), sound)
+      rw same (finds_none bound disk only (StoreReady files sequence) holdings control directory sound leaves passes (record {}), sound)
   failed new fault.Exhausted commits =
-      let down = put_down bound disk files sequence tail ledger first others sound.handles one (Err fault.Exhausted) new commits.answer in
+      let down = put_down bound disk files sequence tail holdings first others sound.handles one (Err fault.Exhausted) new commits.answer in
       let last : nat_eq sequence last_number ≡ true = eq-eqb sequence last_number (let l = down.0.1 in omega (arith, l)) in
       rw down.1 (
         record {
           answer = answered (HasFailed bound disk disk) _ _ (inl (last, refl, refl));
-          disk = rw (whole_group ready control (first ∷ others) passes some) (rests bound disk only ready (first ∷ others) _ one (λ h. their_files ledger.handles.given (StoreReady files sequence) next (bound.state disk) sound.handles (leaves h)));
+          disk = rw (whole_group ready control (first ∷ others) passes some)
+              (rests bound disk only ready (first ∷ others) _ one
+              (λ h. their_files holdings.handles.given (StoreReady files sequence) next (bound.state disk) sound.handles (leaves h)));
         },
         sound,
       )
   failed new fault.Device commits =
-      let down = put_down bound disk files sequence tail ledger first others sound.handles one (Err fault.Device) new commits.answer in
-      let totals : after_disk_fault ready ≡ after_disk_fault ended = ap (λ ts. record ready { mode = Off; transactions = ts }) (sym (none_left ledger.transactions control)) in
+      let down = put_down bound disk files sequence tail holdings first others sound.handles one (Err fault.Device) new commits.answer in
+      let totals : after_disk_fault ready ≡ after_disk_fault ended =
+      ap (λ ts. record ready { mode = Off; transactions = ts }) (sym (none_left holdings.transactions control)) in
       rw down.1 (
         record {
           answer = answered (HasFailed bound disk new.disk) _ _ (inr (inr (refl, λ h. commits.device h refl, totals)));
-          disk = rw (whole_group ready control (first ∷ others) passes some) (doubt_group bound disk files sequence tail ledger first others sound.handles one new (after_disk_fault ready) _ commits refl);
+          disk = rw (whole_group ready control (first ∷ others) passes some)
+              (doubt_group bound disk files sequence tail holdings first others sound.handles one new (after_disk_fault ready) _ commits refl);
         },
-        record { handles = tt; buffers = none_hold Off next ledger.transactions; apart = tt },
+        record { handles = tt; buffers = none_hold Off next holdings.transactions; apart = tt },
       )
 
 -- ---- the same for a store in any state, by the plan
 
-module _ {D : Type 0} (bound : Ghosts D) (disk : D) (only : bound.honest disk → (bytes : List ℕ) → (bound.state disk).left_since (bound.state disk).moment bytes → MayLeave (bound.state disk) bytes)
-    (ledger : Ledger) (control : ℕ) (group : List FileChange) where
-  pub store_committed : (state : State) (tail : ℕ) (new : StoreView D) → HasDirectory state → IsSound state ledger → (bound.honest disk → LeavesItsFiles state (bound.state disk)) → first_refusal (refusals_of_commit (totals_of state ledger) control) ≡ None
-      → Gathers (files_of (totals_of state ledger).mode) (transaction_at ledger.transactions control) group → Commits bound (record { disk = disk; state = state; tail = tail }) group (Ok tt) new
-      → (transactions : List (Option (List Change))) → transactions ≡ slice_set ledger.transactions control None
-      → CommitsBuffer bound (view_at disk state ledger) control (Ok (answer.Done value.Empty)) (view_of new (record ledger { transactions = transactions })) × IsSound new.state (record ledger { transactions = transactions })
-  store_committed StoreOff tail new directory sound leaves passes gathered commits transactions is = absurd (off_refused ledger control passes)
+module _ {D : Type 0} (bound : Ghosts D) (disk : D)
+    (only : bound.honest disk → (bytes : List ℕ) → (bound.state disk).left_since (bound.state disk).moment bytes → MayLeave (bound.state disk) bytes)
+    (holdings : Holdings) (control : ℕ) (group : List FileChange) where
+  pub store_committed : (state : State) (tail : ℕ) (new : StoreView D) → HasDirectory state → IsSound state holdings
+      → (bound.honest disk → LeavesItsFiles state (bound.state disk)) → first_refusal (refusals_of_commit (totals_of state holdings) control) ≡ None
+      → Gathers (files_of (totals_of state holdings).mode) (transaction_at holdings.transactions control) group
+      → Commits bound (record { disk = disk; state = state; tail = tail }) group (Ok tt) new
+      → (transactions : List (Option (List Change))) → transactions ≡ slice_set holdings.transactions control None
+      → CommitsBuffer bound (view_at disk state holdings) control (Ok (answer.Done value.Empty))
+      (view_of new (record holdings { transactions = transactions })) × IsSound new.state (record holdings { transactions = transactions })
+  store_committed StoreOff tail new directory sound leaves passes gathered commits transactions is = absurd (off_refused holdings control passes)
   store_committed (StoreReady files sequence) tail new directory sound leaves passes gathered commits transactions is =
-      rw is (done bound disk only files sequence tail ledger control gathered.first gathered.others passes gathered.buffered directory sound leaves new
-      (subst (λ (g : List FileChange). Commits bound (record { disk = disk; state = StoreReady files sequence; tail = tail }) g (Ok tt) new) gathered.made commits))
+      rw is (done bound disk only files sequence tail holdings control gathered.first gathered.others passes gathered.buffered directory sound leaves new
+      (subst (λ (g : List FileChange). Commits bound (record { disk = disk; state = StoreReady files sequence; tail = tail }) g
+      (Ok tt) new) gathered.made commits))
 
-  pub store_failed : (state : State) (tail : ℕ) (new : StoreView D) (cause : StoreFault) → HasDirectory state → IsSound state ledger → (bound.honest disk → LeavesItsFiles state (bound.state disk)) → first_refusal (refusals_of_commit (totals_of state ledger) control) ≡ None
-      → Gathers (files_of (totals_of state ledger).mode) (transaction_at ledger.transactions control) group → Commits bound (record { disk = disk; state = state; tail = tail }) group (Err cause) new
-      → CommitsBuffer bound (view_at disk state ledger) control (answer_of cause) (view_of new (refused_ledger ledger cause)) × IsSound new.state (refused_ledger ledger cause)
-  store_failed StoreOff tail new cause directory sound leaves passes gathered commits = absurd (off_refused ledger control passes)
+  pub store_failed : (state : State) (tail : ℕ) (new : StoreView D) (cause : StoreFault) → HasDirectory state → IsSound state holdings
+      → (bound.honest disk → LeavesItsFiles state (bound.state disk)) → first_refusal (refusals_of_commit (totals_of state holdings) control) ≡ None
+      → Gathers (files_of (totals_of state holdings).mode) (transaction_at holdings.transactions control) group
+      → Commits bound (record { disk = disk; state = state; tail = tail }) group (Err cause) new
+      → CommitsBuffer bound (view_at disk state holdings) control (answer_of cause)
+      (view_of new (refused_holdings holdings cause)) × IsSound new.state (refused_holdings holdings cause)
+  store_failed StoreOff tail new cause directory sound leaves passes gathered commits = absurd (off_refused holdings control passes)
   store_failed (StoreReady files sequence) tail new cause directory sound leaves passes gathered commits =
-      failed bound disk only files sequence tail ledger control gathered.first gathered.others passes gathered.buffered directory sound leaves new cause
-      (subst (λ (g : List FileChange). Commits bound (record { disk = disk; state = StoreReady files sequence; tail = tail }) g (Err cause) new) gathered.made commits)
+      failed bound disk only files sequence tail holdings control gathered.first gathered.others passes gathered.buffered directory sound leaves new cause
+      (subst (λ (g : List FileChange). Commits bound (record { disk = disk; state = StoreReady files sequence; tail = tail }) g
+      (Err cause) new) gathered.made commits)

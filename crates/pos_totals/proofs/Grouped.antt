@@ -45,7 +45,8 @@ pub plain_name : (files : List File) (name : List ℕ) → has_name (plain files
 plain_name [] name = refl
 plain_name (first ∷ files) name = by (bytes_eq first.name name) (plain_name files name)
   where
-    by : (b : Bool) → has_name (plain files) name ≡ has_file (is_named name) files → (b || has_name (plain files) name) ≡ is_some (cond b (Some first) (find (is_named name) files))
+    by : (b : Bool) → has_name (plain files) name ≡ has_file (is_named name) files
+        → (b || has_name (plain files) name) ≡ is_some (cond b (Some first) (find (is_named name) files))
     by true rest = refl
     by false rest = rest
 
@@ -63,7 +64,8 @@ only_named [] name distinct = tt
 only_named (first ∷ files) name distinct =
     let parts = and_parts (not (has_name (plain files) first.name)) (are_distinct (plain files)) distinct in (
       λ same. no_file (find (is_named name) files)
-          (sym (plain_name files name) ∙ ap (has_name (plain files)) (sym ((bytes_eq-Decides first.name name).0 same)) ∙ not-true (has_name (plain files) first.name) parts.0),
+          (sym (plain_name files name) ∙ ap (has_name (plain files)) (sym ((bytes_eq-Decides first.name name).0 same))
+          ∙ not-true (has_name (plain files) first.name) parts.0),
       only_named files name parts.1,
     )
 
@@ -72,15 +74,18 @@ others : (files : List File) (handle : ℕ) → AllByRecursion (λ other. ¬ (ot
 others [] handle differ = refl
 others (first ∷ files) handle differ = by (nat_eq first.handle handle) refl (others files handle differ.1)
   where
-    by : (b : Bool) → nat_eq first.handle handle ≡ b → find (is_called (pos handle)) files ≡ None → cond b (Some first) (find (is_called (pos handle)) files) ≡ None
+    by : (b : Bool) → nat_eq first.handle handle ≡ b → find (is_called (pos handle)) files ≡ None
+        → cond b (Some first) (find (is_called (pos handle)) files) ≡ None
     by true same rest = absurd (differ.0 (eqb-true first.handle handle same))
     by false same rest = rest
 
 -- handles are distinct, so at most one file has a handle
 pub only_called : (files : List File) (handle : ℤ) → AreDistinct (handles_of files) → OnlyOne (is_called handle) files
 only_called [] (pos handle) distinct = tt
-only_called (first ∷ files) (pos handle) distinct =
-    (λ same. subst (λ (h : ℕ). find (is_called (pos h)) files ≡ None) (eqb-true first.handle handle same) (others files first.handle distinct.0), only_called files (pos handle) distinct.1)
+only_called (first ∷ files) (pos handle) distinct = (
+  λ same. subst (λ (h : ℕ). find (is_called (pos h)) files ≡ None) (eqb-true first.handle handle same) (others files first.handle distinct.0),
+  only_called files (pos handle) distinct.1,
+)
 only_called [] (negsuc n) distinct = tt
 only_called (first ∷ files) (negsuc n) distinct = (λ same. absurd cc, only_called files (negsuc n) distinct.1)
 
@@ -88,13 +93,16 @@ only_called (first ∷ files) (negsuc n) distinct = (λ same. absurd cc, only_ca
 
 pub map-remove : {X Y : Type 0} (f : X → Y) (xs : List X) (i : ℕ) → map f (remove xs i) ≡ remove (map f xs) i
 map-remove f xs i =
-    map-append f (take i xs) (drop (suc i) xs) ∙ ap (λ ys. ys ++ map f (drop (suc i) xs)) (sym (take-map f i xs)) ∙ ap (λ ys. take i (map f xs) ++ ys) (sym (drop-map f (suc i) xs))
+    map-append f (take i xs) (drop (suc i) xs) ∙ ap (λ ys. ys ++ map f (drop (suc i) xs)) (sym (take-map f i xs))
+    ∙ ap (λ ys. take i (map f xs) ++ ys) (sym (drop-map f (suc i) xs))
 
-one_change : (limits : Limits) (files after : List PlainFile) (change : FileChange) → outcome limits files change ≡ Ok after → outcome_of_all limits files (change ∷ []) ≡ Ok after
+one_change : (limits : Limits) (files after : List PlainFile) (change : FileChange) → outcome limits files change ≡ Ok after
+    → outcome_of_all limits files (change ∷ []) ≡ Ok after
 one_change limits files after change made = ap (λ r. and_then r (λ next. Ok next)) made
 
 -- the directory's change of a file at an index
-at_index : (files : List File) (i : ℕ) (f : File) (change : PlainFile → Result (List PlainFile) DirectoryFault) → slice_get files i ≡ Some f → with_file (slice_get (plain files) i) change ≡ change (plain_file f)
+at_index : (files : List File) (i : ℕ) (f : File) (change : PlainFile → Result (List PlainFile) DirectoryFault) → slice_get files i ≡ Some f
+    → with_file (slice_get (plain files) i) change ≡ change (plain_file f)
 at_index files i f change at = ap (λ o. with_file o change) (slice_get-map plain_file files i ∙ ap (option_map plain_file) at)
 
 pub plain_size : (files : List File) → total_size (plain files) ≡ size_in_sum files
@@ -113,27 +121,32 @@ up_to : (limit : ℕ) (n : ℤ) → is_up_to limit n ≡ true → nat_abs n ≤ 
 up_to limit (pos n) fits = leb-true n limit fits
 up_to limit (negsuc n) fits = absurd cc
 
-made_create : (files : List File) (control : ℕ) (spent : Option ℕ) (name : List ℕ) (size : ℤ) (next : ℕ) → total_size (plain files) ≤ 8192 → first_refusal (change_rows layout_1 files control spent (Create name size)) ≡ None → Makes files (Create name size) next
+made_create : (files : List File) (control : ℕ) (spent : Option ℕ) (name : List ℕ) (size : ℤ) (next : ℕ) → total_size (plain files) ≤ 8192
+    → first_refusal (change_rows layout_1 files control spent (Create name size)) ≡ None → Makes files (Create name size) next
 made_create files control spent name size next small unrefused =
     let good = not_refused (is_some spent || not (is_name name && is_natural size)) _ _ unrefused in
     let free = not_refused (has_file (is_named name) files) _ _ good.1 in
     let room = not_refused (not (has_room layout_1 files size)) _ _ free.1 in
     let parts = and_parts (is_up_to (free_data layout_1 files) size) (nat_lt (length files) 64) (not-false (has_room layout_1 files size) room.0) in
     let few : nat_lt (length (plain files)) 64 ≡ true = ap (λ n. nat_lt n 64) (length-map files plain_file) ∙ parts.1 in
-    let fits : nat_le (total_size (plain files) + nat_abs size) 8192 ≡ true = le-leb _ _ (omega (arith, small, plain_size files, up_to (free_data layout_1 files) size parts.0)) in
+    let fits : nat_le (total_size (plain files) + nat_abs size) 8192 ≡ true =
+    le-leb _ _ (omega (arith, small, plain_size files, up_to (free_data layout_1 files) size parts.0)) in
     let new : PlainFile = record { name = name; bytes = replicate (nat_abs size) 0 } in
     cond-false (has_name (plain files) name) _ _ (plain_name files name ∙ free.0)
     ∙ cond-true (nat_lt (length (plain files)) 64 && nat_le (total_size (plain files) + nat_abs size) 8192) _ _ (and_from _ _ few fits)
-    ∙ ap (λ (fs : List PlainFile). Ok fs) (sym (map-append plain_file files (record { handle = next; name = name; bytes = replicate (nat_abs size) 0; claim = None } ∷ [])))
+    ∙ ap (λ (fs : List PlainFile). Ok fs)
+    (sym (map-append plain_file files (record { handle = next; name = name; bytes = replicate (nat_abs size) 0; claim = None } ∷ [])))
 
 -- the file of a delete that nothing refuses
-pub deleted : (files : List File) (control : ℕ) (spent : Option ℕ) (name : List ℕ) → first_refusal (change_rows layout_1 files control spent (Delete name)) ≡ None → (file : File) × (find (is_named name) files ≡ Some file)
+pub deleted : (files : List File) (control : ℕ) (spent : Option ℕ) (name : List ℕ)
+    → first_refusal (change_rows layout_1 files control spent (Delete name)) ≡ None → (file : File) × (find (is_named name) files ≡ Some file)
 deleted files control spent name unrefused =
     let outside = not_refused (is_some spent) _ _ unrefused in
     let there = not_refused (not (has_file (is_named name) files)) _ _ outside.1 in
     some_file (find (is_named name) files) (not-false (has_file (is_named name) files) there.0)
 
-made_delete : (files : List File) (control : ℕ) (spent : Option ℕ) (name : List ℕ) (next : ℕ) → are_distinct (plain files) ≡ true → first_refusal (change_rows layout_1 files control spent (Delete name)) ≡ None → Makes files (Delete name) next
+made_delete : (files : List File) (control : ℕ) (spent : Option ℕ) (name : List ℕ) (next : ℕ) → are_distinct (plain files) ≡ true
+    → first_refusal (change_rows layout_1 files control spent (Delete name)) ≡ None → Makes files (Delete name) next
 made_delete files control spent name next distinct unrefused =
     let found = deleted files control spent name unrefused in
     let index = index_of (is_named name) files in
@@ -145,9 +158,11 @@ made_delete files control spent name next distinct unrefused =
 set_plain : (files : List File) (handle : ℤ) (f : File) (change : File → File) → AreDistinct (handles_of files) → find (is_called handle) files ≡ Some f
     → set (plain files) (index_of (is_called handle) files) (plain_file (change f)) ≡ plain (with_each (is_called handle) change files)
 set_plain files handle f change distinct found =
-    sym (map-set plain_file files (index_of (is_called handle) files) (change f)) ∙ ap (λ (fs : List File). plain fs) (sym (one_changed (is_called handle) change files f (only_called files handle distinct) found))
+    sym (map-set plain_file files (index_of (is_called handle) files) (change f))
+    ∙ ap (λ (fs : List File). plain fs) (sym (one_changed (is_called handle) change files f (only_called files handle distinct) found))
 
-made_rename : (files : List File) (control : ℕ) (spent : Option ℕ) (handle : ℤ) (name : List ℕ) (next : ℕ) → AreDistinct (handles_of files) → first_refusal (change_rows layout_1 files control spent (Rename handle name)) ≡ None → Makes files (Rename handle name) next
+made_rename : (files : List File) (control : ℕ) (spent : Option ℕ) (handle : ℤ) (name : List ℕ) (next : ℕ) → AreDistinct (handles_of files)
+    → first_refusal (change_rows layout_1 files control spent (Rename handle name)) ≡ None → Makes files (Rename handle name) next
 made_rename files control spent handle name next distinct unrefused =
     let good = not_refused (is_some spent || not (has_file (is_called handle) files && is_name name)) _ _ unrefused in
     let free = not_refused (has_file (is_named name) files) _ _ good.1 in
@@ -155,12 +170,14 @@ made_rename files control spent handle name next distinct unrefused =
     let parts = and_parts (has_file (is_called handle) files) (is_name name) (not-false (has_file (is_called handle) files && is_name name) both.1) in
     let found = some_file (find (is_called handle) files) parts.0 in
     let index = index_of (is_called handle) files in
-    at_index files index found.0 (λ f. cond (has_name (plain files) name) (Err fault.Exists) (Ok (slice_set (plain files) index (record f { name = name })))) (found_at (is_called handle) files found.0 found.1)
+    at_index files index found.0 (λ f. cond (has_name (plain files) name) (Err fault.Exists)
+    (Ok (slice_set (plain files) index (record f { name = name })))) (found_at (is_called handle) files found.0 found.1)
     ∙ cond-false (has_name (plain files) name) _ _ (plain_name files name ∙ free.0)
     ∙ ap (λ (fs : List PlainFile). Ok fs) (set_plain files handle found.0 (λ f. record f { name = name }) distinct found.1)
 
 -- a range of a file's bytes is of a file that is there
-pub ranged : (found : Option File) (offset count : ℤ) → is_range_of found offset count ≡ true → (f : File) × (found ≡ Some f) × (is_range (length f.bytes) offset count ≡ true)
+pub ranged : (found : Option File) (offset count : ℤ) → is_range_of found offset count ≡ true
+    → (f : File) × (found ≡ Some f) × (is_range (length f.bytes) offset count ≡ true)
 ranged None offset count fits = absurd cc
 ranged (Some f) offset count fits = (f, refl, fits)
 
@@ -168,44 +185,56 @@ pub range_end : (size : ℕ) (offset : ℤ) (count : ℕ) → is_range size offs
 range_end size (pos offset) count fits = fits
 range_end size (negsuc n) count fits = absurd cc
 
-pub made_write : (files : List File) (handle offset : ℤ) (bytes : List ℕ) (next : ℕ) → AreDistinct (handles_of files) → is_range_of (find (is_called handle) files) offset (pos (length bytes)) ≡ true → Makes files (Write handle offset bytes) next
+pub made_write : (files : List File) (handle offset : ℤ) (bytes : List ℕ) (next : ℕ) → AreDistinct (handles_of files)
+    → is_range_of (find (is_called handle) files) offset (pos (length bytes)) ≡ true → Makes files (Write handle offset bytes) next
 made_write files handle offset bytes next distinct fits =
     let found = ranged (find (is_called handle) files) offset (pos (length bytes)) fits in
     let index = index_of (is_called handle) files in
     at_index files index found.0
-    (λ f. cond (nat_le (nat_abs offset + length bytes) (length f.bytes)) (Ok (slice_set (plain files) index (record f { bytes = splice f.bytes (nat_abs offset) bytes }))) (Err fault.Range))
+    (λ f. cond (nat_le (nat_abs offset + length bytes) (length f.bytes))
+    (Ok (slice_set (plain files) index (record f { bytes = splice f.bytes (nat_abs offset) bytes }))) (Err fault.Range))
     (found_at (is_called handle) files found.0 found.1)
     ∙ cond-true (nat_le (nat_abs offset + length bytes) (length found.0.bytes)) _ _ (range_end (length found.0.bytes) offset (length bytes) found.2)
-    ∙ ap (λ (fs : List PlainFile). Ok fs) (set_plain files handle found.0 (λ f. record f { bytes = overwritten f.bytes (nat_abs offset) bytes }) distinct found.1)
+    ∙ ap (λ (fs : List PlainFile). Ok fs)
+    (set_plain files handle found.0 (λ f. record f { bytes = overwritten f.bytes (nat_abs offset) bytes }) distinct found.1)
 
-pub made_set_all : (files : List File) (handle n : ℤ) (next : ℕ) → AreDistinct (handles_of files) → has_file (is_called handle) files ≡ true → Makes files (SetAll handle n) next
+pub made_set_all : (files : List File) (handle n : ℤ) (next : ℕ) → AreDistinct (handles_of files) → has_file (is_called handle) files ≡ true
+    → Makes files (SetAll handle n) next
 made_set_all files handle n next distinct there =
     let found = some_file (find (is_called handle) files) there in
     let index = index_of (is_called handle) files in
-    at_index files index found.0 (λ f. Ok (slice_set (plain files) index (record f { bytes = replicate (length f.bytes) (nat_abs n) }))) (found_at (is_called handle) files found.0 found.1)
+    at_index files index found.0 (λ f. Ok (slice_set (plain files) index (record f { bytes = replicate (length f.bytes) (nat_abs n) })))
+    (found_at (is_called handle) files found.0 found.1)
     ∙ ap (λ (fs : List PlainFile). Ok fs) (set_plain files handle found.0 (λ f. record f { bytes = replicate (length f.bytes) (nat_abs n) }) distinct found.1)
 
 -- the range of a Write that nothing refuses, and the file and the value of a SetAll
-pub range_fits : (files : List File) (control : ℕ) (spent : Option ℕ) (handle offset : ℤ) (bytes : List ℕ) → first_refusal (change_rows layout_1 files control spent (Write handle offset bytes)) ≡ None
+pub range_fits : (files : List File) (control : ℕ) (spent : Option ℕ) (handle offset : ℤ) (bytes : List ℕ)
+    → first_refusal (change_rows layout_1 files control spent (Write handle offset bytes)) ≡ None
     → is_range_of (find (is_called handle) files) offset (pos (length bytes)) ≡ true
 range_fits files control spent handle offset bytes unrefused =
     not-false _ (not_refused (not (is_range_of (find (is_called handle) files) offset (pos (length bytes)))) _ _ unrefused).0
 
-pub value_fits : (files : List File) (control : ℕ) (spent : Option ℕ) (handle n : ℤ) → first_refusal (change_rows layout_1 files control spent (SetAll handle n)) ≡ None
+pub value_fits : (files : List File) (control : ℕ) (spent : Option ℕ) (handle n : ℤ)
+    → first_refusal (change_rows layout_1 files control spent (SetAll handle n)) ≡ None
     → (has_file (is_called handle) files ≡ true) × (is_up_to 255 n ≡ true)
 value_fits files control spent handle n unrefused =
     and_parts (has_file (is_called handle) files) (is_up_to 255 n)
     (not-false (has_file (is_called handle) files && is_up_to 255 n) (not_refused (not (has_file (is_called handle) files && is_up_to 255 n)) _ _ unrefused).0)
 
 -- Where nothing refuses a change, it makes of the plain files those after it.
-pub makes : (files : List File) (control : ℕ) (spent : Option ℕ) (change : Change) (next : ℕ) → IsDirectory LAYOUT_1 (plain files) → AreDistinct (handles_of files) → first_refusal (change_rows layout_1 files control spent change) ≡ None → Makes files change next
+pub makes : (files : List File) (control : ℕ) (spent : Option ℕ) (change : Change) (next : ℕ) → IsDirectory LAYOUT_1 (plain files)
+    → AreDistinct (handles_of files) → first_refusal (change_rows layout_1 files control spent change) ≡ None → Makes files change next
 makes files control spent (Create name size) next sound distinct unrefused = made_create files control spent name size next sound.size unrefused
 makes files control spent (Delete name) next sound distinct unrefused = made_delete files control spent name next sound.distinct unrefused
 makes files control spent (Rename handle name) next sound distinct unrefused = made_rename files control spent handle name next distinct unrefused
-makes files control spent (Write handle offset bytes) next sound distinct unrefused = made_write files handle offset bytes next distinct (range_fits files control spent handle offset bytes unrefused)
-makes files control spent (SetAll handle n) next sound distinct unrefused = made_set_all files handle n next distinct (value_fits files control spent handle n unrefused).0
+makes files control spent (Write handle offset bytes) next sound distinct unrefused =
+    made_write files handle offset bytes next distinct (range_fits files control spent handle offset bytes unrefused)
+makes files control spent (SetAll handle n) next sound distinct unrefused =
+    made_set_all files handle n next distinct (value_fits files control spent handle n unrefused).0
 
 -- so does its group
-pub makes_group : (files : List File) (control : ℕ) (spent : Option ℕ) (change : Change) (next : ℕ) → IsDirectory LAYOUT_1 (plain files) → AreDistinct (handles_of files) → first_refusal (change_rows layout_1 files control spent change) ≡ None
+pub makes_group : (files : List File) (control : ℕ) (spent : Option ℕ) (change : Change) (next : ℕ) → IsDirectory LAYOUT_1 (plain files)
+    → AreDistinct (handles_of files) → first_refusal (change_rows layout_1 files control spent change) ≡ None
     → outcome_of_all LAYOUT_1 (plain files) (group_of files (change ∷ [])) ≡ Ok (plain (files_after next files change))
-makes_group files control spent change next sound distinct unrefused = one_change LAYOUT_1 (plain files) _ (file_change files change) (makes files control spent change next sound distinct unrefused)
+makes_group files control spent change next sound distinct unrefused =
+    one_change LAYOUT_1 (plain files) _ (file_change files change) (makes files control spent change next sound distinct unrefused)

@@ -20,37 +20,39 @@ use Rattle.pos_totals.specs.declared.handles.Tag.{Tag}
 -- ---- the files' tags
 
 -- a change of files that keeps their handles and claims
-pub same_tags : (test : File → Bool) (change : File → File) (files : List File) → ((file : File) → tag_of (change file) ≡ tag_of file) → tags_of (with_each test change files) ≡ tags_of files
+pub same_tags : (test : File → Bool) (change : File → File) (files : List File) → ((file : File) → tag_of (change file) ≡ tag_of file)
+    → tags_of (with_each test change files) ≡ tags_of files
 same_tags test change [] keeps = refl
 same_tags test change (first ∷ files) keeps = by (test first) (same_tags test change files keeps)
   where
-    by : (b : Bool) → tags_of (with_each test change files) ≡ tags_of files → ◌≡◌ {A = List Tag} (tag_of (cond b (change first) first) ∷ tags_of (with_each test change files)) (tag_of first ∷ tags_of files)
+    by : (b : Bool) → tags_of (with_each test change files) ≡ tags_of files
+        → ◌≡◌ {A = List Tag} (tag_of (cond b (change first) first) ∷ tags_of (with_each test change files)) (tag_of first ∷ tags_of files)
     by true rest = ap (λ t. t ∷ tags_of (with_each test change files)) (keeps first) ∙ ap (λ ts. tag_of first ∷ ts) rest
     by false rest = ap (λ ts. tag_of first ∷ ts) rest
 
-pub given_is : (files : List File) (control : ℕ) (spent : Option ℕ) (change : Change) (next : ℕ) → are_distinct (plain files) ≡ true → first_refusal (change_rows layout_1 files control spent change) ≡ None
+pub given_is : (files : List File) (control : ℕ) (spent : Option ℕ) (change : Change) (next : ℕ) → are_distinct (plain files) ≡ true
+    → first_refusal (change_rows layout_1 files control spent change) ≡ None
     → given_after (tags_of files) next (file_change files change) ≡ tags_of (files_after next files change)
-given_is files control spent (Create name size) next distinct unrefused = sym (map-append tag_of files (record { handle = next; name = name; bytes = replicate (nat_abs size) 0; claim = None } ∷ []))
+given_is files control spent (Create name size) next distinct unrefused =
+    sym (map-append tag_of files (record { handle = next; name = name; bytes = replicate (nat_abs size) 0; claim = None } ∷ []))
 given_is files control spent (Delete name) next distinct unrefused =
     let found = deleted files control spent name unrefused in
-    sym (map-remove tag_of files (index_of (is_named name) files)) ∙ ap tags_of (sym (one_gone (is_named name) files found.0 (only_named files name distinct) found.1))
-given_is files control spent (Rename handle name) next distinct unrefused = sym (same_tags (is_called handle) (λ file. record file { name = name }) files (λ file. refl))
-given_is files control spent (Write handle offset bytes) next distinct unrefused = sym (same_tags (is_called handle) (λ file. record file { bytes = overwritten file.bytes (nat_abs offset) bytes }) files (λ file. refl))
-given_is files control spent (SetAll handle n) next distinct unrefused = sym (same_tags (is_called handle) (λ file. record file { bytes = replicate (length file.bytes) (nat_abs n) }) files (λ file. refl))
+    sym (map-remove tag_of files (index_of (is_named name) files))
+    ∙ ap tags_of (sym (one_gone (is_named name) files found.0 (only_named files name distinct) found.1))
+given_is files control spent (Rename handle name) next distinct unrefused =
+    sym (same_tags (is_called handle) (λ file. record file { name = name }) files (λ file. refl))
+given_is files control spent (Write handle offset bytes) next distinct unrefused =
+    sym (same_tags (is_called handle) (λ file. record file { bytes = overwritten file.bytes (nat_abs offset) bytes }) files (λ file. refl))
+given_is files control spent (SetAll handle n) next distinct unrefused =
+    sym (same_tags (is_called handle) (λ file. record file { bytes = replicate (length file.bytes) (nat_abs n) }) files (λ file. refl))
 
 pub next_is : (files : List File) (change : Change) (next : ℕ) → following next (file_change files change) ≡ next_after next change
 next_is files (Create name size) next = refl
-next_is files (Delete name) next = refl
-next_is files (Rename handle name) next = refl
-next_is files (Write handle offset bytes) next = refl
-next_is files (SetAll handle n) next = refl
+next_is files other next = refl
 
 pub value_is : (files : List File) (change : Change) (next : ℕ) → value_after next (file_change files change) ≡ given_by next change
 value_is files (Create name size) next = refl
-value_is files (Delete name) next = refl
-value_is files (Rename handle name) next = refl
-value_is files (Write handle offset bytes) next = refl
-value_is files (SetAll handle n) next = refl
+value_is files other next = refl
 
 -- ---- facts of all handles
 
@@ -69,8 +71,10 @@ all_so P Q (first ∷ xs) so all = (so first all.0, all_so P Q xs so all.1)
 
 distinct_with : (handles : List ℕ) (next : ℕ) → AreDistinct handles → AllByRecursion (λ handle. handle < next) handles → AreDistinct (handles ++ next ∷ [])
 distinct_with [] next distinct below = (tt, tt)
-distinct_with (first ∷ handles) next distinct below =
-    (all_with (λ other. ¬ (other ≡ first)) handles next distinct.0 (λ same. let lt = below.0 in omega (arith, same, lt)), distinct_with handles next distinct.1 below.1)
+distinct_with (first ∷ handles) next distinct below = (
+  all_with (λ other. ¬ (other ≡ first)) handles next distinct.0 (λ same. let lt = below.0 in omega (arith, same, lt)),
+  distinct_with handles next distinct.1 below.1,
+)
 
 distinct_without : (handles : List ℕ) (i : ℕ) → AreDistinct handles → AreDistinct (remove handles i)
 distinct_without [] i distinct = simp (take-nil, drop-nil) tt
@@ -84,29 +88,34 @@ numbers_with tags next = map-append (λ (tag : Tag). tag.handle) tags (new_tag n
 numbers_without : (tags : List Tag) (i : ℕ) → numbers_of (remove tags i) ≡ remove (numbers_of tags) i
 numbers_without tags i = map-remove (λ (tag : Tag). tag.handle) tags i
 
-distinct_after : (files : List File) (change : Change) (tags : List Tag) (next : ℕ) → AreDistinct (numbers_of tags) → AllByRecursion (λ handle. handle < next) (numbers_of tags) → AreDistinct (numbers_of (given_after tags next (file_change files change)))
-distinct_after files (Create name size) tags next distinct below = subst AreDistinct (sym (numbers_with tags next)) (distinct_with (numbers_of tags) next distinct below)
-distinct_after files (Delete name) tags next distinct below = subst AreDistinct (sym (numbers_without tags (index_of (is_named name) files))) (distinct_without (numbers_of tags) (index_of (is_named name) files) distinct)
-distinct_after files (Rename handle name) tags next distinct below = distinct
-distinct_after files (Write handle offset bytes) tags next distinct below = distinct
-distinct_after files (SetAll handle n) tags next distinct below = distinct
+distinct_after : (files : List File) (change : Change) (tags : List Tag) (next : ℕ) → AreDistinct (numbers_of tags)
+    → AllByRecursion (λ handle. handle < next) (numbers_of tags) → AreDistinct (numbers_of (given_after tags next (file_change files change)))
+distinct_after files (Create name size) tags next distinct below =
+    subst AreDistinct (sym (numbers_with tags next)) (distinct_with (numbers_of tags) next distinct below)
+distinct_after files (Delete name) tags next distinct below =
+    subst AreDistinct (sym (numbers_without tags (index_of (is_named name) files)))
+    (distinct_without (numbers_of tags) (index_of (is_named name) files) distinct)
+distinct_after files other tags next distinct below = distinct
 
 below_after : (files : List File) (change : Change) (tags : List Tag) (next : ℕ) → AllByRecursion (λ handle. handle < next) (numbers_of tags)
     → AllByRecursion (λ handle. handle < following next (file_change files change)) (numbers_of (given_after tags next (file_change files change)))
 below_after files (Create name size) tags next below =
     subst (AllByRecursion (λ handle. handle < next + 1)) (sym (numbers_with tags next))
-    (all_with (λ handle. handle < next + 1) (numbers_of tags) next (all_so (λ handle. handle < next) (λ handle. handle < next + 1) (numbers_of tags) (λ handle lt. omega (arith, lt)) below) (omega arith))
+    (all_with (λ handle. handle < next + 1) (numbers_of tags) next
+    (all_so (λ handle. handle < next) (λ handle. handle < next + 1) (numbers_of tags) (λ handle lt. omega (arith, lt)) below) (omega arith))
 below_after files (Delete name) tags next below =
-    subst (AllByRecursion (λ handle. handle < next)) (sym (numbers_without tags (index_of (is_named name) files))) (all_without (λ handle. handle < next) (numbers_of tags) (index_of (is_named name) files) below)
-below_after files (Rename handle name) tags next below = below
-below_after files (Write handle offset bytes) tags next below = below
-below_after files (SetAll handle n) tags next below = below
+    subst (AllByRecursion (λ handle. handle < next)) (sym (numbers_without tags (index_of (is_named name) files)))
+    (all_without (λ handle. handle < next) (numbers_of tags) (index_of (is_named name) files) below)
+below_after files other tags next below = below
 
 -- The tags after a change are tags of the files after it.
-pub are_after : (files : List File) (control : ℕ) (spent : Option ℕ) (change : Change) (next : ℕ) → are_distinct (plain files) ≡ true → AreHandles (tags_of files) (plain files) next → first_refusal (change_rows layout_1 files control spent change) ≡ None
-    → AreHandles (given_after (tags_of files) next (file_change files change)) (plain (files_after next files change)) (following next (file_change files change))
+pub are_after : (files : List File) (control : ℕ) (spent : Option ℕ) (change : Change) (next : ℕ) → are_distinct (plain files) ≡ true
+    → AreHandles (tags_of files) (plain files) next → first_refusal (change_rows layout_1 files control spent change) ≡ None
+    → AreHandles (given_after (tags_of files) next (file_change files change)) (plain (files_after next files change))
+    (following next (file_change files change))
 are_after files control spent change next distinct handles unrefused = record {
-  count = ap length (given_is files control spent change next distinct unrefused) ∙ length-map (files_after next files change) tag_of ∙ sym (length-map (files_after next files change) plain_file);
+  count = ap length (given_is files control spent change next distinct unrefused) ∙ length-map (files_after next files change) tag_of
+      ∙ sym (length-map (files_after next files change) plain_file);
   distinct = distinct_after files change (tags_of files) next handles.distinct handles.below;
   below = below_after files change (tags_of files) next handles.below;
 }

@@ -16,13 +16,16 @@ length-tags next zero = refl
 length-tags next (suc count) = ap suc (length-tags (next + 1) count)
 
 -- each is from the first one on, and below the end
-all_from : (P : ℕ → Type 0) (first count : ℕ) → ((handle : ℕ) → first ≤ handle → handle < first + count → P handle) → AllByRecursion P (numbers_of (tags_from first count))
+all_from : (P : ℕ → Type 0) (first count : ℕ) → ((handle : ℕ) → first ≤ handle → handle < first + count → P handle)
+    → AllByRecursion P (numbers_of (tags_from first count))
 all_from P first zero each = tt
-all_from P first (suc count) each = (each first (omega arith) (omega arith), all_from P (first + 1) count (λ handle from below. each handle (omega (arith, from)) (omega (arith, below))))
+all_from P first (suc count) each =
+    (each first (omega arith) (omega arith), all_from P (first + 1) count (λ handle from below. each handle (omega (arith, from)) (omega (arith, below))))
 
 distinct_numbers : (first count : ℕ) → AreDistinct (numbers_of (tags_from first count))
 distinct_numbers first zero = tt
-distinct_numbers first (suc count) = (all_from (λ other. ¬ (other ≡ first)) (first + 1) count (λ other from below same. omega (arith, from, same)), distinct_numbers (first + 1) count)
+distinct_numbers first (suc count) =
+    (all_from (λ other. ¬ (other ≡ first)) (first + 1) count (λ other from below same. omega (arith, from, same)), distinct_numbers (first + 1) count)
 
 pub are_numbers : (files : List PlainFile) (next : ℕ) → AreHandles (tags_from next (length files)) files (next + length files)
 are_numbers files next = record {
@@ -35,4 +38,5 @@ are_numbers files next = record {
 pub tags_more : (first count : ℕ) → tags_from first count ++ new_tag (first + count) ∷ [] ≡ tags_from first (count + 1)
 tags_more first zero = ap (λ n. new_tag n ∷ []) (omega arith)
 tags_more first (suc count) =
-    ap (λ n. (new_tag first ∷ tags_from (first + 1) count) ++ new_tag n ∷ []) (let e : first + suc count ≡ first + 1 + count = omega arith in e) ∙ ap (λ ts. new_tag first ∷ ts) (tags_more (first + 1) count) ∙ ap (tags_from first) (let e : suc (count + 1) ≡ suc count + 1 = omega arith in e)
+    ap (λ n. (new_tag first ∷ tags_from (first + 1) count) ++ new_tag n ∷ []) (let e : first + suc count ≡ first + 1 + count = omega arith in e)
+    ∙ ap (λ ts. new_tag first ∷ ts) (tags_more (first + 1) count) ∙ ap (tags_from first) (let e : suc (count + 1) ≡ suc count + 1 = omega arith in e)

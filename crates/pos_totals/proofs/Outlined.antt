@@ -6,7 +6,7 @@ use Rattle.std.proofs.lemmas.Bool.{leb-true}
 use Rattle.std.proofs.lemmas.List.{length-append, length-take, length-drop}
 use Rattle.std.proofs.lemmas.Option.{same_Some}
 use Rattle.pos_dir.specs.declared.change.Change.TheVariants as file
-use Rattle.pos_totals.specs.HardTotals.{File, Change, Create, Delete, Rename, Write, SetAll}
+use Rattle.pos_totals.specs.HardTotals.{File, Change, Write, SetAll}
 use Rattle.pos_totals.specs.TotalsFiles.{is_called, is_range, with_each, overwritten}
 use Rattle.pos_totals.specs.TotalsCommits.{is_of_none}
 use Rattle.pos_totals.proofs.Grouped.{range_end}
@@ -45,7 +45,9 @@ same_none : (handle : ℤ) (xs ys : List File) → outlines xs ≡ outlines ys �
 same_none handle [] [] same = refl
 same_none handle [] (y ∷ ys) same = absurd cc
 same_none handle (x ∷ xs) [] same = absurd cc
-same_none (pos h) (x ∷ xs) (y ∷ ys) same = by (nat_eq x.handle h) (nat_eq y.handle h) (ap (λ (p : ℕ × ℕ). nat_eq p.0 h) (same_first x y xs ys same)) (same_none (pos h) xs ys (same_others x y xs ys same))
+same_none (pos h) (x ∷ xs) (y ∷ ys) same =
+    by (nat_eq x.handle h) (nat_eq y.handle h) (ap (λ (p : ℕ × ℕ). nat_eq p.0 h) (same_first x y xs ys same))
+    (same_none (pos h) xs ys (same_others x y xs ys same))
   where
     by : (a b : Bool) → a ≡ b → is_none (find (is_called (pos h)) xs) ≡ is_none (find (is_called (pos h)) ys)
         → is_none (cond a (Some x) (find (is_called (pos h)) xs)) ≡ is_none (cond b (Some y) (find (is_called (pos h)) ys))
@@ -57,7 +59,8 @@ same_none (negsuc n) (x ∷ xs) (y ∷ ys) same = same_none (negsuc n) xs ys (sa
 
 -- whether a range fits each file with a handle
 same_fit : (handle offset : ℤ) (count : ℕ) (xs ys : List File) → outlines xs ≡ outlines ys
-    → AllByRecursion (λ file. is_called handle file ≡ true → is_range (length file.bytes) offset (pos count) ≡ true) xs → AllByRecursion (λ file. is_called handle file ≡ true → is_range (length file.bytes) offset (pos count) ≡ true) ys
+    → AllByRecursion (λ file. is_called handle file ≡ true → is_range (length file.bytes) offset (pos count) ≡ true) xs
+    → AllByRecursion (λ file. is_called handle file ≡ true → is_range (length file.bytes) offset (pos count) ≡ true) ys
 same_fit handle offset count [] [] same all = tt
 same_fit handle offset count [] (y ∷ ys) same all = absurd cc
 same_fit handle offset count (x ∷ xs) [] same all = absurd cc
@@ -69,32 +72,28 @@ same_fit (negsuc n) offset count (x ∷ xs) (y ∷ ys) same all = (λ called. ab
 
 -- what is buffered for files may be buffered for files that are like them
 pub same_buffered : (xs ys : List File) (next : ℕ) (change : Change) → outlines xs ≡ outlines ys → IsBuffered xs next change → IsBuffered ys next change
-same_buffered xs ys next (Create name size) same buffered = absurd buffered
-same_buffered xs ys next (Delete name) same buffered = absurd buffered
-same_buffered xs ys next (Rename handle name) same buffered = absurd buffered
 same_buffered xs ys next (Write handle offset bytes) same buffered = (buffered.0, same_fit handle offset (length bytes) xs ys same buffered.1)
 same_buffered xs ys next (SetAll handle n) same buffered = buffered
+same_buffered xs ys next other same buffered = absurd buffered
 
 -- its group is the same, and it is of files that are gone in both alike
-pub same_group : (xs ys : List File) (next : ℕ) (changes : List Change) → outlines xs ≡ outlines ys → AllByRecursion (IsBuffered xs next) changes → group_of xs changes ≡ group_of ys changes
+pub same_group : (xs ys : List File) (next : ℕ) (changes : List Change) → outlines xs ≡ outlines ys → AllByRecursion (IsBuffered xs next) changes
+    → group_of xs changes ≡ group_of ys changes
 same_group xs ys next [] same all = refl
-same_group xs ys next (Create name size ∷ changes) same all = absurd all.0
-same_group xs ys next (Delete name ∷ changes) same all = absurd all.0
-same_group xs ys next (Rename handle name ∷ changes) same all = absurd all.0
 same_group xs ys next (Write handle offset bytes ∷ changes) same all =
     ap (λ i. file.Write i (nat_abs offset) bytes ∷ group_of xs changes) (same_index handle xs ys same)
     ∙ ap (λ g. file.Write (index_of (is_called handle) ys) (nat_abs offset) bytes ∷ g) (same_group xs ys next changes same all.1)
 same_group xs ys next (SetAll handle n ∷ changes) same all =
     ap (λ i. file.SetAll i (nat_abs n) ∷ group_of xs changes) (same_index handle xs ys same)
     ∙ ap (λ g. file.SetAll (index_of (is_called handle) ys) (nat_abs n) ∷ g) (same_group xs ys next changes same all.1)
+same_group xs ys next (other ∷ changes) same all = absurd all.0
 
-pub same_gone : (xs ys : List File) (next : ℕ) (changes : List Change) → outlines xs ≡ outlines ys → AllByRecursion (IsBuffered xs next) changes → list_any (is_of_none xs) changes ≡ list_any (is_of_none ys) changes
+pub same_gone : (xs ys : List File) (next : ℕ) (changes : List Change) → outlines xs ≡ outlines ys → AllByRecursion (IsBuffered xs next) changes
+    → list_any (is_of_none xs) changes ≡ list_any (is_of_none ys) changes
 same_gone xs ys next [] same all = refl
-same_gone xs ys next (Create name size ∷ changes) same all = absurd all.0
-same_gone xs ys next (Delete name ∷ changes) same all = absurd all.0
-same_gone xs ys next (Rename handle name ∷ changes) same all = absurd all.0
 same_gone xs ys next (Write handle offset bytes ∷ changes) same all = cc (same_none handle xs ys same, same_gone xs ys next changes same all.1)
 same_gone xs ys next (SetAll handle n ∷ changes) same all = cc (same_none handle xs ys same, same_gone xs ys next changes same all.1)
+same_gone xs ys next (other ∷ changes) same all = absurd all.0
 
 -- files that are alike have the same handles
 same_numbers : (xs ys : List File) → outlines xs ≡ outlines ys → handles_of xs ≡ handles_of ys
@@ -110,7 +109,8 @@ same_distinct xs ys same distinct = subst AreDistinct (same_numbers xs ys same) 
 -- ---- a change of some files
 
 -- a change that keeps the handle and the size of each file that it changes
-pub outlines_kept : (test : File → Bool) (change : File → File) (files : List File) → AllByRecursion (λ file. test file ≡ true → outline (change file) ≡ outline file) files → outlines (with_each test change files) ≡ outlines files
+pub outlines_kept : (test : File → Bool) (change : File → File) (files : List File)
+    → AllByRecursion (λ file. test file ≡ true → outline (change file) ≡ outline file) files → outlines (with_each test change files) ≡ outlines files
 outlines_kept test change [] keeps = refl
 outlines_kept test change (first ∷ files) keeps = by (test first) refl (outlines_kept test change files keeps.1)
   where
@@ -129,27 +129,38 @@ length_kept : (old bytes : List ℕ) (offset : ℕ) → offset + length bytes �
 length_kept old bytes offset fits =
     let rest = drop (offset + length bytes) old in
     let same : length (take offset old ++ bytes ++ rest) ≡ length old =
-    omega (arith, length-append (take offset old ++ bytes) rest, length-append (take offset old) bytes, length-take offset old, length-drop (offset + length bytes) old) in
+    omega (
+      arith,
+      length-append (take offset old ++ bytes) rest,
+      length-append (take offset old) bytes,
+      length-take offset old,
+      length-drop (offset + length bytes) old,
+    ) in
     same
 
 -- a write that fits keeps the size
-pub write_keeps : (file : File) (offset : ℤ) (bytes : List ℕ) → is_range (length file.bytes) offset (pos (length bytes)) ≡ true → outline (record file { bytes = overwritten file.bytes (nat_abs offset) bytes }) ≡ outline file
-write_keeps file offset bytes fits = ap (λ n. (file.handle, n)) (length_kept file.bytes bytes (nat_abs offset) (leb-true _ _ (range_end (length file.bytes) offset (length bytes) fits)))
+pub write_keeps : (file : File) (offset : ℤ) (bytes : List ℕ) → is_range (length file.bytes) offset (pos (length bytes)) ≡ true
+    → outline (record file { bytes = overwritten file.bytes (nat_abs offset) bytes }) ≡ outline file
+write_keeps file offset bytes fits =
+    ap (λ n. (file.handle, n)) (length_kept file.bytes bytes (nat_abs offset) (leb-true _ _ (range_end (length file.bytes) offset (length bytes) fits)))
 
 -- ---- the one file that a test finds
 
 -- no file meets the test
-pub none_meets : (test : File → Bool) (P : File → Type 0) (files : List File) → find test files ≡ None → AllByRecursion (λ file. test file ≡ true → P file) files
+pub none_meets : (test : File → Bool) (P : File → Type 0) (files : List File) → find test files ≡ None
+    → AllByRecursion (λ file. test file ≡ true → P file) files
 none_meets test P [] none = tt
 none_meets test P (first ∷ files) none = by (test first) refl none (none_meets test P files)
   where
-    by : (b : Bool) → test first ≡ b → cond b (Some first) (find test files) ≡ None → (find test files ≡ None → AllByRecursion (λ file. test file ≡ true → P file) files)
+    by : (b : Bool) → test first ≡ b → cond b (Some first) (find test files) ≡ None
+        → (find test files ≡ None → AllByRecursion (λ file. test file ≡ true → P file) files)
         → (test first ≡ true → P first) × AllByRecursion (λ file. test file ≡ true → P file) files
     by true is found rest = absurd cc
     by false is found rest = (λ meets. absurd cc, rest found)
 
 -- what holds of the one file that meets the test holds of each that does
-pub one_meets : (test : File → Bool) (P : File → Type 0) (files : List File) (file : File) → OnlyOne test files → find test files ≡ Some file → P file → AllByRecursion (λ file. test file ≡ true → P file) files
+pub one_meets : (test : File → Bool) (P : File → Type 0) (files : List File) (file : File) → OnlyOne test files → find test files ≡ Some file
+    → P file → AllByRecursion (λ file. test file ≡ true → P file) files
 one_meets test P [] file only found here = absurd cc
 one_meets test P (first ∷ files) file only found here = by (test first) refl found only.0 (one_meets test P files file only.1)
   where
@@ -160,7 +171,8 @@ one_meets test P (first ∷ files) file only found here = by (test first) refl f
     by false is found alone rest = (λ meets. absurd cc, rest found here)
 
 -- what holds of each file that meets the test holds of the one that is found
-pub found_has : (test : File → Bool) (P : File → Type 0) (files : List File) (file : File) → AllByRecursion (λ file. test file ≡ true → P file) files → find test files ≡ Some file → P file
+pub found_has : (test : File → Bool) (P : File → Type 0) (files : List File) (file : File) → AllByRecursion (λ file. test file ≡ true → P file) files
+    → find test files ≡ Some file → P file
 found_has test P [] file all found = absurd cc
 found_has test P (first ∷ files) file all found = by (test first) refl found (found_has test P files file all.1)
   where

@@ -39,8 +39,10 @@ length-with_tags (tag ∷ tags) [] same = absurd (omega (arith, same))
 length-with_tags (tag ∷ tags) (file ∷ files) same = omega (arith, length-with_tags tags files (omega (arith, same)))
 
 -- a file and its tag at an index
-pub pair_at : (tags : List Tag) (files : List PlainFile) (i : ℕ) (tag : Tag) (name bytes : List ℕ) → slice_get tags i ≡ Some tag → option_map (λ file. file.name) (slice_get files i) ≡ Some name
-    → option_map (λ file. file.bytes) (slice_get files i) ≡ Some bytes → slice_get (with_tags tags files) i ≡ Some (record { handle = tag.handle; name = name; bytes = bytes; claim = tag.claim })
+pub pair_at : (tags : List Tag) (files : List PlainFile) (i : ℕ) (tag : Tag) (name bytes : List ℕ) → slice_get tags i ≡ Some tag
+    → option_map (λ file. file.name) (slice_get files i) ≡ Some name
+    → option_map (λ file. file.bytes) (slice_get files i) ≡ Some bytes
+    → slice_get (with_tags tags files) i ≡ Some (record { handle = tag.handle; name = name; bytes = bytes; claim = tag.claim })
 pair_at [] files i tag name bytes at named held = absurd cc
 pair_at (first ∷ tags) [] i tag name bytes at named held = absurd cc
 pair_at (first ∷ tags) (file ∷ files) zero tag name bytes at named held =
@@ -50,7 +52,8 @@ pair_at (first ∷ tags) (file ∷ files) zero tag name bytes at named held =
 pair_at (first ∷ tags) (file ∷ files) (suc i) tag name bytes at named held = pair_at tags files i tag name bytes at named held
 
 -- the bytes of one file are at most those of all
-pub one_of_sum : (files : List PlainFile) (i : ℕ) (bytes : List ℕ) → option_map (λ file. file.bytes) (slice_get files i) ≡ Some bytes → length bytes ≤ total_size files
+pub one_of_sum : (files : List PlainFile) (i : ℕ) (bytes : List ℕ) → option_map (λ file. file.bytes) (slice_get files i) ≡ Some bytes
+    → length bytes ≤ total_size files
 one_of_sum [] i bytes held = absurd cc
 one_of_sum (file ∷ files) zero bytes held =
     let sum = sum_by-cons (λ (x : PlainFile). length x.bytes) file files in
@@ -62,7 +65,8 @@ one_of_sum (file ∷ files) (suc i) bytes held =
     omega (arith, sum, rest)
 
 -- an index that no file has
-pub none_at : (tags : List Tag) (files : List PlainFile) (i : ℕ) {A : Type 0} (f : PlainFile → A) → length tags ≡ length files → option_map f (slice_get files i) ≡ None → slice_get (with_tags tags files) i ≡ None
+pub none_at : (tags : List Tag) (files : List PlainFile) (i : ℕ) {A : Type 0} (f : PlainFile → A) → length tags ≡ length files
+    → option_map f (slice_get files i) ≡ None → slice_get (with_tags tags files) i ≡ None
 none_at [] files i f same none = refl
 none_at (first ∷ tags) [] i f same none = refl
 none_at (first ∷ tags) (file ∷ files) zero f same none = absurd cc

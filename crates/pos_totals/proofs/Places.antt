@@ -34,7 +34,8 @@ found_meets test (first ∷ files) file found = by (test first) refl found (foun
     by false here is rest = rest is
 
 -- the place that a search through another list tells is the index
-pub is_at : {A : Type 0} (p : A → Bool) (test : File → Bool) (xs : List A) (files : List File) (i : ℕ) → index_of test files ≡ position_or_len p xs → position p xs ≡ Some i → i ≡ index_of test files
+pub is_at : {A : Type 0} (p : A → Bool) (test : File → Bool) (xs : List A) (files : List File) (i : ℕ) → index_of test files ≡ position_or_len p xs
+    → position p xs ≡ Some i → i ≡ index_of test files
 is_at p test xs files i index found = by (nat_lt (position_or_len p xs) (length xs)) found
   where
     by : (b : Bool) → cond b (Some (position_or_len p xs)) None ≡ Some i → i ≡ index_of test files
@@ -52,7 +53,8 @@ none_past test files past = by (find test files) refl
     by None is = is
     by (Some file) is = absurd (let inside = found_inside test files file is in omega (arith, past, inside))
 
-pub is_none : {A : Type 0} (p : A → Bool) (test : File → Bool) (xs : List A) (files : List File) → length files ≡ length xs → index_of test files ≡ position_or_len p xs → position p xs ≡ None → find test files ≡ None
+pub is_none : {A : Type 0} (p : A → Bool) (test : File → Bool) (xs : List A) (files : List File) → length files ≡ length xs
+    → index_of test files ≡ position_or_len p xs → position p xs ≡ None → find test files ≡ None
 is_none p test xs files same index none = by (nat_lt (position_or_len p xs) (length xs)) refl none
   where
     by : (b : Bool) → nat_lt (position_or_len p xs) (length xs) ≡ b → cond b (Some (position_or_len p xs)) None ≡ None → find test files ≡ None
@@ -60,7 +62,8 @@ is_none p test xs files same index none = by (nat_lt (position_or_len p xs) (len
     by false lt is = none_past test files (omega (arith, same, index, ltb-false (position_or_len p xs) (length xs) lt))
 
 -- a search through another list that finds nothing tells the end
-pub is_past : {A : Type 0} (p : A → Bool) (test : File → Bool) (xs : List A) (files : List File) → index_of test files ≡ position_or_len p xs → position p xs ≡ None → length xs ≡ index_of test files
+pub is_past : {A : Type 0} (p : A → Bool) (test : File → Bool) (xs : List A) (files : List File) → index_of test files ≡ position_or_len p xs
+    → position p xs ≡ None → length xs ≡ index_of test files
 is_past p test xs files index none = by (nat_lt (position_or_len p xs) (length xs)) refl none
   where
     by : (b : Bool) → nat_lt (position_or_len p xs) (length xs) ≡ b → cond b (Some (position_or_len p xs)) None ≡ None → length xs ≡ index_of test files
@@ -85,8 +88,10 @@ one_changed test change (first ∷ files) file only found = by (test first) only
   where
     by : (b : Bool) → (b ≡ true → find test files ≡ None) → cond b (Some first) (find test files) ≡ Some file
         → (find test files ≡ Some file → with_each test change files ≡ set files (index_of test files) (change file))
-        → ◌≡◌ {A = List File} (cond b (change first) first ∷ with_each test change files) (set (first ∷ files) (cond (not b) (1 + index_of test files) 0) (change file))
-    by true alone is rest = ap (λ (x : File). change x ∷ with_each test change files) (same_Some first file is) ∙ ap (λ fs. change file ∷ fs) (none_changed test change files (alone refl))
+        → ◌≡◌ {A = List File} (cond b (change first) first ∷ with_each test change files)
+        (set (first ∷ files) (cond (not b) (1 + index_of test files) 0) (change file))
+    by true alone is rest = ap (λ (x : File). change x ∷ with_each test change files) (same_Some first file is)
+        ∙ ap (λ fs. change file ∷ fs) (none_changed test change files (alone refl))
     by false alone is rest = ap (λ fs. first ∷ fs) (rest is) ∙ ap (λ n. set (first ∷ files) n (change file)) (sym (one_more (index_of test files)))
 
 -- no file goes where none meets the test
@@ -100,12 +105,14 @@ none_gone test (first ∷ files) none = by (test first) none (none_gone test fil
     by false is rest = ap (λ fs. first ∷ fs) (rest is)
 
 -- where one file meets the test, it goes from its place
-pub one_gone : (test : File → Bool) (files : List File) (file : File) → OnlyOne test files → find test files ≡ Some file → filter (λ file. not (test file)) files ≡ remove files (index_of test files)
+pub one_gone : (test : File → Bool) (files : List File) (file : File) → OnlyOne test files → find test files ≡ Some file
+    → filter (λ file. not (test file)) files ≡ remove files (index_of test files)
 one_gone test [] file only found = absurd cc
 one_gone test (first ∷ files) file only found = by (test first) only.0 found (one_gone test files file only.1)
   where
     by : (b : Bool) → (b ≡ true → find test files ≡ None) → cond b (Some first) (find test files) ≡ Some file
         → (find test files ≡ Some file → filter (λ file. not (test file)) files ≡ remove files (index_of test files))
-        → ◌≡◌ {A = List File} (cond (not b) (first ∷ filter (λ file. not (test file)) files) (filter (λ file. not (test file)) files)) (remove (first ∷ files) (cond (not b) (1 + index_of test files) 0))
+        → ◌≡◌ {A = List File} (cond (not b) (first ∷ filter (λ file. not (test file)) files) (filter (λ file. not (test file)) files))
+        (remove (first ∷ files) (cond (not b) (1 + index_of test files) 0))
     by true alone is rest = none_gone test files (alone refl)
     by false alone is rest = ap (λ fs. first ∷ fs) (rest is) ∙ ap (λ n. remove (first ∷ files) n) (sym (one_more (index_of test files)))

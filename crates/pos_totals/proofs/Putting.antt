@@ -8,8 +8,7 @@ use Rattle.pos_dir.specs.declared.change.Change.{Change as FileChange}
 use Rattle.pos_dir.specs.declared.fault.DirectoryFault.{DirectoryFault}
 use Rattle.pos_dir.specs.declared.file.File.{File as PlainFile}
 use Rattle.pos_dir.specs.declared.limits.TheConstants.{LAYOUT_1}
-use Rattle.pos_disk.proofs.Moments.{started, weaker}
-use Rattle.pos_disk.specs.State.{DiskState, HasNotFailed, LeavesOnly, MayLeave}
+use Rattle.pos_disk.specs.State.{DiskState, HasNotFailed, MayLeave}
 use Rattle.pos_disk.specs.Keeps.{KeepsDisk}
 use Rattle.pos_disk.specs.declared.device.Disk.{Ghosts}
 use Rattle.pos_service.specs.declared.answer.Answer.{Answer}
@@ -21,50 +20,54 @@ use Rattle.pos_totals.specs.TotalsChanges.{files_after_all}
 use Rattle.pos_service.specs.Refusals.{Row, first_refusal, Decided}
 use Rattle.pos_store.specs.Commits.{Commits, PutsDown, IsExhausted, fits_behind, sequence_after}
 use Rattle.pos_store.specs.Commits as store
-use Rattle.pos_store.specs.Modes.{StoreState as State, LeavesItsFiles}
+use Rattle.pos_store.proofs.Passing.{stays, wider}
+use Rattle.pos_store.specs.Modes.{StoreState as State, LeavesItsFiles, settled as store_settled}
 use Rattle.pos_store.specs.Modes.{Off as StoreOff, Ready as StoreReady, StoreView}
-use Rattle.pos_store.specs.Standing.{Stands, StandsFor, StandsForOneOf}
+use Rattle.pos_store.specs.Standing.{Standing, Stands, StandsFor, StandsForOneOf, LeavesOneOf, Passes}
 use Rattle.pos_store.specs.declared.fault.StoreFault.{StoreFault}
 use Rattle.pos_store.specs.declared.fault.StoreFault.TheVariants as fault
 use Rattle.pos_totals.proofs.Pairs.{plain_of, numbers_in}
-use Rattle.pos_totals.specs.Changes.{PutsGroup, IsBeforeOrAfter, IsOneGroup, IsDone, before_or_after}
+use Rattle.pos_totals.specs.Changes.{PutsGroup, IsOneGroup, IsDone, before_or_after, left_after, settled}
 use Rattle.pos_totals.specs.Groups.{group_of}
-use Rattle.pos_totals.specs.Views.{TotalsView, plain, stored, handles_of, mode_of, totals_of, view_of, with_tags, AreDistinct, AreHandles, HasHandles, TurnsOff, LeavesTheirFiles}
+use Rattle.pos_totals.specs.Views.{TotalsView, plain, stored, handles_of, mode_of, totals_of, view_of, with_tags, AreDistinct, AreHandles, HasHandles, TurnsOff, WhenOff, LeavesTheirFiles}
 use Rattle.pos_totals.specs.declared.handles.Tag.{Tag}
-use Rattle.pos_totals.specs.declared.ledger.Ledger.{Ledger}
+use Rattle.pos_totals.specs.declared.holdings.Holdings.{Holdings}
 
 -- ---- tables
 
 pub open_table : (rows : List Row) (result : Answer) (Same Done : Type 0) → first_refusal rows ≡ None → Done → Decided rows result Same Done
-open_table rows result Same Done none done = record { outcome = subst (λ (o : Option Answer). MatchOption o Done (λ refusal. (result ≡ refusal) × Same)) (sym none) done }
+open_table rows result Same Done none done =
+    record { outcome = subst (λ (o : Option Answer). MatchOption o Done (λ refusal. (result ≡ refusal) × Same)) (sym none) done }
 
-pub closed_table : (rows : List Row) (result refusal : Answer) (Same Done : Type 0) → first_refusal rows ≡ Some refusal → result ≡ refusal → Same → Decided rows result Same Done
-closed_table rows result refusal Same Done some is same = record { outcome = subst (λ (o : Option Answer). MatchOption o Done (λ r. (result ≡ r) × Same)) (sym some) (is, same) }
+pub closed_table : (rows : List Row) (result refusal : Answer) (Same Done : Type 0) → first_refusal rows ≡ Some refusal → result ≡ refusal → Same
+    → Decided rows result Same Done
+closed_table rows result refusal Same Done some is same =
+    record { outcome = subst (λ (o : Option Answer). MatchOption o Done (λ r. (result ≡ r) × Same)) (sym some) (is, same) }
 
 -- ---- the view
 
--- what a disk, a store's state and a ledger mean
-abbrev pub view_at : {D : Type 0} → D → State → Ledger → TotalsView D
-view_at disk state ledger = record { disk = disk; totals = totals_of state ledger }
+-- what a disk, a store's state and the holdings mean
+abbrev pub view_at : {D : Type 0} → D → State → Holdings → TotalsView D
+view_at disk state holdings = record { disk = disk; totals = totals_of state holdings }
 
 pub same_state : (tags : List Tag) (state : State) (next : ℕ) → HasHandles state tags next → stored (mode_of tags state) ≡ state
 same_state tags StoreOff next sound = refl
 same_state tags (StoreReady files sequence) next sound = ap (λ (fs : List PlainFile). StoreReady fs sequence) (plain_of tags files sound.count)
 
-pub their_files : (tags : List Tag) (state : State) (next : ℕ) (disk : DiskState) → HasHandles state tags next → LeavesItsFiles state disk → LeavesTheirFiles (mode_of tags state) disk
+pub their_files : (tags : List Tag) (state : State) (next : ℕ) (disk : DiskState) → HasHandles state tags next → LeavesItsFiles state disk
+    → LeavesTheirFiles (mode_of tags state) disk
 their_files tags state next disk sound leaves = subst (λ (s : State). LeavesItsFiles s disk) (sym (same_state tags state next sound)) leaves
-
-never_turns : (mode : Mode) → TurnsOff mode mode → ⊥
-never_turns Off turns = turns
-never_turns (Ready files sequence) turns = turns
 
 -- a disk that no call has touched
 pub keeps : {D : Type 0} (bound : Ghosts D) (disk : D) → KeepsDisk bound disk disk
 keeps bound disk = record { size = refl; honest = (λ h. h, λ h. h); later = λ h. omega arith }
 
-left_here : (disk : DiskState) (mode now : Mode) (next : ℕ) (changes : List Change) → LeavesTheirFiles mode disk → (bytes : List ℕ) → MayLeave disk bytes → IsBeforeOrAfter disk next mode changes now bytes
-left_here disk Off now next changes leaves bytes may = may
-left_here disk (Ready files sequence) now next changes leaves bytes may = ⊎_elim (λ this. inl this) (λ none. absurd none) (leaves bytes may)
+-- a group for which it isn't touched
+passes_here : (disk : DiskState) (next : ℕ) (mode : Mode) (changes : List Change) (left : List Standing)
+    → ((c : List ℕ) → disk.left_since disk.moment c → MayLeave disk c)
+    → WhenOff mode (LeavesOneOf left disk) → LeavesTheirFiles mode disk → Passes disk disk (settled mode left) (left_after next left mode changes mode)
+passes_here disk next Off changes left only leaves their = stays disk left only leaves
+passes_here disk next (Ready files sequence) changes left only leaves their = stays disk (Stands (plain files) sequence ∷ []) only their
 
 -- the files that a store has, with their tags, are sound
 pub sound_files : (tags : List Tag) (files : List PlainFile) (next : ℕ) → IsDirectory LAYOUT_1 files → AreHandles tags files next
@@ -74,47 +77,53 @@ sound_files tags files next directory sound =
 
 -- ---- where the disk isn't touched
 
-module _ {D : Type 0} (bound : Ghosts D) (disk : D) (only : bound.honest disk → (bytes : List ℕ) → (bound.state disk).left_since (bound.state disk).moment bytes → MayLeave (bound.state disk) bytes) where
+module _ {D : Type 0} (bound : Ghosts D) (disk : D)
+    (only : bound.honest disk → (bytes : List ℕ) → (bound.state disk).left_since (bound.state disk).moment bytes → MayLeave (bound.state disk) bytes) where
   -- a call that leaves the disk as it is, and the mode, whatever its group
-  pub idles : (old new : Totals) (changes : List Change) (outcome : Result Answer NoMemory) → new.mode ≡ old.mode → IsOneGroup old changes → (¬ (IsDone outcome) → new ≡ old) → (bound.honest disk → LeavesTheirFiles old.mode (bound.state disk))
+  pub idles : (old new : Totals) (changes : List Change) (outcome : Result Answer NoMemory) → new.mode ≡ old.mode → IsOneGroup old changes
+      → (¬ (IsDone outcome) → new ≡ old) → (bound.honest disk → LeavesTheirFiles old.mode (bound.state disk))
       → PutsGroup bound (record { disk = disk; totals = old }) changes outcome (record { disk = disk; totals = new })
   idles old new changes outcome mode group same now = record {
     group = group;
     untouched = λ none. refl;
     unchanged = λ refused. inr (ap (λ (t : Totals). record { disk = disk; totals = t }) (same refused));
-    any_moment = λ h. started (bound.state disk) (IsBeforeOrAfter (bound.state disk) old.next old.mode changes new.mode)
-        (λ c left. left_here (bound.state disk) old.mode new.mode old.next changes (now h) c (only h c left));
-    now = λ h. subst (λ (m : Mode). LeavesTheirFiles m (bound.state disk)) (sym mode) (now h);
-    in_doubt = λ h turns. absurd (never_turns old.mode (subst (λ (m : Mode). TurnsOff old.mode m) mode turns));
+    crash = λ h left leaves. subst
+        (λ (m : Mode). Passes (bound.state disk) (bound.state disk) (settled old.mode left) (left_after old.next left old.mode changes m)) (sym mode)
+        (passes_here (bound.state disk) old.next old.mode changes left (only h) leaves (now h));
     counts = λ h. inr refl;
     kept = keeps bound disk;
   }
 
   -- a call that leaves everything as it is
-  pub rests : (totals : Totals) (changes : List Change) (outcome : Result Answer NoMemory) → IsOneGroup totals changes → (bound.honest disk → LeavesTheirFiles totals.mode (bound.state disk))
+  pub rests : (totals : Totals) (changes : List Change) (outcome : Result Answer NoMemory) → IsOneGroup totals changes
+      → (bound.honest disk → LeavesTheirFiles totals.mode (bound.state disk))
       → PutsGroup bound (record { disk = disk; totals = totals }) changes outcome (record { disk = disk; totals = totals })
   rests totals changes outcome group now = idles totals totals changes outcome refl group (λ refused. refl) now
 
 -- ---- the sequences after a group
 
 -- a group that fits keeps the sequence, and one that doesn't has the next one, which the last one hasn't
-one_follows : (sequence : ℕ) (fits last : Bool) → ¬ ((fits ≡ false) × (last ≡ true)) → IsAmong (cond fits sequence (sequence + 1)) (cond last (sequence ∷ []) (sequence ∷ (sequence + 1) ∷ []))
+one_follows : (sequence : ℕ) (fits last : Bool) → ¬ ((fits ≡ false) × (last ≡ true))
+    → IsAmong (cond fits sequence (sequence + 1)) (cond last (sequence ∷ []) (sequence ∷ (sequence + 1) ∷ []))
 one_follows sequence true true left = inl refl
 one_follows sequence true false left = inl refl
 one_follows sequence false true left = absurd (left (refl, refl))
 one_follows sequence false false left = inr (inl refl)
 
 -- the sequence after a group that a store takes is one of the next ones
-pub follows : (tail : ℕ) (changes : List FileChange) (sequence : ℕ) → ¬ (IsExhausted tail changes sequence) → IsAmong (sequence_after tail changes sequence) (next_sequences sequence)
+pub follows : (tail : ℕ) (changes : List FileChange) (sequence : ℕ) → ¬ (IsExhausted tail changes sequence)
+    → IsAmong (sequence_after tail changes sequence) (next_sequences sequence)
 follows tail changes sequence left =
     one_follows sequence (fits_behind tail changes) (nat_eq sequence last_number)
     (λ both. left (both.0, let last = eqb-true sequence last_number both.1 in omega (arith, last)))
 
 -- files with one of these sequences
-stands_among : (files : List PlainFile) (sequence : ℕ) (sequences : List ℕ) → IsAmong sequence sequences → (bytes : List ℕ) → StandsFor (Stands files sequence) bytes → StandsForOneOf (map (λ n. Stands files n) sequences) bytes
+stands_among : (files : List PlainFile) (sequence : ℕ) (sequences : List ℕ) → IsAmong sequence sequences → (bytes : List ℕ)
+    → StandsFor (Stands files sequence) bytes → StandsForOneOf (map (λ n. Stands files n) sequences) bytes
 stands_among files sequence [] among bytes stands = absurd among
 stands_among files sequence (first ∷ others) among bytes stands =
-    ⊎_elim (λ same. inl (subst (λ (n : ℕ). StandsFor (Stands files n) bytes) same stands)) (λ rest. inr (stands_among files sequence others rest bytes stands)) among
+    ⊎_elim (λ same. inl (subst (λ (n : ℕ). StandsFor (Stands files n) bytes) same stands))
+    (λ rest. inr (stands_among files sequence others rest bytes stands)) among
 
 -- without the disk's fault the disk hasn't failed
 pub never_failed : (old new : DiskState) → IsErrOf {T = Unit {0}} (Ok tt) fault.Device ⊎ HasNotFailed old new → HasNotFailed old new
@@ -122,70 +131,77 @@ never_failed old new counts = ⊎_elim (λ is. absurd cc) (λ same. same) counts
 
 -- ---- a group that the store takes
 
-module _ {D : Type 0} (bound : Ghosts D) (disk : D) (files : List PlainFile) (sequence tail : ℕ) (ledger : Ledger) (change : Change) (changes : List Change)
-    (sound : AreHandles ledger.handles.given files ledger.handles.next)
-    (group : IsOneGroup (totals_of (StoreReady files sequence) ledger) (change ∷ changes)) where
+module _ {D : Type 0} (bound : Ghosts D) (disk : D) (files : List PlainFile) (sequence tail : ℕ) (holdings : Holdings) (change : Change) (changes : List Change)
+    (sound : AreHandles holdings.handles.given files holdings.handles.next)
+    (group : IsOneGroup (totals_of (StoreReady files sequence) holdings) (change ∷ changes)) where
   abbrev xs : List File
-  xs = with_tags ledger.handles.given files
+  xs = with_tags holdings.handles.given files
 
   abbrev all : List FileChange
   all = group_of xs (change ∷ changes)
 
   abbrev after : List File
-  after = files_after_all ledger.handles.next xs (change ∷ changes)
+  after = files_after_all holdings.handles.next xs (change ∷ changes)
 
   abbrev old_store : StoreView D
   old_store = record { disk = disk; state = StoreReady files sequence; tail = tail }
 
   -- what the group makes of the store's files
   made : outcome_of_all LAYOUT_1 files all ≡ Ok (plain after)
-  made = subst (λ (fs : List PlainFile). outcome_of_all LAYOUT_1 fs all ≡ Ok (plain after)) (plain_of ledger.handles.given files sound.count) group
+  made = subst (λ (fs : List PlainFile). outcome_of_all LAYOUT_1 fs all ≡ Ok (plain after)) (plain_of holdings.handles.given files sound.count) group
 
   abbrev then_sequence : ℕ
   then_sequence = sequence_after tail all sequence
 
-  -- what the store's commit may leave, in the words of the totals
-  either : (bytes : List ℕ) → StandsForOneOf (store.left_by files sequence tail all) bytes → StandsForOneOf (Stands (plain xs) sequence ∷ Stands (plain after) then_sequence ∷ []) bytes
-  either bytes stands =
-      ⊎_elim
-      (λ before. inl (subst (λ (fs : List PlainFile). StandsFor (Stands fs sequence) bytes) (sym (plain_of ledger.handles.given files sound.count)) before))
-      (λ behind. inr behind)
-      (subst (λ (o : Result (List PlainFile) DirectoryFault). StandsForOneOf (store.before_or_after files sequence then_sequence o) bytes) made stands)
-
-  -- it is among the candidates of the call
-  among : ¬ (IsExhausted tail all sequence) → (bytes : List ℕ) → StandsForOneOf (store.left_by files sequence tail all) bytes → StandsForOneOf (before_or_after ledger.handles.next (Ready xs sequence) (change ∷ changes)) bytes
+  -- what the store's commit may leave is among the candidates of the call
+  among : ¬ (IsExhausted tail all sequence) → (bytes : List ℕ) → StandsForOneOf (store.left_by files sequence tail all) bytes
+      → StandsForOneOf (before_or_after holdings.handles.next (Ready xs sequence) (change ∷ changes)) bytes
   among left bytes stands =
       ⊎_elim
-      (λ before. inl before)
-      (λ rest. ⊎_elim (λ behind. inr (stands_among (plain after) then_sequence (next_sequences sequence) (follows tail all sequence left) bytes behind)) (λ none. absurd none) rest)
-      (either bytes stands)
+      (λ before. inl (subst (λ (fs : List PlainFile). StandsFor (Stands fs sequence) bytes) (sym (plain_of holdings.handles.given files sound.count)) before))
+      (λ rest. ⊎_elim (λ behind. inr
+      (stands_among (plain after) then_sequence (next_sequences sequence) (follows tail all sequence left) bytes behind)) (λ none. absurd none) rest)
+      (subst (λ (o : Result (List PlainFile) DirectoryFault). StandsForOneOf (store.before_or_after files sequence then_sequence o) bytes) made stands)
+
+  -- what a crash leaves around the store's commit, by the files of the totals before it and the store's state after it
+  passes : {result : Result (Unit {0}) StoreFault} (new : StoreView D) (state : State) → Commits bound old_store all result new → new.state ≡ state
+      → bound.honest disk
+      → Passes (bound.state disk) (bound.state new.disk) (Stands (plain xs) sequence ∷ []) (store_settled state (store.left_by files sequence tail all))
+  passes new state commits is h =
+      subst (λ (s : State). Passes (bound.state disk) (bound.state new.disk) (Stands (plain xs) sequence ∷ [])
+      (store_settled s (store.left_by files sequence tail all))) is
+      (subst (λ (fs : List PlainFile). Passes (bound.state disk) (bound.state new.disk) (Stands fs sequence ∷ [])
+      (store_settled new.state (store.left_by files sequence tail all))) (sym (plain_of holdings.handles.given files sound.count)) (commits.crash h))
 
   -- what the store's commit answered
-  pub put_down : (result : Result (Unit {0}) StoreFault) (new : StoreView D) → store.Answers (StoreReady files sequence) old_store all result new → PutsDown sequence (plain after) old_store all result new
+  pub put_down : (result : Result (Unit {0}) StoreFault) (new : StoreView D) → store.Answers (StoreReady files sequence) old_store all result new
+      → PutsDown sequence (plain after) old_store all result new
   put_down result new answers =
-      subst (λ (o : Result (List PlainFile) DirectoryFault). MatchResult o (λ next. PutsDown sequence next old_store all result new) (λ refusal. (result ≡ Err (fault.Refused refusal)) × (new ≡ old_store)))
+      subst (λ (o : Result (List PlainFile) DirectoryFault). MatchResult o (λ next. PutsDown sequence next old_store all result new)
+      (λ refusal. (result ≡ Err (fault.Refused refusal)) × (new ≡ old_store)))
       made answers
 
   -- the group was put down
   pub put_group : (new : StoreView D) (totals : Totals) (given : Value) → Commits bound old_store all (Ok tt) new → totals.mode ≡ Ready after then_sequence
-      → PutsGroup bound (view_of old_store ledger) (change ∷ changes) (Ok (answer.Done given)) (record { disk = new.disk; totals = totals })
+      → PutsGroup bound (view_of old_store holdings) (change ∷ changes) (Ok (answer.Done given)) (record { disk = new.disk; totals = totals })
   put_group new totals given commits mode =
       let down = put_down (Ok tt) new commits.answer in
       record {
         group = group;
         untouched = λ none. absurd cc;
         unchanged = λ refused. absurd (refused tt);
-        any_moment = λ h. subst (λ (m : Mode). LeavesOnly (bound.state disk) (bound.state new.disk) (IsBeforeOrAfter (bound.state disk) ledger.handles.next (Ready xs sequence) (change ∷ changes) m)) (sym mode)
-            (weaker (bound.state disk) (bound.state new.disk) _ _ either (commits.any_moment h));
-        now = λ h. subst (λ (m : Mode). LeavesTheirFiles m (bound.state new.disk)) (sym mode) (subst (λ (s : State). LeavesItsFiles s (bound.state new.disk)) down.1 (commits.now h));
-        in_doubt = λ h turns. absurd (subst (λ (m : Mode). TurnsOff (Ready xs sequence) m) mode turns);
+        crash = λ h left leaves. subst
+            (λ (m : Mode). Passes (bound.state disk) (bound.state new.disk) (Stands (plain xs) sequence ∷ [])
+            (left_after holdings.handles.next left (Ready xs sequence) (change ∷ changes) m)) (sym mode)
+            (passes new (StoreReady (plain after) then_sequence) commits down.1 h);
         counts = λ h. inr (never_failed (bound.state disk) (bound.state new.disk) (commits.counts h));
         kept = commits.keeps;
       }
 
   -- the disk failed in it
-  pub doubt_group : (new : StoreView D) (totals : Totals) (outcome : Result Answer NoMemory) → Commits bound old_store all (Err fault.Device) new → totals.mode ≡ Off
-      → PutsGroup bound (view_of old_store ledger) (change ∷ changes) outcome (record { disk = new.disk; totals = totals })
+  pub doubt_group : (new : StoreView D) (totals : Totals) (outcome : Result Answer NoMemory) → Commits bound old_store all (Err fault.Device) new
+      → totals.mode ≡ Off
+      → PutsGroup bound (view_of old_store holdings) (change ∷ changes) outcome (record { disk = new.disk; totals = totals })
   doubt_group new totals outcome commits mode =
       let down = put_down (Err fault.Device) new commits.answer in
       let turns : TurnsOff (Ready xs sequence) totals.mode = subst (λ (m : Mode). TurnsOff (Ready xs sequence) m) (sym mode) tt in
@@ -193,10 +209,10 @@ module _ {D : Type 0} (bound : Ghosts D) (disk : D) (files : List PlainFile) (se
         group = group;
         untouched = λ none. absurd cc;
         unchanged = λ refused. inl turns;
-        any_moment = λ h. subst (λ (m : Mode). LeavesOnly (bound.state disk) (bound.state new.disk) (IsBeforeOrAfter (bound.state disk) ledger.handles.next (Ready xs sequence) (change ∷ changes) m)) (sym mode)
-            (weaker (bound.state disk) (bound.state new.disk) _ _ (λ c stands. inr (among down.0 c stands)) (commits.any_moment h));
-        now = λ h. subst (λ (m : Mode). LeavesTheirFiles m (bound.state new.disk)) (sym mode) tt;
-        in_doubt = λ h off bytes may. among down.0 bytes (commits.in_doubt h refl bytes may);
+        crash = λ h left leaves. subst
+            (λ (m : Mode). Passes (bound.state disk) (bound.state new.disk) (Stands (plain xs) sequence ∷ [])
+            (left_after holdings.handles.next left (Ready xs sequence) (change ∷ changes) m)) (sym mode)
+            (wider (bound.state disk) (bound.state new.disk) _ _ _ (among down.0) (passes new StoreOff commits down.1 h));
         counts = λ h. inl turns;
         kept = commits.keeps;
       }

@@ -7,6 +7,7 @@ use Rattle.pos_disk.specs.declared.device.Disk.{Ghosts}
 use Rattle.pos_totals.specs.HardTotals.{Ready, last_number}
 use Rattle.pos_store.specs.Modes.{StoreState as State, LeavesItsFiles}
 use Rattle.pos_store.specs.Modes.{Off as StoreOff, Ready as StoreReady, StoreView, mode_of as store_mode_of, files_of as store_files_of}
+use Rattle.pos_store.proofs.Passing.{settles}
 use Rattle.pos_store.specs.Recoveries as store
 use Rattle.pos_store.specs.Standing.{Standing, Stands, StandsFor}
 use Rattle.pos_store.specs.declared.mode.Mode.TheVariants as mode
@@ -19,22 +20,23 @@ use Rattle.pos_totals.proofs.Putting.{their_files, view_at, keeps}
 use Rattle.pos_totals.specs.Numbering.{tags_from, Numbers}
 use Rattle.pos_totals.specs.Recoveries.{FindsFiles, Recovers, told_as}
 use Rattle.pos_totals.specs.Tables.{HandleTable}
-use Rattle.pos_totals.specs.Views.{TotalsView, totals_of, view_of, with_tags, AreHandles, IsSound, LeavesTheirFiles}
-use Rattle.pos_totals.specs.declared.ledger.Ledger.{Ledger}
+use Rattle.pos_totals.specs.Views.{TotalsView, totals_of, view_of, with_tags, AreHandles, IsSound, LeavesTheirFiles, stored}
+use Rattle.pos_totals.specs.declared.holdings.Holdings.{Holdings}
 use Rattle.pos_totals.specs.declared.fault.RecoveryFault.{RecoveryFault}
 use Rattle.pos_totals.specs.declared.fault.RecoveryFault.TheVariants as fault
 
 -- ---- a recovery of totals that are ready
 
-pub ready_recovers : {D : Type 0} (bound : Ghosts D) (disk : D) (state : State) (ledger : Ledger) → IsSound state ledger → (sequence : ℕ) → mode.Ready sequence ≡ store_mode_of state → (bound.honest disk → LeavesItsFiles state (bound.state disk))
-    → Recovers bound (view_at disk state ledger) (Ok tt) (view_at disk state ledger)
-ready_recovers bound disk StoreOff ledger sound sequence ready leaves = absurd cc
-ready_recovers bound disk (StoreReady files sequence) ledger sound other ready leaves = record {
+pub ready_recovers : {D : Type 0} (bound : Ghosts D) (disk : D) (state : State) (holdings : Holdings) → IsSound state holdings → (sequence : ℕ)
+    → mode.Ready sequence ≡ store_mode_of state → (bound.honest disk → LeavesItsFiles state (bound.state disk))
+    → Recovers bound (view_at disk state holdings) (Ok tt) (view_at disk state holdings)
+ready_recovers bound disk StoreOff holdings sound sequence ready leaves = absurd cc
+ready_recovers bound disk (StoreReady files sequence) holdings sound other ready leaves = record {
   ready = (refl, refl);
   answer = tt;
   one_of = λ h. tt;
   reading = λ h. refl;
-  now = λ h. their_files ledger.handles.given (StoreReady files sequence) ledger.handles.next (bound.state disk) sound.handles (leaves h);
+  now = λ h. their_files holdings.handles.given (StoreReady files sequence) holdings.handles.next (bound.state disk) sound.handles (leaves h);
   device = λ is. absurd cc;
   counts = λ h. inr refl;
   kept = keeps bound disk;
@@ -43,56 +45,66 @@ ready_recovers bound disk (StoreReady files sequence) ledger sound other ready l
 -- ---- what a store found, in the totals' words
 
 -- a fault of the store
-told_finds : (P : Standing → Type 0) (ledger : Ledger) (why : StoreFault) (result : RecoveryFault) (state : State) → store.FindsStanding P (Err why) state → told_as why ≡ Some result
-    → FindsFiles P (totals_of StoreOff ledger) (Err result) (totals_of state ledger)
-told_finds P ledger cause.Off result state finds tells = absurd finds
-told_finds P ledger (cause.Refused refusal) result state finds tells = absurd finds
-told_finds P ledger cause.Exhausted result state finds tells = absurd finds
-told_finds P ledger cause.Unformatted result state finds tells =
+told_finds : (P : Standing → Type 0) (holdings : Holdings) (why : StoreFault) (result : RecoveryFault) (state : State)
+    → store.FindsStanding P (Err why) state → told_as why ≡ Some result
+    → FindsFiles P (totals_of StoreOff holdings) (Err result) (totals_of state holdings)
+told_finds P holdings cause.Off result state finds tells = absurd finds
+told_finds P holdings (cause.Refused refusal) result state finds tells = absurd finds
+told_finds P holdings cause.Exhausted result state finds tells = absurd finds
+told_finds P holdings cause.Unformatted result state finds tells =
     let is : fault.Unformatted ≡ result = cc in
-    subst (λ (f : RecoveryFault). FindsFiles P (totals_of StoreOff ledger) (Err f) (totals_of state ledger)) is (finds.0, ap (λ (s : State). totals_of s ledger) finds.1)
-told_finds P ledger cause.Damaged result state finds tells =
+    subst (λ (f : RecoveryFault). FindsFiles P (totals_of StoreOff holdings) (Err f) (totals_of state holdings)) is
+    (finds.0, ap (λ (s : State). totals_of s holdings) finds.1)
+told_finds P holdings cause.Damaged result state finds tells =
     let is : fault.Damaged ≡ result = cc in
-    subst (λ (f : RecoveryFault). FindsFiles P (totals_of StoreOff ledger) (Err f) (totals_of state ledger)) is (finds.0, ap (λ (s : State). totals_of s ledger) finds.1)
-told_finds P ledger cause.NoMemory result state finds tells =
+    subst (λ (f : RecoveryFault). FindsFiles P (totals_of StoreOff holdings) (Err f) (totals_of state holdings)) is
+    (finds.0, ap (λ (s : State). totals_of s holdings) finds.1)
+told_finds P holdings cause.NoMemory result state finds tells =
     let is : fault.NoMemory ≡ result = cc in
-    subst (λ (f : RecoveryFault). FindsFiles P (totals_of StoreOff ledger) (Err f) (totals_of state ledger)) is (ap (λ (s : State). totals_of s ledger) finds)
-told_finds P ledger cause.Device result state finds tells =
+    subst (λ (f : RecoveryFault). FindsFiles P (totals_of StoreOff holdings) (Err f) (totals_of state holdings)) is
+    (ap (λ (s : State). totals_of s holdings) finds)
+told_finds P holdings cause.Device result state finds tells =
     let is : fault.Device ≡ result = cc in
-    subst (λ (f : RecoveryFault). FindsFiles P (totals_of StoreOff ledger) (Err f) (totals_of state ledger)) is (ap (λ (s : State). totals_of s ledger) finds)
+    subst (λ (f : RecoveryFault). FindsFiles P (totals_of StoreOff holdings) (Err f) (totals_of state holdings)) is
+    (ap (λ (s : State). totals_of s holdings) finds)
 
--- the ledger with other tags
-abbrev pub with_table : Ledger → HandleTable → Ledger
-with_table ledger table = record ledger { handles = table }
+-- the holdings with other tags
+abbrev pub with_table : Holdings → HandleTable → Holdings
+with_table holdings table = record holdings { handles = table }
 
 -- the tags of files that were found
 abbrev found_table : ℕ → ℕ → HandleTable
 found_table next count = record { given = tags_from next count; next = next + count }
 
 -- files that got handles
-numbered_finds : (P : Standing → Type 0) (ledger : Ledger) (files : List PlainFile) (sequence : ℕ) → P (Stands files sequence) → ledger.handles.next + length files ≤ last_number
-    → FindsFiles P (totals_of StoreOff ledger) (Ok tt) (totals_of (StoreReady files sequence) (with_table ledger (found_table ledger.handles.next (length files))))
-numbered_finds P ledger files sequence found left = record {
+numbered_finds : (P : Standing → Type 0) (holdings : Holdings) (files : List PlainFile) (sequence : ℕ) → P (Stands files sequence)
+    → holdings.handles.next + length files ≤ last_number
+    → FindsFiles P (totals_of StoreOff holdings) (Ok tt)
+    (totals_of (StoreReady files sequence) (with_table holdings (found_table holdings.handles.next (length files))))
+numbered_finds P holdings files sequence found left = record {
   files = files;
   sequence = sequence;
   found = found;
   handles = left;
-  totals = ap (λ fs. record (totals_of StoreOff ledger) { mode = Ready fs sequence; next = ledger.handles.next + length files }) (with_numbers files ledger.handles.next);
+  totals = ap (λ fs. record (totals_of StoreOff holdings) { mode = Ready fs sequence; next = holdings.handles.next + length files })
+      (with_numbers files holdings.handles.next);
 }
 
 -- ---- a recovery of totals that are off, by what is made of a finding whatever P tells
 
-pub off_recovers : {D : Type 0} (bound : Ghosts D) (disk : D) (tail : ℕ) (ledger : Ledger) (result : Result (Unit {0}) StoreFault) (mid : StoreView D) (told : Result (Unit {0}) RecoveryFault) (new : TotalsView D)
+pub off_recovers : {D : Type 0} (bound : Ghosts D) (disk : D) (tail : ℕ) (holdings : Holdings) (result : Result (Unit {0}) StoreFault)
+    (mid : StoreView D) (told : Result (Unit {0}) RecoveryFault) (new : TotalsView D)
     → store.Recovers bound (record { disk = disk; state = StoreOff; tail = tail }) result mid
     → new.disk ≡ mid.disk
-    → ((P : Standing → Type 0) → store.FindsStanding P result mid.state → FindsFiles P (totals_of StoreOff ledger) told new.totals)
+    → ((P : Standing → Type 0) → store.FindsStanding P result mid.state → FindsFiles P (totals_of StoreOff holdings) told new.totals)
     → (IsErrOf told fault.Device ↔ IsErrOf result cause.Device)
     → (bound.honest disk → LeavesTheirFiles new.totals.mode (bound.state mid.disk))
-    → Recovers bound (view_at disk StoreOff ledger) told new
-off_recovers bound disk tail ledger result mid told new recovers same finds device now = rw same (record {
+    → Recovers bound (view_at disk StoreOff holdings) told new
+off_recovers bound disk tail holdings result mid told new recovers same finds device now = rw same (record {
   ready = tt;
   answer = finds _ recovers.answer;
-  one_of = λ h candidates leaves. let one = recovers.one_of h candidates leaves in record { found = finds _ one.found; any_moment = one.any_moment; still = one.still };
+  one_of = λ h candidates leaves. let one =
+      recovers.one_of h candidates leaves in record { found = finds _ one.found; passes = settles (stored new.totals.mode) _ _ candidates one.passes (now h) };
   reading = recovers.reading;
   now = now;
   device = λ is h. recovers.device h (device.0 is);
@@ -121,14 +133,17 @@ told_device cause.NoMemory tells = absurd cc
 told_device cause.Device tells = refl
 
 -- the disk's fault is told as that of the disk, and no other fault is
-same_device : (why : StoreFault) (result : RecoveryFault) → told_as why ≡ Some result → IsErrOf {T = Unit {0}} (Err result) fault.Device ↔ IsErrOf {T = Unit {0}} (Err why) cause.Device
+same_device : (why : StoreFault) (result : RecoveryFault) → told_as why ≡ Some result
+    → IsErrOf {T = Unit {0}} (Err result) fault.Device ↔ IsErrOf {T = Unit {0}} (Err why) cause.Device
 same_device why result tells = (
   (λ is. ap (λ (f : StoreFault). Err f) (told_device why (tells ∙ ap (λ (f : RecoveryFault). Some f) (let e : result ≡ fault.Device = cc in e)))),
-  (λ is. let told : told_as cause.Device ≡ Some result = subst (λ (f : StoreFault). told_as f ≡ Some result) (let e : why ≡ cause.Device = cc in e) tells in ap (λ (f : RecoveryFault). Err f) (let e : result ≡ fault.Device = cc in e)),
+  (λ is. let told : told_as cause.Device ≡ Some result = subst (λ (f : StoreFault). told_as f ≡ Some result)
+      (let e : why ≡ cause.Device = cc in e) tells in ap (λ (f : RecoveryFault). Err f) (let e : result ≡ fault.Device = cc in e)),
 )
 
 -- a fault of a recovery is one that is told
-pub is_told : {D : Type 0} (bound : Ghosts D) (disk : D) (state : State) (tail : ℕ) (why : StoreFault) (mid : StoreView D) → store_mode_of state ≡ mode.Off → store.Recovers bound (record { disk = disk; state = state; tail = tail }) (Err why) mid → is_some (told_as why) ≡ true
+pub is_told : {D : Type 0} (bound : Ghosts D) (disk : D) (state : State) (tail : ℕ) (why : StoreFault) (mid : StoreView D)
+    → store_mode_of state ≡ mode.Off → store.Recovers bound (record { disk = disk; state = state; tail = tail }) (Err why) mid → is_some (told_as why) ≡ true
 is_told bound disk (StoreReady files sequence) tail why mid off recovers = absurd cc
 is_told bound disk StoreOff tail cause.Off mid off recovers = absurd recovers.answer
 is_told bound disk StoreOff tail (cause.Refused refusal) mid off recovers = absurd recovers.answer
@@ -139,66 +154,85 @@ is_told bound disk StoreOff tail cause.NoMemory mid off recovers = refl
 is_told bound disk StoreOff tail cause.Device mid off recovers = refl
 
 -- the store met a fault
-pub store_failed : {D : Type 0} (bound : Ghosts D) (disk : D) (state : State) (tail : ℕ) (ledger : Ledger) (why : StoreFault) (result : RecoveryFault) (mid : StoreView D) → store_mode_of state ≡ mode.Off → IsSound state ledger
+pub store_failed : {D : Type 0} (bound : Ghosts D) (disk : D) (state : State) (tail : ℕ) (holdings : Holdings) (why : StoreFault)
+    (result : RecoveryFault) (mid : StoreView D) → store_mode_of state ≡ mode.Off → IsSound state holdings
     → store.Recovers bound (record { disk = disk; state = state; tail = tail }) (Err why) mid → told_as why ≡ Some result
-    → Recovers bound (view_at disk state ledger) (Err result) (view_of mid ledger) × IsSound mid.state ledger
-store_failed bound disk (StoreReady files sequence) tail ledger why result mid off sound recovers tells = absurd cc
-store_failed bound disk StoreOff tail ledger why result mid off sound recovers tells =
+    → Recovers bound (view_at disk state holdings) (Err result) (view_of mid holdings) × IsSound mid.state holdings
+store_failed bound disk (StoreReady files sequence) tail holdings why result mid off sound recovers tells = absurd cc
+store_failed bound disk StoreOff tail holdings why result mid off sound recovers tells =
     let none = no_files (λ standing. bound.honest disk → StandsFor standing (bound.state disk).reading) why mid.state recovers.answer in
-    let still : IsSound mid.state ledger = subst (λ (s : State). IsSound s ledger) (sym none) sound in (
-      off_recovers bound disk tail ledger (Err why) mid (Err result) (view_of mid ledger) recovers refl
-          (λ P finds. told_finds P ledger why result mid.state finds tells)
+    let still : IsSound mid.state holdings = subst (λ (s : State). IsSound s holdings) (sym none) sound in (
+      off_recovers bound disk tail holdings (Err why) mid (Err result) (view_of mid holdings) recovers refl
+          (λ P finds. told_finds P holdings why result mid.state finds tells)
           (same_device why result tells)
-          (λ h. their_files ledger.handles.given mid.state ledger.handles.next (bound.state mid.disk) still.handles (recovers.now h)),
+          (λ h. their_files holdings.handles.given mid.state holdings.handles.next (bound.state mid.disk) still.handles (recovers.now h)),
       still,
     )
 
 -- the files that the store found got handles
-files_numbered : {D : Type 0} (bound : Ghosts D) (disk after : D) (tail then_tail : ℕ) (found : State) (ledger : Ledger) (count : ℕ) (table : HandleTable) → IsSound StoreOff ledger
-    → store.Recovers bound (record { disk = disk; state = StoreOff; tail = tail }) (Ok tt) (record { disk = after; state = found; tail = then_tail }) → (files : List PlainFile) → store_files_of found ≡ Some files → count ≡ length files
-    → Numbers ledger.handles.given ledger.handles.next count true table.given table.next
-    → Recovers bound (view_at disk StoreOff ledger) (Ok tt) (view_at after found (with_table ledger table)) × IsSound found (with_table ledger table)
-files_numbered bound disk after tail then_tail StoreOff ledger count table sound recovers files is counted numbers = absurd recovers.answer
-files_numbered bound disk after tail then_tail (StoreReady found sequence) ledger count table sound recovers files is counted numbers =
-    let next = ledger.handles.next in
+files_numbered : {D : Type 0} (bound : Ghosts D) (disk after : D) (tail then_tail : ℕ) (found : State) (holdings : Holdings) (count : ℕ)
+    (table : HandleTable) → IsSound StoreOff holdings
+    → store.Recovers bound (record { disk = disk; state = StoreOff; tail = tail }) (Ok tt) (record { disk = after; state = found; tail = then_tail })
+    → (files : List PlainFile) → store_files_of found ≡ Some files → count ≡ length files
+    → Numbers holdings.handles.given holdings.handles.next count true table.given table.next
+    → Recovers bound (view_at disk StoreOff holdings) (Ok tt) (view_at after found (with_table holdings table)) × IsSound found (with_table holdings table)
+files_numbered bound disk after tail then_tail StoreOff holdings count table sound recovers files is counted numbers = absurd recovers.answer
+files_numbered bound disk after tail then_tail (StoreReady found sequence) holdings count table sound recovers files is counted numbers =
+    let next = holdings.handles.next in
     let same : count ≡ length found = counted ∙ ap (λ (fs : List PlainFile). length fs) (sym (same_Some found files is)) in
     let tags_are : table.given ≡ tags_from next (length found) = numbers.1 ∙ ap (tags_from next) same in
     let next_is : table.next ≡ next + length found = numbers.2 ∙ ap (λ n. next + n) same in
     let handles : AreHandles (tags_from next (length found)) found (next + length found) = are_numbers found next in
     rw (tags_are, next_is) (
-      off_recovers bound disk tail ledger (Ok tt) (record { disk = after; state = StoreReady found sequence; tail = then_tail }) (Ok tt)
-          (view_at after (StoreReady found sequence) (with_table ledger (found_table next (length found)))) recovers refl
-          (λ P finds. numbered_finds P ledger found sequence finds (let left = numbers.0 in omega (arith, left, same)))
+      off_recovers bound disk tail holdings (Ok tt) (record { disk = after; state = StoreReady found sequence; tail = then_tail }) (Ok tt)
+          (view_at after (StoreReady found sequence) (with_table holdings (found_table next (length found)))) recovers refl
+          (λ P finds. numbered_finds P holdings found sequence finds (let left = numbers.0 in omega (arith, left, same)))
           ((λ is. absurd cc), (λ is. absurd cc))
           (λ h. their_files (tags_from next (length found)) (StoreReady found sequence) (next + length found) (bound.state after) handles (recovers.now h)),
-      record { handles = handles; buffers = off_holds (with_tags (tags_from next (length found)) found) sequence next (next + length found) ledger.transactions sound.buffers; apart = apart_new ledger.area next (length found) },
+      record {
+        handles = handles;
+        buffers = off_holds (with_tags (tags_from next (length found)) found) sequence next
+            (next + length found) holdings.transactions sound.buffers;
+        apart = apart_new holdings.area next (length found);
+      },
     )
 
-pub store_found : {D : Type 0} (bound : Ghosts D) (disk : D) (state : State) (tail : ℕ) (ledger : Ledger) (count : ℕ) (mid : StoreView D) (table : HandleTable) → store_mode_of state ≡ mode.Off → IsSound state ledger
-    → store.Recovers bound (record { disk = disk; state = state; tail = tail }) (Ok tt) mid → (files : List PlainFile) → store_files_of mid.state ≡ Some files → count ≡ length files
-    → Numbers ledger.handles.given ledger.handles.next count true table.given table.next
-    → Recovers bound (view_at disk state ledger) (Ok tt) (view_of mid (with_table ledger table)) × IsSound mid.state (with_table ledger table)
-store_found bound disk (StoreReady others sequence) tail ledger count mid table off sound recovers files is counted numbers = absurd cc
-store_found bound disk StoreOff tail ledger count mid table off sound recovers files is counted numbers =
-    files_numbered bound disk mid.disk tail mid.tail mid.state ledger count table sound recovers files is counted numbers
+pub store_found : {D : Type 0} (bound : Ghosts D) (disk : D) (state : State) (tail : ℕ) (holdings : Holdings) (count : ℕ) (mid : StoreView D)
+    (table : HandleTable) → store_mode_of state ≡ mode.Off → IsSound state holdings
+    → store.Recovers bound (record { disk = disk; state = state; tail = tail }) (Ok tt) mid → (files : List PlainFile)
+    → store_files_of mid.state ≡ Some files → count ≡ length files
+    → Numbers holdings.handles.given holdings.handles.next count true table.given table.next
+    → Recovers bound (view_at disk state holdings) (Ok tt) (view_of mid (with_table holdings table)) × IsSound mid.state (with_table holdings table)
+store_found bound disk (StoreReady others sequence) tail holdings count mid table off sound recovers files is counted numbers = absurd cc
+store_found bound disk StoreOff tail holdings count mid table off sound recovers files is counted numbers =
+    files_numbered bound disk mid.disk tail mid.tail mid.state holdings count table sound recovers files is counted numbers
 
 -- the files that the store found are too many
-files_left : {D : Type 0} (bound : Ghosts D) (disk after : D) (tail then_tail : ℕ) (found : State) (ledger : Ledger) (count : ℕ)
-    → store.Recovers bound (record { disk = disk; state = StoreOff; tail = tail }) (Ok tt) (record { disk = after; state = found; tail = then_tail }) → (files : List PlainFile) → store_files_of found ≡ Some files → count ≡ length files → last_number < ledger.handles.next + count
-    → Recovers bound (view_at disk StoreOff ledger) (Err fault.Handles) (view_at after StoreOff ledger)
-files_left bound disk after tail then_tail StoreOff ledger count recovers files is counted many = absurd recovers.answer
-files_left bound disk after tail then_tail (StoreReady found sequence) ledger count recovers files is counted many =
+files_left : {D : Type 0} (bound : Ghosts D) (disk after : D) (tail then_tail : ℕ) (found : State) (holdings : Holdings) (count : ℕ)
+    → store.Recovers bound (record { disk = disk; state = StoreOff; tail = tail }) (Ok tt) (record { disk = after; state = found; tail = then_tail })
+    → (files : List PlainFile) → store_files_of found ≡ Some files → count ≡ length files → last_number < holdings.handles.next + count
+    → Recovers bound (view_at disk StoreOff holdings) (Err fault.Handles) (view_at after StoreOff holdings)
+files_left bound disk after tail then_tail StoreOff holdings count recovers files is counted many = absurd recovers.answer
+files_left bound disk after tail then_tail (StoreReady found sequence) holdings count recovers files is counted many =
     let same : count ≡ length found = counted ∙ ap (λ (fs : List PlainFile). length fs) (sym (same_Some found files is)) in
-    off_recovers bound disk tail ledger (Ok tt) (record { disk = after; state = StoreReady found sequence; tail = then_tail }) (Err fault.Handles) (view_at after StoreOff ledger) recovers refl
+    off_recovers bound disk tail holdings (Ok tt) (record { disk = after; state = StoreReady found sequence; tail = then_tail }) (Err fault.Handles)
+    (view_at after StoreOff holdings) recovers refl
     (λ P finds. (record { files = found; sequence = sequence; found = finds; handles = λ few. omega (arith, few, many, same) }, refl))
     ((λ is. absurd cc), (λ is. absurd cc))
     (λ h. tt)
 
-pub store_found_more : {D : Type 0} (bound : Ghosts D) (disk : D) (state : State) (tail : ℕ) (ledger : Ledger) (count : ℕ) (mid new : StoreView D) (table : HandleTable) → store_mode_of state ≡ mode.Off → IsSound state ledger
-    → store.Recovers bound (record { disk = disk; state = state; tail = tail }) (Ok tt) mid → (files : List PlainFile) → store_files_of mid.state ≡ Some files → count ≡ length files
-    → Numbers ledger.handles.given ledger.handles.next count false table.given table.next → new ≡ record { disk = mid.disk; state = StoreOff; tail = 0 }
-    → Recovers bound (view_at disk state ledger) (Err fault.Handles) (view_of new (with_table ledger table)) × IsSound new.state (with_table ledger table)
-store_found_more {D = D} bound disk (StoreReady others sequence) tail ledger count mid new table off sound recovers files is counted numbers turned = absurd cc
-store_found_more {D = D} bound disk StoreOff tail ledger count mid new table off sound recovers files is counted numbers turned =
-    subst (λ (n : StoreView D). Recovers bound (view_at disk StoreOff ledger) (Err fault.Handles) (view_of n (with_table ledger table)) × IsSound n.state (with_table ledger table)) (sym turned)
-    (rw numbers.2 (files_left bound disk mid.disk tail mid.tail mid.state ledger count recovers files is counted numbers.0, record { handles = tt; buffers = sound.buffers; apart = tt }))
+pub store_found_more : {D : Type 0} (bound : Ghosts D) (disk : D) (state : State) (tail : ℕ) (holdings : Holdings) (count : ℕ)
+    (mid new : StoreView D) (table : HandleTable) → store_mode_of state ≡ mode.Off → IsSound state holdings
+    → store.Recovers bound (record { disk = disk; state = state; tail = tail }) (Ok tt) mid → (files : List PlainFile)
+    → store_files_of mid.state ≡ Some files → count ≡ length files
+    → Numbers holdings.handles.given holdings.handles.next count false table.given table.next → new ≡ record { disk = mid.disk; state = StoreOff; tail = 0 }
+    → Recovers bound (view_at disk state holdings) (Err fault.Handles) (view_of new (with_table holdings table)) × IsSound new.state (with_table holdings table)
+store_found_more {D = D} bound disk
+    (StoreReady others sequence) tail holdings count mid new table off sound recovers files is counted numbers turned = absurd cc
+store_found_more {D = D} bound disk StoreOff tail holdings count mid new table off sound recovers files is counted numbers turned =
+    subst (λ (n : StoreView D). Recovers bound (view_at disk StoreOff holdings) (Err fault.Handles)
+    (view_of n (with_table holdings table)) × IsSound n.state (with_table holdings table)) (sym turned)
+    (rw numbers.2 (
+      files_left bound disk mid.disk tail mid.tail mid.state holdings count recovers files is counted numbers.0,
+      record { handles = tt; buffers = sound.buffers; apart = tt },
+    ))

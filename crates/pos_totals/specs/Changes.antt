@@ -1,7 +1,7 @@
 -- What a change of the totals answers, and what a crash during it may leave.
 use Rattle.std.specs.Prelude.{◌≡◌, ◌⊎◌, ℕ, List, [], ◌∷◌, map, Result, Ok, Err, ⊤}
 use Rattle.pos_disk.specs.Keeps.{KeepsDisk}
-use Rattle.pos_disk.specs.State.{DiskState, HasNotFailed, LeavesOnly, MayLeave, Rises}
+use Rattle.pos_disk.specs.State.{DiskState, HasNotFailed, Rises}
 use Rattle.pos_disk.specs.declared.device.Disk.{Ghosts}
 use Rattle.pos_dir.specs.Changes.{outcome_of_all}
 use Rattle.pos_dir.specs.declared.limits.TheConstants.{LAYOUT_1}
@@ -12,9 +12,10 @@ use Rattle.pos_totals.specs.HardTotals.{Mode, Off, Ready, Totals, Change, files_
 use Rattle.pos_totals.specs.TotalsChanges.{files_after_all, Changed, group_by_change}
 use Rattle.pos_totals.specs.TotalsCommits.{Committed, group_by_commit}
 use Rattle.pos_totals.specs.TotalsArrangements.{Arrangement, Arranges}
-use Rattle.pos_store.specs.Standing.{Standing, Stands, StandsForOneOf, LeavesOneOf}
+use Rattle.pos_store.specs.Modes as store
+use Rattle.pos_store.specs.Standing.{Standing, Stands, LeavesOneOf, Passes}
 use Rattle.pos_totals.specs.Groups.{group_of}
-use Rattle.pos_totals.specs.Views.{TotalsView, plain, TurnsOff, LeavesTheirFiles}
+use Rattle.pos_totals.specs.Views.{TotalsView, plain, stored, TurnsOff, WhenOff}
 
 -- the files before a group of changes, and those after the whole of it with each of the next sequences
 abbrev pub before_or_after : ℕ → Mode → List Change → List Standing
@@ -24,18 +25,27 @@ before_or_after next (Ready files sequence) (change ∷ changes) =
     Stands (plain files) sequence
     ∷ map (λ follows. Stands (plain (files_after_all next files (change ∷ changes))) follows) (next_sequences sequence)
 
--- what a crash leaves while totals have this mode: their files alone, and something else while they are off
+-- for what the bytes stand that a crash leaves: while the totals are ready, for their files alone, and else for one of
+-- others
 abbrev pub settled : Mode → List Standing → List Standing
-settled Off otherwise = otherwise
-settled (Ready files sequence) otherwise = Stands (plain files) sequence ∷ []
+settled mode otherwise = store.settled (stored mode) otherwise
 
--- what a crash during a group may leave, by the modes before and after it: while the totals are off, what a crash might
--- have left before the call; while they are ready, bytes that stand for the files before it or for those after it,
--- which are those that the totals have then, or where the disk failed in it, those after the whole of it
-abbrev pub IsBeforeOrAfter : DiskState → ℕ → Mode → List Change → Mode → List ℕ → Type 0
-IsBeforeOrAfter disk next Off changes now bytes = MayLeave disk bytes
-IsBeforeOrAfter disk next (Ready files sequence) changes now bytes = StandsForOneOf
-    (Stands (plain files) sequence ∷ settled now (before_or_after next (Ready files sequence) changes)) bytes
+-- the same where the disk failed in a group: while the totals were off, what it was before it
+abbrev pub in_doubt : ℕ → List Standing → List Change → Mode → List Standing
+in_doubt next left changes Off = left
+in_doubt next left changes (Ready files sequence) = before_or_after next (Ready files sequence) changes
+
+-- the same after a group, by the modes before it and now: the files that the totals have; where they are off, those
+-- before or after the group
+abbrev pub left_after : ℕ → List Standing → Mode → List Change → Mode → List Standing
+left_after next left old changes now = settled now (in_doubt next left changes old)
+
+-- what a crash leaves around a group, by the totals before it and the mode now, whatever it leaves before it while the
+-- totals are off
+abbrev pub LeavesBeforeOrAfter : Totals → List Change → Mode → DiskState → DiskState → Type 0
+LeavesBeforeOrAfter totals changes now old new =
+    (left : List Standing) → WhenOff totals.mode (LeavesOneOf left old)
+    → Passes old new (settled totals.mode left) (left_after totals.next left totals.mode changes now)
 
 -- without their handles, the files after changes are those after the whole of their group
 abbrev pub IsOneGroup : Totals → List Change → Type 0
@@ -62,15 +72,10 @@ pub record PutsGroup {D : Type 0} (bound : Ghosts D) (old : TotalsView D) (chang
   pub untouched : changes ≡ [] → new.disk ≡ old.disk
   -- nor does one that isn't done, but after a fault of the disk; it changes nothing
   pub unchanged : ¬ (IsDone outcome) → TurnsOff old.totals.mode new.totals.mode ⊎ (new ≡ old)
-  -- a crash at any moment of the call leaves the files before it or those after the whole of it
-  pub any_moment : bound.honest old.disk
-      → LeavesOnly (bound.state old.disk) (bound.state new.disk)
-      (IsBeforeOrAfter (bound.state old.disk) old.totals.next old.totals.mode changes new.totals.mode)
-  -- a crash now leaves the files that the totals have alone
-  pub now : bound.honest old.disk → LeavesTheirFiles new.totals.mode (bound.state new.disk)
-  -- after a fault of the disk the group is in doubt: a crash now leaves the files before it or those after it
-  pub in_doubt : bound.honest old.disk → TurnsOff old.totals.mode new.totals.mode
-      → LeavesOneOf (before_or_after old.totals.next old.totals.mode changes) (bound.state new.disk)
+  -- a crash at any moment of the call leaves the files before the group or those after the whole of it, and a crash
+  -- now the files that the totals have alone; after a fault of the disk the group is in doubt
+  pub crash : bound.honest old.disk
+      → LeavesBeforeOrAfter old.totals changes new.totals.mode (bound.state old.disk) (bound.state new.disk)
   -- the disk fails only where that turns the totals off
   pub counts : bound.honest old.disk
       → TurnsOff old.totals.mode new.totals.mode ⊎ HasNotFailed (bound.state old.disk) (bound.state new.disk)

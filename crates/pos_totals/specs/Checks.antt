@@ -51,12 +51,12 @@ file_change_of (checked.SetAll index handle n) = file.SetAll index n
 
 -- the files with their tags
 abbrev pub files_in : Files → List File
-files_in files = with_tags files.tags.now files.directory.now
+files_in files = with_tags files.tags.now files.directory.now.files
 
 -- The files are those of a directory, and each has a tag.
 pub record AreFiles (files : Files) : Type 0 where
-  pub directory : IsDirectory LAYOUT_1 files.directory.now
-  pub paired : length files.tags.now ≡ length files.directory.now
+  pub directory : IsDirectory LAYOUT_1 files.directory.now.files
+  pub paired : length files.tags.now ≡ length files.directory.now.files
 
 -- what is seen of the files: none while they aren't known
 abbrev pub IsSeen : Mode → Option (List File) → Type 0

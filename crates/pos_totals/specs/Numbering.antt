@@ -16,42 +16,29 @@ tags_from first (suc count) = new_tag first ∷ tags_from (first + 1) count
 -- the change needs a handle, and none is left
 abbrev pub lacks : ℕ → FileChange → Bool
 lacks next (file.Create name size) = nat_eq next last_number
-lacks next (file.Delete index) = false
-lacks next (file.Rename index name) = false
-lacks next (file.Write index offset bytes) = false
-lacks next (file.SetAll index n) = false
+lacks next other = false
 
 -- a new file finds a place and a handle for it, and a file that goes is there
 abbrev pub HasPlace : List Tag → ℕ → FileChange → Type 0
 HasPlace given next (file.Create name size) = (length given < 64) × (next < last_number)
 HasPlace given next (file.Delete index) = index < length given
-HasPlace given next (file.Rename index name) = ⊤
-HasPlace given next (file.Write index offset bytes) = ⊤
-HasPlace given next (file.SetAll index n) = ⊤
+HasPlace given next other = ⊤
 
 -- the tags after a change
 abbrev pub given_after : List Tag → ℕ → FileChange → List Tag
 given_after given next (file.Create name size) = given ++ new_tag next ∷ []
 given_after given next (file.Delete index) = remove given index
-given_after given next (file.Rename index name) = given
-given_after given next (file.Write index offset bytes) = given
-given_after given next (file.SetAll index n) = given
+given_after given next other = given
 
 -- the next handle after it
 abbrev pub following : ℕ → FileChange → ℕ
 following next (file.Create name size) = next + 1
-following next (file.Delete index) = next
-following next (file.Rename index name) = next
-following next (file.Write index offset bytes) = next
-following next (file.SetAll index n) = next
+following next other = next
 
 -- what it gives
 abbrev pub value_after : ℕ → FileChange → Value
 value_after next (file.Create name size) = value.Number (pos next)
-value_after next (file.Delete index) = value.Empty
-value_after next (file.Rename index name) = value.Empty
-value_after next (file.Write index offset bytes) = value.Empty
-value_after next (file.SetAll index n) = value.Empty
+value_after next other = value.Empty
 
 -- so many handles were given from the next one on, or fewer are left and none was given
 abbrev pub Numbers : List Tag → ℕ → ℕ → Bool → List Tag → ℕ → Type 0

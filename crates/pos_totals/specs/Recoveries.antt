@@ -1,16 +1,16 @@
 -- What a recovery of the totals answers, and what a crash during it may leave.
 use Rattle.std.specs.Prelude.{◌≡◌, ◌⊎◌, ◌≤◌, ◌+◌, ℕ, List, [], ◌∷◌, length, Option, Some, None, Result, Ok, Err, IsErrOf}
 use Rattle.pos_disk.specs.Keeps.{KeepsDisk}
-use Rattle.pos_disk.specs.State.{DiskState, HasNotFailed, LeavesOnly}
+use Rattle.pos_disk.specs.State.{DiskState, HasNotFailed}
 use Rattle.pos_disk.specs.declared.device.Disk.{Ghosts}
 use Rattle.pos_dir.specs.declared.file.File.{File as PlainFile}
 use Rattle.pos_service.specs.declared.code.Code.{Code}
 use Rattle.pos_service.specs.declared.code.Code.TheVariants as code
 use Rattle.pos_totals.specs.HardTotals.{File, Ready, Totals, last_number}
-use Rattle.pos_store.specs.Standing.{Standing, Unformatted, Damaged, Stands, IsOneOf, StandsFor, StandsForOneOf, LeavesOneOf}
+use Rattle.pos_store.specs.Standing.{Standing, Unformatted, Damaged, Stands, IsOneOf, StandsFor, LeavesOneOf, Passes}
 use Rattle.pos_store.specs.declared.fault.StoreFault.{StoreFault}
 use Rattle.pos_store.specs.declared.fault.StoreFault.TheVariants as store
-use Rattle.pos_totals.specs.Changes.{HasFailed}
+use Rattle.pos_totals.specs.Changes.{HasFailed, settled}
 use Rattle.pos_totals.specs.Tables.{new_tag}
 use Rattle.pos_totals.specs.Views.{TotalsView, called, WhenOff, WhenReady, LeavesTheirFiles}
 use Rattle.pos_totals.specs.declared.fault.RecoveryFault.{RecoveryFault}
@@ -49,13 +49,12 @@ FindsFiles P old (Err fault.Handles) new = HasTooMany P old.next × (new ≡ old
 FindsFiles P old (Err fault.NoMemory) new = new ≡ old
 FindsFiles P old (Err fault.Device) new = new ≡ old
 
--- A recovery of a disk that may leave only bytes that stand for one of the candidates finds one of them; a crash at any
--- moment during it leaves one of them, and so does a crash after it.
+-- A recovery of a disk that may leave only bytes that stand for one of the candidates finds one of them, and the disk
+-- may leave only such bytes until then, and the files that were found from then on.
 pub record RecoversOneOf (candidates : List Standing) (old new : DiskState) (before : Totals)
     (result : Result (Unit {0}) RecoveryFault) (after : Totals) : Type 0 where
   pub found : FindsFiles (IsOneOf candidates) before result after
-  pub any_moment : LeavesOnly old new (StandsForOneOf candidates)
-  pub still : LeavesOneOf candidates new
+  pub passes : Passes old new candidates (settled after.mode candidates)
 
 -- the bytes of an honest disk stand for this
 abbrev pub ReadsAs : {D : Type 0} → Ghosts D → D → Standing → Type 0

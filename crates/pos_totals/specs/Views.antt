@@ -12,7 +12,7 @@ use Rattle.pos_store.specs.Modes.{StoreState as State, LeavesItsFiles}
 use Rattle.pos_store.specs.Modes.{Off as StoreOff, Ready as StoreReady, StoreView}
 use Rattle.pos_totals.specs.Buffers.{HaveBuffers}
 use Rattle.pos_totals.specs.declared.handles.Tag.{Tag}
-use Rattle.pos_totals.specs.declared.ledger.Ledger.{Ledger}
+use Rattle.pos_totals.specs.declared.holdings.Holdings.{Holdings}
 
 -- The disk, and what the totals have of it.
 pub record TotalsView (D : Type 0) : Type 0 where
@@ -85,18 +85,18 @@ abbrev pub mode_of : List Tag → State → Mode
 mode_of tags StoreOff = Off
 mode_of tags (StoreReady files sequence) = Ready (with_tags tags files) sequence
 
--- what a store's state and the ledger mean
-abbrev pub totals_of : State → Ledger → Totals
-totals_of state ledger = record {
-  mode = mode_of ledger.handles.given state;
-  next = ledger.handles.next;
-  area = ledger.area;
-  transactions = ledger.transactions;
+-- what a store's state and the holdings mean
+abbrev pub totals_of : State → Holdings → Totals
+totals_of state holdings = record {
+  mode = mode_of holdings.handles.given state;
+  next = holdings.handles.next;
+  area = holdings.area;
+  transactions = holdings.transactions;
 }
 
--- what a store and the ledger mean
-abbrev pub view_of : {D : Type 0} → StoreView D → Ledger → TotalsView D
-view_of store ledger = record { disk = store.disk; totals = totals_of store.state ledger }
+-- what a store and the holdings mean
+abbrev pub view_of : {D : Type 0} → StoreView D → Holdings → TotalsView D
+view_of store holdings = record { disk = store.disk; totals = totals_of store.state holdings }
 
 -- no two handles are the same
 abbrev pub AreDistinct : List ℕ → Type 0
@@ -122,10 +122,10 @@ AreApart (StoreReady files sequence) area tags =
 
 -- Where a store is ready, its files have their handles, buffered changes fit their files, and where a control has
 -- claimed the area, no other has claimed a file; where it is off, nothing is buffered.
-pub record IsSound (state : State) (ledger : Ledger) : Type 0 where
-  pub handles : HasHandles state ledger.handles.given ledger.handles.next
-  pub buffers : HaveBuffers (mode_of ledger.handles.given state) ledger.handles.next ledger.transactions
-  pub apart : AreApart state ledger.area ledger.handles.given
+pub record IsSound (state : State) (holdings : Holdings) : Type 0 where
+  pub handles : HasHandles state holdings.handles.given holdings.handles.next
+  pub buffers : HaveBuffers (mode_of holdings.handles.given state) holdings.handles.next holdings.transactions
+  pub apart : AreApart state holdings.area holdings.handles.given
 
 -- where a store is ready, its files are those of a directory
 abbrev pub HasDirectory : State → Type 0

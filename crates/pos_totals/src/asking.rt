@@ -7,7 +7,7 @@ ghost use Rattle.pos_totals.specs.Checks.{files_in, file_of, AreFiles, TellsIn, 
 ghost use Rattle.pos_totals.specs.Views.{IsSound, totals_of};
 
 use crate::files::{Files, Found, count_files, find_handle, find_name, get_file, see_files};
-use crate::ledger::Ledger;
+use crate::holdings::Holdings;
 use crate::numbers::to_range;
 use pos_disk::Disk;
 use pos_service::claims::is_foreign;
@@ -17,14 +17,14 @@ use pos_store::Store;
 use std::alloc::Global;
 
 /// The handle and the size of the file with a name.
-pub fn find<D: Disk>(store: &Store<D>, ledger: &Ledger, control: usize, name: &[u8]) -> Answer
-    requires sound { IsSound store.now.state ledger.now }
-    ensures { Tells (totals_of store.now.state ledger.now) control (Find name.now) result }
+pub fn find<D: Disk>(store: &Store<D>, holdings: &Holdings, control: usize, name: &[u8]) -> Answer
+    requires sound { IsSound store.now.state holdings.now }
+    ensures { Tells (totals_of store.now.state holdings.now) control (Find name.now) result }
 {
-    if is_foreign(control, ledger.area) {
+    if is_foreign(control, holdings.area) {
         return Answer::Refused(Code::Claimed, 0);
     }
-    match see_files(store, ledger) {
+    match see_files(store, holdings) {
         Some(files) => find_in(files, control, name),
         None => Answer::Refused(Code::Failure, 0),
     }
@@ -48,17 +48,17 @@ fn find_in(files: Files<'_>, control: usize, name: &[u8]) -> Answer
 pub fn find_by_index<D: Disk>(
     alloc: Global,
     store: &Store<D>,
-    ledger: &Ledger,
+    holdings: &Holdings,
     control: usize,
     index: i128,
 ) -> Result<Answer, NoMemory>
-    requires sound { IsSound store.now.state ledger.now }
-    ensures { MayTell (totals_of store.now.state ledger.now) control (FindByIndex index) result }
+    requires sound { IsSound store.now.state holdings.now }
+    ensures { MayTell (totals_of store.now.state holdings.now) control (FindByIndex index) result }
 {
-    if is_foreign(control, ledger.area) {
+    if is_foreign(control, holdings.area) {
         return Ok(Answer::Refused(Code::Claimed, 0));
     }
-    match see_files(store, ledger) {
+    match see_files(store, holdings) {
         Some(files) => find_by_index_in(alloc, files, control, index),
         None => Ok(Answer::Refused(Code::Failure, 0)),
     }
@@ -98,19 +98,19 @@ fn file_by_index<'a>(files: Files<'a>, index: i128) -> Option<Found<'a>>
 pub fn read<D: Disk>(
     alloc: Global,
     store: &Store<D>,
-    ledger: &Ledger,
+    holdings: &Holdings,
     control: usize,
     handle: i128,
     offset: i128,
     count: i128,
 ) -> Result<Answer, NoMemory>
-    requires sound { IsSound store.now.state ledger.now }
-    ensures { MayTell (totals_of store.now.state ledger.now) control (Read handle offset count) result }
+    requires sound { IsSound store.now.state holdings.now }
+    ensures { MayTell (totals_of store.now.state holdings.now) control (Read handle offset count) result }
 {
-    if is_foreign(control, ledger.area) {
+    if is_foreign(control, holdings.area) {
         return Ok(Answer::Refused(Code::Claimed, 0));
     }
-    match see_files(store, ledger) {
+    match see_files(store, holdings) {
         Some(files) => read_in(alloc, files, control, handle, offset, count),
         None => Ok(Answer::Refused(Code::Failure, 0)),
     }

@@ -9,7 +9,7 @@ ghost use Rattle.pos_totals.specs.Views.{HasDirectory, IsSound, totals_of, view_
 
 use crate::checking::check;
 use crate::files::see_files;
-use crate::ledger::Ledger;
+use crate::holdings::Holdings;
 use crate::request::{Caller, Checked, Request};
 use crate::transactions::{Action, Buffered, Transactions};
 use pos_dir::{Bytes, Change, Group, Name};
@@ -24,32 +24,32 @@ use std::alloc::Global;
 pub fn change<D: Disk>(
     alloc: Global,
     store: &mut Store<D>,
-    ledger: &mut Ledger,
+    holdings: &mut Holdings,
     control: usize,
     request: Request<'_>,
 ) -> Result<Answer, NoMemory>
-    requires sound { IsSound store.old.state ledger.old }
-    ensures sound { IsSound store.new.state ledger.new }
-    ensures changes { Changes D.Disk (view_of store.old ledger.old) control (change_of request.entry) result
-        (view_of store.new ledger.new) }
+    requires sound { IsSound store.old.state holdings.old }
+    ensures sound { IsSound store.new.state holdings.new }
+    ensures changes { Changes D.Disk (view_of store.old holdings.old) control (change_of request.entry) result
+        (view_of store.new holdings.new) }
 {
     leaves_its_files(store);
-    let checked = match check_request(store, ledger, control, &request) {
+    let checked = match check_request(store, holdings, control, &request) {
         Ok(checked) => checked,
         Err(refusal) => return Ok(refusal),
     };
-    if ledger.transactions.is_open(control) {
-        return buffer_change(alloc, &mut ledger.transactions, control, &checked);
+    if holdings.transactions.is_open(control) {
+        return buffer_change(alloc, &mut holdings.transactions, control, &checked);
     }
     let group = match make_group(alloc, &checked) {
         Ok(group) => group,
         Err(NoMemory) => return Err(NoMemory),
     };
-    if ledger.handles.lack(&checked) {
+    if holdings.handles.lack(&checked) {
         return Ok(Answer::Refused(Code::Failure, 0));
     }
-    match put_group(store, &mut ledger.transactions, &group) {
-        Ok(()) => Ok(Answer::Done(ledger.handles.keep(&checked))),
+    match put_group(store, &mut holdings.transactions, &group) {
+        Ok(()) => Ok(Answer::Done(holdings.handles.keep(&checked))),
         Err(fault) => answer_fault(fault),
     }
 }
@@ -137,19 +137,19 @@ fn copy_change(alloc: Global, checked: &Checked<'_>) -> Result<Buffered, NoMemor
 /// Checks a change by its table.
 fn check_request<'a, D: Disk>(
     store: &Store<D>,
-    ledger: &Ledger,
+    holdings: &Holdings,
     control: usize,
     request: &Request<'a>,
 ) -> Result<Checked<'a>, Answer>
-    requires sound { IsSound store.now.state ledger.now }
-    ensures checks { ChecksAt (totals_of store.now.state ledger.now) control (change_of request.now) result }
+    requires sound { IsSound store.now.state holdings.now }
+    ensures checks { ChecksAt (totals_of store.now.state holdings.now) control (change_of request.now) result }
     ensures directory { HasDirectory store.now.state }
 {
-    let files = see_files(store, ledger);
-    if is_foreign(control, ledger.area) {
+    let files = see_files(store, holdings);
+    if is_foreign(control, holdings.area) {
         return Err(Answer::Refused(Code::Claimed, 0));
     }
-    let spent = ledger.transactions.spent(control);
+    let spent = holdings.transactions.spent(control);
     match files {
         Some(files) => check(files, Caller { control, spent }, request),
         None => Err(Answer::Refused(Code::Failure, 0)),

@@ -11,7 +11,7 @@ ghost use Rattle.pos_totals.specs.Views.{IsSound, totals_of};
 
 use crate::files::{Files, find_handle, see_files};
 use crate::handles::Tag;
-use crate::ledger::Ledger;
+use crate::holdings::Holdings;
 use pos_disk::Disk;
 use pos_service::claims::{is_foreign, is_own, is_timeout};
 use pos_service::{Answer, Code, Value};
@@ -20,19 +20,19 @@ use pos_store::Store;
 /// Claims the file with a handle.
 pub fn claim_file<D: Disk>(
     store: &Store<D>,
-    ledger: &mut Ledger,
+    holdings: &mut Holdings,
     control: usize,
     handle: i128,
     timeout: i128,
 ) -> Answer
-    requires sound { IsSound store.now.state ledger.old }
-    ensures sound { IsSound store.now.state ledger.new }
-    ensures arranges { Arranges (totals_of store.now.state ledger.old) control (ClaimFile handle timeout) result
-        (totals_of store.now.state ledger.new) }
+    requires sound { IsSound store.now.state holdings.old }
+    ensures sound { IsSound store.now.state holdings.new }
+    ensures arranges { Arranges (totals_of store.now.state holdings.old) control (ClaimFile handle timeout) result
+        (totals_of store.now.state holdings.new) }
 {
-    match check_claim(store, ledger, control, handle, timeout) {
+    match check_claim(store, holdings, control, handle, timeout) {
         Ok(number) => {
-            ledger.handles.claim(number, Some(control));
+            holdings.handles.claim(number, Some(control));
             Answer::Done(Value::Empty)
         }
         Err(refusal) => refusal,
@@ -42,16 +42,16 @@ pub fn claim_file<D: Disk>(
 /// Checks a claim by its table, and gives the file's handle.
 fn check_claim<D: Disk>(
     store: &Store<D>,
-    ledger: &Ledger,
+    holdings: &Holdings,
     control: usize,
     handle: i128,
     timeout: i128,
 ) -> Result<u64, Answer>
-    requires sound { IsSound store.now.state ledger.now }
-    ensures { LetsThroughAt (totals_of store.now.state ledger.now) control (ClaimFile handle timeout) handle result }
+    requires sound { IsSound store.now.state holdings.now }
+    ensures { LetsThroughAt (totals_of store.now.state holdings.now) control (ClaimFile handle timeout) handle result }
 {
-    match see_files(store, ledger) {
-        Some(files) => check_claim_in(files, ledger.area, control, handle, timeout),
+    match see_files(store, holdings) {
+        Some(files) => check_claim_in(files, holdings.area, control, handle, timeout),
         None => Err(Answer::Refused(Code::Failure, 0)),
     }
 }
@@ -82,18 +82,18 @@ fn check_claim_in(
 /// Ends the claim of the file with a handle.
 pub fn release_file<D: Disk>(
     store: &Store<D>,
-    ledger: &mut Ledger,
+    holdings: &mut Holdings,
     control: usize,
     handle: i128,
 ) -> Answer
-    requires sound { IsSound store.now.state ledger.old }
-    ensures sound { IsSound store.now.state ledger.new }
-    ensures arranges { Arranges (totals_of store.now.state ledger.old) control (ReleaseFile handle) result
-        (totals_of store.now.state ledger.new) }
+    requires sound { IsSound store.now.state holdings.old }
+    ensures sound { IsSound store.now.state holdings.new }
+    ensures arranges { Arranges (totals_of store.now.state holdings.old) control (ReleaseFile handle) result
+        (totals_of store.now.state holdings.new) }
 {
-    match check_release(store, ledger, control, handle) {
+    match check_release(store, holdings, control, handle) {
         Ok(number) => {
-            ledger.handles.claim(number, None);
+            holdings.handles.claim(number, None);
             Answer::Done(Value::Empty)
         }
         Err(refusal) => refusal,
@@ -103,14 +103,14 @@ pub fn release_file<D: Disk>(
 /// Checks a release by its table, and gives the file's handle.
 fn check_release<D: Disk>(
     store: &Store<D>,
-    ledger: &Ledger,
+    holdings: &Holdings,
     control: usize,
     handle: i128,
 ) -> Result<u64, Answer>
-    requires sound { IsSound store.now.state ledger.now }
-    ensures { LetsThroughAt (totals_of store.now.state ledger.now) control (ReleaseFile handle) handle result }
+    requires sound { IsSound store.now.state holdings.now }
+    ensures { LetsThroughAt (totals_of store.now.state holdings.now) control (ReleaseFile handle) handle result }
 {
-    match see_files(store, ledger) {
+    match see_files(store, holdings) {
         Some(files) => check_release_in(files, control, handle),
         None => Err(Answer::Refused(Code::Failure, 0)),
     }
@@ -133,30 +133,30 @@ fn check_release_in(files: Files<'_>, control: usize, handle: i128) -> Result<u6
 /// Claims the area.
 pub fn claim_area<D: Disk>(
     store: &Store<D>,
-    ledger: &mut Ledger,
+    holdings: &mut Holdings,
     control: usize,
 ) -> Result<(), Code>
-    requires sound { IsSound store.now.state ledger.old }
-    ensures sound { IsSound store.now.state ledger.new }
-    ensures claims { ClaimsArea (totals_of store.now.state ledger.old) control result
-        (totals_of store.now.state ledger.new) }
+    requires sound { IsSound store.now.state holdings.old }
+    ensures sound { IsSound store.now.state holdings.new }
+    ensures claims { ClaimsArea (totals_of store.now.state holdings.old) control result
+        (totals_of store.now.state holdings.new) }
 {
-    if is_area_taken(store, ledger, control) {
+    if is_area_taken(store, holdings, control) {
         return Err(Code::Timeout);
     }
-    ledger.area = Some(control);
+    holdings.area = Some(control);
     Ok(())
 }
 
 /// Whether another control has claimed the area, or a file.
-fn is_area_taken<D: Disk>(store: &Store<D>, ledger: &Ledger, control: usize) -> bool
-    requires sound { IsSound store.now.state ledger.now }
-    ensures { result ≡ is_area_taken (totals_of store.now.state ledger.now) control }
+fn is_area_taken<D: Disk>(store: &Store<D>, holdings: &Holdings, control: usize) -> bool
+    requires sound { IsSound store.now.state holdings.now }
+    ensures { result ≡ is_area_taken (totals_of store.now.state holdings.now) control }
 {
-    if is_foreign(control, ledger.area) {
+    if is_foreign(control, holdings.area) {
         return true;
     }
-    match see_files(store, ledger) {
+    match see_files(store, holdings) {
         Some(files) => has_foreign_claim(files.tags, control),
         None => false,
     }
@@ -172,17 +172,17 @@ fn has_foreign_claim(tags: &[Tag], control: usize) -> bool
 /// Ends the claim of the area.
 pub fn release_area<D: Disk>(
     store: &Store<D>,
-    ledger: &mut Ledger,
+    holdings: &mut Holdings,
     control: usize,
 ) -> Result<(), Code>
-    requires sound { IsSound store.now.state ledger.old }
-    ensures sound { IsSound store.now.state ledger.new }
-    ensures releases { ReleasesArea (totals_of store.now.state ledger.old) control result
-        (totals_of store.now.state ledger.new) }
+    requires sound { IsSound store.now.state holdings.old }
+    ensures sound { IsSound store.now.state holdings.new }
+    ensures releases { ReleasesArea (totals_of store.now.state holdings.old) control result
+        (totals_of store.now.state holdings.new) }
 {
-    if !is_own(control, ledger.area) {
+    if !is_own(control, holdings.area) {
         return Err(Code::Illegal);
     }
-    ledger.area = None;
+    holdings.area = None;
     Ok(())
 }

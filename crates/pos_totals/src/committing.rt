@@ -11,7 +11,7 @@ ghost use Rattle.pos_totals.specs.Views.{HasDirectory, IsSound, totals_of, view_
 
 use crate::changing::{answer_fault, put_group};
 use crate::files::{Files, Found, find_handle, find_index, see_files};
-use crate::ledger::Ledger;
+use crate::holdings::Holdings;
 use crate::transactions::Buffered;
 use pos_dir::{Change, Group};
 use pos_disk::Disk;
@@ -33,27 +33,27 @@ pub enum Plan {
 pub fn commit_trans<D: Disk>(
     alloc: Global,
     store: &mut Store<D>,
-    ledger: &mut Ledger,
+    holdings: &mut Holdings,
     control: usize,
 ) -> Result<Answer, NoMemory>
-    requires sound { IsSound store.old.state ledger.old }
-    ensures sound { IsSound store.new.state ledger.new }
-    ensures commits { CommitsBuffer D.Disk (view_of store.old ledger.old) control result
-        (view_of store.new ledger.new) }
+    requires sound { IsSound store.old.state holdings.old }
+    ensures sound { IsSound store.new.state holdings.new }
+    ensures commits { CommitsBuffer D.Disk (view_of store.old holdings.old) control result
+        (view_of store.new holdings.new) }
 {
     leaves_its_files(store);
-    let group = match make_plan(alloc, store, ledger, control) {
+    let group = match make_plan(alloc, store, holdings, control) {
         Ok(Plan::Refused(refusal)) => return Ok(refusal),
         Ok(Plan::Nothing) => {
-            ledger.transactions.set(control, None);
+            holdings.transactions.set(control, None);
             return Ok(Answer::Done(Value::Empty));
         }
         Ok(Plan::Group(group)) => group,
         Err(NoMemory) => return Err(NoMemory),
     };
-    match put_group(store, &mut ledger.transactions, &group) {
+    match put_group(store, &mut holdings.transactions, &group) {
         Ok(()) => {
-            ledger.transactions.set(control, None);
+            holdings.transactions.set(control, None);
             Ok(Answer::Done(Value::Empty))
         }
         Err(fault) => answer_fault(fault),
@@ -64,21 +64,21 @@ pub fn commit_trans<D: Disk>(
 fn make_plan<D: Disk>(
     alloc: Global,
     store: &Store<D>,
-    ledger: &Ledger,
+    holdings: &Holdings,
     control: usize,
 ) -> Result<Plan, NoMemory>
-    requires sound { IsSound store.now.state ledger.now }
-    ensures plans { PlansAt (totals_of store.now.state ledger.now) control result }
+    requires sound { IsSound store.now.state holdings.now }
+    ensures plans { PlansAt (totals_of store.now.state holdings.now) control result }
     ensures directory { HasDirectory store.now.state }
 {
-    let files = see_files(store, ledger);
-    if is_foreign(control, ledger.area) {
+    let files = see_files(store, holdings);
+    if is_foreign(control, holdings.area) {
         return Ok(Plan::Refused(Answer::Refused(Code::Claimed, 0)));
     }
     let Some(files) = files else {
         return Ok(Plan::Refused(Answer::Refused(Code::Failure, 0)));
     };
-    match ledger.transactions.buffer(control) {
+    match holdings.transactions.buffer(control) {
         Some(buffer) => plan_in(alloc, files, control, buffer.as_slice()),
         None => Ok(Plan::Refused(Answer::Refused(Code::Illegal, 0))),
     }

@@ -7,7 +7,7 @@ ghost use Rattle.pos_totals.specs.Checks.{files_in, file_of, AreFiles, FindsFile
 ghost use Rattle.pos_totals.specs.Views.{HasDirectory, IsSound, mode_of};
 
 use crate::handles::{MOST_FILES, Tag};
-use crate::ledger::Ledger;
+use crate::holdings::Holdings;
 use pos_dir::laws::is_directory;
 use pos_dir::{Directory, LAYOUT_1};
 use pos_disk::Disk;
@@ -35,9 +35,9 @@ pub struct Found<'a> {
 }
 
 /// The files of a store that is ready, with their tags.
-pub fn see_files<'a, D: Disk>(store: &'a Store<D>, ledger: &'a Ledger) -> Option<Files<'a>>
-    requires { IsSound store.now.state ledger.now }
-    ensures seen { IsSeen (mode_of ledger.now.handles.given store.now.state) (option_map files_in result) }
+pub fn see_files<'a, D: Disk>(store: &'a Store<D>, holdings: &'a Holdings) -> Option<Files<'a>>
+    requires { IsSound store.now.state holdings.now }
+    ensures seen { IsSeen (mode_of holdings.now.handles.given store.now.state) (option_map files_in result) }
     ensures files { IfSome result AreFiles }
     ensures directory { HasDirectory store.now.state }
 {
@@ -47,7 +47,7 @@ pub fn see_files<'a, D: Disk>(store: &'a Store<D>, ledger: &'a Ledger) -> Option
     is_directory(directory);
     Some(Files {
         directory,
-        tags: ledger.handles.as_slice(),
+        tags: holdings.handles.as_slice(),
     })
 }
 

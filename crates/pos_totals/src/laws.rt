@@ -17,5 +17,5 @@ pub fn leaves_their_files<D: Disk>(totals: &Totals<D>)
 pub fn are_their_files<D: Disk>(totals: &Totals<D>)
     ensures { HasItsFiles totals.now.totals }
 {
-    let _ = see_files(&totals.store, &totals.ledger);
+    let _ = see_files(&totals.store, &totals.holdings);
 }

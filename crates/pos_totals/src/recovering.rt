@@ -5,7 +5,7 @@ ghost use Rattle.pos_totals.specs.Recoveries.{Recovers, told_as};
 ghost use Rattle.pos_totals.specs.Views.{IsSound, view_of};
 
 use crate::fault::RecoveryFault;
-use crate::ledger::Ledger;
+use crate::holdings::Holdings;
 use core::mem::replace_with;
 use pos_dir::laws::is_directory;
 use pos_disk::Disk;
@@ -17,17 +17,17 @@ use std::alloc::Global;
 pub fn recover<D: Disk>(
     alloc: Global,
     store: &mut Store<D>,
-    ledger: &mut Ledger,
+    holdings: &mut Holdings,
 ) -> Result<(), RecoveryFault>
-    requires sound { IsSound store.old.state ledger.old }
-    ensures sound { IsSound store.new.state ledger.new }
-    ensures recovers { Recovers D.Disk (view_of store.old ledger.old) result
-        (view_of store.new ledger.new) }
+    requires sound { IsSound store.old.state holdings.old }
+    ensures sound { IsSound store.new.state holdings.new }
+    ensures recovers { Recovers D.Disk (view_of store.old holdings.old) result
+        (view_of store.new holdings.new) }
 {
     leaves_its_files(store);
     match store.mode() {
         Mode::Ready { sequence: _ } => Ok(()),
-        Mode::Off => recover_off(alloc, store, ledger),
+        Mode::Off => recover_off(alloc, store, holdings),
     }
 }
 
@@ -35,13 +35,13 @@ pub fn recover<D: Disk>(
 fn recover_off<D: Disk>(
     alloc: Global,
     store: &mut Store<D>,
-    ledger: &mut Ledger,
+    holdings: &mut Holdings,
 ) -> Result<(), RecoveryFault>
     requires off { mode_of store.old.state ≡ Mode.Off }
-    requires sound { IsSound store.old.state ledger.old }
-    ensures sound { IsSound store.new.state ledger.new }
-    ensures recovers { Recovers D.Disk (view_of store.old ledger.old) result
-        (view_of store.new ledger.new) }
+    requires sound { IsSound store.old.state holdings.old }
+    ensures sound { IsSound store.new.state holdings.new }
+    ensures recovers { Recovers D.Disk (view_of store.old holdings.old) result
+        (view_of store.new holdings.new) }
 {
     match store.recover() {
         Ok(()) => {}
@@ -54,7 +54,7 @@ fn recover_off<D: Disk>(
         }
         None => unreachable!(),
     };
-    if ledger.handles.number(count) {
+    if holdings.handles.number(count) {
         return Ok(());
     }
     replace_with(store, alloc, turn_off);

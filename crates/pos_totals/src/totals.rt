@@ -7,7 +7,7 @@ use crate::committing::commit_trans;
 use crate::fault::RecoveryFault;
 use crate::files::{TOTALS_SIZE, count_files, measure_free, see_files};
 use crate::handles::Handles;
-use crate::ledger::Ledger;
+use crate::holdings::Holdings;
 use crate::recovering::recover;
 use crate::request::Request;
 use crate::transacting::{begin_trans, drop_control, rollback};
@@ -36,7 +36,7 @@ use std::marker::Model;
 pub struct Totals<D: Disk> {
     alloc: Global,
     pub(crate) store: Store<D>,
-    pub(crate) ledger: Ledger,
+    pub(crate) holdings: Holdings,
 }
 
 impl<D: Disk> Model for Totals<D> {
@@ -44,9 +44,9 @@ impl<D: Disk> Model for Totals<D> {
 
     ghost Value = { TotalsView D };
 
-    ghost view = { λ t. view_of t.store t.ledger };
+    ghost view = { λ t. view_of t.store t.holdings };
 
-    ghost invariant = { λ t. IsSound t.store.state t.ledger };
+    ghost invariant = { λ t. IsSound t.store.state t.holdings };
 }
 
 impl<D: Disk> Totals<D> {
@@ -82,7 +82,7 @@ impl<D: Disk> Totals<D> {
         Totals {
             alloc,
             store: Store::new(alloc, disk),
-            ledger: Ledger {
+            holdings: Holdings {
                 handles: Handles::new(first_handle),
                 area: None,
                 transactions: Transactions::new(alloc),
@@ -101,7 +101,7 @@ impl<D: Disk> Totals<D> {
     pub fn recover(&mut self) -> Result<(), RecoveryFault>
         ensures { Recovers D.Disk self.old result self.new }
     {
-        recover(self.alloc, &mut self.store, &mut self.ledger)
+        recover(self.alloc, &mut self.store, &mut self.holdings)
     }
 
     /// `create`: adds a file of zero bytes behind the others, and gives its handle. Error detection changes nothing.
@@ -185,7 +185,7 @@ impl<D: Disk> Totals<D> {
         change(
             self.alloc,
             &mut self.store,
-            &mut self.ledger,
+            &mut self.holdings,
             control,
             request,
         )
@@ -197,7 +197,7 @@ impl<D: Disk> Totals<D> {
     pub fn find(&self, control: usize, name: &[u8]) -> Answer
         ensures { Tells self.now.totals control (Find name.now) result }
     {
-        find(&self.store, &self.ledger, control, name)
+        find(&self.store, &self.holdings, control, name)
     }
 
     /// `findByIndex`: the name of the file at an index, counted from 0 in the order of creation.
@@ -206,7 +206,7 @@ impl<D: Disk> Totals<D> {
     pub fn find_by_index(&self, control: usize, index: i128) -> Result<Answer, NoMemory>
         ensures { MayTell self.now.totals control (FindByIndex index) result }
     {
-        find_by_index(self.alloc, &self.store, &self.ledger, control, index)
+        find_by_index(self.alloc, &self.store, &self.holdings, control, index)
     }
 
     /// `read`: so many bytes of a file from an offset on.
@@ -225,7 +225,7 @@ impl<D: Disk> Totals<D> {
         read(
             self.alloc,
             &self.store,
-            &self.ledger,
+            &self.holdings,
             control,
             handle,
             offset,
@@ -243,7 +243,7 @@ impl<D: Disk> Totals<D> {
         ensures claims { ClaimsArea self.old.totals control result self.new.totals }
         ensures disk { self.new.disk ≡ self.old.disk }
     {
-        claim_area(&self.store, &mut self.ledger, control)
+        claim_area(&self.store, &mut self.holdings, control)
     }
 
     /// `release`: ends a control's claim of the area. Files that it has claimed stay so. It takes no memory.
@@ -255,7 +255,7 @@ impl<D: Disk> Totals<D> {
         ensures releases { ReleasesArea self.old.totals control result self.new.totals }
         ensures disk { self.new.disk ≡ self.old.disk }
     {
-        release_area(&self.store, &mut self.ledger, control)
+        release_area(&self.store, &mut self.holdings, control)
     }
 
     /// `claimFile`: claims a file for a control; where it has it already, nothing changes. The timeout is at least -1,
@@ -266,7 +266,7 @@ impl<D: Disk> Totals<D> {
     pub fn claim_file(&mut self, control: usize, handle: i128, timeout: i128) -> Answer
         ensures { Arranged self.old control (ClaimFile handle timeout) result self.new }
     {
-        claim_file(&self.store, &mut self.ledger, control, handle, timeout)
+        claim_file(&self.store, &mut self.holdings, control, handle, timeout)
     }
 
     /// `releaseFile`: ends a control's claim of a file. It takes no memory.
@@ -275,7 +275,7 @@ impl<D: Disk> Totals<D> {
     pub fn release_file(&mut self, control: usize, handle: i128) -> Answer
         ensures { Arranged self.old control (ReleaseFile handle) result self.new }
     {
-        release_file(&self.store, &mut self.ledger, control, handle)
+        release_file(&self.store, &mut self.holdings, control, handle)
     }
 
     /// `beginTrans`: begins a transaction of a control, whose `write` and `set_all` are buffered until it ends. It
@@ -285,7 +285,7 @@ impl<D: Disk> Totals<D> {
     pub fn begin_trans(&mut self, control: usize) -> Answer
         ensures { Arranged self.old control BeginTrans result self.new }
     {
-        begin_trans(self.alloc, &self.store, &mut self.ledger, control)
+        begin_trans(self.alloc, &self.store, &mut self.holdings, control)
     }
 
     /// `commitTrans`: does all that a control has buffered together, in its order, and ends the transaction. Where
@@ -297,7 +297,7 @@ impl<D: Disk> Totals<D> {
     pub fn commit_trans(&mut self, control: usize) -> Result<Answer, NoMemory>
         ensures { CommitsBuffer D.Disk self.old control result self.new }
     {
-        commit_trans(self.alloc, &mut self.store, &mut self.ledger, control)
+        commit_trans(self.alloc, &mut self.store, &mut self.holdings, control)
     }
 
     /// `rollback`: drops what a control has buffered, and ends the transaction. It takes no memory.
@@ -306,7 +306,7 @@ impl<D: Disk> Totals<D> {
     pub fn rollback(&mut self, control: usize) -> Answer
         ensures { Arranged self.old control Rollback result self.new }
     {
-        rollback(&self.store, &mut self.ledger, control)
+        rollback(&self.store, &mut self.holdings, control)
     }
 
     /// Makes a place for the transaction of one more control; the controls are numbered from 0.
@@ -319,7 +319,7 @@ impl<D: Disk> Totals<D> {
         ensures err { OnErr result (self.new ≡ self.old) }
         ensures disk { self.new.disk ≡ self.old.disk }
     {
-        self.ledger.transactions.add()
+        self.holdings.transactions.add()
     }
 
     /// Ends all that a control has, as `close` does: its claims of the area and of files, and its transaction. It takes
@@ -328,21 +328,21 @@ impl<D: Disk> Totals<D> {
         ensures totals { self.new.totals ≡ without_control self.old.totals control }
         ensures disk { self.new.disk ≡ self.old.disk }
     {
-        drop_control(&self.store, &mut self.ledger, control);
+        drop_control(&self.store, &mut self.holdings, control);
     }
 
     /// The control that has claimed the area.
     pub fn area(&self) -> Option<usize>
         ensures { result ≡ self.now.totals.area }
     {
-        self.ledger.area
+        self.holdings.area
     }
 
     /// TransactionInProgress: whether a control is in a transaction.
     pub fn in_transaction(&self, control: usize) -> bool
         ensures { result ≡ in_transaction self.now.totals control }
     {
-        self.ledger.transactions.is_open(control)
+        self.holdings.transactions.is_open(control)
     }
 
     /// Whether the files are known.
@@ -364,7 +364,7 @@ impl<D: Disk> Totals<D> {
         requires { IsReady self.now.totals.mode }
         ensures { result ≡ free_data layout_1 (files_of self.now.totals.mode) }
     {
-        match see_files(&self.store, &self.ledger) {
+        match see_files(&self.store, &self.holdings) {
             Some(files) => measure_free(files),
             None => unreachable!(),
         }
@@ -375,7 +375,7 @@ impl<D: Disk> Totals<D> {
         requires { IsReady self.now.totals.mode }
         ensures { result ≡ length (files_of self.now.totals.mode) }
     {
-        match see_files(&self.store, &self.ledger) {
+        match see_files(&self.store, &self.holdings) {
             Some(files) => count_files(files),
             None => unreachable!(),
         }

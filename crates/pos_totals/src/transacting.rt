@@ -4,7 +4,7 @@ ghost use Rattle.pos_totals.specs.TotalsClaims.{foreign_area, without_control};
 ghost use Rattle.pos_totals.specs.TotalsArrangements.{Arranges, BeginTrans, Rollback};
 ghost use Rattle.pos_totals.specs.Views.{IsSound, totals_of};
 
-use crate::ledger::Ledger;
+use crate::holdings::Holdings;
 use crate::transactions::Buffer;
 use pos_disk::Disk;
 use pos_service::claims::is_own;
@@ -16,51 +16,51 @@ use std::alloc::Global;
 pub fn begin_trans<D: Disk>(
     alloc: Global,
     store: &Store<D>,
-    ledger: &mut Ledger,
+    holdings: &mut Holdings,
     control: usize,
 ) -> Answer
-    requires sound { IsSound store.now.state ledger.old }
-    ensures sound { IsSound store.now.state ledger.new }
-    ensures arranges { Arranges (totals_of store.now.state ledger.old) control BeginTrans result
-        (totals_of store.now.state ledger.new) }
+    requires sound { IsSound store.now.state holdings.old }
+    ensures sound { IsSound store.now.state holdings.new }
+    ensures arranges { Arranges (totals_of store.now.state holdings.old) control BeginTrans result
+        (totals_of store.now.state holdings.new) }
 {
     if store.mode() == Mode::Off {
         return Answer::Refused(Code::Failure, 0);
     }
-    if !ledger.transactions.may_begin(control) {
+    if !holdings.transactions.may_begin(control) {
         return Answer::Refused(Code::Illegal, 0);
     }
-    ledger.transactions.set(control, Some(Buffer::new(alloc)));
+    holdings.transactions.set(control, Some(Buffer::new(alloc)));
     Answer::Done(Value::Empty)
 }
 
 /// Drops a transaction.
-pub fn rollback<D: Disk>(store: &Store<D>, ledger: &mut Ledger, control: usize) -> Answer
-    requires sound { IsSound store.now.state ledger.old }
-    ensures sound { IsSound store.now.state ledger.new }
-    ensures arranges { Arranges (totals_of store.now.state ledger.old) control Rollback result
-        (totals_of store.now.state ledger.new) }
+pub fn rollback<D: Disk>(store: &Store<D>, holdings: &mut Holdings, control: usize) -> Answer
+    requires sound { IsSound store.now.state holdings.old }
+    ensures sound { IsSound store.now.state holdings.new }
+    ensures arranges { Arranges (totals_of store.now.state holdings.old) control Rollback result
+        (totals_of store.now.state holdings.new) }
 {
     if store.mode() == Mode::Off {
         return Answer::Refused(Code::Failure, 0);
     }
-    if !ledger.transactions.is_open(control) {
+    if !holdings.transactions.is_open(control) {
         return Answer::Refused(Code::Illegal, 0);
     }
-    ledger.transactions.set(control, None);
+    holdings.transactions.set(control, None);
     Answer::Done(Value::Empty)
 }
 
 /// Ends all claims of a control and drops its transaction.
-pub fn drop_control<D: Disk>(store: &Store<D>, ledger: &mut Ledger, control: usize)
-    requires sound { IsSound store.now.state ledger.old }
-    ensures sound { IsSound store.now.state ledger.new }
-    ensures totals { totals_of store.now.state ledger.new
-        ≡ without_control (totals_of store.now.state ledger.old) control }
+pub fn drop_control<D: Disk>(store: &Store<D>, holdings: &mut Holdings, control: usize)
+    requires sound { IsSound store.now.state holdings.old }
+    ensures sound { IsSound store.now.state holdings.new }
+    ensures totals { totals_of store.now.state holdings.new
+        ≡ without_control (totals_of store.now.state holdings.old) control }
 {
-    ledger.handles.release_all(control);
-    ledger.area = keep_foreign(ledger.area, control);
-    ledger.transactions.set(control, None);
+    holdings.handles.release_all(control);
+    holdings.area = keep_foreign(holdings.area, control);
+    holdings.transactions.set(control, None);
 }
 
 /// A claim, where another control has made it.

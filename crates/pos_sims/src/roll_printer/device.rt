@@ -26,6 +26,7 @@ impl RollPrinter {
             roll: Roll::new(alloc, chars, lines),
             near,
             is_parked: false,
+            orders: 0,
         }
     }
 }
@@ -60,6 +61,7 @@ impl Peripheral for RollPrinter {
     }
 
     fn ask(&mut self, order: &Order) -> Result<Reply, NoMemory> {
+        self.orders = self.orders.saturating_add(1);
         if !order.fits(self.kind()) {
             return Ok(Reply::LineFault);
         }

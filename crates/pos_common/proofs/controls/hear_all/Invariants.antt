@@ -9,7 +9,8 @@ abbrev pub invariant-loop-control : goal.invariant-loop-control
 invariant-loop-control l =
     let before = controls_of l.fn.controls in
     record {
-      heard : controls_of l.controls ≡ map (if_listening l.place (heard (status_events l.old l.new))) (take l.control-index before) ++ drop l.control-index before;
+      heard : controls_of l.controls ≡ map (if_listening l.place (heard (status_events l.old l.new)))
+          (take l.control-index before) ++ drop l.control-index before;
       room : All (HasRoom l.place sign_events) (drop l.control-index l.controls);
       left : (count : ℕ) → All (HasRoom l.place (sign_events + count)) l.fn.controls →
           All (HasRoom l.place count) (take l.control-index l.controls)

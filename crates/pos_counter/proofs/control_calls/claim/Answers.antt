@@ -19,7 +19,8 @@ claim_device-requires g c =
     let hs = c.args.controls.now in
     let n = c.args.number in
     let held = c.index-controls-number.result in
-    covered_at hs c.args.claims.now n held.control (control_at hs n held c.requires.in_range ∙ ap (λ (h : Held). Some h.control) (sym c.index-controls-number.is)) c.requires.covers
+    covered_at hs c.args.claims.now n held.control
+    (control_at hs n held c.requires.in_range ∙ ap (λ (h : Held). Some h.control) (sym c.index-controls-number.is)) c.requires.covers
 
 pub returns-then-is_totals : goal.returns-then-is_totals
 returns-then-is_totals g c = λ devices sound.
@@ -35,7 +36,8 @@ returns-then-is_totals g c = λ devices sound.
     let fits : SFits w128 c.args.timeout = c.ranges.timeout in
     let decided = simp to_z-of_z at c.claim_area.ensures.answer in
     let mode = area_claim_mode (claim_rows one (is_area_taken view.totals n) c.args.timeout) c.claim_area.result view.totals now.totals (Some n) decided in
-    arranges_serve g.D.Disk view now now.totals hs hs cl cl devices (CallOf n (call.Claim c.args.timeout)) (Answered c.claim_area.result) (λ bytes honest since. g.met.D.Disk.only_now view.disk bytes honest since)
+    arranges_serve g.D.Disk view now now.totals hs hs cl cl devices (CallOf n (call.Claim c.args.timeout)) (Answered c.claim_area.result)
+    (λ bytes honest since. g.met.D.Disk.only_now view.disk bytes honest since)
     c.claim_area.ensures.disk refl (λ left. ap (λ m. settled m left) mode) sound refl
     (λ left. claim_area hs cl devices (part_of g.D.Disk view left) n one c.args.timeout c.claim_area.result now.totals at is decided)
 
@@ -52,6 +54,8 @@ returns g c = λ devices sound.
     let is = sym c.is_totals.ensures ∙ c.if-is_totals.false in
     let fits : SFits w128 c.args.timeout = c.ranges.timeout in
     let decided = simp to_z-of_z at c.claim_device.ensures in
-    arranges_serve g.D.Disk view view view.totals hs hs cl dl devices (CallOf n (call.Claim c.args.timeout)) (Answered c.claim_device.result) (λ bytes honest since. g.met.D.Disk.only_now view.disk bytes honest since)
-    refl refl (λ left. refl) sound (claimed_covers (claim_rows one (is_foreign n (holder_at cl one.device)) c.args.timeout) c.claim_device.result cl dl one.device n decided)
+    arranges_serve g.D.Disk view view view.totals hs hs cl dl devices (CallOf n (call.Claim c.args.timeout)) (Answered c.claim_device.result)
+    (λ bytes honest since. g.met.D.Disk.only_now view.disk bytes honest since)
+    refl refl (λ left. refl) sound
+    (claimed_covers (claim_rows one (is_foreign n (holder_at cl one.device)) c.args.timeout) c.claim_device.result cl dl one.device n decided)
     (λ left. claim_device hs cl dl devices (part_of g.D.Disk view left) n one c.args.timeout c.claim_device.result at is decided)

@@ -23,8 +23,10 @@ returns-then-is_none g c = λ devices sound.
     let n = c.args.number in
     let view = c.args.totals.now in
     let one = get_or hs n c.index-controls-number.result in
-    looks_serve g.D.Disk view hs c.args.claims.now devices (CallOf n call.Close) (Answered (answer.Refused code.Closed 0)) (λ bytes honest since. g.met.D.Disk.only_now view.disk bytes honest since) sound
-    (λ left. close_refused (machine_with hs c.args.claims.now devices (part_of g.D.Disk view left)) n one.control (control_at hs n c.index-controls-number.result c.requires)
+    looks_serve g.D.Disk view hs c.args.claims.now devices (CallOf n call.Close) (Answered (answer.Refused code.Closed 0))
+    (λ bytes honest since. g.met.D.Disk.only_now view.disk bytes honest since) sound
+    (λ left. close_refused (machine_with hs c.args.claims.now devices (part_of g.D.Disk view left)) n one.control
+    (control_at hs n c.index-controls-number.result c.requires)
     (is_none_as one.control.device c.device-device.result _ _ (sym c.device-device.ensures) c.is_none.ensures c.if-is_none.true))
 
 pub returns-then-is_totals : goal.returns-then-is_totals
@@ -38,9 +40,11 @@ returns-then-is_totals g c = λ devices sound.
     let second = get_or_default hs n c.index-controls-number-2.result c.index-controls-number-then-is_totals.result c.requires in
     let device = sym (ap (λ (k : Held). k.control.device) first) ∙ sym c.device-device.ensures in
     let is = are_totals h.control.category (sym (ap (λ (k : Held). is_totals k.control.category) second) ∙ sym c.is_totals.ensures ∙ c.if-is_totals.true) in
-    arranges_serve g.D.Disk view c.drop_control.new.self (without_control view.totals n) hs (set hs n c.close.new.self) cl cl devices (CallOf n call.Close) (Answered c.close.result) (λ bytes honest since. g.met.D.Disk.only_now view.disk bytes honest since)
+    arranges_serve g.D.Disk view c.drop_control.new.self (without_control view.totals n) hs (set hs n c.close.new.self) cl cl devices
+    (CallOf n call.Close) (Answered c.close.result) (λ bytes honest since. g.met.D.Disk.only_now view.disk bytes honest since)
     c.drop_control.ensures.disk c.drop_control.ensures.totals (λ left. settled_claimed (is_own_claim n) None view.totals.mode left) sound refl
-    (λ left. close_area hs cl devices (part_of g.D.Disk view left) n h.control h c.close.new.self c.close.result (control_at hs n c.index-controls-number-then-is_totals.result c.requires) is
+    (λ left. close_area hs cl devices (part_of g.D.Disk view left) n h.control h c.close.new.self c.close.result
+    (control_at hs n c.index-controls-number-then-is_totals.result c.requires) is
     (is_none_as h.control.device c.device-device.result _ _ device c.is_none.ensures c.if-is_none.false) c.close.ensures)
 
 pub returns : goal.returns
@@ -54,7 +58,10 @@ returns g c = λ devices sound.
     let second = get_or_default hs n c.index-controls-number-2.result c.index-controls-number-3.result c.requires in
     let device = sym (ap (λ (k : Held). k.control.device) first) ∙ sym c.device-device.ensures in
     let is = sym (ap (λ (k : Held). is_totals k.control.category) second) ∙ sym c.is_totals.ensures ∙ c.if-is_totals.false in
-    arranges_serve g.D.Disk view view view.totals hs (set hs n c.close-2.new.self) cl c.release.new.self devices (CallOf n call.Close) (Answered c.close-2.result) (λ bytes honest since. g.met.D.Disk.only_now view.disk bytes honest since)
+    arranges_serve g.D.Disk view view view.totals hs (set hs n c.close-2.new.self) cl c.release.new.self devices (CallOf n call.Close)
+    (Answered c.close-2.result) (λ bytes honest since. g.met.D.Disk.only_now view.disk bytes honest since)
     refl refl (λ left. refl) sound (ap length c.release.ensures ∙ length_released cl c.device-device.result n)
-    (λ left. close_device hs cl c.release.new.self devices (part_of g.D.Disk view left) n h.control h c.close-2.new.self c.close-2.result (control_at hs n c.index-controls-number-3.result c.requires) is
-    (is_none_as h.control.device c.device-device.result _ _ device c.is_none.ensures c.if-is_none.false) c.close-2.ensures (c.release.ensures ∙ ap (λ o. released_by cl o n) (sym device)))
+    (λ left. close_device hs cl c.release.new.self devices (part_of g.D.Disk view left) n h.control h c.close-2.new.self c.close-2.result
+    (control_at hs n c.index-controls-number-3.result c.requires) is
+    (is_none_as h.control.device c.device-device.result _ _ device c.is_none.ensures c.if-is_none.false) c.close-2.ensures
+    (c.release.ensures ∙ ap (λ o. released_by cl o n) (sym device)))

@@ -15,4 +15,5 @@ returns g c =
     let held = c.index-controls-number.result in
     controls_serve hs (set hs n c.open.new.self) ds (CallOf n (call.Open c.args.name.now)) (Answered c.open.result) c.requires.parts
     (λ shared. match_at_some _ _ _ _ (control_at hs n held c.requires.in_range)
-    (decided_at hs ds shared n c.open.new.self (get_or hs n held) _ _ _ _ (get_or_default hs n held _ c.requires.in_range) (simp (c.find_for-found.ensures, c.category.ensures) at c.open.ensures)))
+    (decided_at hs ds shared n c.open.new.self (get_or hs n held) _ _ _ _ (get_or_default hs n held _ c.requires.in_range)
+    (simp (c.find_for-found.ensures, c.category.ensures) at c.open.ensures)))

@@ -22,10 +22,13 @@ returns-then-is_totals g c = λ devices sound.
     let now = c.release_area.new.totals in
     let at = control_at hs n c.index-controls-number.result c.requires in
     let is = are_totals one.category (sym c.is_totals.ensures ∙ c.if-is_totals.true) in
-    let mode = area_release_mode (release_rows one (is_own n view.totals.area)) c.release_area.result view.totals now.totals None _ _ c.release_area.ensures.answer in
-    arranges_serve g.D.Disk view now now.totals hs (set hs n c.release_area.new.control) cl cl devices (CallOf n call.Release) (Answered c.release_area.result) (λ bytes honest since. g.met.D.Disk.only_now view.disk bytes honest since)
+    let mode = area_release_mode (release_rows one
+    (is_own n view.totals.area)) c.release_area.result view.totals now.totals None _ _ c.release_area.ensures.answer in
+    arranges_serve g.D.Disk view now now.totals hs (set hs n c.release_area.new.control) cl cl devices (CallOf n call.Release)
+    (Answered c.release_area.result) (λ bytes honest since. g.met.D.Disk.only_now view.disk bytes honest since)
     c.release_area.ensures.disk refl (λ left. ap (λ m. settled m left) mode) sound refl
-    (λ left. release_area hs cl devices (part_of g.D.Disk view left) n one h c.release_area.new.control c.release_area.result now.totals at is here c.release_area.ensures.answer)
+    (λ left. release_area hs cl devices
+    (part_of g.D.Disk view left) n one h c.release_area.new.control c.release_area.result now.totals at is here c.release_area.ensures.answer)
 
 pub returns : goal.returns
 returns g c = λ devices sound.
@@ -39,6 +42,9 @@ returns g c = λ devices sound.
     let dl = c.release_device.new.claims in
     let at = control_at hs n c.index-controls-number.result c.requires in
     let is = sym c.is_totals.ensures ∙ c.if-is_totals.false in
-    arranges_serve g.D.Disk view view view.totals hs (set hs n c.release_device.new.control) cl dl devices (CallOf n call.Release) (Answered c.release_device.result) (λ bytes honest since. g.met.D.Disk.only_now view.disk bytes honest since)
-    refl refl (λ left. refl) sound (released_covers (release_rows one (is_own n (holder_at cl one.device))) c.release_device.result cl dl one.device n _ _ c.release_device.ensures)
-    (λ left. release_device hs cl dl devices (part_of g.D.Disk view left) n one h c.release_device.new.control c.release_device.result at is here c.release_device.ensures)
+    arranges_serve g.D.Disk view view view.totals hs (set hs n c.release_device.new.control) cl dl devices (CallOf n call.Release)
+    (Answered c.release_device.result) (λ bytes honest since. g.met.D.Disk.only_now view.disk bytes honest since)
+    refl refl (λ left. refl) sound
+    (released_covers (release_rows one (is_own n (holder_at cl one.device))) c.release_device.result cl dl one.device n _ _ c.release_device.ensures)
+    (λ left. release_device hs cl dl devices
+    (part_of g.D.Disk view left) n one h c.release_device.new.control c.release_device.result at is here c.release_device.ensures)

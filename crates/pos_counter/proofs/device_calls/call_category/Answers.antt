@@ -26,7 +26,8 @@ has_kind category.HardTotals is = cc
 has_kind k is = refl
 
 -- who holds a device with a peripheral has nothing to do with the area
-same_holder : (k : Category) (cl : List (Option ℕ)) (one other device : Option ℕ) → is_totals k ≡ false → holder_in k cl one device ≡ holder_in k cl other device
+same_holder : (k : Category) (cl : List (Option ℕ)) (one other device : Option ℕ) → is_totals k ≡ false
+    → holder_in k cl one device ≡ holder_in k cl other device
 same_holder category.HardTotals cl one other device is = cc
 same_holder k cl one other device is = refl
 
@@ -43,10 +44,12 @@ returns-in-Err-clause-serves g c =
     let holder = c.find_holder-holder.ensures ∙ ap (λ area. holder_in one.category cl area one.device) c.area.ensures in
     let needs = c.needs.ensures ∙ ap (λ k. needs_of k q) c.category.ensures in
     let refused = kept_out n _ _ one _ _ _ c.in-Err.code c.in-Err.is holder needs c.check.ensures in
-    looks_serve g.D.Disk view hs cl ds (CallOf n q) (Answered (answer.Refused c.in-Err.code 0)) (λ bytes honest since. g.met.D.Disk.only_now view.disk bytes honest since) c.requires.parts
+    looks_serve g.D.Disk view hs cl ds (CallOf n q) (Answered (answer.Refused c.in-Err.code 0))
+    (λ bytes honest since. g.met.D.Disk.only_now view.disk bytes honest since) c.requires.parts
     (λ left.
     let m = machine_with hs cl ds (part_of g.D.Disk view left) in
-    refused_step m n one q (answer.Refused c.in-Err.code 0) (control_at hs n d c.requires.in_range) (rw (own_refusals m n one q c.requires.own) (refused (category_rows one.category m n one q))))
+    refused_step m n one q (answer.Refused c.in-Err.code 0) (control_at hs n d c.requires.in_range)
+    (rw (own_refusals m n one q c.requires.own) (refused (category_rows one.category m n one q))))
 
 pub call_files-requires : goal.call_files-requires
 call_files-requires g c =
@@ -71,9 +74,11 @@ returns-then-is_totals-clause-serves g c =
     let q = c.args.call.now in
     let holder = c.find_holder-holder.ensures ∙ ap (λ area. holder_in one.category cl area one.device) c.area.ensures in
     let needs = c.needs.ensures ∙ ap (λ k. needs_of k q) c.category.ensures in
-    let lets = let_through n _ (holder_in one.category cl view.totals.area one.device) one _ (needs_of one.category q) _ c.in_default.field-0 c.in_default.is holder needs c.check.ensures in
+    let lets = let_through n _ (holder_in one.category cl view.totals.area one.device) one _
+    (needs_of one.category q) _ c.in_default.field-0 c.in_default.is holder needs c.check.ensures in
     let is = are_totals one.category (sym c.is_totals.ensures ∙ c.if-is_totals.true) in
-    files_serve g.D.Disk view c.call_files.new.totals hs cl ds n one q c.call_files.result c.requires.own (control_at hs n d c.requires.in_range) is (λ left. lets) c.call_files.ensures c.requires.parts
+    files_serve g.D.Disk view c.call_files.new.totals hs cl ds n one q c.call_files.result c.requires.own (control_at hs n d c.requires.in_range) is
+    (λ left. lets) c.call_files.ensures c.requires.parts
 
 pub unreachable-requires : goal.unreachable-requires
 unreachable-requires g c =
@@ -97,7 +102,8 @@ call_there-requires-clause-may g c =
     let needs = c.needs.ensures ∙ ap (λ k. needs_of k q) c.category.ensures in
     let lets = let_through n _ _ one _ (needs_of one.category q) _ c.in_default.field-0 c.in_default.is refl needs c.check.ensures in
     let shared : Shared = record { claims = c.args.claims.now; totals = part_of g.D.Disk c.args.totals.now [] } in
-    served_there hs ds shared n one c.in-Some.place q (c.requires.parts.machine shared) (control_at hs n d c.requires.in_range) (sym c.in-Some.ensures) (has_kind one.category (sym c.is_totals.ensures ∙ c.if-is_totals.false)) (lets_own n _ one (needs_of one.category q) (lets []))
+    served_there hs ds shared n one c.in-Some.place q (c.requires.parts.machine shared) (control_at hs n d c.requires.in_range)
+    (sym c.in-Some.ensures) (has_kind one.category (sym c.is_totals.ensures ∙ c.if-is_totals.false)) (lets_own n _ one (needs_of one.category q) (lets []))
 
 pub returns-clause-serves : goal.returns-clause-serves
 returns-clause-serves g c =
@@ -119,5 +125,7 @@ returns-clause-serves g c =
     (step_serves_under cl hs gs ds es (CallOf n q) (answered r) c.requires.parts (done_places c.call_there.ensures.done)
     (λ part.
     let holds = holder ∙ same_holder one.category cl view.totals.area part.totals.area one.device is in
-    let lets = let_through n _ (holder_in one.category cl part.totals.area one.device) one _ (needs_of one.category q) _ c.in_default.field-0 c.in_default.is holds needs c.check.ensures in
-    device_step hs gs ds es (record { claims = cl; totals = part }) n c.in-Some.place one q r c.requires.own (control_at hs n d c.requires.in_range) is (sym c.in-Some.ensures) lets c.call_there.ensures.done))
+    let lets = let_through n _ (holder_in one.category cl part.totals.area one.device) one _
+    (needs_of one.category q) _ c.in_default.field-0 c.in_default.is holds needs c.check.ensures in
+    device_step hs gs ds es (record { claims = cl; totals = part }) n c.in-Some.place one q r c.requires.own
+    (control_at hs n d c.requires.in_range) is (sym c.in-Some.ensures) lets c.call_there.ensures.done))

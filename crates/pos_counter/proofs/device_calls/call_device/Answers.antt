@@ -12,7 +12,8 @@ returns-in-Ok-clause-called g c =
     let d = c.index-controls-number.result in
     let before = station_of (g.P.Peripheral.state c.args.peripheral.now) in
     let planned = rw (c.in-Ok.is, c.kind.ensures.kind) at c.in_ok-deed.ensures in
-    called_done n c.args.place c.args.call.now (get_or hs n d).control c.in-Ok.deed c.carry_out.result (controls_of hs) _ before _ (control_at hs n d c.requires.in_range) planned.0 planned.1 planned.3 c.carry_out.ensures.done
+    called_done n c.args.place c.args.call.now (get_or hs n d).control c.in-Ok.deed c.carry_out.result (controls_of hs) _ before _
+    (control_at hs n d c.requires.in_range) planned.0 planned.1 planned.3 c.carry_out.ensures.done
 
 pub returns-in-Err-clause-called : goal.returns-in-Err-clause-called
 returns-in-Err-clause-called g c =

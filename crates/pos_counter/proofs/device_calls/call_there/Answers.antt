@@ -11,7 +11,8 @@ put-requires-clause-may_serve g c =
     let list = registered g.P.Peripheral c.args.devices.now.registry in
     let now = g.P.Peripheral.state c.call_device-answer.new.peripheral in
     subst (λ ds. MayServe ds c.args.place now) (sym c.in-Some.ensures.vacated)
-    (put_back list c.args.place (g.P.Peripheral.state c.in-Some.peripheral) now c.requires.sound.registry.served c.in-Some.ensures.taken c.call_device-answer.ensures.in_service.kind)
+    (put_back list c.args.place (g.P.Peripheral.state c.in-Some.peripheral) now c.requires.sound.registry.served c.in-Some.ensures.taken
+    c.call_device-answer.ensures.in_service.kind)
 
 pub returns-clause-done : goal.returns-clause-done
 returns-clause-done g c =
@@ -27,5 +28,6 @@ returns-clause-done g c =
       is_attached = out.is_attached;
       kind = out.kind;
       does = c.call_device-answer.ensures.called;
-      changed = ap (λ ds. devices_of ds totals) (c.put.ensures.served ∙ ap (λ ds. with_peripheral ds c.args.place (Some now)) c.in-Some.ensures.vacated) ∙ out.back now;
+      changed = ap (λ ds. devices_of ds totals)
+          (c.put.ensures.served ∙ ap (λ ds. with_peripheral ds c.args.place (Some now)) c.in-Some.ensures.vacated) ∙ out.back now;
     }

@@ -34,7 +34,11 @@ returns-then-not-fits-clause-serves g c =
     let place = c.in-Some.place in
     let fit = ap (λ k. input_fits k c.args.input.now) (sym c.kind.ensures.kind) ∙ sym c.fits.ensures ∙ c.if-not-fits.true in
     step_serves hs hs ds ds (InputTo c.args.name.now c.args.input.now) WrongInput c.requires.parts refl
-    (λ shared. (finds_fit hs ds shared c.args.name.now place c.args.input.now false c.in-Some.ensures (found_fit (registered g.P.Peripheral devices.registry) devices.totals place _ c.args.input.now false c.in-Some-peripheral.ensures fit), refl))
+    (λ shared. (
+      finds_fit hs ds shared c.args.name.now place c.args.input.now false c.in-Some.ensures
+          (found_fit (registered g.P.Peripheral devices.registry) devices.totals place _ c.args.input.now false c.in-Some-peripheral.ensures fit),
+      refl,
+    ))
 
 pub input_there-requires-clause-fits : goal.input_there-requires-clause-fits
 input_there-requires-clause-fits g c =
@@ -63,6 +67,7 @@ returns-in-Err-clause-serves g c =
     let done = c.in-Err.ensures.done in
     let fit = ap (λ k. input_fits k c.args.input.now) (sym c.kind.ensures.kind) ∙ sym c.fits.ensures ∙ c.if-not-fits.false in
     step_serves hs gs ds es (InputTo c.args.name.now c.args.input.now) OutOfMemory c.requires.parts (done_places done) (λ shared. (
-      finds_fit hs ds shared c.args.name.now place c.args.input.now true c.in-Some.ensures (found_fit (registered g.P.Peripheral devices.registry) devices.totals place _ c.args.input.now true c.in-Some-peripheral.ensures fit),
+      finds_fit hs ds shared c.args.name.now place c.args.input.now true c.in-Some.ensures
+          (found_fit (registered g.P.Peripheral devices.registry) devices.totals place _ c.args.input.now true c.in-Some-peripheral.ensures fit),
       unchanged hs gs ds es shared place done.device done.before done.after done.is_device done.is_attached done.changed done.does,
     ))

@@ -7,7 +7,8 @@ pub returns-clause-begins : goal.returns-clause-begins
 returns-clause-begins g c start sequence is = has_begun g.D.Disk _ start sequence c.args.counter.now is
 
 pub returns-clause-call : goal.returns-clause-call
-returns-clause-call g c start sequence steps old past request response step = keeps_prefix g.D.Disk _ start sequence steps old c.args.counter.now past request response step
+returns-clause-call g c start sequence steps old past request response step =
+    keeps_prefix g.D.Disk _ start sequence steps old c.args.counter.now past request response step
 
 pub returns-clause-list : goal.returns-clause-list
 returns-clause-list g c start sequence steps more old past run = keeps_prefixes g.D.Disk _ start sequence steps more old c.args.counter.now past run

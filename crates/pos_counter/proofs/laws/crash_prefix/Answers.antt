@@ -8,7 +8,8 @@ pub returns-clause-after : goal.returns-clause-after
 returns-clause-after c start sequence first last steps run is = law_after start sequence first last steps run is
 
 pub returns-clause-inside : goal.returns-clause-inside
-returns-clause-inside c start sequence first old steps run request response new step is = law_inside start sequence first old steps run is request response new step
+returns-clause-inside c start sequence first old steps run request response new step is =
+    law_inside start sequence first old steps run is request response new step
 
 pub returns-clause-along : goal.returns-clause-along
 returns-clause-along c start sequence first last steps run is = bytes_along (begun start) first steps last run (fits_begun start sequence first.totals is)

@@ -9,14 +9,21 @@ use Rattle.pos_counter.specs.Steps.{facts_of}
 use Rattle.pos_counter.proofs.properties.find_facts.Goals as goal
 
 -- facts are the same where each of them is
-facts_same : (a b : Facts) → a.kind ≡ b.kind → a.signs ≡ b.signs → a.totals_size ≡ b.totals_size → a.files ≡ b.files → a.is_claimed ≡ b.is_claimed → a.in_transaction ≡ b.in_transaction → a ≡ b
+facts_same : (a b : Facts) → a.kind ≡ b.kind → a.signs ≡ b.signs → a.totals_size ≡ b.totals_size → a.files ≡ b.files → a.is_claimed ≡ b.is_claimed
+    → a.in_transaction ≡ b.in_transaction → a ≡ b
 facts_same a b kind signs size files claimed transacting =
-    ap (λ x. let f : Facts = record { kind = x; signs = a.signs; totals_size = a.totals_size; files = a.files; is_claimed = a.is_claimed; in_transaction = a.in_transaction } in f) kind
-    ∙ ap (λ x. let f : Facts = record { kind = b.kind; signs = x; totals_size = a.totals_size; files = a.files; is_claimed = a.is_claimed; in_transaction = a.in_transaction } in f) signs
-    ∙ ap (λ x. let f : Facts = record { kind = b.kind; signs = b.signs; totals_size = x; files = a.files; is_claimed = a.is_claimed; in_transaction = a.in_transaction } in f) size
-    ∙ ap (λ x. let f : Facts = record { kind = b.kind; signs = b.signs; totals_size = b.totals_size; files = x; is_claimed = a.is_claimed; in_transaction = a.in_transaction } in f) files
-    ∙ ap (λ x. let f : Facts = record { kind = b.kind; signs = b.signs; totals_size = b.totals_size; files = b.files; is_claimed = x; in_transaction = a.in_transaction } in f) claimed
-    ∙ ap (λ x. let f : Facts = record { kind = b.kind; signs = b.signs; totals_size = b.totals_size; files = b.files; is_claimed = b.is_claimed; in_transaction = x } in f) transacting
+    ap (λ x. let f : Facts = record
+    { kind = x; signs = a.signs; totals_size = a.totals_size; files = a.files; is_claimed = a.is_claimed; in_transaction = a.in_transaction } in f) kind
+    ∙ ap (λ x. let f : Facts = record
+    { kind = b.kind; signs = x; totals_size = a.totals_size; files = a.files; is_claimed = a.is_claimed; in_transaction = a.in_transaction } in f) signs
+    ∙ ap (λ x. let f : Facts = record
+    { kind = b.kind; signs = b.signs; totals_size = x; files = a.files; is_claimed = a.is_claimed; in_transaction = a.in_transaction } in f) size
+    ∙ ap (λ x. let f : Facts = record
+    { kind = b.kind; signs = b.signs; totals_size = b.totals_size; files = x; is_claimed = a.is_claimed; in_transaction = a.in_transaction } in f) files
+    ∙ ap (λ x. let f : Facts = record
+    { kind = b.kind; signs = b.signs; totals_size = b.totals_size; files = b.files; is_claimed = x; in_transaction = a.in_transaction } in f) claimed
+    ∙ ap (λ x. let f : Facts = record
+    { kind = b.kind; signs = b.signs; totals_size = b.totals_size; files = b.files; is_claimed = b.is_claimed; in_transaction = x } in f) transacting
 
 pub returns : goal.returns
 returns g c = λ claims left claimed.

@@ -17,7 +17,10 @@ returns g c = λ left.
     let held = c.index-controls-number.result in
     let at = control_at hs n held c.requires.in_range ∙ ap (λ (h : Held). Some h.control) (sym c.index-controls-number.is) in
     let m = machine_with hs c.args.claims.now (devices_in g.P.Peripheral c.args.devices.now) (part_of g.D.Disk c.args.totals.now left) in
-    let holder : c.find_holder-holder.result ≡ holder_of m held.control = c.find_holder-holder.ensures ∙ ap (λ area. holder_in held.control.category c.args.claims.now area held.control.device) c.area.ensures in
+    let holder : c.find_holder-holder.result ≡ holder_of m held.control =
+    c.find_holder-holder.ensures ∙ ap (λ area. holder_in held.control.category c.args.claims.now area held.control.device) c.area.ensures in
     let facts = c.find_facts-facts.ensures c.args.claims.now left (c.is_own.ensures ∙ ap (is_own n) holder) in
-    let gets = subst (λ o. Gets (get_rows n o held.control c.find_facts-facts.result p) p (property_of held.control c.find_facts-facts.result p) c.get.result) holder c.get.ensures in
-    get_step m n held.control p c.get.result at (subst (λ f. Gets (get_rows n (holder_of m held.control) held.control f p) p (property_of held.control f p) c.get.result) facts gets)
+    let gets = subst (λ o. Gets (get_rows n o held.control c.find_facts-facts.result p) p
+    (property_of held.control c.find_facts-facts.result p) c.get.result) holder c.get.ensures in
+    get_step m n held.control p c.get.result at
+    (subst (λ f. Gets (get_rows n (holder_of m held.control) held.control f p) p (property_of held.control f p) c.get.result) facts gets)

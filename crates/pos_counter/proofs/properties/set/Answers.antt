@@ -30,14 +30,19 @@ returns g c = λ sound.
     let same = get_or_default hs n c.index-controls-number-2.result c.index-controls-number.result c.requires in
     let holder = c.find_holder-holder.ensures ∙ ap (λ o. holder_in h.control.category cl o h.control.device) c.area.ensures in
     let kind = c.kind_at-kind.ensures ∙ ap (λ o. kind_in (device_at ds o)) c.device-device.ensures in
-    let held = subst (λ o. TurnsInto (set_rows n o c.kind_at-kind.result h.control p v) c.set.result h c.set.new.self (after_set h.control p v)) holder c.set.ensures in
-    let turns = subst (λ at. TurnsInto (set_rows n (holder_in h.control.category cl view.totals.area h.control.device) at h.control p v) c.set.result h c.set.new.self (after_set h.control p v)) kind held in
+    let held = subst (λ o. TurnsInto (set_rows n o c.kind_at-kind.result h.control p v) c.set.result h c.set.new.self
+    (after_set h.control p v)) holder c.set.ensures in
+    let turns = subst (λ at. TurnsInto
+    (set_rows n (holder_in h.control.category cl view.totals.area h.control.device) at h.control p v) c.set.result h c.set.new.self
+    (after_set h.control p v)) kind held in
     let plain = subst (λ (k : Held). (asks_recovery k.control p v && not (is_ready view.totals.mode)) ≡ false) (sym same)
-    (ap (λ b. asks_recovery (get_or hs n c.index-controls-number.result).control p v && not b) (sym c.is_ready.ensures) ∙ sym c.is_recovering.ensures ∙ c.if-is_recovering.false) in
+    (ap (λ b. asks_recovery (get_or hs n c.index-controls-number.result).control p v && not b) (sym c.is_ready.ensures) ∙ sym c.is_recovering.ensures
+    ∙ c.if-is_recovering.false) in
     let step = λ (left : List Standing). plain_set hs cl ds (part_of g.D.Disk view left) n c.set.new.self h p v c.set.result c.requires is plain turns in
     let shared : Shared = record { claims = cl; totals = part_of g.D.Disk view [] } in
     record {
-      steps = λ left leaves. rests_stepped g.D.Disk view (machine_with hs cl ds) (machine_with (set hs n c.set.new.self) cl ds) q (Answered c.set.result) left (λ bytes honest since. g.met.D.Disk.only_now view.disk bytes honest since) leaves (step left);
+      steps = λ left leaves. rests_stepped g.D.Disk view (machine_with hs cl ds) (machine_with (set hs n c.set.new.self) cl ds) q
+          (Answered c.set.result) left (λ bytes honest since. g.met.D.Disk.only_now view.disk bytes honest since) leaves (step left);
       sound = stepped_sound hs (set hs n c.set.new.self) ds shared shared q (Answered c.set.result) sound (step []);
       covers = refl;
       places = refl;

@@ -12,8 +12,11 @@ returns-in-Ok g c = λ sound.
     let h = get_or hs n c.index-controls-number-in-Ok.result in
     let is = get_or_default hs n c.index-controls-number-in-Ok.result h c.requires.in_range in
     let there = asks_there hs n c.args.property c.args.value.now c.args.totals.now.totals.mode c.requires.recovers in
-    let done = done_set hs n c.find_holder-holder.result c.kind_at-kind.result h c.set.new.self there.control c.args.property c.args.value.now c.set.result c.requires.in_range is there.at there.asks c.set.ensures in
-    recovered_serves g.D.Disk c.args.totals.now c.recover.new.self there.off hs cl (devices_in g.P.Peripheral c.args.devices.now) sound n there.control c.args.property c.args.value.now there.at there.asks there.recovering c.set.new.self c.set.result c.in-Ok.ensures done.0 done.1
+    let done = done_set hs n c.find_holder-holder.result c.kind_at-kind.result h c.set.new.self there.control c.args.property c.args.value.now
+    c.set.result c.requires.in_range is there.at there.asks c.set.ensures in
+    recovered_serves g.D.Disk c.args.totals.now c.recover.new.self there.off hs cl
+    (devices_in g.P.Peripheral c.args.devices.now) sound n there.control c.args.property c.args.value.now there.at there.asks there.recovering
+    c.set.new.self c.set.result c.in-Ok.ensures done.0 done.1
 
 pub returns-in-Ok-code : goal.returns-in-Ok-code
 returns-in-Ok-code g c = λ sound.
@@ -21,4 +24,6 @@ returns-in-Ok-code g c = λ sound.
     let n = c.args.number in
     let cl = c.args.claims.now in
     let there = asks_there hs n c.args.property c.args.value.now c.args.totals.now.totals.mode c.requires.recovers in
-    failed_serves g.D.Disk c.args.totals.now c.recover.new.self there.off hs cl (devices_in g.P.Peripheral c.args.devices.now) sound n there.control c.args.property c.args.value.now there.at there.asks there.recovering c.in-Err.fault c.in-Ok-code.code c.in-Err.ensures c.in-Ok-code.ensures
+    failed_serves g.D.Disk c.args.totals.now c.recover.new.self there.off hs cl
+    (devices_in g.P.Peripheral c.args.devices.now) sound n there.control c.args.property c.args.value.now there.at there.asks there.recovering
+    c.in-Err.fault c.in-Ok-code.code c.in-Err.ensures c.in-Ok-code.ensures

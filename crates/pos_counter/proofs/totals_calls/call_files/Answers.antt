@@ -15,17 +15,21 @@ returns-in-Create g c =
     let view = c.args.totals.now in
     let asked = call.Create c.in-Create.name c.in-Create.size c.in-Create.detection in
     let fits_size : SFits w128 c.in-Create.size = search rules in
-    let changes = subst (λ bytes. Changes g.D.Disk view c.args.number (Create bytes c.in-Create.size) c.create.result c.create.new.self) c.as_slice.ensures (simp to_z-of_z at c.create.ensures) in
+    let changes = subst (λ bytes. Changes g.D.Disk view c.args.number
+    (Create bytes c.in-Create.size) c.create.result c.create.new.self) c.as_slice.ensures (simp to_z-of_z at c.create.ensures) in
     subst (λ q. CallsFiles g.D.Disk view c.args.number q c.create.result c.create.new.self) (sym c.in-Create.is)
-    (change_calls g.D.Disk view c.create.new.self c.args.number _ asked c.create.result (λ bytes h since. g.met.D.Disk.only_now view.disk bytes h since) refl refl changes)
+    (change_calls g.D.Disk view c.create.new.self c.args.number _ asked c.create.result
+    (λ bytes h since. g.met.D.Disk.only_now view.disk bytes h since) refl refl changes)
 
 pub returns-in-Delete : goal.returns-in-Delete
 returns-in-Delete g c =
     let view = c.args.totals.now in
     let asked = call.Delete c.in-Delete.name in
-    let changes = subst (λ bytes. Changes g.D.Disk view c.args.number (Delete bytes) c.delete.result c.delete.new.self) c.as_slice-in-Delete.ensures c.delete.ensures in
+    let changes = subst (λ bytes. Changes g.D.Disk view c.args.number
+    (Delete bytes) c.delete.result c.delete.new.self) c.as_slice-in-Delete.ensures c.delete.ensures in
     subst (λ q. CallsFiles g.D.Disk view c.args.number q c.delete.result c.delete.new.self) (sym c.in-Delete.is)
-    (change_calls g.D.Disk view c.delete.new.self c.args.number _ asked c.delete.result (λ bytes h since. g.met.D.Disk.only_now view.disk bytes h since) refl refl changes)
+    (change_calls g.D.Disk view c.delete.new.self c.args.number _ asked c.delete.result
+    (λ bytes h since. g.met.D.Disk.only_now view.disk bytes h since) refl refl changes)
 
 pub returns-in-Write : goal.returns-in-Write
 returns-in-Write g c =
@@ -33,9 +37,11 @@ returns-in-Write g c =
     let asked = call.Write c.in-Write.handle c.in-Write.offset c.in-Write.bytes in
     let fits_handle : SFits w128 c.in-Write.handle = search rules in
     let fits_offset : SFits w128 c.in-Write.offset = search rules in
-    let changes = subst (λ bytes. Changes g.D.Disk view c.args.number (Write c.in-Write.handle c.in-Write.offset bytes) c.write.result c.write.new.self) c.as_slice-in-Write.ensures (simp to_z-of_z at c.write.ensures) in
+    let changes = subst (λ bytes. Changes g.D.Disk view c.args.number
+    (Write c.in-Write.handle c.in-Write.offset bytes) c.write.result c.write.new.self) c.as_slice-in-Write.ensures (simp to_z-of_z at c.write.ensures) in
     subst (λ q. CallsFiles g.D.Disk view c.args.number q c.write.result c.write.new.self) (sym c.in-Write.is)
-    (change_calls g.D.Disk view c.write.new.self c.args.number _ asked c.write.result (λ bytes h since. g.met.D.Disk.only_now view.disk bytes h since) refl refl changes)
+    (change_calls g.D.Disk view c.write.new.self c.args.number _ asked c.write.result
+    (λ bytes h since. g.met.D.Disk.only_now view.disk bytes h since) refl refl changes)
 
 pub returns-in-SetAll : goal.returns-in-SetAll
 returns-in-SetAll g c =
@@ -45,16 +51,19 @@ returns-in-SetAll g c =
     let fits_value : SFits w128 c.in-SetAll.value = search rules in
     let changes = (simp to_z-of_z at c.set_all.ensures) in
     subst (λ q. CallsFiles g.D.Disk view c.args.number q c.set_all.result c.set_all.new.self) (sym c.in-SetAll.is)
-    (change_calls g.D.Disk view c.set_all.new.self c.args.number _ asked c.set_all.result (λ bytes h since. g.met.D.Disk.only_now view.disk bytes h since) refl refl changes)
+    (change_calls g.D.Disk view c.set_all.new.self c.args.number _ asked c.set_all.result
+    (λ bytes h since. g.met.D.Disk.only_now view.disk bytes h since) refl refl changes)
 
 pub returns-in-Rename : goal.returns-in-Rename
 returns-in-Rename g c =
     let view = c.args.totals.now in
     let asked = call.Rename c.in-Rename.handle c.in-Rename.name in
     let fits_handle : SFits w128 c.in-Rename.handle = search rules in
-    let changes = subst (λ bytes. Changes g.D.Disk view c.args.number (Rename c.in-Rename.handle bytes) c.rename.result c.rename.new.self) c.as_slice-in-Rename.ensures (simp to_z-of_z at c.rename.ensures) in
+    let changes = subst (λ bytes. Changes g.D.Disk view c.args.number
+    (Rename c.in-Rename.handle bytes) c.rename.result c.rename.new.self) c.as_slice-in-Rename.ensures (simp to_z-of_z at c.rename.ensures) in
     subst (λ q. CallsFiles g.D.Disk view c.args.number q c.rename.result c.rename.new.self) (sym c.in-Rename.is)
-    (change_calls g.D.Disk view c.rename.new.self c.args.number _ asked c.rename.result (λ bytes h since. g.met.D.Disk.only_now view.disk bytes h since) refl refl changes)
+    (change_calls g.D.Disk view c.rename.new.self c.args.number _ asked c.rename.result
+    (λ bytes h since. g.met.D.Disk.only_now view.disk bytes h since) refl refl changes)
 
 pub returns-in-FindByIndex : goal.returns-in-FindByIndex
 returns-in-FindByIndex g c =
@@ -62,7 +71,8 @@ returns-in-FindByIndex g c =
     let asked = call.FindByIndex c.in-FindByIndex.index in
     let fits_index : SFits w128 c.in-FindByIndex.index = search rules in
     subst (λ q. CallsFiles g.D.Disk view c.args.number q c.find_by_index.result view) (sym c.in-FindByIndex.is)
-    (question_calls g.D.Disk view c.args.number _ asked c.find_by_index.result (λ bytes h since. g.met.D.Disk.only_now view.disk bytes h since) refl (inl refl) (simp to_z-of_z at c.find_by_index.ensures))
+    (question_calls g.D.Disk view c.args.number _ asked c.find_by_index.result (λ bytes h since. g.met.D.Disk.only_now view.disk bytes h since) refl
+    (inl refl) (simp to_z-of_z at c.find_by_index.ensures))
 
 pub returns-in-Read : goal.returns-in-Read
 returns-in-Read g c =
@@ -72,7 +82,8 @@ returns-in-Read g c =
     let fits_offset : SFits w128 c.in-Read.offset = search rules in
     let fits_count : SFits w128 c.in-Read.count = search rules in
     subst (λ q. CallsFiles g.D.Disk view c.args.number q c.read.result view) (sym c.in-Read.is)
-    (question_calls g.D.Disk view c.args.number _ asked c.read.result (λ bytes h since. g.met.D.Disk.only_now view.disk bytes h since) refl (inl refl) (simp to_z-of_z at c.read.ensures))
+    (question_calls g.D.Disk view c.args.number _ asked c.read.result (λ bytes h since. g.met.D.Disk.only_now view.disk bytes h since) refl
+    (inl refl) (simp to_z-of_z at c.read.ensures))
 
 pub returns-in-ClaimFile : goal.returns-in-ClaimFile
 returns-in-ClaimFile g c =
@@ -81,7 +92,9 @@ returns-in-ClaimFile g c =
     let fits_handle : SFits w128 c.in-ClaimFile.handle = search rules in
     let fits_timeout : SFits w128 c.in-ClaimFile.timeout = search rules in
     subst (λ q. CallsFiles g.D.Disk view c.args.number q (Ok c.claim_file.result) c.claim_file.new.self) (sym c.in-ClaimFile.is)
-    (arrangement_calls g.D.Disk view c.claim_file.new.self c.args.number (ClaimFile c.in-ClaimFile.handle c.in-ClaimFile.timeout) asked c.claim_file.result (λ bytes h since. g.met.D.Disk.only_now view.disk bytes h since) refl (simp to_z-of_z at c.claim_file.ensures))
+    (arrangement_calls g.D.Disk view c.claim_file.new.self c.args.number
+    (ClaimFile c.in-ClaimFile.handle c.in-ClaimFile.timeout) asked c.claim_file.result
+    (λ bytes h since. g.met.D.Disk.only_now view.disk bytes h since) refl (simp to_z-of_z at c.claim_file.ensures))
 
 pub returns-in-ReleaseFile : goal.returns-in-ReleaseFile
 returns-in-ReleaseFile g c =
@@ -89,22 +102,26 @@ returns-in-ReleaseFile g c =
     let asked = call.ReleaseFile c.in-ReleaseFile.handle in
     let fits_handle : SFits w128 c.in-ReleaseFile.handle = search rules in
     subst (λ q. CallsFiles g.D.Disk view c.args.number q (Ok c.release_file.result) c.release_file.new.self) (sym c.in-ReleaseFile.is)
-    (arrangement_calls g.D.Disk view c.release_file.new.self c.args.number (ReleaseFile c.in-ReleaseFile.handle) asked c.release_file.result (λ bytes h since. g.met.D.Disk.only_now view.disk bytes h since) refl (simp to_z-of_z at c.release_file.ensures))
+    (arrangement_calls g.D.Disk view c.release_file.new.self c.args.number (ReleaseFile c.in-ReleaseFile.handle) asked c.release_file.result
+    (λ bytes h since. g.met.D.Disk.only_now view.disk bytes h since) refl (simp to_z-of_z at c.release_file.ensures))
 
 pub returns-in-BeginTrans : goal.returns-in-BeginTrans
 returns-in-BeginTrans g c =
     let view = c.args.totals.now in
     subst (λ q. CallsFiles g.D.Disk view c.args.number q (Ok c.begin_trans.result) c.begin_trans.new.self) (sym c.in-BeginTrans.is)
-    (arrangement_calls g.D.Disk view c.begin_trans.new.self c.args.number BeginTrans call.BeginTrans c.begin_trans.result (λ bytes h since. g.met.D.Disk.only_now view.disk bytes h since) refl c.begin_trans.ensures)
+    (arrangement_calls g.D.Disk view c.begin_trans.new.self c.args.number BeginTrans call.BeginTrans c.begin_trans.result
+    (λ bytes h since. g.met.D.Disk.only_now view.disk bytes h since) refl c.begin_trans.ensures)
 
 pub returns-in-Rollback : goal.returns-in-Rollback
 returns-in-Rollback g c =
     let view = c.args.totals.now in
     subst (λ q. CallsFiles g.D.Disk view c.args.number q (Ok c.rollback.result) c.rollback.new.self) (sym c.in-Rollback.is)
-    (arrangement_calls g.D.Disk view c.rollback.new.self c.args.number Rollback call.Rollback c.rollback.result (λ bytes h since. g.met.D.Disk.only_now view.disk bytes h since) refl c.rollback.ensures)
+    (arrangement_calls g.D.Disk view c.rollback.new.self c.args.number Rollback call.Rollback c.rollback.result
+    (λ bytes h since. g.met.D.Disk.only_now view.disk bytes h since) refl c.rollback.ensures)
 
 pub returns-in-CommitTrans : goal.returns-in-CommitTrans
 returns-in-CommitTrans g c =
     let view = c.args.totals.now in
     subst (λ q. CallsFiles g.D.Disk view c.args.number q c.commit_trans.result c.commit_trans.new.self) (sym c.in-CommitTrans.is)
-    (commit_calls g.D.Disk view c.commit_trans.new.self c.args.number call.CommitTrans c.commit_trans.result (λ bytes h since. g.met.D.Disk.only_now view.disk bytes h since) refl refl c.commit_trans.ensures)
+    (commit_calls g.D.Disk view c.commit_trans.new.self c.args.number call.CommitTrans c.commit_trans.result
+    (λ bytes h since. g.met.D.Disk.only_now view.disk bytes h since) refl refl c.commit_trans.ensures)

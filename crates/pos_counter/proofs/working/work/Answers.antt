@@ -22,14 +22,16 @@ returns-then-is_none-clause-serves g c =
     let devices = c.args.devices.now in
     let ds = devices_in g.P.Peripheral devices in
     let place = c.in-Some.place in
-    let vacant = vacant_there (registered g.P.Peripheral devices.registry) devices.totals place c.peripheral.result _ c.peripheral.ensures (c.is_none.ensures ∙ ap not c.if-is_none.true) in
+    let vacant = vacant_there (registered g.P.Peripheral devices.registry) devices.totals place c.peripheral.result _ c.peripheral.ensures
+    (c.is_none.ensures ∙ ap not c.if-is_none.true) in
     step_serves_under c.args.claims.now hs hs ds ds (WorkOn c.args.name.now) NoDevice c.requires.parts refl
     (λ part. (named hs ds (record { claims = c.args.claims.now; totals = part }) c.args.name.now place c.in-Some.ensures ∙ vacant, refl))
 
 pub work_there-requires-clause-attached : goal.work_there-requires-clause-attached
 work_there-requires-clause-attached g c =
     let devices = c.args.devices.now in
-    attached_there (registered g.P.Peripheral devices.registry) devices.totals c.in-Some.place c.peripheral.result _ c.peripheral.ensures (c.is_none.ensures ∙ ap not c.if-is_none.false)
+    attached_there (registered g.P.Peripheral devices.registry) devices.totals c.in-Some.place c.peripheral.result _ c.peripheral.ensures
+    (c.is_none.ensures ∙ ap not c.if-is_none.false)
 
 pub returns-in-Ok-clause-serves : goal.returns-in-Ok-clause-serves
 returns-in-Ok-clause-serves g c =
@@ -40,7 +42,8 @@ returns-in-Ok-clause-serves g c =
     let es = devices_in g.P.Peripheral c.work_there.new.devices in
     let done = c.in-Ok.ensures.done in
     step_serves_under cl hs gs ds es (WorkOn c.args.name.now) (Worked c.in-Ok.worked) c.requires.parts (done_places done)
-    (λ part. on_station hs gs ds es (record { claims = cl; totals = part }) c.in-Some.place _ (λ place. WorksAt (holder_at cl (Some place)) place (Ok c.in-Ok.worked)) (sym c.in-Some.ensures) done)
+    (λ part. on_station hs gs ds es (record { claims = cl; totals = part }) c.in-Some.place _
+    (λ place. WorksAt (holder_at cl (Some place)) place (Ok c.in-Ok.worked)) (sym c.in-Some.ensures) done)
 
 pub returns-in-Err-clause-serves : goal.returns-in-Err-clause-serves
 returns-in-Err-clause-serves g c =

@@ -5,11 +5,14 @@ use Rattle.pos_dir.proofs.copying.copy_items.Goals as goal
 
 pub copy_first-requires : goal.copy_first-requires
 copy_first-requires g c =
-    must_read g.T.Item.item_at c.loop.items.items c.args.count c.loop.counter c.loop.rest.now (items_at g.T.Item.item_at c.args.count c.args.bytes.now) c.loop-test.true c.loop.invariant c.requires
+    must_read g.T.Item.item_at c.loop.items.items c.args.count c.loop.counter c.loop.rest.now
+    (items_at g.T.Item.item_at c.args.count c.args.bytes.now) c.loop-test.true c.loop.invariant c.requires
 
 pub loop-preserved : goal.loop-preserved
 loop-preserved g c =
-    rw c.in_ok-push.ensures.items (kept_more g.T.Item.item_at c.loop.items.items c.args.count c.loop.counter c.loop.rest.now c.in_ok-item.item c.in_ok-item.after.now (items_at g.T.Item.item_at c.args.count c.args.bytes.now) c.loop-test.true (sym c.in_ok-item.ensures) c.loop.invariant)
+    rw c.in_ok-push.ensures.items (kept_more g.T.Item.item_at c.loop.items.items c.args.count c.loop.counter c.loop.rest.now c.in_ok-item.item
+    c.in_ok-item.after.now (items_at g.T.Item.item_at c.args.count c.args.bytes.now) c.loop-test.true (sym c.in_ok-item.ensures) c.loop.invariant)
 
 pub returns : goal.returns
-returns g c = kept_all g.T.Item.item_at c.loop.items.items c.args.count c.loop.counter c.loop.rest.now (items_at g.T.Item.item_at c.args.count c.args.bytes.now) c.loop-test.false c.loop.invariant
+returns g c = kept_all g.T.Item.item_at c.loop.items.items c.args.count c.loop.counter c.loop.rest.now
+    (items_at g.T.Item.item_at c.args.count c.args.bytes.now) c.loop-test.false c.loop.invariant

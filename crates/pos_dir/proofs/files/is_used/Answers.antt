@@ -14,7 +14,8 @@ pub returns-then-eq : goal.returns-then-eq
 returns-then-eq c =
     let name = c.args.name.now in
     let more = one_more file_at c.args.count c.loop.counter c.loop.rest.now _ c.in-Some.after.now c.loop-test.true (sym c.in-Some.ensures) in
-    told (λ files. has_name files name) _ _ (items_at file_at c.args.count c.args.bytes.now) true more c.loop.invariant (this_name _ _ name (sym c.eq.ensures ∙ c.if-eq.true))
+    told (λ files. has_name files name) _ _ (items_at file_at c.args.count c.args.bytes.now) true more c.loop.invariant
+    (this_name _ _ name (sym c.eq.ensures ∙ c.if-eq.true))
 
 pub loop-preserved : goal.loop-preserved
 loop-preserved c =

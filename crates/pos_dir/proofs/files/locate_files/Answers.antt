@@ -21,7 +21,8 @@ pub returns-in_err-end : goal.returns-in_err-end
 returns-in_err-end c =
     let read = items_at file_at c.in_ok-count.count c.in_ok-count.rest.now in
     rw c.from_residual-in_err-end.ensures
-    (directory_is c.args.limits c.args.bytes.now c.in_ok-count.count c.in_ok-count.rest.now c.in_ok-count.ensures ∙ body_too_large c.args.limits read c.in_err-end.ensures)
+    (directory_is c.args.limits c.args.bytes.now c.in_ok-count.count c.in_ok-count.rest.now c.in_ok-count.ensures
+    ∙ body_too_large c.args.limits read c.in_err-end.ensures)
 
 pub returns-then-not-is_empty : goal.returns-then-not-is_empty
 returns-then-not-is_empty c =
@@ -40,6 +41,7 @@ pub returns : goal.returns
 returns c =
     let read = items_at file_at c.in_ok-count.count c.in_ok-count.rest.now in
     let none : c.in_ok-end.end.now ≡ [] = nil_from_length c.in_ok-end.end.now (eqb-true _ _ (sym c.is_empty.ensures ∙ c.if-not-is_empty.false)) in
-    let found = body_found c.args.limits read c.in_ok-count.count c.in_ok-end.end.now (length_items file_at c.in_ok-count.count c.in_ok-count.rest.now) c.if-count-limits.false c.in_ok-end.ensures none
+    let found = body_found c.args.limits read c.in_ok-count.count c.in_ok-end.end.now
+    (length_items file_at c.in_ok-count.count c.in_ok-count.rest.now) c.if-count-limits.false c.in_ok-end.ensures none
     (answered are_distinct read c.are_distinct.result _ c.if-not-are_distinct.false c.are_distinct.ensures) in
     (found.0, directory_is c.args.limits c.args.bytes.now c.in_ok-count.count c.in_ok-count.rest.now c.in_ok-count.ensures ∙ found.1, found.2)

@@ -3,7 +3,7 @@ use Rattle.pos_dir.proofs.Outlined.{outline_at, delete_made}
 use Rattle.pos_dir.proofs.outlines.check_delete.Goals as goal
 
 pub returns : goal.returns
-returns c = λ limits files same.
+returns g c = λ limits files same.
     let outlines = c.args.outlines.now.items in
     let at = outline_at outlines c.args.index (omega (arith, c.len.ensures.value, c.if-index-len.false)) in
     rw c.remove-removed.ensures.items (delete_made limits outlines files c.args.index at.0 same at.1)

@@ -3,4 +3,4 @@ use Rattle.pos_dir.specs.Outlines.{AreOutlines}
 use Rattle.pos_dir.proofs.outlines.outline_files.Given as goal
 
 abbrev pub invariant-loop-file : goal.invariant-loop-file
-invariant-loop-file l = AreOutlines l.outlines.items (take l.file-index l.files)
+invariant-loop-file g l = AreOutlines l.outlines.items (take l.file-index l.files)

@@ -21,11 +21,13 @@ returns-in_err-changes c =
     rw (p.1, p.2, c.in_err-changes.ensures) (found.0, takes.0, takes.1)
 
 -- the changes that were copied are those that the bytes spell
-copied : (c : In_ok-changes) → IsBytes c.args.bytes.now → IsGroup c.in_ok-changes.changes.items × (c.args.bytes.now ≡ group_spelling c.in_ok-changes.changes.items)
+copied : (c : In_ok-changes) → IsBytes c.args.bytes.now
+    → IsGroup c.in_ok-changes.changes.items × (c.args.bytes.now ≡ group_spelling c.in_ok-changes.changes.items)
 copied c fits =
     let found = c.in-Some.ensures in
     let same = same_items (items_at change_at c.in-Some.count c.in-Some.rest.now) c.in_ok-changes.changes.items found.0 [] c.in_ok-changes.ensures found.2 in
-    subst (λ (changes : List Change). IsGroup changes × (c.args.bytes.now ≡ group_spelling changes)) (sym same) (group_takes c.args.bytes.now found.0 fits found.1)
+    subst (λ (changes : List Change). IsGroup changes × (c.args.bytes.now ≡ group_spelling changes)) (sym same)
+    (group_takes c.args.bytes.now found.0 fits found.1)
 
 pub invariant_of-result : goal.invariant_of-result
 invariant_of-result c = (copied (goal.at.invariant_of-result c).In_ok-changes (λ i. omega (arith, c.type_inv.bytes i))).0

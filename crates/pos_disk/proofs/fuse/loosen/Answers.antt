@@ -13,15 +13,22 @@ loop-place-preserved g c =
     record {
       from = omega (arith, inv.from);
       size = c.write.ensures.size ∙ c.read.ensures.size ∙ inv.size;
-      honest = (λ h. c.write.ensures.honest.0 (c.read.ensures.honest.0 (inv.honest.0 h)), λ h. inv.honest.1 (c.read.ensures.honest.1 (c.write.ensures.honest.1 h)));
+      honest = (
+        λ h. c.write.ensures.honest.0 (c.read.ensures.honest.0 (inv.honest.0 h)),
+        λ h. inv.honest.1 (c.read.ensures.honest.1 (c.write.ensures.honest.1 h)),
+      );
       loosens = λ h.
           let start = inv.honest.0 h in
           let place : from + (k - from) ≡ k = omega (arith, inv.from) in
           let one : length c.read.new.out ≡ 1 = search rules in
-          let fits : from + (k - from) + 1 ≤ length (D.state c.loop-place.disk).reading = omega (arith, inv.from, inv.size, c.requires.size, c.loop-place-test.true, g.met.D.Disk.whole c.loop-place.disk start) in
+          let fits : from + (k - from) + 1 ≤ length (D.state c.loop-place.disk).reading =
+          omega (arith, inv.from, inv.size, c.requires.size, c.loop-place-test.true, g.met.D.Disk.whole c.loop-place.disk start) in
           let next : k - from + 1 ≡ k + 1 - from = omega (arith, inv.from) in
           subst (λ (n : ℕ). Loosens (D.state c.args.disk.now) (D.state c.write.new.self) from n) next
-          (loosens_on (D.state c.args.disk.now) (D.state c.loop-place.disk) (D.state c.read.new.self) (D.state c.write.new.self) from (k - from) c.read.new.out c.read.result c.write.result (inv.loosens h) one fits
-          (subst (λ (n : ℕ). Reads (D.state c.loop-place.disk) (D.state c.read.new.self) n c.read.new.out c.read.result) (sym place) (c.read.ensures.reads start))
-          (subst (λ (n : ℕ). Writes (D.state c.read.new.self) (D.state c.write.new.self) n c.read.new.out c.write.result) (sym place) (c.write.ensures.writes (c.read.ensures.honest.0 start))));
+          (loosens_on (D.state c.args.disk.now) (D.state c.loop-place.disk) (D.state c.read.new.self) (D.state c.write.new.self) from
+          (k - from) c.read.new.out c.read.result c.write.result (inv.loosens h) one fits
+          (subst (λ (n : ℕ). Reads (D.state c.loop-place.disk) (D.state c.read.new.self) n c.read.new.out c.read.result) (sym place)
+          (c.read.ensures.reads start))
+          (subst (λ (n : ℕ). Writes (D.state c.read.new.self) (D.state c.write.new.self) n c.read.new.out c.write.result) (sym place)
+          (c.write.ensures.writes (c.read.ensures.honest.0 start))));
     }

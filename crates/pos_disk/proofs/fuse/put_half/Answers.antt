@@ -15,4 +15,5 @@ returns-clause-half g c honest =
     let moved : Loosens (D.state c.write.new.self) (D.state c.loosen.new.disk) (c.args.at + length bytes / 2) (length bytes - length bytes / 2) =
     subst (λ (n : ℕ). Loosens (D.state c.write.new.self) (D.state c.loosen.new.disk) (c.args.at + length bytes / 2) n) rest
     (subst (λ (m : ℕ). Loosens (D.state c.write.new.self) (D.state c.loosen.new.disk) m (c.min-end.result - c.min-middle.result)) middle ended) in
-    puts_half (D.state c.args.disk.now) (D.state c.write.new.self) (D.state c.loosen.new.disk) c.args.at bytes c.write.result fits (c.write.ensures.writes honest) moved
+    puts_half (D.state c.args.disk.now) (D.state c.write.new.self) (D.state c.loosen.new.disk) c.args.at bytes c.write.result fits
+    (c.write.ensures.writes honest) moved

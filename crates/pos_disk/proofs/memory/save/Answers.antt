@@ -14,4 +14,5 @@ returns-else-is_any_loose c =
     let put : c.overwrite.new.bytes.items ≡ splice c.args.saved.now.items at (part at c.args.len c.args.bytes.now) =
     c.overwrite.ensures ∙ ap (λ (n : ℕ). splice c.args.saved.now.items at (take n (drop at c.args.bytes.now))) len in
     subst (λ (new : List ℕ). IsSaved c.args.stamps.now c.args.stamp c.args.bytes.now at c.args.len c.args.saved.now.items new) (sym put)
-    (saved_at_once c.args.stamps.now c.args.stamp c.args.bytes.now at c.args.len c.args.saved.now.items c.requires.stamps c.requires.bytes c.requires.saved none)
+    (saved_at_once c.args.stamps.now c.args.stamp c.args.bytes.now at c.args.len c.args.saved.now.items c.requires.stamps c.requires.bytes
+    c.requires.saved none)

@@ -16,5 +16,6 @@ returns-clause-written g c honest =
     let same = (c.sync.ensures.syncs honest3).reading in
     let whole = g.met.D.Disk.whole c.args.disk.now honest in
     where_ok c.sync.result _ (
-    fields_written s0.reading _ c.head_of.result body c.args.at c.args.sequence (omega (arith, whole, c.requires.fits)) c.requires.short c.ranges.sequence.fits c.head_of.ensures
+    fields_written s0.reading _ c.head_of.result body c.args.at c.args.sequence
+    (omega (arith, whole, c.requires.fits)) c.requires.short c.ranges.sequence.fits c.head_of.ensures
     (same ∙ third ∙ ap (λ (b : List ℕ). splice b (c.args.at + 16384) (0 ∷ [])) (second ∙ ap (λ (b : List ℕ). splice b (c.args.at + 13) body) first)))

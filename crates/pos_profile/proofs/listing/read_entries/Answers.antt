@@ -32,7 +32,8 @@ returns-then-is_second_totals c =
     let second : is_refused_after (map (λ (e : Entry). Some e) read) (Some (Some c.in-Ok-read_value.entry)) ≡ true =
     ap (λ (es : List Entry). is_refused_after (map (λ (e : Entry). Some e) es) (Some (Some c.in-Ok-read_value.entry))) (sym c.deref.ensures.value)
     ∙ sym c.is_second_totals.ensures ∙ c.if-is_second_totals.true in
-    second_at c.args.role data_values place (view value) at c.in-Ok-read_value.entry c.in-Ok-read_value.ensures read c.loop-place.invariant.so_far second c.loop-place.invariant.sound (omega arith)
+    second_at c.args.role data_values place
+    (view value) at c.in-Ok-read_value.entry c.in-Ok-read_value.ensures read c.loop-place.invariant.so_far second c.loop-place.invariant.sound (omega arith)
 
 pub loop-place-preserved : goal.loop-place-preserved
 loop-place-preserved c =
@@ -46,7 +47,8 @@ loop-place-preserved c =
     ap (λ (es : List Entry). is_refused_after (map (λ (e : Entry). Some e) es) (Some (Some entry))) (sym c.deref.ensures.value)
     ∙ sym c.is_second_totals.ensures ∙ c.if-is_second_totals.false in
     record {
-      so_far = ap (map (λ (e : Entry). Some e)) c.push_reserved.ensures.items ∙ taken c.args.role data_values place (view value) at entry c.in-Ok-read_value.ensures read c.loop-place.invariant.so_far;
+      so_far = ap (map (λ (e : Entry). Some e)) c.push_reserved.ensures.items
+          ∙ taken c.args.role data_values place (view value) at entry c.in-Ok-read_value.ensures read c.loop-place.invariant.so_far;
       sound = below_more (λ n. is_refused (map (entry_of c.args.role) data_values) n ≡ false) place c.loop-place.invariant.sound
           (refused_at c.args.role data_values place (view value) at entry c.in-Ok-read_value.ensures read c.loop-place.invariant.so_far false single);
       count = omega arith;
@@ -54,4 +56,5 @@ loop-place-preserved c =
     }
 
 pub returns : goal.returns
-returns c = all_read c.args.role (map view c.args.values.now) c.loop-place.entries.items c.loop-place.place (omega (arith, length-map c.args.values.now view)) c.loop-place.invariant.so_far c.loop-place.invariant.sound
+returns c = all_read c.args.role (map view c.args.values.now) c.loop-place.entries.items c.loop-place.place
+    (omega (arith, length-map c.args.values.now view)) c.loop-place.invariant.so_far c.loop-place.invariant.sound

@@ -9,7 +9,8 @@ loop-entry-preserved-in_default c =
     let entry = c.entry-item.result in
     let none : kind_of entry ≡ None = sym c.kind.ensures ∙ c.in_default.is in
     record {
-      so_far = c.loop-entry.invariant.so_far ∙ sym (planned_skips c.args.entries.now c.loop-entry.entry-index entry c.loop-entry-test.true c.entry-item.is none);
+      so_far = c.loop-entry.invariant.so_far
+          ∙ sym (planned_skips c.args.entries.now c.loop-entry.entry-index entry c.loop-entry-test.true c.entry-item.is none);
       count = omega arith;
       room = omega arith;
     }

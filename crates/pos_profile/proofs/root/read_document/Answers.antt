@@ -20,7 +20,8 @@ returns-in-Err-Flawed-read_list c =
 
 pub returns-in-Ok-read_list-2 : goal.returns-in-Ok-read_list-2
 returns-in-Ok-read_list-2 c =
-    document_read (table_view c.args.root.now) c.in-Ok.ensures c.in-Ok-read_list.devices.items c.in-Ok-read_list.ensures c.in-Ok-read_list-2.spares.items c.in-Ok-read_list-2.ensures
+    document_read (table_view c.args.root.now) c.in-Ok.ensures c.in-Ok-read_list.devices.items c.in-Ok-read_list.ensures
+    c.in-Ok-read_list-2.spares.items c.in-Ok-read_list-2.ensures
 
 pub returns-in-Err-Flawed-read_list-2 : goal.returns-in-Err-Flawed-read_list-2
 returns-in-Err-Flawed-read_list-2 c =
@@ -29,5 +30,7 @@ returns-in-Err-Flawed-read_list-2 c =
     let flawed : IsFlawedList Spare (values_at (key_of Spare) root) fault.flaw.place fault.flaw.reason =
     subst (λ (f : ListFault). ReadsList Spare (values_at (key_of Spare) root) (Err f)) fault.field-0-is fault.ensures in
     let devices = c.in-Ok-read_list.devices.items in
-    let is : c.listed-in-Err-Flawed-read_list-2.result ≡ Mistaken (mistake_at c.len.result Spare fault.flaw.place fault.flaw.reason) = listed_at c.len.result Spare fault.flaw-is c.listed-in-Err-Flawed-read_list-2.ensures in
-    subst (λ (f : DocumentFault). ReadsDocument root (Err f)) (sym is) (spare_mistaken root c.in-Ok.ensures devices c.in-Ok-read_list.ensures c.len.result fault.flaw.place fault.flaw.reason (omega arith) flawed)
+    let is : c.listed-in-Err-Flawed-read_list-2.result ≡ Mistaken (mistake_at c.len.result Spare fault.flaw.place fault.flaw.reason) =
+    listed_at c.len.result Spare fault.flaw-is c.listed-in-Err-Flawed-read_list-2.ensures in
+    subst (λ (f : DocumentFault). ReadsDocument root (Err f)) (sym is)
+    (spare_mistaken root c.in-Ok.ensures devices c.in-Ok-read_list.ensures c.len.result fault.flaw.place fault.flaw.reason (omega arith) flawed)

@@ -10,5 +10,6 @@ run_task-requires g c =
 
 pub format_task-requires : goal.format_task-requires
 format_task-requires g c =
-    let name : c.as_str-name.result.now ≡ codes "format" = (bytes_eq-Decides c.as_str-name.result.now (codes "format")).0 (sym c.eq-2.ensures ∙ c.if-eq-2.true) in
+    let name : c.as_str-name.result.now ≡ codes "format" =
+    (bytes_eq-Decides c.as_str-name.result.now (codes "format")).0 (sym c.eq-2.ensures ∙ c.if-eq-2.true) in
     first_named g.S.AsStr.text c.args.words.now c.in-Some.first.now _ (sym c.in-Some.ensures.value) (sym c.as_str-name.ensures ∙ name)

@@ -12,7 +12,8 @@ pub returns-in-Err : goal.returns-in-Err
 returns-in-Err g c =
     let words = map g.S.AsStr.text c.args.words.now in
     let same : app_of c.in-Ok.line ≡ format_line = c.in-Ok.ensures.shape (search rules) ∙ ap₂ with_rule c.new.ensures.app c.path_option-disk.ensures.rule in
-    format_failed words c.in-Err.error c.fault_of_error.result c.requires c.fault_of_error.ensures (refused _ format_line words c.in-Err.error same format_known c.in-Err.ensures.kinds)
+    format_failed words c.in-Err.error c.fault_of_error.result c.requires c.fault_of_error.ensures
+    (refused _ format_line words c.in-Err.error same format_known c.in-Err.ensures.kinds)
 
 pub unreachable-requires : goal.unreachable-requires
 unreachable-requires g c =

@@ -12,8 +12,10 @@ pub returns-in-Err : goal.returns-in-Err
 returns-in-Err g c =
     let words = map g.S.AsStr.text c.args.words.now in
     let same : app_of c.in-Ok-arg.line ≡ run_line = c.in-Ok-arg.ensures.shape (search rules)
-    ∙ ap₂ with_rule (c.in-Ok.ensures.shape (search rules) ∙ ap₂ with_rule c.new.ensures.app c.path_option-profile.ensures.rule) c.path_option-disk.ensures.rule in
-    run_failed words c.in-Err.error c.fault_of_error.result c.requires c.fault_of_error.ensures (refused _ run_line words c.in-Err.error same run_known c.in-Err.ensures.kinds)
+    ∙ ap₂ with_rule (c.in-Ok.ensures.shape (search rules)
+    ∙ ap₂ with_rule c.new.ensures.app c.path_option-profile.ensures.rule) c.path_option-disk.ensures.rule in
+    run_failed words c.in-Err.error c.fault_of_error.result c.requires c.fault_of_error.ensures
+    (refused _ run_line words c.in-Err.error same run_known c.in-Err.ensures.kinds)
 
 pub unreachable-requires : goal.unreachable-requires
 unreachable-requires g c =
@@ -43,7 +45,8 @@ pub returns : goal.returns
 returns g c =
     let words = map g.S.AsStr.text c.args.words.now in
     let same : app_of c.in-Ok-arg.line ≡ run_line = c.in-Ok-arg.ensures.shape (search rules)
-    ∙ ap₂ with_rule (c.in-Ok.ensures.shape (search rules) ∙ ap₂ with_rule c.new.ensures.app c.path_option-profile.ensures.rule) c.path_option-disk.ensures.rule in
+    ∙ ap₂ with_rule (c.in-Ok.ensures.shape (search rules)
+    ∙ ap₂ with_rule c.new.ensures.app c.path_option-profile.ensures.rule) c.path_option-disk.ensures.rule in
     let parse = c.in-Ok-try_get_matches_from.ensures in
     let found = found_of c.in-Ok-try_get_matches_from.matches in
     let rows = rows_of found in

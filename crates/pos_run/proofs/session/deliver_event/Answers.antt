@@ -3,7 +3,6 @@ use Rattle.std.specs.Prelude.{option_map}
 use Rattle.pos_counter.specs.Steps.{Deliver, Delivered}
 use Rattle.pos_counter.specs.Counters.{IsRun}
 use Rattle.pos_counter.proofs.Runs.{one_beside}
-use Rattle.pos_script.specs.Commands.{DeliverLine}
 use Rattle.pos_run.specs.Names.{names_of}
 use Rattle.pos_run.specs.Transcript.{session_with}
 use Rattle.pos_run.proofs.Sessions.{asks_none, asks_request}
@@ -12,9 +11,14 @@ use Rattle.pos_run.proofs.session.deliver_event.Goals as goal
 pub returns-in-Some-clause-asks : goal.returns-in-Some-clause-asks
 returns-in-Some-clause-asks g c =
     let old = c.args.counter.now in
-    λ spares. asks_request (IsRun g.D.Disk g.P.Peripheral) old (session_with (names_of c.args.names.now) spares) (DeliverLine c.args.name.now c.args.reply) (Deliver c.in-Some.number c.args.reply) (Delivered c.deliver.result) c.deliver.new.self (ap (option_map (λ number. Deliver number c.args.reply)) (sym c.in-Some.ensures)) (one_beside g.D.Disk g.P.Peripheral old c.deliver.new.self (Deliver c.in-Some.number c.args.reply) (Delivered c.deliver.result) (λ bytes honest since. g.met.D.Disk.only_now c.args.counter.now.totals.disk bytes honest since) c.deliver.ensures.step)
+    λ spares. asks_request (IsRun g.D.Disk g.P.Peripheral) old (session_with (names_of c.args.names.now) spares)
+    (Deliver c.args.name.now c.args.reply) (Deliver c.in-Some.number c.args.reply) (Delivered c.deliver.result) c.deliver.new.self
+    (ap (option_map (λ number. Deliver number c.args.reply)) (sym c.in-Some.ensures))
+    (one_beside g.D.Disk g.P.Peripheral old c.deliver.new.self (Deliver c.in-Some.number c.args.reply) (Delivered c.deliver.result)
+    (λ bytes honest since. g.met.D.Disk.only_now c.args.counter.now.totals.disk bytes honest since) c.deliver.ensures.step)
 
 pub returns-in-None-clause-asks : goal.returns-in-None-clause-asks
 returns-in-None-clause-asks g c =
     let old = c.args.counter.now in
-    λ spares. asks_none (IsRun g.D.Disk g.P.Peripheral) old (session_with (names_of c.args.names.now) spares) (DeliverLine c.args.name.now c.args.reply) (ap (option_map (λ number. Deliver number c.args.reply)) (sym c.in-None.ensures)) refl
+    λ spares. asks_none (IsRun g.D.Disk g.P.Peripheral) old (session_with (names_of c.args.names.now) spares) (Deliver c.args.name.now c.args.reply)
+    (ap (option_map (λ number. Deliver number c.args.reply)) (sym c.in-None.ensures)) refl

@@ -3,7 +3,6 @@ use Rattle.pos_service.specs.Stations.{station_of}
 use Rattle.pos_counter.specs.Steps.{Detach, Detached, NotDetached}
 use Rattle.pos_counter.specs.Counters.{IsRun}
 use Rattle.pos_counter.proofs.Runs.{one_beside}
-use Rattle.pos_script.specs.Commands.{DetachLine}
 use Rattle.pos_run.proofs.Sessions.{asks_request}
 use Rattle.pos_run.proofs.session.detach_device.Goals as goal
 
@@ -11,10 +10,16 @@ pub returns-in-Ok-clause-asks : goal.returns-in-Ok-clause-asks
 returns-in-Ok-clause-asks g c =
     let old = c.args.counter.now in
     let response = Detached (station_of (g.P.Peripheral.state c.in-Ok.peripheral)) in
-    λ session. asks_request (IsRun g.D.Disk g.P.Peripheral) old session (DetachLine c.args.name.now) (Detach c.args.name.now) response c.detach.new.self refl (one_beside g.D.Disk g.P.Peripheral old c.detach.new.self (Detach c.args.name.now) response (λ bytes honest since. g.met.D.Disk.only_now c.args.counter.now.totals.disk bytes honest since) c.in-Ok.ensures.step)
+    λ session. asks_request (IsRun g.D.Disk g.P.Peripheral) old session (Detach c.args.name.now)
+    (Detach c.args.name.now) response c.detach.new.self refl
+    (one_beside g.D.Disk g.P.Peripheral old c.detach.new.self (Detach c.args.name.now) response
+    (λ bytes honest since. g.met.D.Disk.only_now c.args.counter.now.totals.disk bytes honest since) c.in-Ok.ensures.step)
 
 pub returns-in-Err-clause-asks : goal.returns-in-Err-clause-asks
 returns-in-Err-clause-asks g c =
     let old = c.args.counter.now in
     let response = NotDetached c.in-Err.fault in
-    λ session. rw c.detach_refusal.ensures (asks_request (IsRun g.D.Disk g.P.Peripheral) old session (DetachLine c.args.name.now) (Detach c.args.name.now) response c.detach.new.self refl (one_beside g.D.Disk g.P.Peripheral old c.detach.new.self (Detach c.args.name.now) response (λ bytes honest since. g.met.D.Disk.only_now c.args.counter.now.totals.disk bytes honest since) c.in-Err.ensures.step))
+    λ session. (asks_request (IsRun g.D.Disk g.P.Peripheral) old session (Detach c.args.name.now)
+    (Detach c.args.name.now) response c.detach.new.self refl
+    (one_beside g.D.Disk g.P.Peripheral old c.detach.new.self (Detach c.args.name.now) response
+    (λ bytes honest since. g.met.D.Disk.only_now c.args.counter.now.totals.disk bytes honest since) c.in-Err.ensures.step))

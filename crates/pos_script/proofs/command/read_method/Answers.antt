@@ -1,17 +1,20 @@
 use Rattle.std.proofs.Common.{◌≡◌, Some, ap, subst, sym}
 use Rattle.std.specs.Prelude.{Err, option_map}
+use Rattle.pos_service.specs.declared.request.Request.TheVariants as request
 use Rattle.pos_script.specs.Arguments.{Reads}
-use Rattle.pos_script.specs.Commands.{CallLine, call_line}
+use Rattle.pos_script.specs.Commands.{call_line}
 use Rattle.pos_script.specs.Methods.{call_of}
 use Rattle.pos_script.proofs.Readings.{faults_become}
 use Rattle.pos_script.proofs.command.read_method.Goals as goal
 
 pub returns-in-Ok : goal.returns-in-Ok
 returns-in-Ok c =
-    let name = c.args.name.now in
-    subst (λ words. (call_line name words).value ≡ Some (CallLine name c.in-Ok.call)) (sym c.in-Some.ensures) (ap (option_map (λ call. CallLine name call)) c.in-Ok.ensures)
+    let name = c.args.name in
+    subst (λ words. (call_line name words).value ≡ Some (request.CallOf name c.in-Ok.call)) (sym c.in-Some.ensures)
+    (ap (option_map (λ call. request.CallOf name call)) c.in-Ok.ensures)
 
 pub returns-in-Err : goal.returns-in-Err
 returns-in-Err c =
-    let name = c.args.name.now in
-    subst (λ words. Reads (call_line name words) (Err c.in-Err.fault)) (sym c.in-Some.ensures) (faults_become (λ call. CallLine name call) (call_of c.in-Some.method.now _) c.in-Err.fault c.in-Err.ensures)
+    let name = c.args.name in
+    subst (λ words. Reads (call_line name words) (Err c.in-Err.fault)) (sym c.in-Some.ensures)
+    (faults_become (λ call. request.CallOf name call) (call_of c.in-Some.method.now _) c.in-Err.fault c.in-Err.ensures)

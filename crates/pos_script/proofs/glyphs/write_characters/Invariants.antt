@@ -4,4 +4,5 @@ use Rattle.hex.specs.Hex.{encode_lower}
 use Rattle.pos_script.proofs.glyphs.write_characters.Given as goal
 
 abbrev pub invariant-loop-glyph : goal.invariant-loop-glyph
-invariant-loop-glyph g l = Appends (g.W.Write.contents l.initial.writer) (g.W.Write.contents l.writer) (flat_map (λ glyph. encode_lower (g.G.Glyph.character glyph ∷ [])) (take l.glyph-index l.glyphs))
+invariant-loop-glyph g l = Appends (g.W.Write.contents l.initial.writer) (g.W.Write.contents l.writer)
+    (flat_map (λ glyph. encode_lower (g.G.Glyph.character glyph ∷ [])) (take l.glyph-index l.glyphs))

@@ -8,7 +8,8 @@ pub returns-in_err-write_characters : goal.returns-in_err-write_characters
 returns-in_err-write_characters g c =
     let p = err_from_is_err_and c.from_residual.result c.from_residual.ensures.1 in
     let glyphs = c.args.glyphs.now in
-    rw p.1 (failed_front _ _ (characters_text g.G.Glyph.character glyphs) (c.args.separator.now ++ looks_text g.G.Glyph.look glyphs) c.in_err-write_characters.field-0 p.0 c.in_err-write_characters.ensures)
+    rw p.1 (failed_front _ _ (characters_text g.G.Glyph.character glyphs)
+    (c.args.separator.now ++ looks_text g.G.Glyph.look glyphs) c.in_err-write_characters.field-0 p.0 c.in_err-write_characters.ensures)
 
 pub returns-in_err-write_bytes : goal.returns-in_err-write_bytes
 returns-in_err-write_bytes g c =

@@ -11,7 +11,8 @@ returns-then-b-at-clause-pieces c =
     ∙ ap (λ rest. take c.loop-end.end c.args.text.now ∷ pieces c.args.at rest) (sym (take_rest c.args.text.now (c.loop-end.end + 1)))
 
 pub loop-end-preserved : goal.loop-end-preserved
-loop-end-preserved c = front_more c.args.at c.args.text.now c.loop-end.end 0 c.loop-end-test.true (let h = c.if-b-at.false in grind (arith, nat_tests)) c.loop-end.invariant
+loop-end-preserved c = front_more c.args.at c.args.text.now c.loop-end.end 0 c.loop-end-test.true
+    (let h = c.if-b-at.false in grind (arith, nat_tests)) c.loop-end.invariant
 
 pub returns-clause-pieces : goal.returns-clause-pieces
 returns-clause-pieces c = front_end c.args.at c.args.text.now c.loop-end.end c.loop-end-test.false c.loop-end.invariant

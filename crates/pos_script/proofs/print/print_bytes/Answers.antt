@@ -20,9 +20,11 @@ pub returns-in_err-write_hex : goal.returns-in_err-write_hex
 returns-in_err-write_hex g c =
     let p = err_from_is_err_and c.from_residual-in_err-write_hex.result c.from_residual-in_err-write_hex.ensures.1 in
     rw (p.1, some_bytes c.args.bytes.now c.if-is_empty.ensures)
-    (failed_behind _ _ _ (codes "ok ") _ p.0 c.in_ok-write_parts.ensures (failed_front _ _ (encode_lower c.args.bytes.now) (10 ∷ []) c.in_err-write_hex.field-0 p.0 c.in_err-write_hex.ensures))
+    (failed_behind _ _ _ (codes "ok ") _ p.0 c.in_ok-write_parts.ensures
+    (failed_front _ _ (encode_lower c.args.bytes.now) (10 ∷ []) c.in_err-write_hex.field-0 p.0 c.in_err-write_hex.ensures))
 
 pub returns : goal.returns
 returns g c =
     rw (some_bytes c.args.bytes.now c.if-is_empty.ensures)
-    (behind _ _ _ (codes "ok ") _ _ c.in_ok-write_parts.ensures (behind _ _ _ (encode_lower c.args.bytes.now) (10 ∷ []) _ c.in_ok-write_hex.ensures c.write_parts-3.ensures))
+    (behind _ _ _ (codes "ok ") _ _ c.in_ok-write_parts.ensures
+    (behind _ _ _ (encode_lower c.args.bytes.now) (10 ∷ []) _ c.in_ok-write_hex.ensures c.write_parts-3.ensures))

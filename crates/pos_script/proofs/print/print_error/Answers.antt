@@ -11,4 +11,5 @@ pub returns : goal.returns
 returns g c =
     let e = error_line (codes "event ErrorEvent ") (codes " ") c.format-code.result.now c.format-extended.result.now c.format-locus.result.now (codes "\n") in
     rw (← c.number.ensures, ← c.number-2.ensures, ← c.format-code.ensures.text, ← c.format-extended.ensures.text, ← c.format-locus.ensures.text)
-    (subst (λ (t : List ℕ). Writes (g.W.Write.contents c.args.writer.now) (g.W.Write.contents c.write_parts.new.writer) t c.write_parts.result) (sym e) c.write_parts.ensures)
+    (subst (λ (t : List ℕ). Writes (g.W.Write.contents c.args.writer.now) (g.W.Write.contents c.write_parts.new.writer) t c.write_parts.result)
+    (sym e) c.write_parts.ensures)

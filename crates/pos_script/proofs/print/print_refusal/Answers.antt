@@ -11,4 +11,5 @@ pub returns-in-Extended : goal.returns-in-Extended
 returns-in-Extended g c =
     let e = refusal_line (codes "err ") c.format-number.result.now (codes " ") c.format-extended.result.now (codes "\n") in
     rw (← c.number.ensures, c.in-Extended.is, ← c.format-number.ensures.text, ← c.format-extended.ensures.text)
-    (subst (λ (t : List ℕ). Writes (g.W.Write.contents c.args.writer.now) (g.W.Write.contents c.write_parts.new.writer) t c.write_parts.result) (sym e) c.write_parts.ensures)
+    (subst (λ (t : List ℕ). Writes (g.W.Write.contents c.args.writer.now) (g.W.Write.contents c.write_parts.new.writer) t c.write_parts.result)
+    (sym e) c.write_parts.ensures)

@@ -15,4 +15,5 @@ returns-in-Pair g c =
     let first : to_z w128 (of_z w128 c.in-Pair.first) ≡ c.in-Pair.first = search rules in
     let second : to_z w128 (of_z w128 c.in-Pair.second) ≡ c.in-Pair.second = search rules in
     let told = rw (first, second) at c.print_pair.ensures in
-    rw c.in-Pair.is (subst (λ (t : List ℕ). Writes (g.W.Write.contents c.args.writer.now) (g.W.Write.contents c.print_pair.new.writer) t c.print_pair.result) (sym e) told)
+    rw c.in-Pair.is (subst (λ (t : List ℕ). Writes (g.W.Write.contents c.args.writer.now)
+    (g.W.Write.contents c.print_pair.new.writer) t c.print_pair.result) (sym e) told)

@@ -20,7 +20,8 @@ returns-in_err-write_line-in-Line g c =
     let behind = text_from marks (i + 1) (drop count c.loop-mark.rest.now) in
     let item = codes " " ++ item_text (Line c.in-Line.alignment (take count c.loop-mark.rest.now)) in
     rw (p.1, before.2 ∙ ap (λ x. before.0 ++ x) more)
-    (failed_behind _ _ _ before.0 (item ++ behind) p.0 before.1 (failed_front _ _ item behind c.in_err-write_line-in-Line.field-0 p.0 (rw c.split_line.ensures.line at c.in_err-write_line-in-Line.ensures)))
+    (failed_behind _ _ _ before.0 (item ++ behind) p.0 before.1
+    (failed_front _ _ item behind c.in_err-write_line-in-Line.field-0 p.0 (rw c.split_line.ensures.line at c.in_err-write_line-in-Line.ensures)))
 
 pub returns-in_err-write_cut-in-Cut : goal.returns-in_err-write_cut-in-Cut
 returns-in_err-write_cut-in-Cut g c =
@@ -32,7 +33,8 @@ returns-in_err-write_cut-in-Cut g c =
     let behind = text_from marks (i + 1) c.loop-mark.rest.now in
     let item = codes " " ++ item_text (CutAt c.in-Cut.percentage) in
     rw (p.1, before.2 ∙ ap (λ x. before.0 ++ x) more)
-    (failed_behind _ _ _ before.0 (item ++ behind) p.0 before.1 (failed_front _ _ item behind c.in_err-write_cut-in-Cut.field-0 p.0 c.in_err-write_cut-in-Cut.ensures))
+    (failed_behind _ _ _ before.0 (item ++ behind) p.0 before.1
+    (failed_front _ _ item behind c.in_err-write_cut-in-Cut.field-0 p.0 c.in_err-write_cut-in-Cut.ensures))
 
 pub loop-mark-preserved : goal.loop-mark-preserved
 loop-mark-preserved g c =
@@ -46,12 +48,20 @@ loop-mark-preserved g c =
           let behind = text_from marks (i + 1) (drop count c.loop-mark.rest.now) in
           let item = codes " " ++ item_text (Line w.in-Line.alignment (take count c.loop-mark.rest.now)) in
           let written = rw w.split_line.ensures.line at w.in_ok-write_line-in-Line.ensures in
-          rw (w.writer-is, w.rest-is, w.split_line.ensures.rest)
-          (before.0 ++ item, Appends-trans _ _ _ before.0 item before.1 written, before.2 ∙ ap (λ x. before.0 ++ x) more ∙ sym (append_assoc before.0 item behind))
+          rw (w.writer-is, w.rest-is, w.split_line.ensures.rest) (
+            before.0 ++ item,
+            Appends-trans _ _ _ before.0 item before.1 written,
+            before.2 ∙ ap (λ x. before.0 ++ x) more
+                ∙ sym (append_assoc before.0 item behind),
+          )
       | in-Cut+in_ok-write_cut-in-Cut w ↦
           let more = text_at_cut marks i _ c.loop-mark.rest.now w.in-Cut.percentage c.loop-mark-test.true w.in-Cut.is in
           let behind = text_from marks (i + 1) c.loop-mark.rest.now in
           let item = codes " " ++ item_text (CutAt w.in-Cut.percentage) in
-          rw (w.writer-is, w.rest-is)
-          (before.0 ++ item, Appends-trans _ _ _ before.0 item before.1 w.in_ok-write_cut-in-Cut.ensures, before.2 ∙ ap (λ x. before.0 ++ x) more ∙ sym (append_assoc before.0 item behind))
+          rw (w.writer-is, w.rest-is) (
+            before.0 ++ item,
+            Appends-trans _ _ _ before.0 item before.1 w.in_ok-write_cut-in-Cut.ensures,
+            before.2 ∙ ap (λ x. before.0 ++ x) more
+                ∙ sym (append_assoc before.0 item behind),
+          )
     ]

@@ -17,7 +17,14 @@ returns-in_err-write_parts g c =
     let cover = c.word_of-cover.result.now in
     let left = c.format-left.result.now in
     let text = printed_text receipt.buffer ++ items_text receipt.items in
-    rw (p.1, ← c.is_cover_open.ensures, ← c.word_of-cover.ensures, ← c.lines_left.ensures, ← c.format-left.ensures.text, receipt_line cover (codes " ") left text)
+    rw (
+      p.1,
+      ← c.is_cover_open.ensures,
+      ← c.word_of-cover.ensures,
+      ← c.lines_left.ensures,
+      ← c.format-left.ensures.text,
+      receipt_line cover (codes " ") left text,
+    )
     (failed_front _ _ (cover ++ (codes " " ++ (left ++ (codes " " ++ [])))) text c.in_err-write_parts.field-0 p.0 c.in_err-write_parts.ensures)
 
 pub returns-in_err-write_printed : goal.returns-in_err-write_printed
@@ -29,9 +36,17 @@ returns-in_err-write_printed g c =
     let text = printed_text receipt.buffer ++ items_text receipt.items in
     let front = cover ++ (codes " " ++ (left ++ (codes " " ++ []))) in
     let buffer = c.line_buffer.ensures ∙ c.printed.ensures.buffer in
-    rw (p.1, ← c.is_cover_open.ensures, ← c.word_of-cover.ensures, ← c.lines_left.ensures, ← c.format-left.ensures.text, receipt_line cover (codes " ") left text)
+    rw (
+      p.1,
+      ← c.is_cover_open.ensures,
+      ← c.word_of-cover.ensures,
+      ← c.lines_left.ensures,
+      ← c.format-left.ensures.text,
+      receipt_line cover (codes " ") left text,
+    )
     (failed_behind _ _ _ front text p.0 c.in_ok-write_parts.ensures
-    (failed_front _ _ (printed_text receipt.buffer) (items_text receipt.items) c.in_err-write_printed.field-0 p.0 (rw buffer at c.in_err-write_printed.ensures)))
+    (failed_front _ _ (printed_text receipt.buffer) (items_text receipt.items) c.in_err-write_printed.field-0 p.0
+    (rw buffer at c.in_err-write_printed.ensures)))
 
 pub returns : goal.returns
 returns g c =
@@ -43,4 +58,5 @@ returns g c =
     let buffer = c.line_buffer.ensures ∙ c.printed.ensures.buffer in
     rw (← c.is_cover_open.ensures, ← c.word_of-cover.ensures, ← c.lines_left.ensures, ← c.format-left.ensures.text, receipt_line cover (codes " ") left text)
     (behind _ _ _ front text c.write_items.result c.in_ok-write_parts.ensures
-    (behind _ _ _ (printed_text receipt.buffer) (items_text receipt.items) c.write_items.result (rw buffer at c.in_ok-write_printed.ensures) (rw c.printed.ensures.items at c.write_items.ensures)))
+    (behind _ _ _ (printed_text receipt.buffer) (items_text receipt.items) c.write_items.result (rw buffer at c.in_ok-write_printed.ensures)
+    (rw c.printed.ensures.items at c.write_items.ensures)))

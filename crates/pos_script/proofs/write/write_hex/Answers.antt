@@ -11,9 +11,18 @@ pub returns-in_err-write_bytes : goal.returns-in_err-write_bytes
 returns-in_err-write_bytes g c =
     let p = err_from_is_err_and c.from_residual.result c.from_residual.ensures.1 in
     let w = c.in_err-write_bytes.ensures in
-    rw p.1 (_, _, sym (hex_of_each c.args.bytes.now) ∙ cut_at (λ (b : ℕ). encode_lower (b ∷ [])) c.args.bytes.now c.loop-b.b-index 0 c.hex_pair.result w.0 w.1 c.loop-b-test.true c.hex_pair.ensures w.2, longer w.1 _ w.3, Appends-trans _ _ _ _ _ c.loop-b.invariant w.4)
+    rw p.1 (
+      _,
+      _,
+      sym (hex_of_each c.args.bytes.now)
+          ∙ cut_at (λ (b : ℕ). encode_lower
+          (b ∷ [])) c.args.bytes.now c.loop-b.b-index 0 c.hex_pair.result w.0 w.1 c.loop-b-test.true c.hex_pair.ensures w.2,
+      longer w.1 _ w.3,
+      Appends-trans _ _ _ _ _ c.loop-b.invariant w.4,
+    )
 
 pub returns : goal.returns
 returns g c =
     let e = take_all c.loop-b.b-index c.args.bytes.now c.loop-b-test.false in
-    subst (Appends (g.W.Write.contents c.args.writer.now) (g.W.Write.contents c.loop-b.writer)) (ap (flat_map (λ (b : ℕ). encode_lower (b ∷ []))) e ∙ hex_of_each c.args.bytes.now) c.loop-b.invariant
+    subst (Appends (g.W.Write.contents c.args.writer.now) (g.W.Write.contents c.loop-b.writer))
+    (ap (flat_map (λ (b : ℕ). encode_lower (b ∷ []))) e ∙ hex_of_each c.args.bytes.now) c.loop-b.invariant

@@ -9,7 +9,8 @@ loop-byte-preserved c =
     let i = c.loop-byte.byte-index in
     let so_far = text_from c.args.columns c.args.start (take i bytes) in
     record {
-      follows = c.place_after_byte-place.ensures.follows so_far c.loop-byte.invariant.follows ∙ ap (λ (s : Strip). place_in_window c.args.rows s.place) (sym (text_more c.args.columns c.args.start bytes i c.requires.some c.loop-byte-test.true));
+      follows = c.place_after_byte-place.ensures.follows so_far c.loop-byte.invariant.follows
+          ∙ ap (λ (s : Strip). place_in_window c.args.rows s.place) (sym (text_more c.args.columns c.args.start bytes i c.requires.some c.loop-byte-test.true));
       row = c.place_after_byte-place.ensures.row;
       column = c.place_after_byte-place.ensures.column;
     }

@@ -6,10 +6,13 @@ use Rattle.pos_sims.proofs.WindowLemmas.{wrapped}
 use Rattle.pos_sims.proofs.laying.lay_byte.Goals as goal
 
 pub returns-then-byte-eq10-clause-follows : goal.returns-then-byte-eq10-clause-follows
-returns-then-byte-eq10-clause-follows c = λ old strip h.
-    subst (λ (s : Strip). Follows c.args.manner old s c.next_row.new.cells c.next_row.result) (sym (line_feed_text c.args.manner.columns c.args.byte strip c.if-byte-eq10.true)) (c.next_row.ensures.follows old strip h)
+returns-then-byte-eq10-clause-follows g c = λ old strip h.
+    subst (λ (s : Strip). Follows c.args.manner old s (g.W.Grid.shown c.next_row.new.window).cells c.next_row.result)
+    (sym (line_feed_text c.args.manner.columns c.args.byte strip c.if-byte-eq10.true)) (c.next_row.ensures.follows old strip h)
 
 pub returns-then-place-manner-clause-follows : goal.returns-then-place-manner-clause-follows
-returns-then-place-manner-clause-follows c = λ old strip h.
+returns-then-place-manner-clause-follows g c = λ old strip h.
     let full = sym h.column ∙ c.if-place-manner.true in
-    subst (λ (s : Strip). Follows c.args.manner old s c.put.new.cells c.put.result) (wrapped c.args.manner.columns c.args.byte strip c.requires.within.some full c.if-byte-eq10.false c.if-byte-eq13.false) (c.put.ensures.follows old (fed strip) (c.next_row-start.ensures.follows old strip h))
+    subst (λ (s : Strip). Follows c.args.manner old s (g.W.Grid.shown c.put.new.window).cells c.put.result)
+    (wrapped c.args.manner.columns c.args.byte strip c.requires.within.some full c.if-byte-eq10.false c.if-byte-eq13.false)
+    (c.put.ensures.follows old (fed strip) (c.next_row-start.ensures.follows old strip h))

@@ -1,19 +1,22 @@
-use Rattle.std.proofs.Common.{◌≡◌, ⊎_elim, ℕ, List, Ok, Err, refl, ap, subst, ◌∙◌, arith, rules}
+use Rattle.std.proofs.Common.{◌≡◌, ◌+◌, ⊎_elim, ℕ, List, Result, Ok, Err, MatchResult, refl, ap, subst, ◌∙◌, arith, rules}
 use Rattle.pos_disk.proofs.Moments.{weaker}
 use Rattle.pos_dir.specs.Changes.{outcome_of_all}
 use Rattle.pos_dir.specs.Spelling.{group_spelling}
+use Rattle.pos_dir.specs.declared.limits.Limits.{Limits}
 use Rattle.pos_dir.specs.declared.limits.TheConstants.{LAYOUT_1}
 use Rattle.pos_image.specs.declared.fault.ImageFault.{ImageFault}
 use Rattle.pos_image.specs.declared.fault.ImageFault.TheVariants as image
 use Rattle.pos_log.proofs.LaidOut.{at_most}
 use Rattle.pos_log.specs.Logs.{Appends, IsLogReady}
 use Rattle.pos_log.specs.declared.fault.LogFault.TheVariants as log
-use Rattle.pos_store.specs.Commits.{IsDraft}
+use Rattle.pos_store.specs.Commits.{IsDraft, IsUnmade}
 use Rattle.pos_store.specs.Modes.{HasItsFiles}
 use Rattle.pos_store.specs.Standing.{HoldsFiles}
 use Rattle.pos_store.specs.declared.draft.Draft.{Draft}
 use Rattle.pos_store.specs.declared.draft.Draft.TheVariants as draft
-use Rattle.pos_store.proofs.Committed.{IsGiven, fits_not, appending_stands, renewing_stands, failed_commits, appended_holds, appended_commits, renewed_holds, renewed_commits}
+use Rattle.pos_store.specs.declared.fault.StoreFault.{StoreFault}
+use Rattle.pos_store.specs.declared.fault.StoreFault.TheVariants as fault
+use Rattle.pos_store.proofs.Committed.{IsGiven, fits_not, stays, rises, appending_stands, renewing_stands, failed_commits, appended_holds, appended_commits, renewed_holds, renewed_commits}
 use Rattle.pos_store.proofs.Drafted.{is_made, unmade_commits}
 use Rattle.pos_store.proofs.committing.commit_group.Given.{Over}
 use Rattle.pos_store.proofs.committing.commit_group.Goals.{After-append, After-renew}
@@ -24,17 +27,33 @@ module _ (g : Over) (c : After-append g) where
   ready : IsLogReady g.D.Disk c.in-Ready.log
   ready = (subst (HasItsFiles g.D.Disk) c.in-Ready.is c.requires.sound).0
 
-  holds : g.D.Disk.honest c.in-Ready.log.images.disk → HoldsFiles c.in-Ready.directory c.in-Ready.log.images.sequence (g.D.Disk.state c.in-Ready.log.images.disk).reading
+  holds : g.D.Disk.honest c.in-Ready.log.images.disk
+      → HoldsFiles c.in-Ready.directory.files c.in-Ready.log.images.sequence (g.D.Disk.state c.in-Ready.log.images.disk).reading
   holds = (subst (HasItsFiles g.D.Disk) c.in-Ready.is c.requires.sound).1
 
-  made : (outcome_of_all LAYOUT_1 c.in-Ready.directory c.args.call.1.now ≡ Ok c.make_draft.new.directory)
-      × IsDraft c.in-Ready.log.tail c.args.call.1.now c.in-Ready.log.images.sequence c.make_draft.new.directory (draft.Record c.in-Ok-Record.text)
-  made =
-      let is = is_made c.in-Ok-Record.field-0 (outcome_of_all LAYOUT_1 c.in-Ready.directory c.args.call.1.now) c.make_draft.new.directory
-      (λ after. IsDraft c.in-Ready.log.tail c.args.call.1.now c.in-Ready.log.images.sequence after c.in-Ok-Record.field-0) c.in-Ok-Record.ensures.made in
-      (is.0, subst (IsDraft c.in-Ready.log.tail c.args.call.1.now c.in-Ready.log.images.sequence c.make_draft.new.directory) c.in-Ok-Record.field-0-is is.1)
+  -- the directory is within the limits of layout 1, before and after
+  limits : c.in-Ready.directory.limits ≡ LAYOUT_1
+  limits = (subst (HasItsFiles g.D.Disk) c.in-Ready.is c.requires.sound).2
 
-  given : IsGiven g.D.Disk c.in-Ready.log c.in-Ready.directory c.make_draft.new.directory c.args.call.1.now
+  limits_after : c.make_draft.new.directory.limits ≡ LAYOUT_1
+  limits_after = c.make_draft.ensures.limits ∙ limits
+
+  made : (outcome_of_all LAYOUT_1 c.in-Ready.directory.files c.args.call.1.now ≡ Ok c.make_draft.new.directory.files)
+      × IsDraft LAYOUT_1 c.in-Ready.log.tail c.args.call.1.now c.in-Ready.log.images.sequence c.make_draft.new.directory.files
+      (draft.Record c.in-Ok-Record.text)
+  made =
+      let is = is_made c.in-Ok-Record.field-0
+      (outcome_of_all c.in-Ready.directory.limits c.in-Ready.directory.files c.args.call.1.now) c.make_draft.new.directory.files
+      (λ after. IsDraft c.make_draft.new.directory.limits c.in-Ready.log.tail c.args.call.1.now c.in-Ready.log.images.sequence after
+      c.in-Ok-Record.field-0) c.in-Ok-Record.ensures.made in (
+        subst (λ (l : Limits). outcome_of_all l c.in-Ready.directory.files c.args.call.1.now ≡ Ok c.make_draft.new.directory.files) limits is.0,
+        subst (λ (l : Limits). IsDraft l c.in-Ready.log.tail c.args.call.1.now c.in-Ready.log.images.sequence c.make_draft.new.directory.files
+            (draft.Record c.in-Ok-Record.text)) limits_after
+            (subst (IsDraft c.make_draft.new.directory.limits c.in-Ready.log.tail c.args.call.1.now c.in-Ready.log.images.sequence
+            c.make_draft.new.directory.files) c.in-Ok-Record.field-0-is is.1),
+      )
+
+  given : IsGiven g.D.Disk c.in-Ready.log c.in-Ready.directory.files c.make_draft.new.directory.files c.args.call.1.now
   given = record { ready = ready; holds = holds; group = c.is_group.ensures; some = search rules; outcome = made.0 }
 
   text_is : c.deref.result.now ≡ group_spelling c.args.call.1.now
@@ -48,31 +67,48 @@ module _ (g : Over) (c : After-renew g) where
   ready_too : IsLogReady g.D.Disk c.in-Ready.log
   ready_too = (subst (HasItsFiles g.D.Disk) c.in-Ready.is c.requires.sound).0
 
-  holds_too : g.D.Disk.honest c.in-Ready.log.images.disk → HoldsFiles c.in-Ready.directory c.in-Ready.log.images.sequence (g.D.Disk.state c.in-Ready.log.images.disk).reading
+  holds_too : g.D.Disk.honest c.in-Ready.log.images.disk
+      → HoldsFiles c.in-Ready.directory.files c.in-Ready.log.images.sequence (g.D.Disk.state c.in-Ready.log.images.disk).reading
   holds_too = (subst (HasItsFiles g.D.Disk) c.in-Ready.is c.requires.sound).1
 
-  made_too : (outcome_of_all LAYOUT_1 c.in-Ready.directory c.args.call.1.now ≡ Ok c.make_draft.new.directory)
-      × IsDraft c.in-Ready.log.tail c.args.call.1.now c.in-Ready.log.images.sequence c.make_draft.new.directory (draft.Image c.in-Ok-Image.body)
-  made_too =
-      let is = is_made c.in-Ok-Image.field-0 (outcome_of_all LAYOUT_1 c.in-Ready.directory c.args.call.1.now) c.make_draft.new.directory
-      (λ after. IsDraft c.in-Ready.log.tail c.args.call.1.now c.in-Ready.log.images.sequence after c.in-Ok-Image.field-0) c.in-Ok-Image.ensures.made in
-      (is.0, subst (IsDraft c.in-Ready.log.tail c.args.call.1.now c.in-Ready.log.images.sequence c.make_draft.new.directory) c.in-Ok-Image.field-0-is is.1)
+  limits_too : c.in-Ready.directory.limits ≡ LAYOUT_1
+  limits_too = (subst (HasItsFiles g.D.Disk) c.in-Ready.is c.requires.sound).2
 
-  given_too : IsGiven g.D.Disk c.in-Ready.log c.in-Ready.directory c.make_draft.new.directory c.args.call.1.now
+  limits_after_too : c.make_draft.new.directory.limits ≡ LAYOUT_1
+  limits_after_too = c.make_draft.ensures.limits ∙ limits_too
+
+  made_too : (outcome_of_all LAYOUT_1 c.in-Ready.directory.files c.args.call.1.now ≡ Ok c.make_draft.new.directory.files)
+      × IsDraft LAYOUT_1 c.in-Ready.log.tail c.args.call.1.now c.in-Ready.log.images.sequence c.make_draft.new.directory.files (draft.Image c.in-Ok-Image.body)
+  made_too =
+      let is = is_made c.in-Ok-Image.field-0
+      (outcome_of_all c.in-Ready.directory.limits c.in-Ready.directory.files c.args.call.1.now) c.make_draft.new.directory.files
+      (λ after. IsDraft c.make_draft.new.directory.limits c.in-Ready.log.tail c.args.call.1.now c.in-Ready.log.images.sequence after
+      c.in-Ok-Image.field-0) c.in-Ok-Image.ensures.made in (
+        subst (λ (l : Limits). outcome_of_all l c.in-Ready.directory.files c.args.call.1.now ≡ Ok c.make_draft.new.directory.files) limits_too is.0,
+        subst (λ (l : Limits). IsDraft l c.in-Ready.log.tail c.args.call.1.now c.in-Ready.log.images.sequence c.make_draft.new.directory.files
+            (draft.Image c.in-Ok-Image.body)) limits_after_too
+            (subst (IsDraft c.make_draft.new.directory.limits c.in-Ready.log.tail c.args.call.1.now c.in-Ready.log.images.sequence
+            c.make_draft.new.directory.files) c.in-Ok-Image.field-0-is is.1),
+      )
+
+  given_too : IsGiven g.D.Disk c.in-Ready.log c.in-Ready.directory.files c.make_draft.new.directory.files c.args.call.1.now
   given_too = record { ready = ready_too; holds = holds_too; group = c.is_group.ensures; some = search rules; outcome = made_too.0 }
 
 pub returns-in-Ok-clause-commits : goal.returns-in-Ok-clause-commits
 returns-in-Ok-clause-commits g c =
     let here = (goal.at.returns-in-Ok-clause-commits g c).After-append in
-    rw c.in-Ready.is (appended_commits g.D.Disk c.in-Ready.log c.in-Ready.directory c.make_draft.new.directory c.args.call.1.now (given g here) c.append.new.self (made g here).1.0
+    rw c.in-Ready.is (appended_commits g.D.Disk c.in-Ready.log c.in-Ready.directory.files c.make_draft.new.directory.files c.args.call.1.now
+    (given g here) c.append.new.self (made g here).1.0
     (subst (λ (b : List ℕ). Appends g.D.Disk c.in-Ready.log b (Ok tt) c.append.new.self) (text_is g here) c.in-Ok.ensures.appends))
 
 pub returns-in-Ok-clause-sound : goal.returns-in-Ok-clause-sound
 returns-in-Ok-clause-sound g c =
     let here = (goal.at.returns-in-Ok-clause-sound g c).After-append in (
       c.in-Ok.ensures.appends.ready,
-      appended_holds g.D.Disk c.in-Ready.log c.in-Ready.directory c.make_draft.new.directory c.args.call.1.now (given g here) c.append.new.self (made g here).1.0
+      appended_holds g.D.Disk c.in-Ready.log c.in-Ready.directory.files c.make_draft.new.directory.files c.args.call.1.now
+          (given g here) c.append.new.self (made g here).1.0
           (subst (λ (b : List ℕ). Appends g.D.Disk c.in-Ready.log b (Ok tt) c.append.new.self) (text_is g here) c.in-Ok.ensures.appends),
+      limits_after g here,
     )
 
 pub returns-in-Err-append-clause-commits : goal.returns-in-Err-append-clause-commits
@@ -81,10 +117,16 @@ returns-in-Err-append-clause-commits g c =
     let did = appends g here in
     let fits = (made g here).1.0 in
     let inside = at_most _ _ fits in
-    let device : c.in-Err-append.field-0 ≡ log.Device = ⊎_elim (λ full. absurd (omega (arith, inside, did.full.0 (rw (c.in-Err-append.is, full) refl)))) (λ is. is) c.in-Err-append.ensures.faults in
-    rw (c.in-Ready.is, c.into_disk.ensures, c.into_images.ensures) (failed_commits g.D.Disk c.in-Ready.log c.in-Ready.directory c.make_draft.new.directory c.args.call.1.now (given g here) c.append.new.self.images.disk
+    let device : c.in-Err-append.field-0 ≡ log.Device =
+    ⊎_elim (λ full. absurd (omega (arith, inside, did.full.0 (rw (c.in-Err-append.is, full) refl)))) (λ is. is) c.in-Err-append.ensures.faults in
+    rw (c.in-Ready.is, c.into_disk.ensures, c.into_images.ensures)
+    (failed_commits g.D.Disk c.in-Ready.log c.in-Ready.directory.files c.make_draft.new.directory.files c.args.call.1.now
+    (given g here) c.append.new.self.images.disk
+    c.in-Ready.log.images.sequence
+    (stays g.D.Disk c.in-Ready.log c.in-Ready.directory.files c.make_draft.new.directory.files c.args.call.1.now (given g here) fits)
     (fits_not c.in-Ready.log.tail c.args.call.1.now c.in-Ready.log.images.sequence fits)
-    (λ h. weaker _ _ _ _ (appending_stands g.D.Disk c.in-Ready.log c.in-Ready.directory c.make_draft.new.directory c.args.call.1.now (given g here) fits h) (did.any_moment h))
+    (λ h. weaker _ _ _ _ (appending_stands g.D.Disk c.in-Ready.log c.in-Ready.directory.files c.make_draft.new.directory.files c.args.call.1.now
+    (given g here) h) (did.any_moment h))
     (λ h bytes. g.met.D.Disk.counts_now c.append.new.self.images.disk (g.D.Disk.state c.in-Ready.log.images.disk).moment bytes (did.keeps.honest.0 h))
     (λ h. did.device h (rw (c.in-Err-append.is, device) refl))
     did.keeps)
@@ -93,7 +135,8 @@ pub returns-in-Ok-renew-clause-commits : goal.returns-in-Ok-renew-clause-commits
 returns-in-Ok-renew-clause-commits g c =
     let here = (goal.at.returns-in-Ok-renew-clause-commits g c).After-renew in
     let next = (made_too g here).1 in
-    rw c.in-Ready.is (renewed_commits g.D.Disk c.in-Ready.log c.in-Ready.directory c.make_draft.new.directory c.args.call.1.now (given_too g here) c.renew.new.self next.0 c.in-Ok-Image.body.items next.2 next.3
+    rw c.in-Ready.is (renewed_commits g.D.Disk c.in-Ready.log c.in-Ready.directory.files c.make_draft.new.directory.files c.args.call.1.now
+    (given_too g here) c.renew.new.self next.0 c.in-Ok-Image.body.items next.2 next.3
     c.in-Ok-renew.ensures.renews next.1)
 
 pub returns-in-Ok-renew-clause-sound : goal.returns-in-Ok-renew-clause-sound
@@ -101,8 +144,10 @@ returns-in-Ok-renew-clause-sound g c =
     let here = (goal.at.returns-in-Ok-renew-clause-sound g c).After-renew in
     let next = (made_too g here).1 in (
       c.in-Ok-renew.ensures.renews.ready,
-      renewed_holds g.D.Disk c.in-Ready.log c.in-Ready.directory c.make_draft.new.directory c.args.call.1.now (given_too g here) c.renew.new.self next.0 c.in-Ok-Image.body.items next.2 next.3
+      renewed_holds g.D.Disk c.in-Ready.log c.in-Ready.directory.files c.make_draft.new.directory.files c.args.call.1.now
+          (given_too g here) c.renew.new.self next.0 c.in-Ok-Image.body.items next.2 next.3
           c.in-Ok-renew.ensures.renews,
+      limits_after_too g here,
     )
 
 pub returns-in-Err-renew-clause-commits : goal.returns-in-Err-renew-clause-commits
@@ -113,9 +158,14 @@ returns-in-Err-renew-clause-commits g c =
     let device : c.in-Err-renew.field-0 ≡ image.Device = ⊎_elim
     (λ large. absurd (omega (arith, next.4, did.too_large.0 (c.in-Err-renew.is ∙ ap (λ (f : ImageFault). Err f) large))))
     (⊎_elim (λ last. absurd (next.1 (did.exhausted.0 (c.in-Err-renew.is ∙ ap (λ (f : ImageFault). Err f) last)).1)) (λ is. is)) c.in-Err-renew.ensures.faults in
-    rw (c.in-Ready.is, c.into_disk-in-Err-renew.ensures, c.into_images-in-Err-renew.ensures) (failed_commits g.D.Disk c.in-Ready.log c.in-Ready.directory c.make_draft.new.directory c.args.call.1.now (given_too g here) c.renew.new.self.images.disk
+    rw (c.in-Ready.is, c.into_disk-in-Err-renew.ensures, c.into_images-in-Err-renew.ensures)
+    (failed_commits g.D.Disk c.in-Ready.log c.in-Ready.directory.files c.make_draft.new.directory.files c.args.call.1.now
+    (given_too g here) c.renew.new.self.images.disk
+    (c.in-Ready.log.images.sequence + 1)
+    (rises g.D.Disk c.in-Ready.log c.in-Ready.directory.files c.make_draft.new.directory.files c.args.call.1.now (given_too g here) next.0)
     (λ exhausted. next.1 exhausted.1)
-    (λ h. weaker _ _ _ _ (renewing_stands g.D.Disk c.in-Ready.log c.in-Ready.directory c.make_draft.new.directory c.args.call.1.now (given_too g here) next.0 c.in-Ok-Image.body.items next.2 next.3 h) (did.any_moment h))
+    (λ h. weaker _ _ _ _ (renewing_stands g.D.Disk c.in-Ready.log c.in-Ready.directory.files c.make_draft.new.directory.files c.args.call.1.now
+    (given_too g here) c.in-Ok-Image.body.items next.2 next.3 h) (did.any_moment h))
     (λ h bytes. g.met.D.Disk.counts_now c.renew.new.self.images.disk (g.D.Disk.state c.in-Ready.log.images.disk).moment bytes (did.keeps.honest.0 h))
     (λ h. did.device h (c.in-Err-renew.is ∙ ap (λ (f : ImageFault). Err f) device))
     did.keeps)
@@ -123,5 +173,9 @@ returns-in-Err-renew-clause-commits g c =
 pub returns-in-Err-clause-commits : goal.returns-in-Err-clause-commits
 returns-in-Err-clause-commits g c =
     let sound = subst (HasItsFiles g.D.Disk) c.in-Ready.is c.requires.sound in
-    rw (c.in-Ready.is, c.in-Err.ensures.unchanged) (unmade_commits g.D.Disk c.in-Ready.log c.in-Ready.directory c.args.call.1.now c.in-Err.fault sound.0 sound.1
-    (λ h f left. g.met.D.Disk.only_now c.in-Ready.log.images.disk f h left) Draft c.in-Err.ensures.made)
+    rw (c.in-Ready.is, c.in-Err.ensures.unchanged)
+    (unmade_commits g.D.Disk c.in-Ready.log c.in-Ready.directory.files c.args.call.1.now c.in-Err.fault sound.0 sound.1
+    (λ h f left. g.met.D.Disk.only_now c.in-Ready.log.images.disk f h left) Draft
+    (subst (λ (l : Limits). MatchResult (outcome_of_all l c.in-Ready.directory.files c.args.call.1.now)
+    (λ after. IsUnmade c.in-Ready.log.tail c.args.call.1.now c.in-Ready.log.images.sequence c.in-Err.fault)
+    (λ refusal. ◌≡◌ {A = Result Draft StoreFault} (Err c.in-Err.fault) (Err (fault.Refused refusal)))) sound.2 c.in-Err.ensures.made))

@@ -11,7 +11,7 @@ use Rattle.pos_image.specs.Standing as image
 use Rattle.pos_log.specs.Records.{HoldsRecords, HoldsSome}
 use Rattle.pos_store.specs.Standing.{HoldsFiles, Applies}
 use Rattle.pos_store.specs.Recoveries.{DiskStandsFor, EndsAt}
-use Rattle.pos_store.proofs.Held.{leaves_files}
+use Rattle.pos_store.proofs.FilesOnDisk.{leaves_files}
 use Rattle.pos_store.proofs.Recovered.{off_recovers, told_finds, told_device, told_counts, told_log_finds, told_log_device, told_log_counts, told_text_finds, never_failed, never_failed_log, both_keep, later, not_device, damaged_stands, no_body_stands, no_log_stands, no_groups_stand, malformed_none}
 use Rattle.pos_store.proofs.recovering.recover_files.Given.{Over}
 use Rattle.pos_store.proofs.recovering.recover_files.Goals.{After-apply_texts}
@@ -33,8 +33,12 @@ returns-in-Err-clause-recovers g c =
 pub returns-in-Err-Malformed-clause-recovers : goal.returns-in-Err-Malformed-clause-recovers
 returns-in-Err-Malformed-clause-recovers g c =
     let opened = c.in-Ok.ensures in
-    rw (c.in-Off.is, c.into_disk.ensures) (off_recovers g.D.Disk c.in-Off.disk _ _
-    (λ h. no_body_stands _ c.in-Ok.images.body c.in-Ok.images.sequence (opened.found h) (λ spelled. malformed_none c.body.result.now _ c.in-Err-Malformed.field-0-is c.in-Err-Malformed.ensures (subst (IsBody LAYOUT_1) (sym c.body.ensures) spelled)), refl)
+    rw (c.in-Off.is, c.into_disk.ensures) (off_recovers g.D.Disk c.in-Off.disk _ _ (
+      λ h. no_body_stands _ c.in-Ok.images.body c.in-Ok.images.sequence (opened.found h)
+          (λ spelled. malformed_none c.body.result.now _ c.in-Err-Malformed.field-0-is c.in-Err-Malformed.ensures
+          (subst (IsBody LAYOUT_1) (sym c.body.ensures) spelled)),
+      refl,
+    )
     opened.any_moment
     (λ h. tt)
     (λ h. tt)
@@ -65,16 +69,20 @@ returns-in-Err-open-clause-recovers g c =
     (λ h. watches_on _ _ _ (opened.any_moment h) (logged.any_moment (opened.keeps.honest.0 h)))
     (λ h. tt)
     (λ h. tt)
-    (λ h is. later g.D.Disk _ _ _ opened.keeps logged.keeps h (logged.device (opened.keeps.honest.0 h) (told_log_device c.in-Err-open.fault c.tell_log.result c.tell_log.ensures is)))
-    (λ h. ⊎_elim (λ is. inl is) (λ same. inr (same ∙ never_failed _ _ _ (opened.counts h))) (told_log_counts _ _ c.in-Err-open.fault c.tell_log.result c.tell_log.ensures (logged.counts (opened.keeps.honest.0 h))))
+    (λ h is. later g.D.Disk _ _ _ opened.keeps logged.keeps h
+    (logged.device (opened.keeps.honest.0 h) (told_log_device c.in-Err-open.fault c.tell_log.result c.tell_log.ensures is)))
+    (λ h. ⊎_elim (λ is. inl is) (λ same. inr (same ∙ never_failed _ _ _ (opened.counts h)))
+    (told_log_counts _ _ c.in-Err-open.fault c.tell_log.result c.tell_log.ensures (logged.counts (opened.keeps.honest.0 h))))
     (both_keep g.D.Disk _ _ _ opened.keeps logged.keeps))
 
 module _ (g : Over) (c : After-apply_texts g) where
-  spelled : c.in-Ok.images.body ≡ spelling c.in-Ok-decode.directory
-  spelled = sym c.body.ensures ∙ c.in-Ok-decode.ensures.1
+  spelled : c.in-Ok.images.body ≡ spelling c.in-Ok-decode.directory.files
+  spelled = sym c.body.ensures ∙ c.in-Ok-decode.ensures.2
 
-  records : g.D.Disk.honest c.in-Off.disk → HoldsRecords (map (λ (t : Vec ℕ Global). t.items) c.in-Ok-open.texts.items) (image.log_of (g.D.Disk.state c.in-Off.disk).reading)
-  records h = subst (λ (b : List ℕ). HoldsRecords (map (λ (t : Vec ℕ Global). t.items) c.in-Ok-open.texts.items) (image.log_of b)) (c.in-Ok.ensures.any_moment h).reading (c.in-Ok-open.ensures.records (c.in-Ok.ensures.keeps.honest.0 h))
+  records : g.D.Disk.honest c.in-Off.disk
+      → HoldsRecords (map (λ (t : Vec ℕ Global). t.items) c.in-Ok-open.texts.items) (image.log_of (g.D.Disk.state c.in-Off.disk).reading)
+  records h = subst (λ (b : List ℕ). HoldsRecords (map (λ (t : Vec ℕ Global). t.items) c.in-Ok-open.texts.items) (image.log_of b))
+      (c.in-Ok.ensures.any_moment h).reading (c.in-Ok-open.ensures.records (c.in-Ok.ensures.keeps.honest.0 h))
 
   watches : g.D.Disk.honest c.in-Off.disk → Watches (g.D.Disk.state c.in-Off.disk) (g.D.Disk.state c.in-Ok-open.log.images.disk)
   watches h = watches_on _ _ _ (c.in-Ok.ensures.any_moment h) (c.in-Ok-open.ensures.any_moment (c.in-Ok.ensures.keeps.honest.0 h))
@@ -89,17 +97,20 @@ module _ (g : Over) (c : After-apply_texts g) where
   sequence_is = ap (λ (im : View g.row.D.Denot). im.sequence) c.in-Ok-open.ensures.same
 
   -- the files that the disk holds
-  found : (files : List File) → Applies c.in-Ok-decode.directory (map (λ (t : Vec ℕ Global). t.items) c.deref.result.now) files → g.D.Disk.honest c.in-Off.disk → HoldsFiles files c.in-Ok-open.log.images.sequence (g.D.Disk.state c.in-Off.disk).reading
+  found : (files : List File) → Applies c.in-Ok-decode.directory.files (map (λ (t : Vec ℕ Global). t.items) c.deref.result.now) files
+      → g.D.Disk.honest c.in-Off.disk → HoldsFiles files c.in-Ok-open.log.images.sequence (g.D.Disk.state c.in-Off.disk).reading
   found files applies h = subst (λ (n : ℕ). HoldsFiles files n (g.D.Disk.state c.in-Off.disk).reading) (sym sequence_is) record {
-    base = c.in-Ok-decode.directory;
+    base = c.in-Ok-decode.directory.files;
     texts = map (λ (t : Vec ℕ Global). t.items) c.in-Ok-open.texts.items;
-    directory = c.in-Ok-decode.ensures.0;
+    directory = c.in-Ok-decode.ensures.1;
     shows = c.in-Ok.ensures.found h ∙ ap (λ (b : List ℕ). image.OneImage b c.in-Ok.images.sequence) spelled;
     log = records h;
-    applies = subst (λ (ts : List (Vec ℕ Global)). Applies c.in-Ok-decode.directory (map (λ (t : Vec ℕ Global). t.items) ts) files) c.deref.ensures.value applies;
+    applies = subst (λ (ts : List (Vec ℕ Global)). Applies c.in-Ok-decode.directory.files
+        (map (λ (t : Vec ℕ Global). t.items) ts) files) c.deref.ensures.value applies;
   }
 
-  found_now : (files : List File) → Applies c.in-Ok-decode.directory (map (λ (t : Vec ℕ Global). t.items) c.deref.result.now) files → g.D.Disk.honest c.in-Ok-open.log.images.disk → HoldsFiles files c.in-Ok-open.log.images.sequence (g.D.Disk.state c.in-Ok-open.log.images.disk).reading
+  found_now : (files : List File) → Applies c.in-Ok-decode.directory.files (map (λ (t : Vec ℕ Global). t.items) c.deref.result.now) files
+      → g.D.Disk.honest c.in-Ok-open.log.images.disk → HoldsFiles files c.in-Ok-open.log.images.sequence (g.D.Disk.state c.in-Ok-open.log.images.disk).reading
   found_now files applies h =
       let was = keeps.honest.1 h in
       subst (HoldsFiles files c.in-Ok-open.log.images.sequence) (sym (watches was).reading) (found files applies was)
@@ -110,15 +121,16 @@ module _ (g : Over) (c : After-apply_texts g) where
 pub returns-in-Ok-apply_texts-clause-sound : goal.returns-in-Ok-apply_texts-clause-sound
 returns-in-Ok-apply_texts-clause-sound g c =
     let here = (goal.at.returns-in-Ok-apply_texts-clause-sound g c).After-apply_texts in
-    (c.in-Ok-open.ensures.ready, found_now g here c.apply_texts.new.directory c.in-Ok-apply_texts.ensures.ok)
+    (c.in-Ok-open.ensures.ready, found_now g here c.apply_texts.new.directory.files c.in-Ok-apply_texts.ensures.ok, c.apply_texts.ensures.limits)
 
 pub returns-in-Ok-apply_texts-clause-recovers : goal.returns-in-Ok-apply_texts-clause-recovers
 returns-in-Ok-apply_texts-clause-recovers g c =
     let here = (goal.at.returns-in-Ok-apply_texts-clause-recovers g c).After-apply_texts in
     rw c.in-Off.is (off_recovers g.D.Disk c.in-Off.disk _ _
-    (found g here c.apply_texts.new.directory c.in-Ok-apply_texts.ensures.ok)
+    (found g here c.apply_texts.new.directory.files c.in-Ok-apply_texts.ensures.ok)
     (watches g here)
-    (λ h. leaves_files g.D.Disk c.in-Ok-open.log.images c.apply_texts.new.directory c.in-Ok-open.ensures.ready.images (found_now g here c.apply_texts.new.directory c.in-Ok-apply_texts.ensures.ok) ((keeps g here).honest.0 h))
+    (λ h. leaves_files g.D.Disk c.in-Ok-open.log.images c.apply_texts.new.directory.files c.in-Ok-open.ensures.ready.images
+    (found_now g here c.apply_texts.new.directory.files c.in-Ok-apply_texts.ensures.ok) ((keeps g here).honest.0 h))
     (λ h. ends g here h)
     (λ h is. absurd cc)
     (λ h. inr (not_failed g here h))
@@ -130,8 +142,11 @@ returns-in-Err-apply_texts-clause-recovers g c =
     let faults = c.in-Err-apply_texts.ensures.faults in
     rw (c.in-Off.is, c.into_disk-in-Err-apply_texts.ensures, c.into_images.ensures) (off_recovers g.D.Disk c.in-Off.disk _ _
     (told_text_finds (DiskStandsFor g.D.Disk c.in-Off.disk) c.in-Err-apply_texts.fault faults
-    (λ is h. no_groups_stand _ c.in-Ok.images.body c.in-Ok.images.sequence c.in-Ok-decode.directory _ (c.in-Ok.ensures.found h) c.in-Ok-decode.ensures.0 (spelled g here) (records g here h)
-    (λ last applies. c.in-Err-apply_texts.ensures.damaged is last (subst (λ (ts : List (Vec ℕ Global)). Applies c.in-Ok-decode.directory (map (λ (t : Vec ℕ Global). t.items) ts) last) (sym c.deref.ensures.value) applies))))
+    (λ is h. no_groups_stand _ c.in-Ok.images.body c.in-Ok.images.sequence c.in-Ok-decode.directory.files _
+    (c.in-Ok.ensures.found h) c.in-Ok-decode.ensures.1 (spelled g here) (records g here h)
+    (λ last applies. c.in-Err-apply_texts.ensures.damaged is last
+    (subst (λ (ts : List (Vec ℕ Global)). Applies c.in-Ok-decode.directory.files (map (λ (t : Vec ℕ Global). t.items) ts) last)
+    (sym c.deref.ensures.value) applies))))
     (watches g here)
     (λ h. tt)
     (λ h. tt)

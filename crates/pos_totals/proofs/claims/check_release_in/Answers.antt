@@ -6,4 +6,8 @@ use Rattle.pos_totals.specs.Checks.{files_in, file_of}
 use Rattle.pos_totals.proofs.claims.check_release_in.Goals as goal
 
 pub returns : goal.returns
-returns c = (search rules, sym (to_z-of_z w128 c.args.handle c.ranges.handle) ∙ called_is _ (files_in c.args.files) (file_of c.in-Some.found) (sym c.in-Some.ensures.file))
+returns c = (
+  search rules,
+  sym (to_z-of_z w128 c.args.handle c.ranges.handle)
+      ∙ called_is _ (files_in c.args.files) (file_of c.in-Some.found) (sym c.in-Some.ensures.file),
+)

@@ -9,14 +9,20 @@ use Rattle.pos_totals.proofs.claims.claim_file.Goals as goal
 
 pub returns-in-Ok-clause-sound : goal.returns-in-Ok-clause-sound
 returns-in-Ok-clause-sound g c =
-    let old = totals_of c.args.store.now.state c.args.ledger.now in
-    let first = subst (λ (h : ℤ). LetsThroughAt old c.args.control (ClaimFile h (to_z w128 (of_z w128 c.args.timeout))) h (Ok c.in-Ok.number)) (to_z-of_z w128 c.args.handle c.ranges.handle) c.in-Ok.ensures in
-    let through = subst (λ (t : ℤ). LetsThroughAt old c.args.control (ClaimFile c.args.handle t) c.args.handle (Ok c.in-Ok.number)) (to_z-of_z w128 c.args.timeout c.ranges.timeout) first in
-    (file_claimed c.args.store.now.state c.args.ledger.now c.args.control c.args.handle c.args.timeout c.in-Ok.number c.claim.new.self through c.claim.ensures.given c.claim.ensures.next c.requires.sound).1
+    let old = totals_of c.args.store.now.state c.args.holdings.now in
+    let first = subst (λ (h : ℤ). LetsThroughAt old c.args.control (ClaimFile h (to_z w128 (of_z w128 c.args.timeout))) h (Ok c.in-Ok.number))
+    (to_z-of_z w128 c.args.handle c.ranges.handle) c.in-Ok.ensures in
+    let through = subst (λ (t : ℤ). LetsThroughAt old c.args.control (ClaimFile c.args.handle t) c.args.handle (Ok c.in-Ok.number))
+    (to_z-of_z w128 c.args.timeout c.ranges.timeout) first in
+    (file_claimed c.args.store.now.state c.args.holdings.now c.args.control c.args.handle c.args.timeout c.in-Ok.number c.claim.new.self through
+    c.claim.ensures.given c.claim.ensures.next c.requires.sound).1
 
 pub returns-in-Ok-clause-arranges : goal.returns-in-Ok-clause-arranges
 returns-in-Ok-clause-arranges g c =
-    let old = totals_of c.args.store.now.state c.args.ledger.now in
-    let first = subst (λ (h : ℤ). LetsThroughAt old c.args.control (ClaimFile h (to_z w128 (of_z w128 c.args.timeout))) h (Ok c.in-Ok.number)) (to_z-of_z w128 c.args.handle c.ranges.handle) c.in-Ok.ensures in
-    let through = subst (λ (t : ℤ). LetsThroughAt old c.args.control (ClaimFile c.args.handle t) c.args.handle (Ok c.in-Ok.number)) (to_z-of_z w128 c.args.timeout c.ranges.timeout) first in
-    (file_claimed c.args.store.now.state c.args.ledger.now c.args.control c.args.handle c.args.timeout c.in-Ok.number c.claim.new.self through c.claim.ensures.given c.claim.ensures.next c.requires.sound).0
+    let old = totals_of c.args.store.now.state c.args.holdings.now in
+    let first = subst (λ (h : ℤ). LetsThroughAt old c.args.control (ClaimFile h (to_z w128 (of_z w128 c.args.timeout))) h (Ok c.in-Ok.number))
+    (to_z-of_z w128 c.args.handle c.ranges.handle) c.in-Ok.ensures in
+    let through = subst (λ (t : ℤ). LetsThroughAt old c.args.control (ClaimFile c.args.handle t) c.args.handle (Ok c.in-Ok.number))
+    (to_z-of_z w128 c.args.timeout c.ranges.timeout) first in
+    (file_claimed c.args.store.now.state c.args.holdings.now c.args.control c.args.handle c.args.timeout c.in-Ok.number c.claim.new.self through
+    c.claim.ensures.given c.claim.ensures.next c.requires.sound).0

@@ -15,7 +15,8 @@ use Rattle.pos_totals.proofs.files.find_handle.Goals as goal
 
 pub returns-in_default : goal.returns-in_default
 returns-in_default c = record {
-  file = sym (none_below c.args.handle (with_tags c.args.files.tags.now c.args.files.directory.now) (subst (λ (h : ℤ). is_natural h ≡ false) (to_z-of_z w128 c.args.handle c.ranges.handle) c.in_default.ensures));
+  file = sym (none_below c.args.handle (with_tags c.args.files.tags.now c.args.files.directory.now.files)
+      (subst (λ (h : ℤ). is_natural h ≡ false) (to_z-of_z w128 c.args.handle c.ranges.handle) c.in_default.ensures));
   index = tt;
   small = tt;
 }
@@ -23,10 +24,11 @@ returns-in_default c = record {
 pub returns-in-Some-search : goal.returns-in-Some-search
 returns-in-Some-search c =
     let tags = c.args.files.tags.now in
-    let files = c.args.files.directory.now in
+    let files = c.args.files.directory.now.files in
     let xs = with_tags tags files in
     let n = c.in-Some.handle in
-    let index = subst (λ (h : ℤ). index_of (is_called h) xs ≡ position_or_len (λ tag. nat_eq tag.handle n) tags) (sym c.in-Some.ensures ∙ to_z-of_z w128 c.args.handle c.ranges.handle) (index_by_handle tags files n c.requires.paired) in
+    let index = subst (λ (h : ℤ). index_of (is_called h) xs ≡ position_or_len (λ tag. nat_eq tag.handle n) tags)
+    (sym c.in-Some.ensures ∙ to_z-of_z w128 c.args.handle c.ranges.handle) (index_by_handle tags files n c.requires.paired) in
     let here = is_at (λ tag. nat_eq tag.handle n) (is_called c.args.handle) tags xs c.in-Some-search.index index (sym c.in-Some-search.ensures) in
     record {
       file = c.get_file.ensures.file ∙ at_index (is_called c.args.handle) xs c.in-Some-search.index here;
@@ -37,12 +39,14 @@ returns-in-Some-search c =
 pub returns-in-None : goal.returns-in-None
 returns-in-None c =
     let tags = c.args.files.tags.now in
-    let files = c.args.files.directory.now in
+    let files = c.args.files.directory.now.files in
     let xs = with_tags tags files in
     let n = c.in-Some.handle in
-    let index = subst (λ (h : ℤ). index_of (is_called h) xs ≡ position_or_len (λ tag. nat_eq tag.handle n) tags) (sym c.in-Some.ensures ∙ to_z-of_z w128 c.args.handle c.ranges.handle) (index_by_handle tags files n c.requires.paired) in
+    let index = subst (λ (h : ℤ). index_of (is_called h) xs ≡ position_or_len (λ tag. nat_eq tag.handle n) tags)
+    (sym c.in-Some.ensures ∙ to_z-of_z w128 c.args.handle c.ranges.handle) (index_by_handle tags files n c.requires.paired) in
     record {
-      file = sym (is_none (λ tag. nat_eq tag.handle n) (is_called c.args.handle) tags xs (length-with_tags tags files c.requires.paired ∙ sym c.requires.paired) index (sym c.in-None.ensures));
+      file = sym (is_none (λ tag. nat_eq tag.handle n) (is_called c.args.handle) tags xs
+          (length-with_tags tags files c.requires.paired ∙ sym c.requires.paired) index (sym c.in-None.ensures));
       index = tt;
       small = tt;
     }

@@ -8,5 +8,5 @@ use Rattle.pos_totals.proofs.files.measure_free.Goals as goal
 pub returns : goal.returns
 returns c =
     let tags = c.args.files.tags.now in
-    let files = c.args.files.directory.now in
+    let files = c.args.files.directory.now.files in
     ap (λ n. 8192 - n) (c.size.ensures ∙ ap total_size (sym (plain_of tags files c.requires.paired)) ∙ plain_size (with_tags tags files))

@@ -7,4 +7,4 @@ pub returns : goal.returns
 returns g c =
     let inside = c.totals.inside in
     subst (λ (v : TotalsView g.row.D.Denot). HasItsFiles v.totals) c.totals.view_is
-    (theirs inside.store.state inside.ledger c.see_files.ensures.directory c.totals.invariant)
+    (theirs inside.store.state inside.holdings c.see_files.ensures.directory c.totals.invariant)

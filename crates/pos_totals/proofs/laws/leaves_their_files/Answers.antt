@@ -7,4 +7,5 @@ pub returns : goal.returns
 returns g c =
     let inside = c.totals.inside in
     subst (λ (v : TotalsView g.row.D.Denot). g.D.Disk.honest v.disk → LeavesTheirFiles v.totals.mode (g.D.Disk.state v.disk)) c.totals.view_is
-    (λ h. their_files inside.ledger.handles.given inside.store.state inside.ledger.handles.next (g.D.Disk.state inside.store.disk) c.totals.invariant.handles (c.leaves_its_files.ensures h))
+    (λ h. their_files inside.holdings.handles.given inside.store.state inside.holdings.handles.next
+    (g.D.Disk.state inside.store.disk) c.totals.invariant.handles (c.leaves_its_files.ensures h))

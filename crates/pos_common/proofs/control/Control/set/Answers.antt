@@ -12,16 +12,20 @@ pub set_value-requires : goal.set_value-requires
 set_value-requires c =
     let needs = c.needs_to_set.ensures ∙ ap (λ (held : Held). needs_to_set held.control.category c.args.property) c.self.view_is in
     let checks = subst (λ o. Checks c.args.number c.args.holder c.args.self.now.control c.needs_to_set.result o) c.in-Ok.is c.check.ensures in
-    asks_second c.args.number c.args.holder c.args.self.now.control c.needs_to_set.result (is_in (row_of c.args.property).category c.args.self.now.control.category) (row_of c.args.property).is_settable (ap (λ n. n.is_there) needs) checks
+    asks_second c.args.number c.args.holder c.args.self.now.control c.needs_to_set.result
+    (is_in (row_of c.args.property).category c.args.self.now.control.category) (row_of c.args.property).is_settable (ap (λ n. n.is_there) needs) checks
 
 pub returns-in-Ok : goal.returns-in-Ok
 returns-in-Ok c =
     let needs = c.needs_to_set.ensures ∙ ap (λ (held : Held). needs_to_set held.control.category c.args.property) c.self.view_is in
     let checks = subst (λ o. Checks c.args.number c.args.holder c.args.self.now.control c.needs_to_set.result o) c.in-Ok.is c.check.ensures in
-    decided_by_rest _ _ _ _ _ (check_lets c.args.number c.args.holder c.args.self.now.control c.needs_to_set.result (needs_to_set c.args.self.now.control.category c.args.property) (when (not (takes c.args.kind c.args.property c.args.value.now)) code.Illegal ∷ []) needs checks) c.set_value.ensures
+    decided_by_rest _ _ _ _ _ (check_lets c.args.number c.args.holder c.args.self.now.control c.needs_to_set.result
+    (needs_to_set c.args.self.now.control.category c.args.property)
+    (when (not (takes c.args.kind c.args.property c.args.value.now)) code.Illegal ∷ []) needs checks) c.set_value.ensures
 
 pub returns-in-Err : goal.returns-in-Err
 returns-in-Err c =
     let needs = c.needs_to_set.ensures ∙ ap (λ (held : Held). needs_to_set held.control.category c.args.property) c.self.view_is in
     let checks = subst (λ o. Checks c.args.number c.args.holder c.args.self.now.control c.needs_to_set.result o) c.in-Err.is c.check.ensures in
-    check_refuses c.args.number c.args.holder c.args.self.now.control c.needs_to_set.result (needs_to_set c.args.self.now.control.category c.args.property) c.in-Err.code _ _ _ needs checks refl
+    check_refuses c.args.number c.args.holder c.args.self.now.control c.needs_to_set.result
+    (needs_to_set c.args.self.now.control.category c.args.property) c.in-Err.code _ _ _ needs checks refl

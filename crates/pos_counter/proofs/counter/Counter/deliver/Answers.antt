@@ -15,5 +15,6 @@ returns-clause-step g c =
 pub returns-clause-sound : goal.returns-clause-sound
 returns-clause-sound g c =
     let ds = devices_in g.P.Peripheral c.args.self.now.devices in
-    let served = controls_serve c.args.self.now.desk c.deliver.new.self ds (Deliver c.args.number c.args.reply) (Delivered c.deliver.result) c.requires.sound.parts (c.deliver.ensures ds) in
+    let served = controls_serve c.args.self.now.desk c.deliver.new.self ds (Deliver c.args.number c.args.reply)
+    (Delivered c.deliver.result) c.requires.sound.parts (c.deliver.ensures ds) in
     record { parts = served.sound; devices = c.requires.sound.devices; covers = c.requires.sound.covers }

@@ -28,7 +28,9 @@ returns-in-Ok-new-clause-sound g c =
     let sound = c.in-Ok-new.ensures.sound in
     let count : length (profile_devices entries) ≡ length entries = count_devices [] entries refl c.is_profile.ensures.totals in
     record {
-      parts = subst (λ (hs : List Held). ArePartsSound hs (devices_in g.P.Peripheral devices)) (sym c.new-in-Ok-new.ensures) (begins_sound (registered g.P.Peripheral devices.registry) devices.totals sound.registry.kinds sound.registry.served);
+      parts = subst (λ (hs : List Held). ArePartsSound hs (devices_in g.P.Peripheral devices)) (sym c.new-in-Ok-new.ensures)
+          (begins_sound (registered g.P.Peripheral devices.registry) devices.totals sound.registry.kinds sound.registry.served);
       devices = sound;
-      covers = ap length c.in-Ok.ensures ∙ length-replicate (length c.devices.result.now) None ∙ ap length c.devices.ensures ∙ sym count ∙ ap length (sym c.in-Ok-new.ensures.vacant);
+      covers = ap length c.in-Ok.ensures ∙ length-replicate (length c.devices.result.now) None ∙ ap length c.devices.ensures ∙ sym count
+          ∙ ap length (sym c.in-Ok-new.ensures.vacant);
     }

@@ -1,31 +1,78 @@
-use Rattle.std.proofs.Common.{◌∙◌, ◌+◌, ◌≤◌, ◌++◌, ◌∷◌, [], take, length, ap, sym, subst, arith}
-use Rattle.std.proofs.lemmas.List.{length_push, take_all}
-use Rattle.pos_counter.specs.Responses.{request_of, response_of, steps_of}
+use Rattle.std.proofs.Common.{◌≡◌, ◌∙◌, ◌+◌, ◌++◌, ◌∷◌, List, [], ap, append-nil, append_assoc, arith, get_or, length, refl, reverse, rules, suc, subst, sym}
+use Rattle.std.specs.Prelude.{All}
+use Rattle.std.proofs.lemmas.List.{length_push, nil_from_length, reverse-append, reverse-reverse}
+use Rattle.std.proofs.lemmas.List.Elements.{All-nil, All-push}
+use Rattle.pos_counter.specs.Responses.{HandsOut, OffersInService, request_of, response_of, steps_of}
 use Rattle.pos_counter.specs.Counters.{IsRun}
 use Rattle.pos_counter.proofs.Runs.{runs_more, steps_push}
 use Rattle.pos_counter.proofs.counter.Counter.perform.Goals as goal
 
+pub loop-request-init : goal.loop-request-init
+loop-request-init g c =
+    let order = ap reverse c.reverse.ensures.items ∙ reverse-reverse c.args.requests.items in (
+      [],
+      record {
+        all = sym order;
+        run = refl;
+        whole = ap length c.in-Ok.ensures.items;
+        in_service = subst (All (OffersInService g.P.Peripheral)) (sym order) c.requires.in_service;
+        handed_out = subst (All (HandsOut g.P.Peripheral)) (sym c.in-Ok.ensures.items) (All-nil (HandsOut g.P.Peripheral));
+        room = omega (arith, c.in-Ok.ensures.exact, c.len.ensures);
+        sound = c.requires.sound;
+      },
+    )
+
+-- the next of those that wait
+next : {A : Type 0} (waiting rest : List A) (request : A) → waiting ≡ rest ++ request ∷ [] → reverse waiting ≡ request ∷ reverse rest
+next waiting rest request is = ap reverse is ∙ reverse-append rest (request ∷ [])
+
+pub carry_out-response-requires-clause-in_service : goal.carry_out-response-requires-clause-in_service
+carry_out-response-requires-clause-in_service g c =
+    let request = c.in-Some.request in
+    let waiting = subst (All (OffersInService g.P.Peripheral))
+    (next c.loop-request.waiting.items c.pop.new.self.items request c.in-Some.ensures.items) c.loop-request.invariant.1.in_service in
+    waiting 0 request (omega arith)
+
 pub loop-request-preserved : goal.loop-request-preserved
 loop-request-preserved g c =
-    let qs = c.args.requests.now in
-    let q = c.request-item.result in
-    let rs = c.loop-request.responses.items in
-    let r = c.carry_out-response.result in
-    let i = c.loop-request.request-index in
-    let before = c.loop-request.invariant in
-    let old = c.args.self.now in
-    let new = c.carry_out-response.new.self in
-    let steps = ap (steps_of (take (i + 1) qs)) c.push_reserved.ensures.items ∙ steps_push qs rs i q r c.loop-request-test.true before.whole ∙ ap (λ a. steps_of (take i qs) rs ++ (request_of a, response_of r) ∷ []) (sym c.request-item.is) in
-    record {
-      run = subst (λ xs. IsRun g.D.Disk g.P.Peripheral old xs new) (sym steps)
-          (runs_more g.D.Disk g.P.Peripheral old c.loop-request.self new (steps_of (take i qs) rs) (request_of q) (response_of r) before.run c.carry_out-response.ensures.step);
-      whole = omega (arith, ap length c.push_reserved.ensures.items, length_push rs r);
-      room = omega arith;
-      sound = c.carry_out-response.ensures.sound;
-    }
+    let (done, before) = c.loop-request.invariant in
+    let request = c.in-Some.request in
+    let response = c.carry_out-response.result in
+    let responses = c.loop-request.responses.items in
+    let rest = c.pop.new.self.items in
+    let order = next c.loop-request.waiting.items rest request c.in-Some.ensures.items in
+    let waiting = subst (All (OffersInService g.P.Peripheral)) order before.in_service in
+    let steps = ap (steps_of g.P.Peripheral (done ++ request ∷ [])) c.push_reserved.ensures.items
+    ∙ steps_push g.P.Peripheral done responses request response before.whole in (
+      done ++ request ∷ [],
+      record {
+        all = before.all ∙ ap (λ xs. done ++ xs) order ∙ sym (append_assoc done (request ∷ []) (reverse rest));
+        run = subst (λ xs. IsRun g.D.Disk g.P.Peripheral c.args.self.now xs c.carry_out-response.new.self) (sym steps)
+            (runs_more g.D.Disk g.P.Peripheral c.args.self.now c.loop-request.self c.carry_out-response.new.self
+            (steps_of g.P.Peripheral done responses) (request_of g.P.Peripheral request)
+            (response_of g.P.Peripheral response) before.run c.carry_out-response.ensures.step);
+        whole = omega (arith, ap length c.push_reserved.ensures.items, length_push responses response, length_push done request, before.whole);
+        in_service = λ i d lt. waiting (suc i) d (omega arith);
+        handed_out = subst (All (HandsOut g.P.Peripheral)) (sym c.push_reserved.ensures.items)
+            (All-push (HandsOut g.P.Peripheral) responses response before.handed_out c.carry_out-response.ensures.handed_out);
+        room = omega (arith, before.room);
+        sound = c.carry_out-response.ensures.sound;
+      },
+    )
 
 pub returns-clause-run : goal.returns-clause-run
 returns-clause-run g c =
-    let qs = c.args.requests.now in
-    let all : length qs ≤ c.loop-request.request-index = omega arith in
-    subst (λ xs. IsRun g.D.Disk g.P.Peripheral c.args.self.now (steps_of xs c.loop-request.responses.items) c.loop-request.self) (take_all c.loop-request.request-index qs all) c.loop-request.invariant.run
+    let (done, before) = c.loop-request.invariant in
+    let empty : c.loop-request.waiting.items ≡ [] = nil_from_length _ (search rules) in
+    let all = before.all ∙ ap (λ xs. done ++ reverse xs) empty ∙ append-nil done in
+    subst (λ qs. IsRun g.D.Disk g.P.Peripheral c.args.self.now (steps_of g.P.Peripheral qs c.loop-request.responses.items) c.loop-request.self)
+    (sym all) before.run
+
+pub returns-clause-whole : goal.returns-clause-whole
+returns-clause-whole g c =
+    let (done, before) = c.loop-request.invariant in
+    let empty : c.loop-request.waiting.items ≡ [] = nil_from_length _ (search rules) in
+    before.whole ∙ ap length (sym (before.all ∙ ap (λ xs. done ++ reverse xs) empty ∙ append-nil done))
+
+pub returns-clause-handed_out : goal.returns-clause-handed_out
+returns-clause-handed_out g c = c.loop-request.invariant.1.handed_out

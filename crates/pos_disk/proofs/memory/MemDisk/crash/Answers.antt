@@ -15,11 +15,13 @@ shown c =
     let d = c.self.inside in
     memory_of d.bytes.items d.saved.items d.stamps.items d.stamp d.past.moments
 
-saved : (c : After-new) → IsSaved c.self.inside.stamps.items c.self.inside.stamp c.self.inside.bytes.items 0 (length c.self.inside.bytes.items) c.match-fill.bytes.items c.save.new.saved.items
+saved : (c : After-new) → IsSaved c.self.inside.stamps.items c.self.inside.stamp c.self.inside.bytes.items 0
+    (length c.self.inside.bytes.items) c.match-fill.bytes.items c.save.new.saved.items
 saved c = search rules
 
 -- the bytes before those of the settled places came over them
-chosen : (c : After-new) (xs : List ℕ) → c.match-fill.bytes.items ≡ xs → length xs ≡ length c.self.inside.bytes.items → c.save.new.saved.items ≡ choose (loose_by c.self.inside.stamp c.self.inside.stamps.items) xs c.self.inside.bytes.items
+chosen : (c : After-new) (xs : List ℕ) → c.match-fill.bytes.items ≡ xs → length xs ≡ length c.self.inside.bytes.items
+    → c.save.new.saved.items ≡ choose (loose_by c.self.inside.stamp c.self.inside.stamps.items) xs c.self.inside.bytes.items
 chosen c xs is long =
     let d = c.self.inside in
     saved_all d.bytes.items d.stamps.items xs c.save.new.saved.items d.stamp c.self.invariant.stamps_length long
@@ -54,7 +56,8 @@ answer c =
           answered c New d.bytes.items w.in-New.is starts refl (choose_same (loose_by d.stamp d.stamps.items) d.bytes.items (loose_long c))
       | in-Byte+in_ok-bytes-in-Byte w ↦
           let starts : c.match-fill.bytes.items ≡ replicate (length d.bytes.items) w.in-Byte.byte = search rules in
-          answered c (Byte w.in-Byte.byte) (replicate (length d.bytes.items) w.in-Byte.byte) w.in-Byte.is starts (length-replicate (length d.bytes.items) w.in-Byte.byte) refl
+          answered c (Byte w.in-Byte.byte) (replicate (length d.bytes.items) w.in-Byte.byte) w.in-Byte.is starts
+          (length-replicate (length d.bytes.items) w.in-Byte.byte) refl
     ]
 
 pub returns-clause-filled : goal.returns-clause-filled
@@ -64,6 +67,8 @@ returns-clause-filled c =
 
 pub returns-clause-allowed : goal.returns-clause-allowed
 returns-clause-allowed c =
-    let left : LeftAt c.args.self.now.present c.save.new.saved.items = subst (λ (m : Memory). LeftAt m.present c.save.new.saved.items) c.self.view_is (answer c).left in
+    let left : LeftAt c.args.self.now.present c.save.new.saved.items =
+    subst (λ (m : Memory). LeftAt m.present c.save.new.saved.items) c.self.view_is (answer c).left in
     IfOk-weaker c.new.result (λ disk. disk ≡ fresh c.save.new.saved.items) (λ disk. MayLeave (state_of c.args.self.now) disk.present.reading) (λ disk is.
-    subst (λ (m : Memory). MayLeave (state_of c.args.self.now) m.present.reading) (sym is) (record { same_length = left.same_length; settled = left.settled })) c.new.ensures
+    subst (λ (m : Memory). MayLeave (state_of c.args.self.now) m.present.reading) (sym is)
+    (record { same_length = left.same_length; settled = left.settled })) c.new.ensures

@@ -8,6 +8,7 @@ pub returns : goal.returns
 returns c =
     let none : c.in_ok-stamps.stamps.items ≡ replicate (length c.args.bytes.items) 0 = search rules in
     let copied : c.in_ok-saved.saved.items ≡ c.args.bytes.items = search rules in
-    memory_fresh c.args.bytes.items c.in_ok-saved.saved.items c.in_ok-stamps.stamps.items 1 c.new.result.moments (ap length copied) (ap length none ∙ length-replicate (length c.args.bytes.items) 0)
+    memory_fresh c.args.bytes.items c.in_ok-saved.saved.items c.in_ok-stamps.stamps.items 1 c.new.result.moments (ap length copied)
+    (ap length none ∙ length-replicate (length c.args.bytes.items) 0)
     (λ i. subst (λ (l : List ℕ). get_or l i 0 < 1) (sym none) (zeros (length c.args.bytes.items) i))
     ∙ ap (λ (past : List Moment). record (fresh c.args.bytes.items) { past = past }) c.new.ensures

@@ -13,7 +13,8 @@ shown c =
     memory_of d.bytes.items d.saved.items d.stamps.items d.stamp d.past.moments
 
 abbrev after : After-next_stamp-self-inside → Memory
-after c = memory_of c.self.inside.bytes.items c.self.inside.saved.items c.next_stamp-self-inside.new.stamps.items c.next_stamp-self-inside.result c.and-self-inside.result.moments
+after c = memory_of c.self.inside.bytes.items c.self.inside.saved.items c.next_stamp-self-inside.new.stamps.items c.next_stamp-self-inside.result
+    c.and-self-inside.result.moments
 
 -- the disk afterwards
 becomes : (c : After-next_stamp-self-inside) → after c ≡ synced (shown c)

@@ -36,7 +36,13 @@ use Rattle.pos_disk.proofs.past.Past.and.Statement as stated
 use Rattle.pos_disk.proofs.past.Past.and.Code as code
 
 abbrev stayed : Stays (f.ended).signature.params (f.ended).kept
-stayed = (stay_none_ref (0 ∷ []) tt (plain (λ _. past.the_row)) yes, (stay_none_slice (1 ∷ []) tt (plain (λ _. u8)) yes, (stay_none_slice (2 ∷ []) tt (plain (λ _. u32)) yes, (stay_none_ref (3 ∷ []) tt (plain (λ _. u32)) yes, tt))))
+stayed = (
+  stay_none_ref (0 ∷ []) tt (plain (λ _. past.the_row)) yes,
+  (
+    stay_none_slice (1 ∷ []) tt (plain (λ _. u8)) yes,
+    (stay_none_slice (2 ∷ []) tt (plain (λ _. u32)) yes, (stay_none_ref (3 ∷ []) tt (plain (λ _. u32)) yes, tt)),
+  ),
+)
 
 module _ {M : Type 1} {𝓤 : Ura M} (𝓛 : Logic 𝓤) (mem : Memory → SProp 𝓤) (run : Routine → Fun 𝓤) (C : Calls 𝓤 𝓛.H) (Λ : Loops 𝓤 𝓛.H) where
   open 𝓛 use {H}
@@ -68,7 +74,8 @@ module _ {M : Type 1} {𝓤 : Ura M} (𝓛 : Logic 𝓤) (mem : Memory → SProp
         (WpFn 𝓤 H C Λ code.function (before ∷ bytes ∷ stamps ∷ stamp ∷ []) ((walk_of 𝓛 f.ended stayed (f.clauses 𝓛 mem run)).post bound))
     walk fits_bytes fits_stamps =
         qed 𝓛 (raw (alive 𝓛 f.signature κs qs) ∷ ‵ passed ∷ []) ∵ enter ! C Λ code.function (before ∷ bytes ∷ stamps ∷ stamp ∷ []) _ $
-        alloc_all ! (λ l. pass_all ! refl ((tt, tt), ((tt, (tt, (record { fits = fits_bytes }, tt))), ((tt, (tt, (record { fits = fits_stamps }, tt))), ((tt, tt), tt)))) $
+        alloc_all ! (λ l. pass_all ! refl
+        ((tt, tt), ((tt, (tt, (record { fits = fits_bytes }, tt))), ((tt, (tt, (record { fits = fits_stamps }, tt))), ((tt, tt), tt)))) $
         sets ! (agg ! (no_more !)) refl (tt, tt) $
         returns ! (look_at ! 0 refl) $ free_all ! refl $
         suffices ! _ (ends_at 𝓛 f.ended stayed (f.clauses 𝓛 mem run) bound (vstruct vnil) made (tt, (tt, (tt, (tt, tt)))) (tt, (tt, (tt, (tt, tt))))) $
@@ -78,7 +85,10 @@ module _ {M : Type 1} {𝓤 : Ura M} (𝓛 : Logic 𝓤) (mem : Memory → SProp
   walks : Walks 𝓛 f.ended stayed (WpFn 𝓤 H C Λ code.function) (f.clauses 𝓛 mem run)
   walks =
       walked 𝓛 f.ended stayed (f.clauses 𝓛 mem run) (WpFn 𝓤 H C Λ code.function) (λ κs. (shr_vals, (shr_slice_vals, (shr_slice_vals, (shr_vals, tt)))))
-      (λ κs. (shr_Tells (named 0) κs.0 past.the_row, (shr_slice_Tells (named 1) κs.1.0 u8, (shr_slice_Tells (named 2) κs.1.1.0 u32, (shr_Tells (named 3) κs.1.1.1.0 u32, tt)))))
+      (λ κs. (
+        shr_Tells (named 0) κs.0 past.the_row,
+        (shr_slice_Tells (named 1) κs.1.0 u8, (shr_slice_Tells (named 2) κs.1.1.0 u32, (shr_Tells (named 3) κs.1.1.1.0 u32, tt))),
+      ))
       (λ κs qs bounds a g are. via 𝓤 _ (fst∗ 𝓤 _ (emp 𝓤)) (walk κs qs a are.1.0.0.1.0 are.1.1.0.0.1.0))
 
 meets : {M : Type 1} {𝓤 : Ura M} (𝓛 : Logic 𝓤) (mem : Memory → SProp 𝓤) (run : Routine → Fun 𝓤) (𝓣 : Tables 𝓤 𝓛.H)
@@ -86,7 +96,10 @@ meets : {M : Type 1} {𝓤 : Ura M} (𝓛 : Logic 𝓤) (mem : Memory → SProp 
 meets {𝓤 = 𝓤} 𝓛 mem run 𝓣 =
     walk_Meets 𝓛 f.ended stayed (
       Goes-none_ref 𝓛 4 (0 ∷ []) tt (plain (λ _. past.the_row)) yes,
-      (Goes-none_slice 𝓛 4 (1 ∷ []) tt (plain (λ _. u8)) yes, (Goes-none_slice 𝓛 4 (2 ∷ []) tt (plain (λ _. u32)) yes, (Goes-none_ref 𝓛 4 (3 ∷ []) tt (plain (λ _. u32)) yes, tt))),
+      (
+        Goes-none_slice 𝓛 4 (1 ∷ []) tt (plain (λ _. u8)) yes,
+        (Goes-none_slice 𝓛 4 (2 ∷ []) tt (plain (λ _. u32)) yes, (Goes-none_ref 𝓛 4 (3 ∷ []) tt (plain (λ _. u32)) yes, tt)),
+      ),
     ) (f.clauses 𝓛 mem run) (WpFn 𝓤 𝓛.H 𝓣.C 𝓣.Λ code.function)
     (WpFn-mono 𝓤 𝓛.H 𝓛.laws 𝓣 code.function) (walks 𝓛 mem run 𝓣.C 𝓣.Λ)
 

@@ -13,12 +13,15 @@ loop-preserved c =
     let len = c.args.self.now.events.ok.0 in
     let invariant = c.loop.invariant in
     let within : c.loop.counter < length start = omega (arith, c.len-end.ensures) in
-    let next = λ (other : Other). subst (λ (l : List Other). Removing start l c.loop.before items) (drop_more start c.loop.counter other within) invariant.removing in
+    let next = λ (other : Other). subst (λ (l : List Other). Removing start l c.loop.before items)
+    (drop_more start c.loop.counter other within) invariant.removing in
     elim c.match-pop_front.branch [
       | in-Some+then-not-is_error w ↦
           let other = w.in-Some.other in
           rw (w.self-is, w.before-is) record {
-            removing = rw w.push_back_reserved.ensures.items (removing_kept start rest items c.pop_front.new.self.items (get_or start c.loop.counter other) other c.loop.before (next other) w.in-Some.ensures.items (sym w.is_error.ensures ∙ w.if-not-is_error.true));
+            removing = rw w.push_back_reserved.ensures.items
+                (removing_kept start rest items c.pop_front.new.self.items (get_or start c.loop.counter other) other c.loop.before
+                (next other) w.in-Some.ensures.items (sym w.is_error.ensures ∙ w.if-not-is_error.true));
             len = omega (arith, w.push_back_reserved.ensures.len, w.in-Some.ensures.len);
             capacity = w.push_back_reserved.ensures.capacity ∙ c.pop_front.ensures.capacity ∙ invariant.capacity;
             behind = invariant.behind;
@@ -26,12 +29,18 @@ loop-preserved c =
       | in-Some+else-not-is_error w ↦
           let other = w.in-Some.other in
           rw (w.self-is, w.before-is) record {
-            removing = removing_error start rest items c.pop_front.new.self.items (get_or start c.loop.counter other) other c.loop.before (next other) w.in-Some.ensures.items (sym w.is_error.ensures ∙ w.if-not-is_error.false);
+            removing = removing_error start rest items c.pop_front.new.self.items (get_or start c.loop.counter other) other c.loop.before
+                (next other) w.in-Some.ensures.items (sym w.is_error.ensures ∙ w.if-not-is_error.false);
             len = omega (arith, w.in-Some.ensures.len);
             capacity = c.pop_front.ensures.capacity ∙ invariant.capacity;
             behind = invariant.behind;
           }
       | in_default w ↦
           let none = c.loop.self.events.ok.0 in
-          absurd (omega (arith, removing_some start (drop c.loop.counter start) items c.loop.before invariant.removing, length-drop c.loop.counter start, w.in_default.ensures.cases))
+          absurd (omega (
+            arith,
+            removing_some start (drop c.loop.counter start) items c.loop.before invariant.removing,
+            length-drop c.loop.counter start,
+            w.in_default.ensures.cases,
+          ))
     ]

@@ -9,14 +9,16 @@ pub returns-then-clears_input-clause-event : goal.returns-then-clears_input-clau
 returns-then-clears_input-clause-event c =
     let i = c.self.inside in
     let some : 0 < before_first i.others.events.items i.others.behind = omega (arith, c.before_first.ensures, c.if-before_first-eq0.false) in
-    let first = first_is_input_data i.input_data i.in_error i.scans.items i.others.events.items i.others.behind c.self.invariant (is_input_data i.input_data _ (sym c.first_waiting.ensures ∙ c.in-InputData.is)) some in
+    let first = first_is_input_data i.input_data i.in_error i.scans.items i.others.events.items i.others.behind c.self.invariant
+    (is_input_data i.input_data _ (sym c.first_waiting.ensures ∙ c.in-InputData.is)) some in
     rw (← c.self.view_is, first_goes _ _ _ first) (ap Some c.input_error.ensures)
 
 pub returns-then-clears_input-clause-rest : goal.returns-then-clears_input-clause-rest
 returns-then-clears_input-clause-rest c =
     let i = c.self.inside in
     let some : 0 < before_first i.others.events.items i.others.behind = omega (arith, c.before_first.ensures, c.if-before_first-eq0.false) in
-    let first = first_is_input_data i.input_data i.in_error i.scans.items i.others.events.items i.others.behind c.self.invariant (is_input_data i.input_data _ (sym c.first_waiting.ensures ∙ c.in-InputData.is)) some in
+    let first = first_is_input_data i.input_data i.in_error i.scans.items i.others.events.items i.others.behind c.self.invariant
+    (is_input_data i.input_data _ (sym c.first_waiting.ensures ∙ c.in-InputData.is)) some in
     let list = c.args.self.now.list in
     let events : list.events ≡ events_in i.input_data (waiting_in i.scans.items i.in_error) i.others.events.items = rw (← c.self.view_is) in
     c.clear_input.ensures.cleared ∙ sym (cleared_after_input_data c.args.reply list _ (events ∙ first) (sym c.clears_input.ensures ∙ c.if-clears_input.true))
@@ -25,14 +27,16 @@ pub returns-in-InputData-clause-event : goal.returns-in-InputData-clause-event
 returns-in-InputData-clause-event c =
     let i = c.self.inside in
     let some : 0 < before_first i.others.events.items i.others.behind = omega (arith, c.before_first.ensures, c.if-before_first-eq0.false) in
-    let first = first_is_input_data i.input_data i.in_error i.scans.items i.others.events.items i.others.behind c.self.invariant (is_input_data i.input_data _ (sym c.first_waiting.ensures ∙ c.in-InputData.is)) some in
+    let first = first_is_input_data i.input_data i.in_error i.scans.items i.others.events.items i.others.behind c.self.invariant
+    (is_input_data i.input_data _ (sym c.first_waiting.ensures ∙ c.in-InputData.is)) some in
     rw (← c.self.view_is, first_goes _ _ _ first) (ap Some c.input_error-in-InputData.ensures)
 
 pub returns-in-InputData-clause-rest : goal.returns-in-InputData-clause-rest
 returns-in-InputData-clause-rest c =
     let i = c.self.inside in
     let some : 0 < before_first i.others.events.items i.others.behind = omega (arith, c.before_first.ensures, c.if-before_first-eq0.false) in
-    let first = first_is_input_data i.input_data i.in_error i.scans.items i.others.events.items i.others.behind c.self.invariant (is_input_data i.input_data _ (sym c.first_waiting.ensures ∙ c.in-InputData.is)) some in
+    let first = first_is_input_data i.input_data i.in_error i.scans.items i.others.events.items i.others.behind c.self.invariant
+    (is_input_data i.input_data _ (sym c.first_waiting.ensures ∙ c.in-InputData.is)) some in
     rw (← c.self.view_is) (sym (kept_after_input_data c.args.reply _ _ first (sym c.clears_input.ensures ∙ c.if-clears_input.false)))
 
 -- a DataEvent is delivered
@@ -59,4 +63,5 @@ returns-clause-rest c =
     let some : 0 < before_first i.others.events.items i.others.behind = omega (arith, c.before_first.ensures, c.if-before_first-eq0.false) in
     let list = c.args.self.now.list in
     let is_list : list ≡ list_of i.input_data i.in_error i.scans.items i.others.events.items = rw (← c.self.view_is) in
-    data_rest c.args.reply i.input_data i.in_error popped.0 i.scans.items rest i.others.events.items c.one_less.new.self.events.items i.others.behind list is_list kind.0 popped.2 c.one_less.ensures.rest some
+    data_rest c.args.reply i.input_data i.in_error popped.0 i.scans.items rest i.others.events.items c.one_less.new.self.events.items i.others.behind
+    list is_list kind.0 popped.2 c.one_less.ensures.rest some

@@ -5,7 +5,12 @@ use Rattle.pos_events.proofs.queue.EventQueue.take_told.Goals as goal
 pub returns-in_err-event-clause-event : goal.returns-in_err-event-clause-event
 returns-in_err-event-clause-event c =
     let i = c.self.inside in
-    rw (← c.self.view_is, deliverable_told i.input_data i.in_error i.scans.items i.others.events.items, ← c.pop.ensures.first, c.in_err-event.was) c.from_residual.ensures
+    rw (
+      ← c.self.view_is,
+      deliverable_told i.input_data i.in_error i.scans.items i.others.events.items,
+      ← c.pop.ensures.first,
+      c.in_err-event.was,
+    ) c.from_residual.ensures
 
 pub returns-in_err-event-clause-rest : goal.returns-in_err-event-clause-rest
 returns-in_err-event-clause-rest c =
@@ -15,7 +20,8 @@ returns-in_err-event-clause-rest c =
 pub returns-clause-event : goal.returns-clause-event
 returns-clause-event c =
     let i = c.self.inside in
-    rw (← c.self.view_is, deliverable_told i.input_data i.in_error i.scans.items i.others.events.items, ← c.pop.ensures.first, c.in_ok-event.was) (ap Some c.delivery.ensures)
+    rw (← c.self.view_is, deliverable_told i.input_data i.in_error i.scans.items i.others.events.items, ← c.pop.ensures.first, c.in_ok-event.was)
+    (ap Some c.delivery.ensures)
 
 pub returns-clause-rest : goal.returns-clause-rest
 returns-clause-rest c =

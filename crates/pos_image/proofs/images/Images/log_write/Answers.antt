@@ -32,9 +32,12 @@ module _ (g : Over) (c : After-write g) where
   wrote honest = subst (λ (k : ℕ). Writes s0 s1 (k + c.args.at) c.args.bytes.now c.write.result) c.start.ensures (c.write.ensures.writes honest)
 
   -- a crash at any moment, whatever the write answers
-  moments : g.D.Disk.honest c.args.self.now.disk → LeavesOnly (g.D.Disk.state c.args.self.now.disk) (g.D.Disk.state c.write.new.self) (KeepsImage c.args.self.now (span_of c.args.self.now (g.D.Disk.state c.write.new.self)))
+  moments : g.D.Disk.honest c.args.self.now.disk
+      → LeavesOnly (g.D.Disk.state c.args.self.now.disk) (g.D.Disk.state c.write.new.self)
+      (KeepsImage c.args.self.now (span_of c.args.self.now (g.D.Disk.state c.write.new.self)))
   moments = rw (← c.self.view_is) (λ honest.
-      write_moments images (g.D.Disk.state c.self.inside.disk) (g.D.Disk.state c.write.new.self) c.write.result (is_writable.held honest) (only honest) c.args.at c.args.bytes.now c.requires.inside.from c.requires.inside.to (wrote honest))
+      write_moments images (g.D.Disk.state c.self.inside.disk) (g.D.Disk.state c.write.new.self) c.write.result (is_writable.held honest)
+      (only honest) c.args.at c.args.bytes.now c.requires.inside.from c.requires.inside.to (wrote honest))
 
 pub returns-in_err-write-clause-any_moment : goal.returns-in_err-write-clause-any_moment
 returns-in_err-write-clause-any_moment g c = moments g (goal.at.returns-in_err-write-clause-any_moment g c).After-write
@@ -45,13 +48,15 @@ returns-clause-any_moment g c = moments g (goal.at.returns-clause-any_moment g c
 pub returns-in_err-write-clause-span : goal.returns-in_err-write-clause-span
 returns-in_err-write-clause-span g c = rw (← c.self.view_is) (λ honest.
     let here = (goal.at.returns-in_err-write-clause-span g c).After-write in
-    writes_span (images g here) (s0 g here) (s1 g here) c.write.result ((is_writable g here).held honest) (only g here honest) c.args.at c.args.bytes.now c.requires.inside.from c.requires.inside.to (wrote g here honest) _ (search rules))
+    writes_span (images g here) (s0 g here) (s1 g here) c.write.result ((is_writable g here).held honest)
+    (only g here honest) c.args.at c.args.bytes.now c.requires.inside.from c.requires.inside.to (wrote g here honest) _ (search rules))
 
 pub returns-clause-span : goal.returns-clause-span
 returns-clause-span g c = rw (← c.self.view_is) (λ honest.
     let here = (goal.at.returns-clause-span g c).After-write in
     let placed = λ (k : ℕ). (s1 g here).reading ≡ splice (s0 g here).reading (k + c.args.at) c.args.bytes.now in
-    writes_span (images g here) (s0 g here) (s1 g here) c.write.result ((is_writable g here).held honest) (only g here honest) c.args.at c.args.bytes.now c.requires.inside.from c.requires.inside.to (wrote g here honest) _
+    writes_span (images g here) (s0 g here) (s1 g here) c.write.result ((is_writable g here).held honest)
+    (only g here honest) c.args.at c.args.bytes.now c.requires.inside.from c.requires.inside.to (wrote g here honest) _
     (subst placed c.start.ensures (c.in_ok-write.ensures.writes honest).written))
 
 pub returns-clause-writable : goal.returns-clause-writable
@@ -60,5 +65,6 @@ returns-clause-writable g c =
     let was = is_writable g here in
     writable g.D.Disk _ (omega (arith, was.large, c.write.ensures.size)) was.counted (λ honest.
     let honest0 = c.write.ensures.honest.1 honest in
-    let held = write_held (images g here) (s0 g here) (s1 g here) c.write.result (was.held honest0) (only g here honest0) c.args.at c.args.bytes.now c.requires.inside.from c.requires.inside.to (wrote g here honest0) in
+    let held = write_held (images g here) (s0 g here) (s1 g here) c.write.result (was.held honest0)
+    (only g here honest0) c.args.at c.args.bytes.now c.requires.inside.from c.requires.inside.to (wrote g here honest0) in
     record { loose = held.loose; current = held.current; prepared = held.prepared })

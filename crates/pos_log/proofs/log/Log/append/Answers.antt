@@ -19,7 +19,8 @@ module _ (g : Over) (c : After-write_through g) where
   text_is : take (5 + length c.args.group.now) c.deref.result.now ≡ text_behind_gate c.args.group.now
   text_is = ap (take (5 + length c.args.group.now)) c.deref.ensures.value ∙ c.lay_out_record.ensures.text
 
-  puts : WritesThrough g.D.Disk c.self.inside.images c.self.inside.images.disk (c.self.inside.tail + 1 - 16384) (take (5 + length c.args.group.now) c.deref.result.now) c.write_through.new.images.disk
+  puts : WritesThrough g.D.Disk c.self.inside.images c.self.inside.images.disk (c.self.inside.tail + 1 - 16384)
+      (take (5 + length c.args.group.now) c.deref.result.now) c.write_through.new.images.disk
   puts = record { moments = c.write_through.ensures.any_moment; keeps = c.write_through.ensures.keeps }
 
   at_is : c.self.inside.tail + 1 - 16384 ≡ c.self.inside.tail - 16384 + 1
@@ -29,12 +30,14 @@ pub returns-in_default-clause-appends : goal.returns-in_default-clause-appends
 returns-in_default-clause-appends g c =
     let here = (goal.at.returns-in_default-clause-appends g c).After-write_through in
     rw (← c.self.view_is)
-    (failed_put g.D.Disk c.self.inside.images c.self.inside.tail c.args.group.now (is_ready g here) c.self.invariant.0 (fits g here) _ (at_is g here) _ (text_is g here) _ (puts g here)
+    (failed_put g.D.Disk c.self.inside.images c.self.inside.tail c.args.group.now (is_ready g here) c.self.invariant.0 (fits g here) _
+    (at_is g here) _ (text_is g here) _ (puts g here)
     c.write_through.new.images c.write_through.ensures.same (λ honest. c.in_default.ensures.device honest (search rules)))
 
 module _ (g : Over) (c : After-write_through-2 g) where
   opens : WritesThrough g.D.Disk c.self.inside.images c.write_through.new.images.disk (c.self.inside.tail - 16384) (165 ∷ []) c.write_through-2.new.images.disk
-  opens = over_disk g.D.Disk c.self.inside.images c.write_through.new.images c.write_through.new.images.disk c.write_through.ensures.same c.write_through.new.images.disk (c.self.inside.tail - 16384) (165 ∷ []) c.write_through-2.new.images.disk
+  opens = over_disk g.D.Disk c.self.inside.images c.write_through.new.images c.write_through.new.images.disk c.write_through.ensures.same
+      c.write_through.new.images.disk (c.self.inside.tail - 16384) (165 ∷ []) c.write_through-2.new.images.disk
       (record { moments = c.write_through-2.ensures.any_moment; keeps = c.write_through-2.ensures.keeps })
 
   same : c.write_through-2.new.images ≡ record c.self.inside.images { disk = c.write_through-2.new.images.disk }
@@ -46,8 +49,10 @@ returns-in_default-write_through-clause-appends g c =
     let here = at.After-write_through in
     let also = at.After-write_through-2 in
     rw (← c.self.view_is)
-    (failed_open g.D.Disk c.self.inside.images c.self.inside.tail c.args.group.now (is_ready g here) c.self.invariant.0 (fits g here) _ (at_is g here) _ (text_is g here) _ (puts g here)
-    c.in-Ok.ensures.written _ (opens g also) c.write_through-2.new.images (same g also) (λ honest. c.in_default-write_through.ensures.device honest (search rules)))
+    (failed_open g.D.Disk c.self.inside.images c.self.inside.tail c.args.group.now (is_ready g here) c.self.invariant.0 (fits g here) _
+    (at_is g here) _ (text_is g here) _ (puts g here)
+    c.in-Ok.ensures.written _ (opens g also) c.write_through-2.new.images (same g also)
+    (λ honest. c.in_default-write_through.ensures.device honest (search rules)))
 
 pub returns-clause-appends : goal.returns-clause-appends
 returns-clause-appends g c =
@@ -55,8 +60,10 @@ returns-clause-appends g c =
     let here = at.After-write_through in
     let also = at.After-write_through-2 in
     rw (← c.self.view_is)
-    (appended g.D.Disk c.self.inside.images c.self.inside.tail c.args.group.now (is_ready g here) c.self.invariant.0 (fits g here) _ (at_is g here) _ (text_is g here) _ (puts g here)
+    (appended g.D.Disk c.self.inside.images c.self.inside.tail c.args.group.now (is_ready g here) c.self.invariant.0 (fits g here) _ (at_is g here) _
+    (text_is g here) _ (puts g here)
     c.in-Ok.ensures.written _ (opens g also) c.in-Ok-write_through.ensures.written
     c.write_through-2.new.images _ (same g also) (omega arith) c.in-Ok-write_through.ensures.ready
     (λ honest. never_failed (g.D.Disk.state c.self.inside.images.disk) (g.D.Disk.state c.write_through.new.images.disk) _ (c.in-Ok.ensures.counts honest))
-    (λ honest. never_failed (g.D.Disk.state c.write_through.new.images.disk) (g.D.Disk.state c.write_through-2.new.images.disk) _ (c.in-Ok-write_through.ensures.counts honest)))
+    (λ honest. never_failed (g.D.Disk.state c.write_through.new.images.disk) (g.D.Disk.state c.write_through-2.new.images.disk) _
+    (c.in-Ok-write_through.ensures.counts honest)))

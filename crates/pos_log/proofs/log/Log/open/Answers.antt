@@ -13,7 +13,8 @@ use Rattle.pos_log.proofs.log.Log.open.Goals as goal
 read_is : (g : Over) (c : After-read_records g) → g.D.Disk.honest c.args.images.disk → c.deref.result.now ≡ log_of (g.D.Disk.state c.args.images.disk).reading
 read_is g c honest =
     let long = ready_length g.D.Disk c.args.images c.requires honest in
-    whole_read c.deref.result.now c.log_read.new.out c.in-Ok.buffer.items (log_of (g.D.Disk.state c.args.images.disk).reading) c.in-Ok.buffer.len c.in-Ok.ensures.len
+    whole_read c.deref.result.now c.log_read.new.out c.in-Ok.buffer.items
+    (log_of (g.D.Disk.state c.args.images.disk).reading) c.in-Ok.buffer.len c.in-Ok.ensures.len
     (omega (arith, c.log_read.auto.out, c.as_mut_slice.ensures.len, c.in-Ok.ensures.len)) long c.deref.ensures.value (c.in-Ok-log_read.ensures.bytes honest)
 
 pub log_read-requires-clause-writable : goal.log_read-requires-clause-writable
@@ -45,15 +46,21 @@ returns-in-Ok-read_records-clause-ready g c =
       images = c.in-Ok-log_read.ensures.ready c.requires;
       records = λ honest.
           let was = c.log_read.ensures.keeps.honest.1 honest in
-          let end = c.in-Ok-read_records.ensures.end in
-          (_, subst (HoldsRecords _) (read_is g here was ∙ ap log_of (sym (c.log_read.ensures.any_moment was).reading)) c.in-Ok-read_records.ensures.held, ap (λ (k : ℕ). 16384 + k) end);
+          let end = c.in-Ok-read_records.ensures.end in (
+            _,
+            subst (HoldsRecords _) (read_is g here was
+                ∙ ap log_of (sym (c.log_read.ensures.any_moment was).reading)) c.in-Ok-read_records.ensures.held,
+            ap (λ (k : ℕ). 16384 + k) end,
+          );
     }
 
 pub returns-in_default-log_read-clause-counts : goal.returns-in_default-log_read-clause-counts
 returns-in_default-log_read-clause-counts g c honest = inl refl
 
 pub returns-in-Err-clause-counts : goal.returns-in-Err-clause-counts
-returns-in-Err-clause-counts g c honest = inr (never_failed (g.D.Disk.state c.args.images.disk) (g.D.Disk.state c.log_read.new.self.disk) _ (c.in-Ok-log_read.ensures.counts honest))
+returns-in-Err-clause-counts g c honest =
+    inr (never_failed (g.D.Disk.state c.args.images.disk) (g.D.Disk.state c.log_read.new.self.disk) _ (c.in-Ok-log_read.ensures.counts honest))
 
 pub returns-in-Ok-read_records-clause-counts : goal.returns-in-Ok-read_records-clause-counts
-returns-in-Ok-read_records-clause-counts g c honest = inr (never_failed (g.D.Disk.state c.args.images.disk) (g.D.Disk.state c.log_read.new.self.disk) _ (c.in-Ok-log_read.ensures.counts honest))
+returns-in-Ok-read_records-clause-counts g c honest =
+    inr (never_failed (g.D.Disk.state c.args.images.disk) (g.D.Disk.state c.log_read.new.self.disk) _ (c.in-Ok-log_read.ensures.counts honest))

@@ -14,7 +14,8 @@ returns-in-Err-clause-renews g c = rw (← c.self.view_is) record {
   any_moment = λ honest. renewing _ _ _ _ _ _ (c.renew_images.ensures.any_moment honest);
   too_large = c.in-Err.ensures.too_large;
   exhausted = c.in-Err.ensures.exhausted;
-  unchanged = λ err. ⊎_elim (λ device. inl device) (λ same. inr (ap (λ (im : View g.row.D.Denot). log_over im c.self.inside.tail) same)) (c.in-Err.ensures.unchanged (search rules));
+  unchanged = λ err. ⊎_elim (λ device. inl device) (λ same. inr (ap (λ (im : View g.row.D.Denot). log_over im c.self.inside.tail) same))
+      (c.in-Err.ensures.unchanged (search rules));
   device = λ honest is. c.in-Err.ensures.device honest is;
   counts = c.in-Err.ensures.counts;
   keeps = c.renew_images.ensures.keeps;

@@ -20,4 +20,5 @@ loop-place-preserved c = λ name.
 pub returns : goal.returns
 returns c = λ name.
     let names = map (λ (planned : Planned). planned.name) c.args.plan.now in
-    c.loop-place.invariant name ∙ ap (λ (ns : List (List ℕ)). place_of ns name) (take_all c.loop-place.place names (omega (arith, length-map c.args.plan.now (λ (planned : Planned). planned.name))))
+    c.loop-place.invariant name ∙ ap (λ (ns : List (List ℕ)). place_of ns name)
+    (take_all c.loop-place.place names (omega (arith, length-map c.args.plan.now (λ (planned : Planned). planned.name))))

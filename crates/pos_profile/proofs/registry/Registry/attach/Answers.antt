@@ -11,7 +11,8 @@ index-slot-requires g c =
     let list = devices g.P.Peripheral c.args.self.now in
     let place = c.in-Some.place in
     let found : place_of (names_of list) c.args.name.now ≡ Some place = sym c.in-Some.ensures in
-    let within : place < length slots = omega (arith, place_within (names_of list) c.args.name.now place found, names_count list, devices_count g.P.Peripheral slots) in
+    let within : place < length slots =
+    omega (arith, place_within (names_of list) c.args.name.now place found, names_count list, devices_count g.P.Peripheral slots) in
     omega (arith, within, c.args.self.now.slots.ok.0)
 
 pub returns-then-is_some-clause-attaches : goal.returns-then-is_some-clause-attaches
@@ -21,7 +22,8 @@ returns-then-is_some-clause-attaches g c =
     let place = c.in-Some.place in
     let slot = c.index-slot.result.now in
     let found : place_of (names_of list) c.args.name.now ≡ Some place = sym c.in-Some.ensures in
-    let within : place < length slots = omega (arith, place_within (names_of list) c.args.name.now place found, names_count list, devices_count g.P.Peripheral slots) in
+    let within : place < length slots =
+    omega (arith, place_within (names_of list) c.args.name.now place found, names_count list, devices_count g.P.Peripheral slots) in
     let at = device_at g.P.Peripheral slots place slot within c.index-slot.ensures in
     let some = some_of slot.peripheral (sym c.is_some.ensures ∙ c.if-is_some.true) in (
       record {
@@ -40,7 +42,8 @@ returns-then-not-is_same-clause-attaches g c =
     let place = c.in-Some.place in
     let slot = c.index-slot.result.now in
     let found : place_of (names_of list) c.args.name.now ≡ Some place = sym c.in-Some.ensures in
-    let within : place < length slots = omega (arith, place_within (names_of list) c.args.name.now place found, names_count list, devices_count g.P.Peripheral slots) in
+    let within : place < length slots =
+    omega (arith, place_within (names_of list) c.args.name.now place found, names_count list, devices_count g.P.Peripheral slots) in
     let at = device_at g.P.Peripheral slots place slot within c.index-slot.ensures in
     let none : slot.peripheral ≡ None = none_of slot.peripheral (sym c.is_some.ensures ∙ c.if-is_some.false) in (
       record {
@@ -59,7 +62,8 @@ put-requires-clause-may_serve g c =
     let place = c.in-Some.place in
     let slot = c.index-slot.result.now in
     let found : place_of (names_of list) c.args.name.now ≡ Some place = sym c.in-Some.ensures in
-    let within : place < length slots = omega (arith, place_within (names_of list) c.args.name.now place found, names_count list, devices_count g.P.Peripheral slots) in
+    let within : place < length slots =
+    omega (arith, place_within (names_of list) c.args.name.now place found, names_count list, devices_count g.P.Peripheral slots) in
     let none : slot.peripheral ≡ None = none_of slot.peripheral (sym c.is_some.ensures ∙ c.if-is_some.false) in
     record {
       device = device_of g.P.Peripheral slot;
@@ -75,7 +79,8 @@ returns-clause-attaches g c =
     let place = c.in-Some.place in
     let slot = c.index-slot.result.now in
     let found : place_of (names_of list) c.args.name.now ≡ Some place = sym c.in-Some.ensures in
-    let within : place < length slots = omega (arith, place_within (names_of list) c.args.name.now place found, names_count list, devices_count g.P.Peripheral slots) in
+    let within : place < length slots =
+    omega (arith, place_within (names_of list) c.args.name.now place found, names_count list, devices_count g.P.Peripheral slots) in
     let none : slot.peripheral ≡ None = none_of slot.peripheral (sym c.is_some.ensures ∙ c.if-is_some.false) in
     record {
       place = place;

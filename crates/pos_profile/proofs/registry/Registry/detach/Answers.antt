@@ -11,7 +11,8 @@ index-requires g c =
     let list = devices g.P.Peripheral c.args.self.now in
     let place = c.in-Some.place in
     let found : place_of (names_of list) c.args.name.now ≡ Some place = sym c.in-Some.ensures in
-    let within : place < length slots = omega (arith, place_within (names_of list) c.args.name.now place found, names_count list, devices_count g.P.Peripheral slots) in
+    let within : place < length slots =
+    omega (arith, place_within (names_of list) c.args.name.now place found, names_count list, devices_count g.P.Peripheral slots) in
     omega (arith, within, c.args.self.now.slots.ok.0)
 
 pub returns-then-is_none-clause-detaches : goal.returns-then-is_none-clause-detaches
@@ -21,7 +22,8 @@ returns-then-is_none-clause-detaches g c =
     let place = c.in-Some.place in
     let slot = c.index.result.now in
     let found : place_of (names_of list) c.args.name.now ≡ Some place = sym c.in-Some.ensures in
-    let within : place < length slots = omega (arith, place_within (names_of list) c.args.name.now place found, names_count list, devices_count g.P.Peripheral slots) in
+    let within : place < length slots =
+    omega (arith, place_within (names_of list) c.args.name.now place found, names_count list, devices_count g.P.Peripheral slots) in
     let none : slot.peripheral ≡ None = none_of slot.peripheral (c.is_none.ensures ∙ ap not c.if-is_none.true) in (
       record {
         device = device_of g.P.Peripheral slot;
@@ -38,7 +40,8 @@ returns-then-is_open-clause-detaches g c =
     let place = c.in-Some.place in
     let slot = c.index.result.now in
     let found : place_of (names_of list) c.args.name.now ≡ Some place = sym c.in-Some.ensures in
-    let within : place < length slots = omega (arith, place_within (names_of list) c.args.name.now place found, names_count list, devices_count g.P.Peripheral slots) in
+    let within : place < length slots =
+    omega (arith, place_within (names_of list) c.args.name.now place found, names_count list, devices_count g.P.Peripheral slots) in
     let some = some_of slot.peripheral (c.is_none.ensures ∙ ap not c.if-is_none.false) in (
       record {
         device = device_of g.P.Peripheral slot;
@@ -57,8 +60,10 @@ unreachable-requires g c =
     let place = c.in-Some.place in
     let slot = c.index.result.now in
     let found : place_of (names_of list) c.args.name.now ≡ Some place = sym c.in-Some.ensures in
-    let within : place < length slots = omega (arith, place_within (names_of list) c.args.name.now place found, names_count list, devices_count g.P.Peripheral slots) in
+    let within : place < length slots =
+    omega (arith, place_within (names_of list) c.args.name.now place found, names_count list, devices_count g.P.Peripheral slots) in
     let at = device_at g.P.Peripheral slots place slot within c.index.ensures in
     let some = some_of slot.peripheral (c.is_none.ensures ∙ ap not c.if-is_none.false) in
-    let clash : None ≡ Some (g.P.Peripheral.state some.0) = c.in-None.ensures.taken ∙ standing_is list place (device_of g.P.Peripheral slot) at ∙ ap (option_map g.P.Peripheral.state) some.1 in
+    let clash : None ≡ Some (g.P.Peripheral.state some.0) =
+    c.in-None.ensures.taken ∙ standing_is list place (device_of g.P.Peripheral slot) at ∙ ap (option_map g.P.Peripheral.state) some.1 in
     never clash

@@ -12,7 +12,8 @@ loop-place-preserved g c =
     let whole : length slots ≡ length olds = c.loop-place.invariant.whole ∙ sym count in
     let within : c.loop-place.place < length olds = omega (arith, count, c.args.self.slots.ok.0) in
     record {
-      front = parked_more g.P.Peripheral slots olds c.loop-place.place c.index_mut.result.now c.park.new.self within whole c.loop-place.invariant.front c.index_mut.ensures.value c.park.ensures;
+      front = parked_more g.P.Peripheral slots olds c.loop-place.place c.index_mut.result.now c.park.new.self within whole
+          c.loop-place.invariant.front c.index_mut.ensures.value c.park.ensures;
       whole = length-set slots c.loop-place.place c.park.new.self ∙ c.loop-place.invariant.whole;
     }
 

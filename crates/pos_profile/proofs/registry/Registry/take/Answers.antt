@@ -16,7 +16,8 @@ returns-clause-taken g c =
     let slot = c.index_mut.result.now in
     let within : c.args.place < length slots = omega arith in
     let at = device_at g.P.Peripheral slots c.args.place slot within c.index_mut.ensures.value in
-    ap (option_map g.P.Peripheral.state) c.take.ensures.value ∙ sym (standing_is (devices_of g.P.Peripheral slots) c.args.place (device_of g.P.Peripheral slot) at)
+    ap (option_map g.P.Peripheral.state) c.take.ensures.value
+    ∙ sym (standing_is (devices_of g.P.Peripheral slots) c.args.place (device_of g.P.Peripheral slot) at)
 
 pub returns-clause-vacated : goal.returns-clause-vacated
 returns-clause-vacated g c =

@@ -12,7 +12,8 @@ returns-clause-taken g c =
     let is : c.args.number ≡ suc place = omega arith in
     let within : place < length list = omega arith in
     let at = state_there g.P.Peripheral list place spare within c.index_mut.ensures.value in
-    ap (option_map g.P.Peripheral.state) c.take.ensures.value ∙ sym (spare_is (states_in g.P.Peripheral list) c.args.number place (option_map g.P.Peripheral.state spare) is at)
+    ap (option_map g.P.Peripheral.state) c.take.ensures.value
+    ∙ sym (spare_is (states_in g.P.Peripheral list) c.args.number place (option_map g.P.Peripheral.state spare) is at)
 
 pub returns-clause-left : goal.returns-clause-left
 returns-clause-left g c =

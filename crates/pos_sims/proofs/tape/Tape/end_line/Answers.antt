@@ -16,4 +16,5 @@ pub returns-in-Ok-clause-ok : goal.returns-in-Ok-clause-ok
 returns-in-Ok-clause-ok c =
     let self = c.args.self.now in
     let at : c.len-end.result ≡ length self.characters.items = omega (arith, self.characters.ok.0) in
-    work_line (record { is_bold = self.is_bold; alignment = self.alignment }) self.marks.items c.push.new.self.items self.characters.items self.start c.len-end.result (self.used + 1) c.in-Ok.ensures.items at self.covered
+    work_line (record { is_bold = self.is_bold; alignment = self.alignment }) self.marks.items c.push.new.self.items self.characters.items self.start
+    c.len-end.result (self.used + 1) c.in-Ok.ensures.items at self.covered

@@ -12,7 +12,8 @@ returns-in-Err-clause-paper c = λ e.
     let front = piece.Character c.in-Some.byte ∷ [] in
     let same = ap (λ n. (steps n (work_of c.loop-rest.self) front).used) adds.chars in
     let stops = c.in-Err.ensures.paper e in
-    past_front c.args.self.now.chars (work_of c.loop-rest.self) _ front (pieces c.in-Some.next.now) (pieces c.loop-rest.rest.now) c.args.self.now.limit c.in-Some.ensures.pieces c.loop-rest.invariant.work (omega (arith, same, stops, adds.limit))
+    past_front c.args.self.now.chars (work_of c.loop-rest.self) _ front (pieces c.in-Some.next.now)
+    (pieces c.loop-rest.rest.now) c.args.self.now.limit c.in-Some.ensures.pieces c.loop-rest.invariant.work (omega (arith, same, stops, adds.limit))
 
 pub returns-in-Err-lay_token-clause-paper : goal.returns-in-Err-lay_token-clause-paper
 returns-in-Err-lay_token-clause-paper c = λ e.
@@ -20,4 +21,6 @@ returns-in-Err-lay_token-clause-paper c = λ e.
     let front = pieces_in c.next_token-token.result.0 in
     let same = ap (λ n. (steps n (work_of c.loop-rest.self) front).used) adds.chars in
     let stops = c.in-Err-lay_token.ensures.paper e in
-    past_front c.args.self.now.chars (work_of c.loop-rest.self) _ front (pieces c.next_token-token.result.1.now) (pieces c.loop-rest.rest.now) c.args.self.now.limit c.next_token-token.ensures.pieces c.loop-rest.invariant.work (omega (arith, same, stops, adds.limit))
+    past_front c.args.self.now.chars (work_of c.loop-rest.self) _ front (pieces c.next_token-token.result.1.now)
+    (pieces c.loop-rest.rest.now) c.args.self.now.limit c.next_token-token.ensures.pieces c.loop-rest.invariant.work
+    (omega (arith, same, stops, adds.limit))

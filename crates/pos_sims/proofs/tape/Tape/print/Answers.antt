@@ -9,18 +9,21 @@ use Rattle.pos_sims.proofs.tape.Tape.print.Goals as goal
 
 pub returns-in-Ok-clause-ok : goal.returns-in-Ok-clause-ok
 returns-in-Ok-clause-ok c =
-    asked_made c.args.self.now c.begin.new.self.chars (work_of c.begin.new.self) (work_of c.lay.new.self) (pieces c.args.bytes.now) c.begin.ensures.chars c.begin.ensures.work (c.in-Ok.ensures.ok)
+    asked_made c.args.self.now c.begin.new.self.chars (work_of c.begin.new.self) (work_of c.lay.new.self)
+    (pieces c.args.bytes.now) c.begin.ensures.chars c.begin.ensures.work (c.in-Ok.ensures.ok)
 
 pub returns-in-Ok-clause-used : goal.returns-in-Ok-clause-used
 returns-in-Ok-clause-used c = (
-  asked_used c.args.self.now c.begin.new.self.chars (work_of c.begin.new.self) (work_of c.lay.new.self) (pieces c.args.bytes.now) c.begin.ensures.chars c.begin.ensures.work (c.in-Ok.ensures.ok),
+  asked_used c.args.self.now c.begin.new.self.chars (work_of c.begin.new.self) (work_of c.lay.new.self)
+      (pieces c.args.bytes.now) c.begin.ensures.chars c.begin.ensures.work (c.in-Ok.ensures.ok),
   omega (arith, c.lay.new.self.sparing, c.lay.ensures.adds.limit, c.begin.ensures.limit),
 )
 
 pub returns-in-Err-clause-paper : goal.returns-in-Err-clause-paper
 returns-in-Err-clause-paper c = λ e.
     let all = steps c.begin.new.self.chars (work_of c.begin.new.self) (pieces c.args.bytes.now) in
-    let used = asked_used c.args.self.now c.begin.new.self.chars (work_of c.begin.new.self) all (pieces c.args.bytes.now) c.begin.ensures.chars c.begin.ensures.work refl in
+    let used = asked_used c.args.self.now c.begin.new.self.chars (work_of c.begin.new.self) all
+    (pieces c.args.bytes.now) c.begin.ensures.chars c.begin.ensures.work refl in
     let stop : c.in-Err.stop ≡ stop.PaperEnd = cc in
     let stops = c.in-Err.ensures.paper (ap (λ s. Err s) stop) in
     omega (arith, stops, used, c.begin.ensures.limit)

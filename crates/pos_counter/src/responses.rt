@@ -1,0 +1,92 @@
+//! What a counter's calls answer, as responses.
+ghost use Rattle.std.specs.Prelude.{◌≡◌, true, IfErr, IfOk, false};
+ghost use Rattle.pos_counter.specs.Responses.{HandsOut, attached, answered, detached, made, response_of, shown, taken_in, worked};
+
+use crate::faults::{ControlFault, InputFault, SnapshotFault, WorkFault};
+use pos_service::{
+    Answer, AttachFault, DetachFault, NoMemory, Peripheral, Response, Snapshot, Worked,
+};
+
+/// What `Counter::control` answers.
+pub(crate) fn of_control<P: Peripheral>(answer: Result<usize, ControlFault>) -> Response<P>
+    ensures answer { response_of P.Peripheral result ≡ made answer }
+    ensures handed_out { HandsOut P.Peripheral result }
+{
+    match answer {
+        Ok(number) => Response::Made(number),
+        Err(ControlFault::Full) => Response::Full,
+        Err(ControlFault::NoMemory) => Response::OutOfMemory,
+    }
+}
+
+/// What `Counter::call` answers.
+pub(crate) fn of_call<P: Peripheral>(answer: Result<Answer, NoMemory>) -> Response<P>
+    ensures answer { response_of P.Peripheral result ≡ answered answer }
+    ensures handed_out { HandsOut P.Peripheral result }
+{
+    match answer {
+        Ok(answer) => Response::Answered(answer),
+        Err(NoMemory) => Response::OutOfMemory,
+    }
+}
+
+/// What `Counter::input` answers.
+pub(crate) fn of_input<P: Peripheral>(answer: Result<(), InputFault>) -> Response<P>
+    ensures answer { response_of P.Peripheral result ≡ taken_in answer }
+    ensures handed_out { HandsOut P.Peripheral result }
+{
+    match answer {
+        Ok(()) => Response::TakenIn,
+        Err(InputFault::NoDevice) => Response::NoDevice,
+        Err(InputFault::WrongInput) => Response::WrongInput,
+        Err(InputFault::NoMemory) => Response::OutOfMemory,
+    }
+}
+
+/// What `Counter::work` answers.
+pub(crate) fn of_work<P: Peripheral>(answer: Result<Worked, WorkFault>) -> Response<P>
+    ensures answer { response_of P.Peripheral result ≡ worked answer }
+    ensures handed_out { HandsOut P.Peripheral result }
+{
+    match answer {
+        Ok(worked) => Response::Worked(worked),
+        Err(WorkFault::NoDevice) => Response::NoDevice,
+        Err(WorkFault::NoMemory) => Response::OutOfMemory,
+    }
+}
+
+/// What `Counter::snapshot` answers.
+pub(crate) fn of_snapshot<P: Peripheral>(answer: Result<Snapshot, SnapshotFault>) -> Response<P>
+    ensures answer { response_of P.Peripheral result ≡ shown answer }
+    ensures handed_out { HandsOut P.Peripheral result }
+{
+    match answer {
+        Ok(snapshot) => Response::Shown(snapshot),
+        Err(SnapshotFault::NoDevice) => Response::NoDevice,
+        Err(SnapshotFault::NoMemory) => Response::OutOfMemory,
+    }
+}
+
+/// What `Counter::attach` answers.
+pub(crate) fn of_attach<P: Peripheral>(answer: Result<(), (AttachFault, P)>) -> Response<P>
+    requires { IfErr answer (λ refusal. (P.Peripheral.state refusal.1).is_parked ≡ false) }
+    ensures answer { response_of P.Peripheral result ≡ attached P.Peripheral.state answer }
+    ensures handed_out { HandsOut P.Peripheral result }
+{
+    match answer {
+        Ok(()) => Response::Attached,
+        Err((fault, peripheral)) => Response::NotAttached(fault, peripheral),
+    }
+}
+
+/// What `Counter::detach` answers.
+pub(crate) fn of_detach<P: Peripheral>(answer: Result<P, DetachFault>) -> Response<P>
+    requires { IfOk answer (λ peripheral. (P.Peripheral.state peripheral).is_parked ≡ true) }
+    ensures answer { response_of P.Peripheral result ≡ detached P.Peripheral.state answer }
+    ensures handed_out { HandsOut P.Peripheral result }
+{
+    match answer {
+        Ok(peripheral) => Response::Detached(peripheral),
+        Err(fault) => Response::NotDetached(fault),
+    }
+}

@@ -1,0 +1,7 @@
+use Rattle.std.proofs.Common.{drop}
+use Rattle.pos_dir.specs.Changes.{outcome_of_all}
+use Rattle.pos_dir.proofs.Outlined.{IsStage}
+use Rattle.pos_dir.proofs.outlines.check_within.Given as goal
+
+abbrev pub invariant-loop-change : goal.invariant-loop-change
+invariant-loop-change g l = IsStage l.fn.limits l.outlines.items (drop l.change-index l.change-items) (outcome_of_all l.fn.limits l.fn.files l.fn.group)

@@ -1,0 +1,218 @@
+-- Lines that are carried out one after another, and written as far as they can be.
+use Rattle.std.proofs.Common.{◌≡◌, ◌++◌, ◌∷◌, ◌∙◌, [], inl, inr, ℕ, List, Option, sym, ap, subst, refl, append_assoc, append-nil}
+use Rattle.std.specs.Prelude.{◌⊎◌, Result, Ok, Err, MatchResult}
+use Rattle.std.specs.Io.KnownBytes.{Appends, Keeps}
+use Rattle.std.proofs.KnownBytes.{Appends-trans, Appends-kept}
+use Rattle.pos_counter.specs.Steps.{Request, Response}
+use Rattle.pos_script.specs.Text.{printed}
+use Rattle.pos_script.specs.Writing.{Writes}
+use Rattle.pos_run.specs.declared.scripts.RunFault.{RunFault}
+use Rattle.pos_run.specs.declared.scripts.RunFault.TheVariants as fault
+use Rattle.pos_run.specs.Running.{Finishes, RunsScript, ScriptLeaves, Stops, lines_read}
+use Rattle.pos_run.specs.Streams.{Streams, Writing}
+use Rattle.pos_run.specs.Transcript.{Leads, Session, CarriesOut, LineBecomes, LinesPrint, Transcript}
+
+-- lines and then more
+prints_join : (session : Session) (lines : List (List ℕ)) (steps : List (Request × Response)) (text : List ℕ) (mid : Session) (more : List (List ℕ))
+    (further : List (Request × Response)) (rest : List ℕ) (after : Session) → LinesPrint session lines steps text mid
+    → LinesPrint mid more further rest after → LinesPrint session (lines ++ more) (steps ++ further) (text ++ rest) after
+prints_join session [] steps text mid more further rest after (none, nothing, same) second =
+    subst (λ (s : List (Request × Response)). LinesPrint session more s (text ++ rest) after) (sym (ap (λ s. s ++ further) none))
+    (subst (λ (t : List ℕ). LinesPrint session more further t after) (sym (ap (λ t. t ++ rest) nothing))
+    (subst (λ (s : Session). LinesPrint s more further rest after) same second))
+prints_join session (line ∷ lines) steps text mid more further rest after (outcome, some, back, becomes, prints, is_steps, is_text) second = (
+  outcome,
+  some ++ further,
+  back ++ rest,
+  becomes,
+  prints_join outcome.session lines some back mid more further rest after prints second,
+  ap (λ s. s ++ further) is_steps ∙ append_assoc outcome.steps some further,
+  ap (λ t. t ++ rest) is_text ∙ append_assoc (printed outcome.reply) back rest,
+)
+
+module _ {C : Type 0} (Runs : Leads C) (old : C) (session : Session) where
+  -- no line yet
+  pub finishes_none : Runs old [] old → (contents : Option (List ℕ)) → Appends contents contents [] → Finishes Runs old session [] contents contents session old
+  finishes_none none contents written = record {
+    text = [];
+    transcript = record { steps = []; run = none; prints = (refl, refl, refl) };
+    written = written;
+  }
+
+  -- the same lines, written another way
+  pub finishes_of : (lines others : List (List ℕ)) (before after : Option (List ℕ)) (left : Session) (new : C) → others ≡ lines
+      → Finishes Runs old session lines before after left new → Finishes Runs old session others before after left new
+  finishes_of lines others before after left new same done = subst (λ (ls : List (List ℕ)). Finishes Runs old session ls before after left new) (sym same) done
+
+  pub stops_of : (lines others : List (List ℕ)) (before after : Option (List ℕ)) (left : Session) (new : C) → others ≡ lines
+      → Stops Runs old session lines before after left new → Stops Runs old session others before after left new
+  stops_of lines others before after left new same stops = subst (λ (ls : List (List ℕ)). Stops Runs old session ls before after left new) (sym same) stops
+
+  -- what is known of the writer stays
+  pub finishes_kept : (lines : List (List ℕ)) (before mid after : Option (List ℕ)) (left : Session) (new : C)
+      → Finishes Runs old session lines before mid left new → Keeps mid after → Finishes Runs old session lines before after left new
+  finishes_kept lines before mid after left new done keeps = record {
+    text = done.text;
+    transcript = done.transcript;
+    written = Appends-kept before mid after done.text done.written keeps;
+  }
+
+  -- lines that follow one at which a write failed
+  pub stops_more : (lines more : List (List ℕ)) (before after : Option (List ℕ)) (left : Session) (new : C)
+      → Stops Runs old session lines before after left new → Stops Runs old session (lines ++ more) before after left new
+  stops_more lines more before after left new stops = record {
+    earlier = stops.earlier;
+    line = stops.line;
+    later = stops.later ++ more;
+    text = stops.text;
+    between = stops.between;
+    mid = stops.mid;
+    reply = stops.reply;
+    front = stops.front;
+    back = stops.back;
+    split = ap (λ ls. ls ++ more) stops.split ∙ append_assoc stops.earlier (stops.line ∷ stops.later) more;
+    transcript = stops.transcript;
+    carried = stops.carried;
+    cut = stops.cut;
+    unwritten = stops.unwritten;
+    written = stops.written;
+  }
+
+  -- one line, and what it prints is written as far as it can be
+  pub one_line : {E : Type 0} → Runs old [] old
+      → (line : List ℕ) (reply : Option (List ℕ)) (before after : Option (List ℕ)) (result : Result (Unit {0}) E) (left : Session) (new : C)
+      → CarriesOut Runs old (LineBecomes session line) reply left new → Writes before after (printed reply) result
+      → MatchResult result (λ u. Finishes Runs old session (line ∷ []) before after left new) (λ e. Stops Runs old session (line ∷ []) before after left new)
+  one_line none line reply before after (Ok u) left new carried writes = record {
+    text = printed reply;
+    transcript = record {
+      steps = carried.steps;
+      run = carried.run;
+      prints = (
+        record { reply = reply; steps = carried.steps; session = left },
+        [],
+        [],
+        carried.becomes,
+        (refl, refl, refl),
+        sym (append-nil carried.steps),
+        sym (append-nil (printed reply)),
+      );
+    };
+    written = writes;
+  }
+  one_line none line reply before after (Err e) left new carried (front, back, cut, unwritten, written) = record {
+    earlier = [];
+    line = line;
+    later = [];
+    text = [];
+    between = session;
+    mid = old;
+    reply = reply;
+    front = front;
+    back = back;
+    split = refl;
+    transcript = record { steps = []; run = none; prints = (refl, refl, refl) };
+    carried = carried;
+    cut = cut;
+    unwritten = unwritten;
+    written = written;
+  }
+
+module _ {C : Type 0} (Runs : Leads C) (join : (a b c : C) (s t : List (Request × Response)) → Runs a s b → Runs b t c → Runs a (s ++ t) c) (old : C)
+    (session : Session) (lines : List (List ℕ)) (before between : Option (List ℕ)) (mid_session : Session) (mid : C)
+    (first : Finishes Runs old session lines before between mid_session mid) where
+  transcript_join : (more : List (List ℕ)) (rest : List ℕ) (left : Session) (new : C) → Transcript Runs mid mid_session more rest left new
+      → Transcript Runs old session (lines ++ more) (first.text ++ rest) left new
+  transcript_join more rest left new second = record {
+    steps = first.transcript.steps ++ second.steps;
+    run = join old mid new first.transcript.steps second.steps first.transcript.run second.run;
+    prints = prints_join session lines first.transcript.steps first.text mid_session more second.steps rest left first.transcript.prints second.prints;
+  }
+
+  -- more lines
+  pub finishes_join : (more : List (List ℕ)) (after : Option (List ℕ)) (left : Session) (new : C)
+      → Finishes Runs mid mid_session more between after left new → Finishes Runs old session (lines ++ more) before after left new
+  finishes_join more after left new second = record {
+    text = first.text ++ second.text;
+    transcript = transcript_join more second.text left new second.transcript;
+    written = Appends-trans before between after first.text second.text first.written second.written;
+  }
+
+  -- a write that failed at one of more lines
+  pub stops_join : (more : List (List ℕ)) (after : Option (List ℕ)) (left : Session) (new : C)
+      → Stops Runs mid mid_session more between after left new → Stops Runs old session (lines ++ more) before after left new
+  stops_join more after left new second = record {
+    earlier = lines ++ second.earlier;
+    line = second.line;
+    later = second.later;
+    text = first.text ++ second.text;
+    between = second.between;
+    mid = second.mid;
+    reply = second.reply;
+    front = second.front;
+    back = second.back;
+    split = ap (λ ls. lines ++ ls) second.split ∙ sym (append_assoc lines second.earlier (second.line ∷ second.later));
+    transcript = transcript_join second.earlier second.text second.between second.mid second.transcript;
+    carried = second.carried;
+    cut = second.cut;
+    unwritten = second.unwritten;
+    written = subst (Appends before after) (sym (append_assoc first.text second.text second.front))
+        (Appends-trans before between after first.text (second.text ++ second.front) first.written second.written);
+  }
+
+  -- a fault of the writer at more lines
+  pub fault_join : (others more : List (List ℕ)) (after : Option (List ℕ)) (left : Session) (new : C) → others ≡ lines ++ more
+      → Stops Runs mid mid_session more between after left new ⊎ Finishes Runs mid mid_session more between after left new
+      → Stops Runs old session others before after left new ⊎ Finishes Runs old session others before after left new
+  fault_join others more after left new same (inl stops) =
+      inl (stops_of Runs old session (lines ++ more) others before after left new same (stops_join more after left new stops))
+  fault_join others more after left new same (inr done) =
+      inr (finishes_of Runs old session (lines ++ more) others before after left new same (finishes_join more after left new done))
+
+-- lines by other runs, which each run is one of too
+module _ {C : Type 0} (Runs Through : Leads C) (goes : (a b : C) (steps : List (Request × Response)) → Runs a steps b → Through a steps b) (old : C)
+    (session : Session) (left : Session) (new : C) where
+  finishes_through : (lines : List (List ℕ)) (before after : Option (List ℕ)) → Finishes Runs old session lines before after left new
+      → Finishes Through old session lines before after left new
+  finishes_through lines before after done = record {
+    text = done.text;
+    transcript = record { steps = done.transcript.steps; run = goes _ _ _ done.transcript.run; prints = done.transcript.prints };
+    written = done.written;
+  }
+
+  stops_through : (lines : List (List ℕ)) (before after : Option (List ℕ)) → Stops Runs old session lines before after left new
+      → Stops Through old session lines before after left new
+  stops_through lines before after done = record {
+    earlier = done.earlier;
+    line = done.line;
+    later = done.later;
+    text = done.text;
+    between = done.between;
+    mid = done.mid;
+    reply = done.reply;
+    front = done.front;
+    back = done.back;
+    split = done.split;
+    transcript = record { steps = done.transcript.steps; run = goes _ _ _ done.transcript.run; prints = done.transcript.prints };
+    carried = record { steps = done.carried.steps; run = goes _ _ _ done.carried.run; becomes = done.carried.becomes };
+    cut = done.cut;
+    unwritten = done.unwritten;
+    written = done.written;
+  }
+
+  leaves_through : (lines : List (List ℕ)) (before after : Writing) (result : Result (Unit {0}) RunFault)
+      → ScriptLeaves Runs old session lines before after result left new → ScriptLeaves Through old session lines before after result left new
+  leaves_through lines before after (Ok u) (done, held) = (finishes_through lines before.contents after.contents done, held)
+  leaves_through lines before after (Err fault.Read) (done, held) = (finishes_through lines before.contents after.contents done, held)
+  leaves_through lines before after (Err fault.Write) (inl stops) = inl (stops_through lines before.contents after.contents stops)
+  leaves_through lines before after (Err fault.Write) (inr done) = inr (finishes_through lines before.contents after.contents done)
+  leaves_through lines before after (Err fault.NoMemory) same = same
+
+  pub script_through : (streams : Streams) (result : Result (Unit {0}) RunFault) → RunsScript Runs old session streams result left new
+      → RunsScript Through old session streams result left new
+  script_through streams result script = record {
+    input = script.input;
+    read = script.read;
+    reader = script.reader;
+    run = leaves_through (lines_read streams.reader_after.state script.input) streams.writer streams.writer_after result script.run;
+  }

@@ -1,0 +1,45 @@
+-- The lines that pieces of a script end.
+use Rattle.std.proofs.Common.{◌≡◌, ◌++◌, ◌∷◌, ◌∙◌, [], ℕ, List, sym, ap, subst, append_assoc, append-nil}
+use Rattle.pos_script.specs.LineBuffers.{Kept, StandsFor}
+use Rattle.pos_script.specs.Lines.{complete_lines, unfinished}
+use Rattle.pos_script.proofs.LineLemmas.{go_on_lines}
+
+-- nothing of a piece yet
+pub none_yet : (read : List ℕ) → complete_lines (read ++ []) ≡ complete_lines read ++ []
+none_yet read = ap complete_lines (append-nil read) ∙ sym (append-nil (complete_lines read))
+
+-- so much of a piece, and more
+module _ (read piece seen left : List ℕ) (split : piece ≡ seen ++ left) (lines : List (List ℕ))
+    (are : complete_lines (read ++ seen) ≡ complete_lines read ++ lines) where
+  -- all of it, without a line more
+  pub no_more : (kept : Kept) → complete_lines ((read ++ seen) ++ left) ≡ complete_lines (read ++ seen)
+      → complete_lines (read ++ piece) ≡ complete_lines read ++ lines
+  no_more kept none = ap (λ p. complete_lines (read ++ p)) split ∙ ap complete_lines (sym (append_assoc read seen left)) ∙ none ∙ are
+
+  pub stands_then : (kept : Kept) → StandsFor kept ((read ++ seen) ++ left) → StandsFor kept (read ++ piece)
+  stands_then kept stands = subst (StandsFor kept) (append_assoc read seen left ∙ ap (λ p. read ++ p) (sym split)) stands
+
+  -- a line more
+  module _ (taken rest : List ℕ) (cut : left ≡ taken ++ rest) (line : List ℕ)
+      (ends : complete_lines ((read ++ seen) ++ taken) ≡ complete_lines (read ++ seen) ++ line ∷ []) where
+    pub split_then : piece ≡ (seen ++ taken) ++ rest
+    split_then = split ∙ ap (λ p. seen ++ p) cut ∙ sym (append_assoc seen taken rest)
+
+    pub line_more : complete_lines (read ++ (seen ++ taken)) ≡ complete_lines read ++ (lines ++ line ∷ [])
+    line_more = ap complete_lines (sym (append_assoc read seen taken)) ∙ ends ∙ ap (λ ls. ls ++ line ∷ []) are
+        ∙ append_assoc (complete_lines read) lines (line ∷ [])
+
+    pub rest_none : unfinished ((read ++ seen) ++ taken) ≡ [] → unfinished (read ++ (seen ++ taken)) ≡ []
+    rest_none none = ap unfinished (sym (append_assoc read seen taken)) ∙ none
+
+    -- the lines that the rest of the piece ends
+    abbrev pub later : List (List ℕ)
+    later = complete_lines (unfinished (read ++ (seen ++ taken)) ++ rest)
+
+    pub lines_all : complete_lines (read ++ piece) ≡ complete_lines read ++ ((lines ++ line ∷ []) ++ later)
+    lines_all =
+        ap (λ p. complete_lines (read ++ p)) split_then
+        ∙ ap complete_lines (sym (append_assoc read (seen ++ taken) rest))
+        ∙ go_on_lines (read ++ (seen ++ taken)) rest
+        ∙ ap (λ ls. ls ++ later) line_more
+        ∙ append_assoc (complete_lines read) (lines ++ line ∷ []) later

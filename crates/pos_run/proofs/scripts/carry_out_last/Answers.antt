@@ -1,0 +1,24 @@
+use Rattle.std.proofs.Common.{◌∙◌, ◌∷◌, [], refl, sym, subst, append-nil}
+use Rattle.std.proofs.KnownBytes.{Appends-nil}
+use Rattle.pos_counter.specs.Counters.{IsRun}
+use Rattle.pos_script.specs.LineBuffers.{EndsInput}
+use Rattle.pos_script.specs.Lines.{complete_lines, unfinished}
+use Rattle.pos_run.specs.Carried.{session_of}
+use Rattle.pos_run.specs.Streams.{answers_of}
+use Rattle.pos_run.proofs.Finishing.{finishes_none}
+use Rattle.pos_run.proofs.scripts.carry_out_last.Goals as goal
+
+pub returns-then-is_empty-clause-last : goal.returns-then-is_empty-clause-last
+returns-then-is_empty-clause-last g c = λ read stands.
+    let contents = answers_of g.W.Write.contents c.args.writer.now in
+    let none = subst (λ b. EndsInput read b c.args.held.now) c.if-is_empty.true (c.is_empty.ensures read stands) in (
+      [],
+      none ∙ sym (append-nil (complete_lines read)),
+      finishes_none (IsRun g.D.Disk g.P.Peripheral) c.args.counter.now (session_of g.P.Peripheral c.args.names.now c.args.spares.now) refl contents
+          (Appends-nil contents),
+    )
+
+pub returns-clause-last : goal.returns-clause-last
+returns-clause-last g c = λ read stands.
+    let last = subst (λ b. EndsInput read b c.args.held.now) c.if-is_empty.false (c.is_empty.ensures read stands) in
+    (unfinished read ∷ [], last.0, c.carry_out_held.ensures.line (unfinished read) last.1)

@@ -1,0 +1,24 @@
+use Rattle.std.proofs.Common.{◌≡◌, ◌++◌, ℕ, List, length}
+use Rattle.pos_counter.specs.Counters.{IsCounterSound, IsRun}
+use Rattle.pos_script.specs.LineBuffers.{StandsFor}
+use Rattle.pos_script.specs.Lines.{complete_lines}
+use Rattle.pos_run.specs.Carried.{session_of}
+use Rattle.pos_run.specs.Running.{Finishes}
+use Rattle.pos_run.specs.Spares.{AreSparesSound}
+use Rattle.pos_run.specs.Streams.{answers_of}
+use Rattle.pos_run.proofs.scripts.carry_out_piece.Given as goal
+
+-- the lines so far are carried out
+abbrev pub invariant-loop-rest : goal.invariant-loop-rest
+invariant-loop-rest g l =
+    IsCounterSound g.P.Peripheral l.counter × AreSparesSound g.P.Peripheral l.spares
+    × ((read : List ℕ) → StandsFor l.initial.held read
+    → (seen : List ℕ) × (lines : List (List ℕ)) × (l.piece ≡ seen ++ l.left)
+    × (complete_lines (read ++ seen) ≡ complete_lines read ++ lines)
+    × Finishes (IsRun g.D.Disk g.P.Peripheral) l.initial.counter (session_of g.P.Peripheral l.initial.names l.initial.spares) lines
+    (answers_of g.W.Write.contents l.initial.writer) (answers_of g.W.Write.contents l.writer)
+    (session_of g.P.Peripheral l.names l.spares) l.counter
+    × StandsFor l.held (read ++ seen))
+
+abbrev pub decreases-loop-rest : goal.decreases-loop-rest
+decreases-loop-rest g l = length l.left

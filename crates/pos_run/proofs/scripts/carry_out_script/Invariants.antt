@@ -1,0 +1,26 @@
+use Rattle.std.proofs.Common.{◌≡◌, ◌-◌, ℕ, List}
+use Rattle.std.specs.Io.KnownBytes.{Consumes}
+use Rattle.pos_counter.specs.Counters.{IsCounterSound, IsRun}
+use Rattle.pos_script.specs.LineBuffers.{StandsFor}
+use Rattle.pos_script.specs.Lines.{complete_lines}
+use Rattle.pos_run.specs.declared.reading.ReadState.TheVariants.{Failed}
+use Rattle.pos_run.specs.Carried.{session_of}
+use Rattle.pos_run.specs.Running.{Finishes, lines_read}
+use Rattle.pos_run.specs.Spares.{AreSparesSound}
+use Rattle.pos_run.specs.Streams.{answers_of, most_reads, reading_of}
+use Rattle.pos_run.proofs.scripts.carry_out_script.Given as goal
+
+-- the lines of the bytes that were read so far are carried out, and no read failed
+abbrev pub invariant-loop-reader : goal.invariant-loop-reader
+invariant-loop-reader g l =
+    IsCounterSound g.P.Peripheral l.counter × AreSparesSound g.P.Peripheral l.spares
+    × (input : List ℕ)
+    × Consumes (g.R.Read.remaining l.initial.reader.reader) (g.R.Read.remaining l.reader.reader) input
+    × StandsFor l.held input × (lines_read l.reader.state input ≡ complete_lines input)
+    × (l.reader.state ≡ Failed → reading_of g.R.Read.remaining l.reader ≡ reading_of g.R.Read.remaining l.initial.reader)
+    × Finishes (IsRun g.D.Disk g.P.Peripheral) l.initial.counter (session_of g.P.Peripheral l.initial.names l.initial.spares)
+    (complete_lines input) (answers_of g.W.Write.contents l.initial.writer) (answers_of g.W.Write.contents l.writer)
+    (session_of g.P.Peripheral l.names l.spares) l.counter
+
+abbrev pub decreases-loop-reader : goal.decreases-loop-reader
+decreases-loop-reader g l = most_reads - l.reader.reads

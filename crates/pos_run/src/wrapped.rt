@@ -1,0 +1,108 @@
+//! The wrappers of a simulated peripheral.
+ghost use Rattle.std.specs.Prelude.{◌≡◌, false};
+ghost use Rattle.pos_run.specs.Simulating.{state_of, wrapped_by, wrapped_state};
+
+use crate::simulation::Simulation;
+use pos_service::{Input, Kind, NoMemory, Order, Peripheral, Reply, Signs, Snapshot, Taken};
+use pos_sims::{Flaky, Recorder};
+
+/// A simulated peripheral with the wrappers that its entry asks for. One type has them all, so that a counter's devices
+/// are boxes of one type.
+#[derive(Drop)]
+pub enum Wrapped {
+    /// Without a wrapper.
+    Bare(Simulation),
+    /// Behind a line that fails.
+    Flaky(Flaky<Simulation>),
+    /// Whose orders are counted.
+    Recorded(Recorder<Simulation>),
+    /// Behind a line that fails, and its orders are counted before they reach the line.
+    Both(Recorder<Flaky<Simulation>>),
+}
+
+/// The device in the wrappers: a line that fails by these two numbers, and a recorder round it.
+pub(crate) fn wrap(device: Simulation, flaky: Option<(u32, u32)>, recorded: bool) -> Wrapped
+    requires { (state_of device).is_parked ≡ false }
+    ensures { result ≡ wrapped_by flaky recorded device }
+{
+    let Some((first, times)) = flaky else {
+        return if recorded {
+            Wrapped::Recorded(Recorder::new(device))
+        } else {
+            Wrapped::Bare(device)
+        };
+    };
+    let flaky = Flaky::new(device, first, times);
+    if recorded {
+        Wrapped::Both(Recorder::new(flaky))
+    } else {
+        Wrapped::Flaky(flaky)
+    }
+}
+
+impl Peripheral for Wrapped {
+    ghost state = { λ wrapped. wrapped_state wrapped };
+
+    fn kind(&self) -> Kind {
+        match self {
+            Wrapped::Bare(device) => device.kind(),
+            Wrapped::Flaky(flaky) => flaky.kind(),
+            Wrapped::Recorded(recorder) => recorder.kind(),
+            Wrapped::Both(recorder) => recorder.kind(),
+        }
+    }
+
+    fn signs(&self) -> Signs {
+        match self {
+            Wrapped::Bare(device) => device.signs(),
+            Wrapped::Flaky(flaky) => flaky.signs(),
+            Wrapped::Recorded(recorder) => recorder.signs(),
+            Wrapped::Both(recorder) => recorder.signs(),
+        }
+    }
+
+    fn ask(&mut self, order: &Order) -> Result<Reply, NoMemory> {
+        match self {
+            Wrapped::Bare(device) => device.ask(order),
+            Wrapped::Flaky(flaky) => flaky.ask(order),
+            Wrapped::Recorded(recorder) => recorder.ask(order),
+            Wrapped::Both(recorder) => recorder.ask(order),
+        }
+    }
+
+    fn feed(&mut self, input: &Input) -> Result<Taken, NoMemory> {
+        match self {
+            Wrapped::Bare(device) => device.feed(input),
+            Wrapped::Flaky(flaky) => flaky.feed(input),
+            Wrapped::Recorded(recorder) => recorder.feed(input),
+            Wrapped::Both(recorder) => recorder.feed(input),
+        }
+    }
+
+    fn snapshot(&self) -> Result<Snapshot, NoMemory> {
+        match self {
+            Wrapped::Bare(device) => device.snapshot(),
+            Wrapped::Flaky(flaky) => flaky.snapshot(),
+            Wrapped::Recorded(recorder) => recorder.snapshot(),
+            Wrapped::Both(recorder) => recorder.snapshot(),
+        }
+    }
+
+    fn park(&mut self) {
+        match self {
+            Wrapped::Bare(device) => device.park(),
+            Wrapped::Flaky(flaky) => flaky.park(),
+            Wrapped::Recorded(recorder) => recorder.park(),
+            Wrapped::Both(recorder) => recorder.park(),
+        }
+    }
+
+    fn is_parked(&self) -> bool {
+        match self {
+            Wrapped::Bare(device) => device.is_parked(),
+            Wrapped::Flaky(flaky) => flaky.is_parked(),
+            Wrapped::Recorded(recorder) => recorder.is_parked(),
+            Wrapped::Both(recorder) => recorder.is_parked(),
+        }
+    }
+}

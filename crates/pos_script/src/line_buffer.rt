@@ -1,0 +1,299 @@
+//! A script that comes in pieces, line by line.
+ghost use Rattle.std.specs.Prelude.{◌≡◌, ◌<◌, ◌≤◌, ◌++◌, [], ℕ, true, false, List, length, take, slice_index, option_map, IfOk, IfSome};
+ghost use Rattle.pos_script.specs.Lines.{is_plain, unfinished, without_cr};
+ghost use Rattle.pos_script.specs.LineBuffers.{EndsInput, Feeds, IsHeld, IsLine, StandsFor, are_plain, have_no_feed, is_blank, is_quiet_look, kept_ended, kept_with, look_ended, look_from, look_of, look_with};
+
+use crate::lines::{all_plain, all_spaces, is_plain_byte, is_quiet_line, strip_cr};
+use pos_service::NoMemory;
+use std::alloc::Global;
+use std::marker::Model;
+
+/// How many bytes of a line are kept: the 140,000 of the longest line that isn't refused, and a carriage return.
+const MOST_KEPT: usize = 140_001;
+
+/// How a line looks that is too long to be kept.
+#[derive(Clone, Copy)]
+pub enum Look {
+    /// Its first byte is `#`.
+    Comment,
+    /// It is nothing but spaces.
+    Blank,
+    /// It is nothing but spaces and a carriage return at its end.
+    BlankThenReturn,
+    /// It is another line.
+    Loud,
+}
+
+/// A line of a script (docs/CONSOLE.md, "Lines").
+#[derive(Clone, Copy)]
+pub enum Line<'a> {
+    /// It prints nothing: a comment, or nothing but spaces.
+    Quiet,
+    /// It is a `bad line`: longer than 140,000 bytes, or with a byte that is neither a space nor a sign that ASCII
+    /// prints.
+    Misspelled,
+    /// It is well spelled, and these are its bytes.
+    Words(&'a [u8]),
+}
+
+/// Whether eight bytes are plain, all looked at together.
+fn are_eight_plain(bytes: &[u8]) -> bool
+    requires { length bytes.now ≡ 8 }
+    ensures { result ≡ are_plain bytes.now }
+{
+    is_plain_byte(bytes[0])
+        & is_plain_byte(bytes[1])
+        & is_plain_byte(bytes[2])
+        & is_plain_byte(bytes[3])
+        & is_plain_byte(bytes[4])
+        & is_plain_byte(bytes[5])
+        & is_plain_byte(bytes[6])
+        & is_plain_byte(bytes[7])
+}
+
+/// A place in a piece before which all bytes are plain, found by eights.
+fn skip_eights(piece: &[u8]) -> usize
+    ensures bound { result ≤ length piece.now }
+    ensures plain { are_plain (take result piece.now) ≡ true }
+{
+    let mut place = 0;
+    while piece.len() - place >= 8 && are_eight_plain(&piece[place..place + 8]) {
+        place += 8;
+    }
+    place
+}
+
+/// How many bytes of a piece are plain, up to the first that isn't.
+fn count_plain(piece: &[u8]) -> usize
+    ensures bound { result ≤ length piece.now }
+    ensures plain { are_plain (take result piece.now) ≡ true }
+    ensures end { result < length piece.now → is_plain (slice_index piece.now result) ≡ false }
+{
+    for place in skip_eights(piece)..piece.len() {
+        if !is_plain_byte(piece[place]) {
+            return place;
+        }
+    }
+    piece.len()
+}
+
+/// Where the first line feed of a piece stands, if none stands before `from`; the length where there is none.
+fn find_feed(piece: &[u8], from: usize) -> usize
+    requires bound { from ≤ length piece.now }
+    requires front { have_no_feed (take from piece.now) ≡ true }
+    ensures bound { result ≤ length piece.now }
+    ensures from { from ≤ result }
+    ensures front { have_no_feed (take result piece.now) ≡ true }
+    ensures end { result < length piece.now → slice_index piece.now result ≡ 10 }
+{
+    for place in from..piece.len() {
+        if piece[place] == b'\n' {
+            return place;
+        }
+    }
+    piece.len()
+}
+
+/// Where the first line feed of a piece stands, or its length where there is none; and whether the bytes before are
+/// plain.
+fn find_end(piece: &[u8]) -> (usize, bool)
+    ensures bound { result.0 ≤ length piece.now }
+    ensures front { have_no_feed (take result.0 piece.now) ≡ true }
+    ensures end { result.0 < length piece.now → slice_index piece.now result.0 ≡ 10 }
+    ensures plain { result.1 ≡ are_plain (take result.0 piece.now) }
+{
+    let plain = count_plain(piece);
+    if plain == piece.len() || piece[plain] == b'\n' {
+        return (plain, true);
+    }
+    (find_feed(piece, plain), false)
+}
+
+/// How a line looks that goes on by bytes, where it isn't empty before them.
+fn go_on(look: Look, bytes: &[u8]) -> Look
+    ensures { result ≡ look_with look bytes.now }
+{
+    match look {
+        _ if bytes.is_empty() => look,
+        Look::Comment => Look::Comment,
+        Look::Blank => look_behind_spaces(bytes),
+        Look::BlankThenReturn | Look::Loud => Look::Loud,
+    }
+}
+
+/// How a line looks whose last bytes are these, behind spaces or nothing.
+fn look_behind_spaces(bytes: &[u8]) -> Look
+    ensures { result ≡ look_from false (is_blank bytes.now) (is_blank (without_cr bytes.now)) }
+{
+    if all_spaces(bytes) {
+        return Look::Blank;
+    }
+    if all_spaces(strip_cr(bytes)) {
+        return Look::BlankThenReturn;
+    }
+    Look::Loud
+}
+
+/// How a line looks.
+fn look_whole(line: &[u8]) -> Look
+    ensures { result ≡ look_of line.now }
+{
+    if !line.is_empty() && line[0] == b'#' {
+        return Look::Comment;
+    }
+    look_behind_spaces(line)
+}
+
+/// How a line looks that is in two parts.
+fn look_at(front: &[u8], rest: &[u8]) -> Look
+    ensures { result ≡ look_of (front.now ++ rest.now) }
+{
+    if front.is_empty() {
+        return look_whole(rest);
+    }
+    go_on(look_whole(front), rest)
+}
+
+/// How a line looks at its line feed, where a carriage return before it doesn't count.
+fn end_look(look: Look) -> Look
+    ensures { result ≡ look_ended look }
+{
+    match look {
+        Look::BlankThenReturn => Look::Blank,
+        _ => look,
+    }
+}
+
+/// Whether a line that looks so prints nothing.
+fn is_passed_over(look: Look) -> bool
+    ensures { result ≡ is_quiet_look look }
+{
+    match look {
+        Look::Comment | Look::Blank => true,
+        Look::BlankThenReturn | Look::Loud => false,
+    }
+}
+
+/// What was read of a line of a script, which comes in pieces (docs/CONSOLE.md, "Lines"). Want of memory is met when it
+/// is made, and never later.
+#[derive(Drop)]
+pub struct LineBuffer {
+    bytes: Vec<u8>,
+    is_plain: bool,
+    passed: Option<Look>,
+}
+
+impl Model for LineBuffer {
+    ghost use Rattle.std.specs.Prelude.{◌≡◌, ◌≤◌, vec_capacity, vec_len};
+    ghost use Rattle.pos_script.specs.LineBuffers.{Kept, are_plain, kept_from};
+
+    ghost Value = { Kept };
+
+    ghost view = { λ a. kept_from a.bytes.items a.passed };
+
+    ghost invariant = { λ a. (140001 ≤ vec_capacity a.bytes) × (vec_len a.bytes ≤ 140001)
+        × (a.is_plain ≡ are_plain a.bytes.items) };
+}
+
+impl LineBuffer {
+    /// A buffer with room for a line, of which nothing was read.
+    pub fn new(alloc: Global) -> Result<LineBuffer, NoMemory>
+        ensures { IfOk result (λ buffer. StandsFor buffer []) }
+    {
+        match Vec::with_capacity(alloc, MOST_KEPT) {
+            Ok(bytes) => Ok(LineBuffer {
+                bytes,
+                is_plain: true,
+                passed: None,
+            }),
+            Err(_) => Err(NoMemory),
+        }
+    }
+
+    /// Takes from a piece, which comes behind what was read, the bytes up to and with the first line feed, and gives
+    /// what it leaves: then a line is held, until the buffer is cleared for the next. Takes all of a piece without a
+    /// line feed, and gives nothing.
+    pub fn feed<'a>(&mut self, piece: &'a [u8]) -> Option<&'a [u8]>
+        ensures lines { (read : List ℕ) → StandsFor self.old read
+            → Feeds read piece.now (option_map (λ rest. rest.now) result) self.new }
+        ensures shorter { IfSome result (λ rest. length rest.now < length piece.now) }
+    {
+        let (end, is_plain) = find_end(piece);
+        self.add(&piece[..end], is_plain);
+        if end == piece.len() {
+            return None;
+        }
+        self.end_line();
+        Some(&piece[end + 1..])
+    }
+
+    /// Adds bytes to a line, of which it is said whether all are plain.
+    fn add(&mut self, bytes: &[u8], is_plain: bool)
+        requires { is_plain ≡ are_plain bytes.now }
+        ensures { self.new ≡ kept_with self.old bytes.now }
+    {
+        match self.passed {
+            Some(look) => self.passed = Some(go_on(look, bytes)),
+            None if bytes.len() <= MOST_KEPT - self.bytes.len() => {
+                let _ = self.bytes.extend_from_slice(bytes);
+                self.is_plain = self.is_plain && is_plain;
+            }
+            None => self.passed = Some(look_at(self.bytes.as_slice(), bytes)),
+        }
+    }
+
+    /// Drops a carriage return at the end of a line.
+    fn end_line(&mut self)
+        ensures { self.new ≡ kept_ended self.old }
+    {
+        if let Some(look) = self.passed {
+            self.passed = Some(end_look(look));
+            return;
+        }
+        let len = self.bytes.len();
+        if len > 0 && self.bytes[len - 1] == b'\r' {
+            self.bytes.truncate(len - 1);
+            self.is_plain = all_plain(self.bytes.as_slice());
+        }
+    }
+
+    /// Whether nothing is held: at the end of the input, whether there is no last line that lacks its line feed.
+    pub fn is_empty(&self) -> bool
+        ensures { (read : List ℕ) → StandsFor self.now read → EndsInput read result self.now }
+    {
+        match self.passed {
+            Some(_) => false,
+            None => self.bytes.as_slice().is_empty(),
+        }
+    }
+
+    /// The line that is held.
+    pub fn line(&self) -> Line<'_>
+        ensures { (line : List ℕ) → IsHeld self.now line → IsLine result line }
+    {
+        if let Some(look) = self.passed {
+            return if is_passed_over(look) {
+                Line::Quiet
+            } else {
+                Line::Misspelled
+            };
+        }
+        let bytes = self.bytes.as_slice();
+        if is_quiet_line(bytes) {
+            return Line::Quiet;
+        }
+        if bytes.len() <= 140_000 && self.is_plain {
+            return Line::Words(bytes);
+        }
+        Line::Misspelled
+    }
+
+    /// Makes room for the next line.
+    pub fn clear(&mut self)
+        ensures { (read : List ℕ) → unfinished read ≡ [] → StandsFor self.new read }
+    {
+        self.bytes.clear();
+        self.is_plain = true;
+        self.passed = None;
+    }
+}

@@ -1,0 +1,71 @@
+ghost use Rattle.std.specs.Prelude.{◌≡◌, true, false};
+ghost use Rattle.pos_service.specs.Peripherals.{Asked, counted, order_fits};
+ghost use Rattle.pos_sims.specs.Recorders.{recorder_of, state_of};
+
+use pos_service::{Input, Kind, NoMemory, Order, Peripheral, Reply, Signs, Snapshot, Taken};
+
+/// A peripheral whose orders are counted, whatever comes of them. Each goes on to the peripheral within, and what it
+/// is, shows and takes is that one's.
+#[derive(Drop)]
+pub struct Recorder<P: Peripheral> {
+    inner: P,
+    asks: u64,
+}
+
+impl<P: Peripheral> Recorder<P> {
+    /// A recorder of a peripheral that is in service. It has counted none of its orders.
+    pub fn new(inner: P) -> Self
+        requires { (P.Peripheral.state inner).is_parked ≡ false }
+        ensures { result ≡ recorder_of inner }
+    {
+        Recorder { inner, asks: 0 }
+    }
+
+    /// How many orders came; at 18,446,744,073,709,551,615 it stays.
+    pub fn asks(&self) -> u64
+        ensures { result ≡ (state_of P.Peripheral self.now).orders }
+    {
+        self.asks
+    }
+}
+
+impl<P: Peripheral> Peripheral for Recorder<P> {
+    ghost state = { λ recorder. state_of P.Peripheral recorder };
+
+    fn kind(&self) -> Kind {
+        self.inner.kind()
+    }
+
+    fn signs(&self) -> Signs {
+        self.inner.signs()
+    }
+
+    fn ask(&mut self, order: &Order) -> Result<Reply, NoMemory>
+        ensures asked { let state = state_of P.Peripheral in
+            (state self.old).is_parked ≡ false → order_fits (state self.old).kind order.now ≡ true →
+            Asked (state self.old) order.now result (state self.new) }
+        ensures counts { self.new.asks ≡ counted self.old.asks }
+        ensures passes { let state = P.Peripheral.state in
+            (state self.old.inner).is_parked ≡ false → order_fits (state self.old.inner).kind order.now ≡ true →
+            Asked (state self.old.inner) order.now result (state self.new.inner) }
+    {
+        self.asks = self.asks.saturating_add(1);
+        self.inner.ask(order)
+    }
+
+    fn feed(&mut self, input: &Input) -> Result<Taken, NoMemory> {
+        self.inner.feed(input)
+    }
+
+    fn snapshot(&self) -> Result<Snapshot, NoMemory> {
+        self.inner.snapshot()
+    }
+
+    fn park(&mut self) {
+        self.inner.park();
+    }
+
+    fn is_parked(&self) -> bool {
+        self.inner.is_parked()
+    }
+}

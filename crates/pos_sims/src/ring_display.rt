@@ -1,0 +1,123 @@
+ghost use Rattle.std.specs.Prelude.{◌≡◌, ◌≤◌, true, false, IsOk, IfOk};
+ghost use Rattle.pos_service.specs.Displays.{blank_display};
+ghost use Rattle.pos_service.specs.Peripherals.{Asked, Fed, order_fits};
+ghost use Rattle.pos_sims.specs.LineDisplays.{display_state};
+ghost use Rattle.pos_sims.specs.RingDisplays.{state_of};
+
+use crate::ring::Ring;
+use pos_service::display_text::Place;
+use pos_service::{
+    DisplayCells, Input, Kind, NoMemory, Order, PaperLevel, Peripheral, Plant, Reply, Signs,
+    Snapshot, Taken,
+};
+use std::alloc::Global;
+
+/// A line display as `PlainDisplay`, whose rows are a ring: a scroll up or down by a row moves no cell (chapter Line
+/// Display). Its cells are made by `new`; after that a snapshot alone takes memory.
+#[derive(Drop)]
+pub struct RingDisplay {
+    alloc: Global,
+    ring: Ring,
+    is_parked: bool,
+    orders: u64,
+}
+
+impl RingDisplay {
+    /// A blank display of 1 to 8 rows of 1 to 80 columns that is in service.
+    pub fn new(alloc: Global, rows: u32, columns: u32) -> Result<Self, NoMemory>
+        requires rows { (1 ≤ rows) × (rows ≤ 8) }
+        requires columns { (1 ≤ columns) × (columns ≤ 80) }
+        ensures { IfOk result (λ display. state_of display ≡ display_state (blank_display rows columns) false) }
+    {
+        let ring = Ring::new(alloc, rows, columns)?;
+        Ok(RingDisplay {
+            alloc,
+            ring,
+            is_parked: false,
+            orders: 0,
+        })
+    }
+}
+
+impl Peripheral for RingDisplay {
+    ghost state = { λ display. state_of display };
+
+    fn kind(&self) -> Kind {
+        self.ring.kind()
+    }
+
+    fn signs(&self) -> Signs {
+        Signs {
+            drawer_open: false,
+            cover_open: false,
+            paper: PaperLevel::Good,
+        }
+    }
+
+    fn ask(&mut self, order: &Order) -> Result<Reply, NoMemory>
+        ensures asked { (state_of self.old).is_parked ≡ false → order_fits (state_of self.old).kind order.now ≡ true →
+            Asked (state_of self.old) order.now result (state_of self.new) }
+        ensures takes_no_memory { IsOk result }
+    {
+        self.orders = self.orders.saturating_add(1);
+        if !order.fits(self.kind()) {
+            return Ok(Reply::LineFault);
+        }
+        match order {
+            Order::ShowText {
+                row,
+                column,
+                attribute,
+                bytes,
+            } => {
+                let start = Place {
+                    row: *row,
+                    column: *column,
+                };
+                self.ring.show(start, *attribute, bytes.as_slice());
+                Ok(Reply::Done)
+            }
+            Order::ClearText => {
+                self.ring.clear();
+                Ok(Reply::Done)
+            }
+            Order::Scroll { direction, units } => {
+                self.ring.scroll(*direction, *units);
+                Ok(Reply::Done)
+            }
+            _ => unreachable!(),
+        }
+    }
+
+    fn feed(&mut self, input: &Input) -> Result<Taken, NoMemory>
+        ensures fed { (state_of self.old).is_parked ≡ false →
+            Fed (state_of self.old) input.now result (state_of self.new) }
+        ensures takes_no_memory { IsOk result }
+    {
+        match input {
+            Input::DrawerMoved(_)
+            | Input::Scan {
+                kind: _,
+                bytes: _,
+                label: _,
+            }
+            | Input::ScanFault
+            | Input::CoverMoved(_)
+            | Input::PaperLoaded(_) => Ok(Taken::Quiet),
+        }
+    }
+
+    fn snapshot(&self) -> Result<Snapshot, NoMemory> {
+        let cells = self.ring.copy(self.alloc)?;
+        let shown = DisplayCells::new(self.ring.rows(), self.ring.columns(), cells);
+        Ok(Snapshot(Plant::Display(shown)))
+    }
+
+    fn park(&mut self) {
+        self.is_parked = true;
+    }
+
+    fn is_parked(&self) -> bool {
+        self.is_parked
+    }
+}

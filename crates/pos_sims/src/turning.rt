@@ -1,0 +1,197 @@
+ghost use Rattle.std.specs.Prelude.{◌≡◌, ◌+◌, ◌*◌, ◌<◌, ◌≤◌, true, vec_len, IfOk};
+ghost use Rattle.pos_service.specs.Displays.{ShowsText, Scrolls, blank_display, is_cursor_place, most_units};
+ghost use Rattle.pos_service.specs.declared.kind.Kind.TheVariants as kind;
+ghost use Rattle.pos_service.specs.declared.plant.Plant.TheVariants as plant;
+ghost use Rattle.pos_service.specs.Peripherals.{IsInRange, IsPlantOf};
+ghost use Rattle.pos_sims.specs.Rings.{IsAbove, IsBelow, StandsAt, blanked, shown_on};
+ghost use Rattle.pos_sims.specs.Windows.{SameSize, ShiftsToEnd, ShiftsToFront};
+
+use crate::grid::Grid;
+use crate::laying::{Manner, lay_text};
+use crate::ring::Ring;
+use crate::scrolling::{move_to_end, move_to_front};
+use pos_service::display_text::{Attribute, BLANK, Direction, DisplayCell, Place};
+use pos_service::{Kind, NoMemory};
+use std::alloc::Global;
+
+/// The row below a row of a ring of so many.
+fn below(row: u32, rows: u32) -> u32
+    requires { row < rows }
+    ensures { IsBelow rows row result }
+{
+    if row + 1 == rows { 0 } else { row + 1 }
+}
+
+/// The row above a row of a ring of so many.
+fn above(row: u32, rows: u32) -> u32
+    requires { row < rows }
+    ensures { IsAbove rows row result }
+{
+    if row == 0 { rows - 1 } else { row - 1 }
+}
+
+/// Where a cell of the window stands in a ring of so many cells, of which the one at `start` comes first.
+fn in_ring(at: usize, start: usize, count: usize) -> usize
+    requires at { at < count }
+    requires start { start ≤ count }
+    ensures stands { StandsAt at start count result }
+    ensures in_range { result < count }
+{
+    let behind = count - start;
+    if at < behind { start + at } else { at - behind }
+}
+
+impl Ring {
+    /// A window of 1 to 8 rows of 1 to 80 columns that shows nothing.
+    pub fn new(alloc: Global, rows: u32, columns: u32) -> Result<Self, NoMemory>
+        requires rows { (1 ≤ rows) × (rows ≤ 8) }
+        requires columns { (1 ≤ columns) × (columns ≤ 80) }
+        ensures { IfOk result (λ ring. shown_on ring ≡ blank_display rows columns) }
+    {
+        let cells = Vec::from_elem(alloc, BLANK, rows as usize * columns as usize)?;
+        Ok(Ring {
+            rows,
+            columns,
+            first: 0,
+            cells,
+        })
+    }
+
+    /// The number of rows, 1 to 8.
+    pub fn rows(&self) -> u32
+        ensures rows { result ≡ (shown_on self.now).rows }
+        ensures in_range { (1 ≤ result) × (result ≤ 8) }
+    {
+        self.rows
+    }
+
+    /// The number of columns, 1 to 80.
+    pub fn columns(&self) -> u32
+        ensures columns { result ≡ (shown_on self.now).columns }
+        ensures in_range { (1 ≤ result) × (result ≤ 80) }
+    {
+        self.columns
+    }
+
+    /// What a display with this window is.
+    pub fn kind(&self) -> Kind
+        ensures kind { result ≡ kind.Display (shown_on self.now).rows (shown_on self.now).columns }
+        ensures in_range { IsInRange result }
+        ensures plant { IsPlantOf result (plant.Display (shown_on self.now)) }
+    {
+        let (rows, columns) = (self.rows, self.columns);
+        Kind::Display { rows, columns }
+    }
+
+    /// Where the first row of the window begins among the cells.
+    fn start(&self) -> usize
+        ensures start { result ≡ self.now.first * self.now.columns }
+        ensures row { result + self.now.columns ≤ vec_len self.now.cells }
+    {
+        self.first as usize * self.columns as usize
+    }
+
+    /// A copy of the cells of the window, row by row.
+    pub fn copy(&self, alloc: Global) -> Result<Vec<DisplayCell>, NoMemory>
+        ensures { IfOk result (λ cells. cells.items ≡ (shown_on self.now).cells) }
+    {
+        let start = self.start();
+        let mut cells = Vec::with_capacity(alloc, self.cells.len())?;
+        cells.extend_from_slice(&self.cells[start..])?;
+        cells.extend_from_slice(&self.cells[..start])?;
+        Ok(cells)
+    }
+
+    /// Blanks the first row.
+    fn blank_first_row(&mut self)
+        ensures cells { self.new.cells.items ≡ (let at = self.old.first * self.old.columns in
+            blanked at self.old.columns self.old.cells.items) }
+        ensures first { self.new.first ≡ self.old.first }
+        ensures rows { self.new.rows ≡ self.old.rows }
+        ensures columns { self.new.columns ≡ self.old.columns }
+    {
+        let (start, columns) = (self.start(), self.columns as usize);
+        self.cells[start..start + columns].fill(BLANK);
+    }
+
+    /// Each row is the one that stood above it, and the first is blank.
+    fn feed_back(&mut self)
+        ensures size { SameSize (shown_on self.old) (shown_on self.new) }
+        ensures moved { ShiftsToEnd (shown_on self.old).columns (shown_on self.old).cells (shown_on self.new).cells }
+    {
+        self.first = above(self.first, self.rows);
+        self.blank_first_row();
+    }
+
+    /// Shows a text with an attribute from a place on, as `Window::show`.
+    pub fn show(&mut self, start: Place, attribute: Attribute, bytes: &[u8])
+        requires { is_cursor_place (shown_on self.old).rows (shown_on self.old).columns start ≡ true }
+        ensures { ShowsText (shown_on self.old) start attribute bytes.now (shown_on self.new) }
+    {
+        let manner = Manner {
+            rows: self.rows,
+            columns: self.columns,
+            attribute,
+        };
+        lay_text(self, manner, start, bytes);
+    }
+
+    /// What is shown moves up by so many rows.
+    fn scroll_up(&mut self, units: u32)
+        ensures size { SameSize (shown_on self.old) (shown_on self.new) }
+        ensures moved { let old = shown_on self.old in
+            ShiftsToFront (units * old.columns) old.cells (shown_on self.new).cells }
+    {
+        for _ in 0..units {
+            self.feed_row();
+        }
+    }
+
+    /// What is shown moves down by so many rows.
+    fn scroll_down(&mut self, units: u32)
+        ensures size { SameSize (shown_on self.old) (shown_on self.new) }
+        ensures moved { let old = shown_on self.old in
+            ShiftsToEnd (units * old.columns) old.cells (shown_on self.new).cells }
+    {
+        for _ in 0..units {
+            self.feed_back();
+        }
+    }
+
+    /// Moves what is shown in a direction by 0 to as many units as there are rows (up, down) or columns (left,
+    /// right). Blanks fill what is vacated.
+    pub fn scroll(&mut self, direction: Direction, units: u32)
+        requires { units ≤ most_units (shown_on self.old).rows (shown_on self.old).columns direction }
+        ensures { Scrolls (shown_on self.old) direction units (shown_on self.new) }
+    {
+        let columns = self.columns as usize;
+        match direction {
+            Direction::Up => self.scroll_up(units),
+            Direction::Down => self.scroll_down(units),
+            Direction::Left => move_to_front(self.cells.as_mut_slice(), columns, units as usize),
+            Direction::Right => move_to_end(self.cells.as_mut_slice(), columns, units as usize),
+        }
+    }
+
+    /// Blanks all cells.
+    pub fn clear(&mut self)
+        ensures { shown_on self.new ≡ blank_display (shown_on self.old).rows (shown_on self.old).columns }
+    {
+        self.first = 0;
+        self.cells.fill(BLANK);
+    }
+}
+
+impl Grid for Ring {
+    ghost shown = { λ ring. shown_on ring };
+
+    fn put_cell(&mut self, at: usize, cell: DisplayCell) {
+        let place = in_ring(at, self.start(), self.cells.len());
+        self.cells[place] = cell;
+    }
+
+    fn feed_row(&mut self) {
+        self.blank_first_row();
+        self.first = below(self.first, self.rows);
+    }
+}

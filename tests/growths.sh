@@ -1,0 +1,207 @@
+#!/usr/bin/env bash
+# Refuses each growth of memory in turn. Over the program it runs each script of crates/pos_console/scripts and refuses the
+# first growth of the run, then the second alone, and so on until a run meets none. Each time
+#   either the run has ended for want of memory before its first line, with nothing printed;
+#   or one line was answered `memory`, all before it as ever, and where that line is written twice, with the same growth
+#   refused, all else is answered as without a refusal, and the disk in the end has the bytes of NAME.left.
+# Over the tests crates that were built it runs the tests that go on after a refusal likewise: they pass, or end where they
+# find no memory for what they begin with.
+# Usage: tests/growths.sh [-v] [PROGRAM]. With -v it says how many growths each script has. It needs a C compiler: the one of
+# the kit, by rt, or cc. Its last line is 'N passed, M failed'; it ends with 0 where none failed.
+set -u
+export LC_ALL=C
+is_loud=
+[ "${1:-}" = -v ] && { is_loud=1; shift; }
+top=$(cd "$(dirname "$0")/.." && pwd)
+scripts=$top/crates/pos_console/scripts
+program=$(realpath "${1:-$top/crates/pos_console/out/pos_console}")
+work=$(mktemp -d)
+trap 'rm -rf "$work"' EXIT
+cd "$work" || exit 1
+passed=0
+failed=0
+all=0
+
+# malloc and realloc of the C library, but for the growth with the number REFUSED, whose refusal is told at descriptor 9
+cat > refuse.c <<'C'
+typedef unsigned long size;
+extern void *__libc_malloc(size);
+extern void *__libc_realloc(void *, size);
+extern char *getenv(const char *);
+extern long write(int, const void *, size);
+static long left = -1;
+static int is_refused(void) {
+  if (left < 0) {
+    const char *digits = getenv("REFUSED");
+    for (left = 0; digits && *digits; digits++) left = left * 10 + (*digits - '0');
+    if (left == 0) left = 1L << 62;
+  }
+  if (left == 0 || --left != 0) return 0;
+  return write(9, "refused\n", 8) == 8;
+}
+void *malloc(size n) { return is_refused() ? 0 : __libc_malloc(n); }
+void *realloc(void *p, size n) { return is_refused() ? 0 : __libc_realloc(p, n); }
+C
+kit=$(command -v rt) && kit=$(dirname "$(dirname "$(realpath "$kit")")")/toolchain/bin/clang
+[ -x "$kit" ] || kit=cc
+"$kit" -O1 -shared -fPIC -nostdlib -o refuse.so refuse.c || { echo "no C compiler: 0 passed, 1 failed"; exit 1; }
+
+# refuse NUMBER INPUT WORD ..: runs the words with that growth refused. What they print is in `out` and `err`, and `met` is
+# empty where there is no such growth
+refuse() {
+  local number=$1 input=$2
+  shift 2
+  [ ! -f disk.start ] || cp disk.start disk
+  REFUSED=$number LD_PRELOAD=$work/refuse.so "$@" < "$input" > out 2> err 9> met
+}
+
+# tell NAME WHAT: a growth that was refused in another way than it has to be
+tell() {
+  failed=$((failed + 1))
+  echo "failed: $1: $2"
+}
+
+# padded SCRIPT LENGTH: the script behind a comment of so many bytes, so that one with a line more is as long
+padded() {
+  printf '#%*s\n' "$2" ''
+  cat "$1"
+}
+
+# repeat SCRIPT WANTED LINE: writes into `script` and `wanted` the script with the line twice that prints the line LINE of
+# WANTED, and what that prints
+repeat() {
+  local asks length
+  asks=$(awk '!/^#/ && !/^ *\r?$/ { print NR }' "$1" | sed -n "$3p")
+  length=$(sed -n "${asks}p" "$1" | wc -c)
+  sed "${asks}p" "$1" > twice
+  padded twice $((longest - length)) > script
+  { head -n $(($3 - 1)) "$2"; echo memory; tail -n +"$3" "$2"; } > wanted
+}
+
+# is_left FILE: whether the file `disk` has these bytes
+is_left() {
+  local place hex
+  while read -r place hex; do
+    [ "$place" = '#' ] && continue
+    hex=$(expand "$hex")
+    [ "$(tail -c +$((place + 1)) disk | head -c $((${#hex} / 2)) | od -An -v -tx1 | tr -d ' \n')" = "$hex" ] || return 1
+  done < "$1"
+}
+
+# expand HEX ..: the bytes in hex, without blanks, with what stands N times written out
+expand() {
+  local word
+  for word in $1; do
+    case $word in
+      *\**) printf "${word%\**}%.0s" $(seq "${word#*\*}") ;;
+      *) printf '%s' "$word" ;;
+    esac
+  done
+}
+
+# lay_disk FILE: makes the file `disk` by places and bytes
+lay_disk() {
+  local place hex
+  rm -f disk
+  truncate -s 327680 disk
+  while read -r place hex; do
+    [ "$place" = '#' ] && continue
+    printf "$(sed 's/../\\x&/g' <<< "$(expand "$hex")")" | dd of=disk bs=1 seek="$place" conv=notrunc status=none
+  done < "$1"
+}
+
+# refuse_each NAME SCRIPT WORD ..: refuses each growth of the program with these words over a script
+refuse_each() {
+  local name=$1 script=$2 number line status before=0 lines=0
+  shift 2
+  longest=$(awk '{ if (length > most) most = length } END { print most + 2 }' "$script")
+  padded "$script" "$longest" > first
+  for ((number = 1; ; number++)); do
+    refuse "$number" first "$program" "$@"
+    status=$?
+    [ -s met ] || break
+    if [ "$status" -eq 6 ]; then
+      before=$((before + 1))
+      [ "$(cat out err)" = 'pos_console: no memory' ] || tell "$name" "growth $number: want of memory in the midst"
+      continue
+    fi
+    lines=$((lines + 1))
+    line=$(cmp out "$script.stdout" 2> /dev/null | sed 's/.* //')
+    if [ "$status" -ne 0 ] || [ -z "$line" ] || [ "$(sed -n "${line}p" out)" != memory ]; then
+      tell "$name" "growth $number: line ${line:-none} is answered $(sed -n "${line:-1}p" out), status $status"
+      continue
+    fi
+    repeat "$script" "$script.stdout" "$line"
+    if ! refuse "$number" script "$program" "$@" || ! cmp -s out wanted; then
+      tell "$name" "growth $number: line $line and what follows: $(diff wanted out | head -n 4 | tr '\n' ' ')"
+    elif [ -f "$script.left" ] && ! is_left "$script.left"; then
+      tell "$name" "growth $number: the disk is left otherwise"
+    else
+      passed=$((passed + 1))
+    fi
+  done
+  all=$((all + before + lines))
+  passed=$((passed + before))
+  [ "$status" -eq 0 ] && cmp -s out "$script.stdout" || tell "$name" "the run that meets no refusal"
+  [ -z "$is_loud" ] || echo "$name: $before growths before the first line, $lines in lines"
+}
+
+for script in "$scripts"/*; do
+  case $script in
+    *.stdout | *.profile | *.disk | *.left) continue ;;
+  esac
+  name=${script##*/}
+  rm -f disk.start
+  over=(run --profile "$script.profile" --disk disk)
+  if [ ! -f "$script.profile" ]; then
+    refuse_each "$name" "$script"
+  elif [ ! -f "$script.disk" ]; then
+    rm -f disk
+    "$program" format --disk disk
+    mv disk disk.start
+    refuse_each "$name" "$script" "${over[@]}"
+  else
+    rm -f paragraph-*
+    awk -v RS= '{ print > sprintf("paragraph-%02d", NR) }' "$script.disk"
+    for paragraph in paragraph-*; do
+      lay_disk "$paragraph"
+      mv disk disk.start
+      refuse_each "$name over its ${paragraph/-/ }" "$script" "${over[@]}"
+    done
+  fi
+done
+echo "$all growths of the program"
+
+# refuse_in_test TESTS NAME: refuses each growth of a test. It passes, or ends with a fault of memory
+refuse_in_test() {
+  local name=${1##*/}: number ended=0
+  name="$name $2"
+  rm -f disk.start
+  for ((number = 1; ; number++)); do
+    if ! refuse "$number" /dev/null "$1" "$2"; then
+      if grep -q 'AllocError\|NoMemory\|no memory' err; then
+        ended=$((ended + 1))
+      else
+        tell "$name" "growth $number: $(head -n 3 err | tr '\n' ' ')"
+      fi
+    fi
+    [ -s met ] || break
+    passed=$((passed + 1))
+  done
+  [ -z "$is_loud" ] || echo "$name: $((number - 1)) growths, $ended of them at its beginning"
+}
+
+for module in pos_totals_tests:growths pos_devices_tests:growths pos_profile_tests:profiles \
+  pos_profile_tests:registries; do
+  tests=$top/crates/${module%:*}/out/${module%:*}_tests
+  if [ ! -x "$tests" ]; then
+    tell "$module" "$tests isn't there: rt test builds it"
+    continue
+  fi
+  for name in $("$tests" --list | sed -n "s/^\(${module#*:}::.*\): test$/\1/p"); do
+    refuse_in_test "$tests" "$name"
+  done
+done
+
+echo "$passed passed, $failed failed"
+[ "$failed" -eq 0 ]
