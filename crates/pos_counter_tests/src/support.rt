@@ -65,6 +65,26 @@ pub fn serve<D: Disk>(
     }
 }
 
+/// Runs a script over a counter, with its text behind what is there.
+fn run_into<D: Disk>(
+    alloc: Global,
+    counter: &mut Counter<D, PeripheralBox>,
+    script: &[u8],
+    text: &mut Vec<u8>,
+)
+    requires { IsCounterSound ⟦<PeripheralBox as Peripheral>⟧ counter.old }
+    ensures { IsCounterSound ⟦<PeripheralBox as Peripheral>⟧ counter.new }
+{
+    let mut spares = Spares::new(Vec::new(alloc));
+    let mut reader = ScriptReader::new(script);
+    let Ok(mut writer) = AnswerWriter::new(alloc, text) else {
+        spares.park_all();
+        return;
+    };
+    let _ = run(alloc, &mut reader, &mut writer, counter, &mut spares);
+    spares.park_all();
+}
+
 /// What a script prints over a counter.
 pub fn text_of<D: Disk>(
     alloc: Global,
@@ -74,15 +94,8 @@ pub fn text_of<D: Disk>(
     requires { IsCounterSound ⟦<PeripheralBox as Peripheral>⟧ counter.old }
     ensures { IsCounterSound ⟦<PeripheralBox as Peripheral>⟧ counter.new }
 {
-    let mut spares = Spares::new(Vec::new(alloc));
     let mut text = Vec::new(alloc);
-    let mut reader = ScriptReader::new(script);
-    let Ok(mut writer) = AnswerWriter::new(alloc, &mut text) else {
-        spares.park_all();
-        return text;
-    };
-    let _ = run(alloc, &mut reader, &mut writer, counter, &mut spares);
-    spares.park_all();
+    run_into(alloc, counter, script, &mut text);
     text
 }
 
