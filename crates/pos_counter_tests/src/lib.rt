@@ -1,0 +1,20 @@
+//! What only tests can say of a counter: drivers that find no memory, disks that fail and crashes, which very
+//! peripherals are handed back, what is answered where memory is ample, and the texts of the faults.
+#![tactic(auto)]
+
+#[cfg(test)]
+mod bench;
+#[cfg(test)]
+mod drivers;
+#[cfg(test)]
+mod exchanges;
+#[cfg(test)]
+mod requests;
+#[cfg(test)]
+mod rows;
+#[cfg(test)]
+mod stops;
+#[cfg(test)]
+mod support;
+#[cfg(test)]
+mod torn;

@@ -1,0 +1,129 @@
+//! The calls that reach the disk of the totals, and which files are there before and after each of them.
+use std::alloc::{AllocError, Global};
+
+/// Files in their order: the name and the four bytes of each, in hex.
+pub type Files = &'static [(&'static str, &'static str)];
+
+/// The files before each call, which have the handles 1 and 2.
+pub const BEFORE: Files = &[("41", "01020304"), ("42", "00000000")];
+
+/// A call that reaches the disk.
+#[derive(Clone, Copy)]
+pub struct Row {
+    /// The lines behind `open` that come before it, and what they print.
+    pub first: (&'static str, &'static str),
+    /// The call, and what is printed where it is done.
+    pub line: (&'static str, &'static str),
+    /// What is printed of each other call behind one in which the disk failed.
+    pub refusal: &'static str,
+    /// The handle of the first file that is found then.
+    pub first_found: u8,
+    /// The handle of the first file where the call is done.
+    pub first_kept: u8,
+    /// The files after it.
+    pub after: Files,
+}
+
+/// Enabling, which recovers the totals.
+pub const ENABLING: Row = Row {
+    first: ("", ""),
+    line: ("set t DeviceEnabled true\n", "ok\n"),
+    refusal: "err 105\n",
+    first_found: 1,
+    first_kept: 1,
+    after: BEFORE,
+};
+
+const ENABLED: (&str, &str) = ("set t DeviceEnabled true\n", "ok\n");
+
+/// The changes of one file, and a transaction that changes both.
+pub const CHANGES: [Row; 6] = [
+    Row {
+        first: ENABLED,
+        line: ("call t create 43 4 false\n", "ok 3\n"),
+        refusal: "err 111\n",
+        first_found: 3,
+        first_kept: 1,
+        after: &[("41", "01020304"), ("42", "00000000"), ("43", "00000000")],
+    },
+    Row {
+        first: ENABLED,
+        line: ("call t delete 41\n", "ok\n"),
+        refusal: "err 111\n",
+        first_found: 3,
+        first_kept: 2,
+        after: &[("42", "00000000")],
+    },
+    Row {
+        first: ENABLED,
+        line: ("call t rename 1 43\n", "ok\n"),
+        refusal: "err 111\n",
+        first_found: 3,
+        first_kept: 1,
+        after: &[("43", "01020304"), ("42", "00000000")],
+    },
+    Row {
+        first: ENABLED,
+        line: ("call t write 1 1 0809\n", "ok\n"),
+        refusal: "err 111\n",
+        first_found: 3,
+        first_kept: 1,
+        after: &[("41", "01080904"), ("42", "00000000")],
+    },
+    Row {
+        first: ENABLED,
+        line: ("call t setAll 1 7\n", "ok\n"),
+        refusal: "err 111\n",
+        first_found: 3,
+        first_kept: 1,
+        after: &[("41", "07070707"), ("42", "00000000")],
+    },
+    Row {
+        first: (
+            "set t DeviceEnabled true\ncall t beginTrans\ncall t write 1 1 0809\ncall t write 1 3 0506\n\
+            call t setAll 2 7\ncall t setAll 2 256\n",
+            "ok\nok\nok\nerr 106\nok\nerr 106\n",
+        ),
+        line: ("call t commitTrans\n", "ok\n"),
+        refusal: "err 111\n",
+        first_found: 3,
+        first_kept: 1,
+        after: &[("41", "01080904"), ("42", "07070707")],
+    },
+];
+
+/// The lines that tell which files there are, where they have the handles from `first` on.
+pub fn look_lines(alloc: Global, first: u8) -> Result<String, AllocError> {
+    let mut lines = String::new(alloc);
+    lines.push_str(
+        "get t NumberOfFiles\ncall t find 41\ncall t find 42\ncall t find 43\ncall t findByIndex 0\n",
+    )?;
+    for place in 0..3u8 {
+        let handle = first as u32 + place as u32;
+        lines.push_str(format!(in alloc; "call t read {handle} 0 4\n")?.as_str())?;
+    }
+    Ok(lines)
+}
+
+/// What these lines print where there are these files.
+pub fn look_text(alloc: Global, files: Files, first: u8) -> Result<String, AllocError> {
+    let mut text = format!(in alloc; "ok {}\n", files.len())?;
+    for name in ["41", "42", "43"] {
+        match files.iter().position(|file| file.0 == name) {
+            Some(place) => {
+                let handle = first as u128 + place as u128;
+                text.push_str(format!(in alloc; "ok {handle} 4\n")?.as_str())?;
+            }
+            None => text.push_str("err 109\n")?,
+        }
+    }
+    let named = files.first().map_or("-", |file| file.0);
+    text.push_str(format!(in alloc; "ok {named}\n")?.as_str())?;
+    for place in 0..3usize {
+        match files.get(place) {
+            Some(file) => text.push_str(format!(in alloc; "ok {}\n", file.1)?.as_str())?,
+            None => text.push_str("err 106\n")?,
+        }
+    }
+    Ok(text)
+}

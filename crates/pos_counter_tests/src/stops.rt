@@ -1,0 +1,80 @@
+//! Each call that reaches the disk is stopped at each of its disk calls. Then the totals are off and the disk is left
+//! alone; crashes leave the files before the call or after the whole of it; and enabling finds which.
+use crate::bench::{Bench, Counts};
+use crate::rows::{CHANGES, ENABLING};
+use crate::support::{formatted, told};
+use pos_disk::MemDisk;
+use pos_profile::Profile;
+use std::alloc::Global;
+use std::test::Fail;
+
+/// A disk with the files of the table, each change a record of its log.
+fn with_room(alloc: Global) -> Result<MemDisk, Fail> {
+    let lines = b"new t HardTotals\nopen t t1\nset t DeviceEnabled true\ncall t create 41 4 false\n\
+        call t create 42 4 false\ncall t write 1 0 01020304\n";
+    let profile = Profile::built(alloc)?;
+    Ok(told(alloc, &profile, formatted(alloc)?, lines)?.1)
+}
+
+/// Lines that fill a log with records of another file, which has this handle and is deleted in the end. The last write
+/// is of so many bytes.
+fn filling(alloc: Global, handle: u8, last: usize) -> Result<String, Fail> {
+    let mut lines = String::from_str(alloc, "call t create 43 8000 false\n")?;
+    for bytes in [8_000, 8_000, last] {
+        lines.push_str(format!(in alloc; "call t write {handle} 0 ")?.as_str())?;
+        for _ in 0..bytes {
+            lines.push_str("00")?;
+        }
+        lines.push_str("\n")?;
+    }
+    lines.push_str("call t delete 43\n")?;
+    Ok(lines)
+}
+
+/// A disk with these files, whose log has no room for any change, while the other slot is open.
+fn without_room(alloc: Global) -> Result<MemDisk, Fail> {
+    let mut lines = String::from_str(
+        alloc,
+        "new t HardTotals\nopen t t1\nset t DeviceEnabled true\n",
+    )?;
+    lines.push_str(filling(alloc, 3, 250)?.as_str())?;
+    lines.push_str(filling(alloc, 4, 315)?.as_str())?;
+    let profile = Profile::built(alloc)?;
+    Ok(told(alloc, &profile, with_room(alloc)?, lines.as_bytes())?.1)
+}
+
+#[test]
+fn an_enabling_is_stopped(rt: HostRuntime) -> Result<(), Fail> {
+    let alloc = rt.alloc();
+    let mut counts = Counts::new();
+    for disk in [with_room(alloc)?, without_room(alloc)?] {
+        Bench::new(alloc, disk, ENABLING)?.stop_at_each(&mut counts)?;
+    }
+    println!(rt; "an enabling: {counts}")?;
+    assert_eq!(rt; counts.stops, 64);
+    Ok(())
+}
+
+#[test]
+fn a_change_by_a_record_is_stopped(rt: HostRuntime) -> Result<(), Fail> {
+    let alloc = rt.alloc();
+    let mut counts = Counts::new();
+    for row in CHANGES {
+        Bench::new(alloc, with_room(alloc)?, row)?.stop_at_each(&mut counts)?;
+    }
+    println!(rt; "a change by a record: {counts}")?;
+    assert_eq!(rt; counts.stops, 120);
+    Ok(())
+}
+
+#[test]
+fn a_change_by_an_image_is_stopped(rt: HostRuntime) -> Result<(), Fail> {
+    let alloc = rt.alloc();
+    let mut counts = Counts::new();
+    for row in CHANGES {
+        Bench::new(alloc, without_room(alloc)?, row)?.stop_at_each(&mut counts)?;
+    }
+    println!(rt; "a change by an image: {counts}")?;
+    assert_eq!(rt; counts.stops, 240);
+    Ok(())
+}
