@@ -160,6 +160,16 @@ module _ {C : Type 0} (Runs : Leads C) (join : (a b c : C) (s t : List (Request 
         (Appends-trans before between after first.text (second.text ++ second.front) first.written second.written);
   }
 
+  -- more lines, as far as they can be written
+  pub lines_join : {E : Type 0} (others more : List (List ℕ)) (after : Option (List ℕ)) (result : Result (Unit {0}) E) (left : Session) (new : C)
+      → others ≡ lines ++ more
+      → MatchResult result (λ u. Finishes Runs mid mid_session more between after left new) (λ e. Stops Runs mid mid_session more between after left new)
+      → MatchResult result (λ u. Finishes Runs old session others before after left new) (λ e. Stops Runs old session others before after left new)
+  lines_join others more after (Ok u) left new same done =
+      finishes_of Runs old session (lines ++ more) others before after left new same (finishes_join more after left new done)
+  lines_join others more after (Err e) left new same stops =
+      stops_of Runs old session (lines ++ more) others before after left new same (stops_join more after left new stops)
+
   -- a fault of the writer at more lines
   pub fault_join : (others more : List (List ℕ)) (after : Option (List ℕ)) (left : Session) (new : C) → others ≡ lines ++ more
       → Stops Runs mid mid_session more between after left new ⊎ Finishes Runs mid mid_session more between after left new

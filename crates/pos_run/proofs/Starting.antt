@@ -1,10 +1,9 @@
 -- A run over a counter, as a run of the machine from where the counter begins.
 use Rattle.std.proofs.Common.{◌≡◌, ◌∙◌, [], inl, inr, ℕ, List, Option, refl, subst, sym, ap}
-use Rattle.std.specs.Prelude.{Result, Ok, Err, None}
+use Rattle.std.specs.Prelude.{Result, Ok, Err}
 use Rattle.pos_disk.specs.declared.device.Disk.{Ghosts as DiskGhosts}
 use Rattle.pos_service.specs.declared.peripheral.Peripheral.{Ghosts}
 use Rattle.pos_profile.specs.Entries.{Contents}
-use Rattle.pos_totals.specs.HardTotals.{Off}
 use Rattle.pos_store.specs.Standing.{Standing, LeavesOneOf}
 use Rattle.pos_counter.specs.declared.counter.Counter.{Counter}
 use Rattle.pos_disk.specs.State.{MayLeave}
@@ -13,20 +12,15 @@ use Rattle.pos_run.specs.Carried.{RunsThrough}
 use Rattle.pos_counter.specs.Machine.{Machine}
 use Rattle.pos_counter.specs.Leaving.{part_of, Leaves}
 use Rattle.pos_counter.specs.Totals.{TotalsPart}
-use Rattle.pos_totals.specs.Views.{TotalsView}
 use Rattle.pos_counter.specs.Steps.{Request, Response, Run}
 use Rattle.pos_counter.proofs.Runs.{machine_runs, runs_from}
 use Rattle.pos_run.specs.declared.scripts.RunFault.{RunFault}
 use Rattle.pos_run.specs.declared.scripts.RunFault.TheVariants as fault
-use Rattle.pos_run.specs.Running.{Finishes, RunsScript, ScriptLeaves, Stops, begun_with, lines_read, new_totals}
+use Rattle.pos_run.specs.Running.{Finishes, RunsScript, ScriptLeaves, Stops, begun_with, lines_read, new_totals, off_over}
 use Rattle.pos_run.specs.Simulating.{RunsOverProfile, simulated_all, simulated_devices}
 use Rattle.pos_run.specs.Spares.{SpareStates}
 use Rattle.pos_run.specs.Streams.{Streams, Writing}
 use Rattle.pos_run.specs.Transcript.{Session, begun_session}
-
--- the totals of a counter that begins over a disk
-abbrev pub begun_totals : {D : Type 0} → D → TotalsView D
-begun_totals disk = record { disk = disk; totals = record { mode = Off; next = 1; area = None; transactions = [] } }
 
 -- each moment of a run is one of a step, over a disk whose crash now leaves what it says
 pub runs_through : {D P : Type 0} (bound : DiskGhosts D) (peripherals : Ghosts P)
@@ -97,7 +91,7 @@ module _ {D P : Type 0} (bound : DiskGhosts D) (peripherals : Ghosts P) (old : C
   script_leaves session lines before after (Err fault.NoMemory) kept new h = (begun, (refl, h.1, h.2))
 
   -- a run over a counter whose devices are served is one over its profile
-  pub runs_over : (contents : Contents) (disk : D) → old.totals ≡ begun_totals disk
+  pub runs_over : (contents : Contents) (disk : D) → old.totals ≡ off_over disk
       → ((part : TotalsPart) → machine peripherals old part ≡ begun_with (simulated_devices contents.devices) part)
       → (spares : SpareStates) (streams : Streams) (result : Result (Unit {0}) RunFault) (kept : Session) (new : Counter D P)
       → spares ≡ simulated_all contents.spares → RunsScript (RunsThrough bound peripherals) old (begun_session spares) streams result kept new
@@ -121,7 +115,7 @@ module _ {D P : Type 0} (bound : DiskGhosts D) (peripherals : Ghosts P) (old : C
         };
       }
 
-module _ {D P : Type 0} (bound : DiskGhosts D) (peripherals : Ghosts P) (disk : D) (counter : Counter D P) (totals : counter.totals ≡ begun_totals disk) where
+module _ {D P : Type 0} (bound : DiskGhosts D) (peripherals : Ghosts P) (disk : D) (counter : Counter D P) (totals : counter.totals ≡ off_over disk) where
   -- a counter that begins leaves what its disk does
   pub begun_leaves : (left : List Standing) → bound.honest disk → LeavesOneOf left (bound.state disk) → Leaves bound counter.totals left
   begun_leaves left honest leaves = subst (λ v. Leaves bound v left) (sym totals) (record { honest = honest; leaves = leaves; is_settled = refl })

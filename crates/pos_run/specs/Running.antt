@@ -7,6 +7,7 @@ use Rattle.pos_totals.specs.HardTotals.{Off}
 use Rattle.pos_service.specs.Peripherals.{PeripheralState}
 use Rattle.pos_service.specs.Stations.{station_of}
 use Rattle.pos_store.specs.Standing.{Standing}
+use Rattle.pos_totals.specs.Views.{TotalsView}
 use Rattle.pos_counter.specs.Assembly.{machine_with}
 use Rattle.pos_counter.specs.Totals.{TotalsPart}
 use Rattle.pos_run.specs.declared.reading.ReadState.{ReadState}
@@ -89,6 +90,10 @@ device_with name kind state = record { name = name; kind = Some kind; station = 
 -- the machine with these devices, no control and no claim
 abbrev pub begun_with : List Device → TotalsPart → Machine
 begun_with devices part = machine_with [] (replicate (length devices) None) devices part
+
+-- totals that are off, over a disk
+abbrev pub off_over : {D : Type 0} → D → TotalsView D
+off_over disk = record { disk = disk; totals = record { mode = Off; next = 1; area = None; transactions = [] } }
 
 -- totals that are off, over a disk that may leave these and has failed so often
 abbrev pub new_totals : List Standing → ℕ → TotalsPart

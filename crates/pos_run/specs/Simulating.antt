@@ -1,6 +1,5 @@
 -- What is simulated for the entries of a profile (docs/CONSOLE.md, "The program").
-use Rattle.std.specs.Prelude.{◌≡◌, ◌≤◌, ◌⊎◌, ◌++◌, ℕ, Bool, true, false, List, Option, Some, None, Result, Err, IfSome, Box, map, option_map, ⊤}
-use Rattle.std.specs.declared.alloc.Global.{Global}
+use Rattle.std.specs.Prelude.{◌≡◌, ◌≤◌, ◌⊎◌, ◌++◌, ℕ, Bool, true, false, List, Option, Some, None, Result, Err, IfSome, map, option_map, ⊤}
 use Rattle.pos_service.specs.declared.category.Category.{Category}
 use Rattle.pos_service.specs.declared.category.Category.TheVariants.{CashDrawer, Scanner, LineDisplay, PosPrinter, HardTotals}
 use Rattle.pos_service.specs.declared.peripheral.Peripheral.{Ghosts}
@@ -25,12 +24,15 @@ use Rattle.pos_profile.specs.Entries.{Contents}
 use Rattle.pos_store.specs.Standing.{Standing, LeavesOneOf}
 use Rattle.pos_counter.specs.Machine.{Device, Machine}
 use Rattle.pos_counter.specs.KeptDevices.{totals_devices, totals_name}
+use Rattle.pos_counter.specs.Counters.{IsCounterSound, machine}
 use Rattle.pos_counter.specs.Steps.{Run}
+use Rattle.pos_counter.specs.declared.counter.Counter.{Counter}
+use Rattle.pos_run.specs.declared.spares.Spares.{Spares}
 use Rattle.pos_counter.specs.Totals.{TotalsPart}
 use Rattle.pos_run.specs.declared.scripts.RunFault.{RunFault}
 use Rattle.pos_run.specs.declared.scripts.RunFault.TheVariants as fault
-use Rattle.pos_run.specs.Running.{RunsScript, begun_with, device_with, new_totals}
-use Rattle.pos_run.specs.Spares.{SpareStates}
+use Rattle.pos_run.specs.Running.{RunsScript, begun_with, device_with, new_totals, off_over}
+use Rattle.pos_run.specs.Spares.{AreSparesSound, SpareStates, spares_in}
 use Rattle.pos_run.specs.Streams.{AreUntouched, Streams}
 use Rattle.pos_run.specs.Transcript.{Session, begun_session}
 use Rattle.pos_run.specs.declared.simulation.Simulation.{Simulation}
@@ -59,11 +61,6 @@ wrapped_state (form.Bare device) = state_of device
 wrapped_state (form.Flaky flaky) = state_of_flaky simulations flaky
 wrapped_state (form.Recorded recorder) = state_of_recorder simulations recorder
 wrapped_state (form.Both recorder) = state_of_recorder flaky_simulations recorder
-
--- what contracts see of what is simulated in a box, if anything is
-abbrev pub boxed_state : Option (Box Wrapped Global) → Option PeripheralState
-boxed_state None = None
-boxed_state (Some kept) = Some (wrapped_state kept.value)
 
 -- a device in its wrappers: a line that fails by these two numbers, and a recorder round it
 abbrev pub wrapped_by : Option (ℕ × ℕ) → Bool → Simulation → Wrapped
@@ -106,10 +103,6 @@ pub record IsSimulatedFor (entry : Entry) (made : Option Wrapped) : Type 0 where
   pub simulates : IsDeviceFor entry device
   pub wrapped : made ≡ option_map (wrapped_by entry.flaky entry.recorded) device
 
--- what a box has, if there is one
-abbrev pub unboxed : Option (Box Wrapped Global) → Option Wrapped
-unboxed kept = option_map (λ box. box.value) kept
-
 -- what is simulated for entries, in order
 abbrev pub simulated_all : List Entry → SpareStates
 simulated_all entries = map simulated_for entries
@@ -133,6 +126,17 @@ device_for state entry = option_map (λ kind. device_with entry.name kind state)
 abbrev pub simulated_devices : List Entry → List Device
 simulated_devices entries =
     filter_map (λ entry. device_for (simulated_for entry) entry) entries ++ totals_devices (totals_name entries)
+
+-- a counter of a profile's devices, each served by what is simulated for it, with totals that are off over this disk,
+-- and spares that are what is simulated for the profile's
+pub record IsSimulatedCounter {D P : Type 0} (peripherals : Ghosts P) (contents : Contents) (disk : D)
+    (counter : Counter D P) (spares : Spares P) : Type 0 where
+  pub served : (part : TotalsPart)
+      → machine peripherals counter part ≡ begun_with (simulated_devices contents.devices) part
+  pub totals : counter.totals ≡ off_over disk
+  pub left : spares_in peripherals spares ≡ simulated_all contents.spares
+  pub sound : IsCounterSound peripherals counter
+  pub in_service : AreSparesSound peripherals spares
 
 -- What a run over a profile leaves: it is one from the profile's devices, each served by what is simulated for it, and
 -- totals that are off, with what is simulated for the spares.

@@ -4,22 +4,23 @@ ghost use Rattle.pos_counter.specs.Counters.{IsCounterSound, IsStepBeside};
 ghost use Rattle.pos_counter.specs.Steps.{Attach, Response};
 ghost use Rattle.pos_service.specs.Stations.{station_of};
 
+use crate::ending::Ends;
 use pos_counter::{Counter, Ended};
 use pos_disk::Disk;
 use pos_profile::Slot;
-use pos_service::{Peripheral, PeripheralBox};
+use pos_service::Peripheral;
 
 /// Attaches a peripheral in service to the device of a name. One that is refused is ended.
-pub fn offer<D: Disk>(
-    counter: &mut Counter<D, PeripheralBox>,
+pub fn offer<D: Disk, P: Peripheral + Ends>(
+    counter: &mut Counter<D, P>,
     name: &[u8],
-    peripheral: PeripheralBox,
+    peripheral: P,
 )
-    requires sound { IsCounterSound ⟦<PeripheralBox as Peripheral>⟧ counter.old }
-    requires unparked { (⟦<PeripheralBox as Peripheral>⟧.state peripheral).is_parked ≡ false }
-    ensures step { let boxes = ⟦<PeripheralBox as Peripheral>⟧ in (response : Response) ×
-        IsStepBeside boxes counter.old (Attach name.now (station_of (boxes.state peripheral))) response counter.new }
-    ensures sound { IsCounterSound ⟦<PeripheralBox as Peripheral>⟧ counter.new }
+    requires sound { IsCounterSound P.Peripheral counter.old }
+    requires unparked { (P.Peripheral.state peripheral).is_parked ≡ false }
+    ensures step { (response : Response) × IsStepBeside P.Peripheral counter.old
+        (Attach name.now (station_of (P.Peripheral.state peripheral))) response counter.new }
+    ensures sound { IsCounterSound P.Peripheral counter.new }
 {
     if let Err((_, refused)) = counter.attach(name, peripheral) {
         refused.end();
@@ -27,7 +28,7 @@ pub fn offer<D: Disk>(
 }
 
 /// Ends devices and their peripherals.
-fn end_all(mut entries: Vec<Slot<PeripheralBox>>)
+fn end_all<P: Ends>(mut entries: Vec<Slot<P>>)
     requires { Unit {0} }
 {
     while let Some(entry) = entries.pop() {
@@ -44,8 +45,8 @@ fn end_all(mut entries: Vec<Slot<PeripheralBox>>)
 }
 
 /// Shuts a counter down, and ends what is left of it.
-pub fn end_counter<D: Disk + Drop>(counter: Counter<D, PeripheralBox>)
-    requires { IsCounterSound ⟦<PeripheralBox as Peripheral>⟧ counter }
+pub fn end_counter<D: Disk + Drop, P: Peripheral + Ends>(counter: Counter<D, P>)
+    requires { IsCounterSound P.Peripheral counter }
 {
     let Ended { disk: _, entries } = counter.shutdown();
     end_all(entries);

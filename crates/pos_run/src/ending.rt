@@ -1,3 +1,4 @@
+use crate::wrapped::Wrapped;
 use pos_service::PeripheralBox;
 
 /// What can be ended. A script ends by it what it detaches, which is out of service then.
@@ -9,5 +10,11 @@ pub trait Ends {
 impl Ends for PeripheralBox {
     fn end(self) {
         PeripheralBox::end(self);
+    }
+}
+
+impl Ends for Wrapped {
+    fn end(self) {
+        drop(self);
     }
 }

@@ -43,7 +43,7 @@ const PIECE: usize = 65_536;
 fn carry_out_held<W: Write, D: Disk, P: Peripheral + Ends>(
     alloc: Global,
     held: &LineBuffer,
-    writer: &mut AnswerWriter<W>,
+    writer: &mut W,
     counter: &mut Counter<D, P>,
     names: &mut Names,
     spares: &mut Spares<P>,
@@ -51,7 +51,7 @@ fn carry_out_held<W: Write, D: Disk, P: Peripheral + Ends>(
     requires sound { IsCounterSound P.Peripheral counter.old }
     requires spares { AreSparesSound P.Peripheral spares.old }
     ensures line { CarriesOutHeld D.Disk P.Peripheral counter.old (session_of P.Peripheral names.old spares.old)
-        held.now (answers_of W.contents writer.old) (answers_of W.contents writer.new) result
+        held.now (W.contents writer.old) (W.contents writer.new) result
         (session_of P.Peripheral names.new spares.new) counter.new }
     ensures sound { IsCounterSound P.Peripheral counter.new }
     ensures spares { AreSparesSound P.Peripheral spares.new }
@@ -61,11 +61,11 @@ fn carry_out_held<W: Write, D: Disk, P: Peripheral + Ends>(
 }
 
 /// Carries out the lines that a piece ends, each before a later one, and writes what each prints.
-fn carry_out_piece<W: Write, D: Disk, P: Peripheral + Ends>(
+pub(crate) fn carry_out_piece<W: Write, D: Disk, P: Peripheral + Ends>(
     alloc: Global,
     piece: &[u8],
     held: &mut LineBuffer,
-    writer: &mut AnswerWriter<W>,
+    writer: &mut W,
     counter: &mut Counter<D, P>,
     names: &mut Names,
     spares: &mut Spares<P>,
@@ -73,7 +73,7 @@ fn carry_out_piece<W: Write, D: Disk, P: Peripheral + Ends>(
     requires sound { IsCounterSound P.Peripheral counter.old }
     requires spares { AreSparesSound P.Peripheral spares.old }
     ensures piece { CarriesOutPiece D.Disk P.Peripheral counter.old (session_of P.Peripheral names.old spares.old)
-        held.old piece.now (answers_of W.contents writer.old) (answers_of W.contents writer.new) result held.new
+        held.old piece.now (W.contents writer.old) (W.contents writer.new) result held.new
         (session_of P.Peripheral names.new spares.new) counter.new }
     ensures sound { IsCounterSound P.Peripheral counter.new }
     ensures spares { AreSparesSound P.Peripheral spares.new }
@@ -90,10 +90,10 @@ fn carry_out_piece<W: Write, D: Disk, P: Peripheral + Ends>(
 }
 
 /// Carries out the last line of a script, which its end ends, if there is one, and writes what it prints.
-fn carry_out_last<W: Write, D: Disk, P: Peripheral + Ends>(
+pub(crate) fn carry_out_last<W: Write, D: Disk, P: Peripheral + Ends>(
     alloc: Global,
     held: &LineBuffer,
-    writer: &mut AnswerWriter<W>,
+    writer: &mut W,
     counter: &mut Counter<D, P>,
     names: &mut Names,
     spares: &mut Spares<P>,
@@ -101,7 +101,7 @@ fn carry_out_last<W: Write, D: Disk, P: Peripheral + Ends>(
     requires sound { IsCounterSound P.Peripheral counter.old }
     requires spares { AreSparesSound P.Peripheral spares.old }
     ensures last { CarriesOutLast D.Disk P.Peripheral counter.old (session_of P.Peripheral names.old spares.old)
-        held.now (answers_of W.contents writer.old) (answers_of W.contents writer.new) result
+        held.now (W.contents writer.old) (W.contents writer.new) result
         (session_of P.Peripheral names.new spares.new) counter.new }
     ensures sound { IsCounterSound P.Peripheral counter.new }
     ensures spares { AreSparesSound P.Peripheral spares.new }

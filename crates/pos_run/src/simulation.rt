@@ -1,6 +1,6 @@
 //! What is simulated for the entries of a profile.
-ghost use Rattle.std.specs.Prelude.{◌≡◌, ◌≤◌, IfOk};
-ghost use Rattle.pos_run.specs.Simulating.{IsDeviceFor, IsDisplay, IsSimulable, IsSimulatedFor, boxed_state, simulated_for, state_of, unboxed};
+ghost use Rattle.std.specs.Prelude.{◌≡◌, ◌≤◌, IfOk, option_map};
+ghost use Rattle.pos_run.specs.Simulating.{IsDeviceFor, IsDisplay, IsSimulable, IsSimulatedFor, simulated_for, state_of, wrapped_state};
 
 use crate::wrapped::{Wrapped, wrap};
 use pos_profile::Entry;
@@ -141,18 +141,15 @@ fn simulate_device(alloc: Global, entry: &Entry) -> Result<Option<Simulation>, N
     }
 }
 
-/// What is simulated for an entry, in a box: its device, round it a line that fails by the entry's numbers, and round
-/// that a recorder, each where the entry says so.
-pub fn simulate_boxed(alloc: Global, entry: &Entry) -> Result<Option<Box<Wrapped>>, NoMemory>
+/// What is simulated for an entry: its device, round it a line that fails by the entry's numbers, and round that a
+/// recorder, each where the entry says so.
+pub fn simulate(alloc: Global, entry: &Entry) -> Result<Option<Wrapped>, NoMemory>
     requires { IsSimulable entry.now }
-    ensures simulated { IfOk result (λ made. IsSimulatedFor entry.now (unboxed made)) }
-    ensures state { IfOk result (λ made. boxed_state made ≡ simulated_for entry.now) }
+    ensures simulated { IfOk result (λ made. IsSimulatedFor entry.now made) }
+    ensures state { IfOk result (λ made. option_map wrapped_state made ≡ simulated_for entry.now) }
 {
     let Some(device) = simulate_device(alloc, entry)? else {
         return Ok(None);
     };
-    match Box::new(alloc, wrap(device, entry.flaky, entry.recorded)) {
-        Ok(kept) => Ok(Some(kept)),
-        Err(_) => Err(NoMemory),
-    }
+    Ok(Some(wrap(device, entry.flaky, entry.recorded)))
 }

@@ -4,13 +4,12 @@ use Rattle.pos_counter.specs.Counters.{IsRun}
 use Rattle.pos_script.specs.LineBuffers.{EndsInput}
 use Rattle.pos_script.specs.Lines.{complete_lines, unfinished}
 use Rattle.pos_run.specs.Carried.{session_of}
-use Rattle.pos_run.specs.Streams.{answers_of}
 use Rattle.pos_run.proofs.Finishing.{finishes_none}
 use Rattle.pos_run.proofs.scripts.carry_out_last.Goals as goal
 
 pub returns-then-is_empty-clause-last : goal.returns-then-is_empty-clause-last
 returns-then-is_empty-clause-last g c = λ read stands.
-    let contents = answers_of g.W.Write.contents c.args.writer.now in
+    let contents = g.W.Write.contents c.args.writer.now in
     let none = subst (λ b. EndsInput read b c.args.held.now) c.if-is_empty.true (c.is_empty.ensures read stands) in (
       [],
       none ∙ sym (append-nil (complete_lines read)),

@@ -4,14 +4,13 @@ use Rattle.pos_counter.specs.Counters.{IsRun}
 use Rattle.pos_counter.proofs.Runs.{runs_join}
 use Rattle.pos_script.specs.LineBuffers.{Feeds, StandsFor}
 use Rattle.pos_run.specs.Carried.{session_of}
-use Rattle.pos_run.specs.Streams.{answers_of}
 use Rattle.pos_run.proofs.Finishing.{finishes_join, finishes_none, stops_join, stops_more}
 use Rattle.pos_run.proofs.PieceLemmas.{later, line_more, lines_all, no_more, none_yet, rest_none, split_then, stands_then}
 use Rattle.pos_run.proofs.scripts.carry_out_piece.Goals as goal
 
 pub loop-rest-init : goal.loop-rest-init
 loop-rest-init g c =
-    let contents = answers_of g.W.Write.contents c.args.writer.now in (
+    let contents = g.W.Write.contents c.args.writer.now in (
       c.requires.sound,
       c.requires.spares,
       λ read stands. (

@@ -5,7 +5,6 @@ use Rattle.pos_script.specs.Lines.{complete_lines}
 use Rattle.pos_run.specs.Carried.{session_of}
 use Rattle.pos_run.specs.Running.{Finishes}
 use Rattle.pos_run.specs.Spares.{AreSparesSound}
-use Rattle.pos_run.specs.Streams.{answers_of}
 use Rattle.pos_run.proofs.scripts.carry_out_piece.Given as goal
 
 -- the lines so far are carried out
@@ -16,7 +15,7 @@ invariant-loop-rest g l =
     → (seen : List ℕ) × (lines : List (List ℕ)) × (l.piece ≡ seen ++ l.left)
     × (complete_lines (read ++ seen) ≡ complete_lines read ++ lines)
     × Finishes (IsRun g.D.Disk g.P.Peripheral) l.initial.counter (session_of g.P.Peripheral l.initial.names l.initial.spares) lines
-    (answers_of g.W.Write.contents l.initial.writer) (answers_of g.W.Write.contents l.writer)
+    (g.W.Write.contents l.initial.writer) (g.W.Write.contents l.writer)
     (session_of g.P.Peripheral l.names l.spares) l.counter
     × StandsFor l.held (read ++ seen))
 

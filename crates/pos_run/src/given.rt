@@ -1,0 +1,46 @@
+//! Lines that a caller has whole.
+ghost use Rattle.pos_counter.specs.Counters.{IsCounterSound};
+ghost use Rattle.pos_run.specs.Carried.{CarriesOutLines, session_of};
+ghost use Rattle.pos_run.specs.Spares.{AreSparesSound};
+ghost use Rattle.pos_script.specs.Lines.{lines_of};
+
+use crate::ending::Ends;
+use crate::names::Names;
+use crate::scripts::{carry_out_last, carry_out_piece};
+use crate::spares::Spares;
+use pos_counter::Counter;
+use pos_disk::Disk;
+use pos_script::{LineBuffer, WriteFault};
+use pos_service::Peripheral;
+use std::alloc::Global;
+use std::io::Write;
+
+/// Carries out the lines of a text in order, each whole before the next, and writes what each prints
+/// (docs/CONSOLE.md). What stands behind the last line feed is a line too, where it isn't empty. What a buffer held
+/// before is forgotten.
+///
+/// At a fault of the writer the earlier lines were carried out and the line at which it came, and no later one; of what
+/// they print a front is written, and not all.
+pub fn carry_out_lines<W: Write, D: Disk, P: Peripheral + Ends>(
+    alloc: Global,
+    lines: &[u8],
+    held: &mut LineBuffer,
+    writer: &mut W,
+    counter: &mut Counter<D, P>,
+    names: &mut Names,
+    spares: &mut Spares<P>,
+) -> Result<(), WriteFault>
+    requires sound { IsCounterSound P.Peripheral counter.old }
+    requires spares { AreSparesSound P.Peripheral spares.old }
+    ensures lines { CarriesOutLines D.Disk P.Peripheral counter.old
+        (session_of P.Peripheral names.old spares.old) (lines_of lines.now) (W.contents writer.old)
+        (W.contents writer.new) result (session_of P.Peripheral names.new spares.new) counter.new }
+    ensures sound { IsCounterSound P.Peripheral counter.new }
+    ensures spares { AreSparesSound P.Peripheral spares.new }
+{
+    held.clear();
+    let Ok(()) = carry_out_piece(alloc, lines, held, writer, counter, names, spares) else {
+        return Err(WriteFault);
+    };
+    carry_out_last(alloc, held, writer, counter, names, spares)
+}
