@@ -148,4 +148,4 @@ returns g c =
     λ left honest leaves. inr (runs_over g.D.Disk boxes counter left
     (begun_leaves g.D.Disk boxes c.args.disk counter totals left honest leaves) profile c.args.disk totals
     (λ part. c.loop-entry.invariant.served part ∙ ends_whole profile.devices i part all)
-    (spares_in boxes c.new-spares.result) _ _ _ _ spares c.run-result.ensures.script.1)
+    (spares_in boxes c.new-spares.result) _ _ _ _ spares c.run-result.ensures.script.1.script)
