@@ -8,8 +8,8 @@ use Rattle.pos_script.specs.Text.{printed}
 use Rattle.pos_script.specs.Writing.{Writes}
 use Rattle.pos_run.specs.declared.scripts.RunFault.{RunFault}
 use Rattle.pos_run.specs.declared.scripts.RunFault.TheVariants as fault
-use Rattle.pos_run.specs.Running.{Finishes, RunsScript, ScriptLeaves, Stops, lines_read}
-use Rattle.pos_run.specs.Streams.{Streams, Writing}
+use Rattle.pos_run.specs.Running.{Finishes, ScriptLeaves, Stops, carried_steps}
+use Rattle.pos_run.specs.Streams.{Writing}
 use Rattle.pos_run.specs.Transcript.{Leads, Session, CarriesOut, LineBecomes, LinesPrint, Transcript}
 
 -- lines and then more
@@ -179,50 +179,15 @@ module _ {C : Type 0} (Runs : Leads C) (join : (a b c : C) (s t : List (Request 
   fault_join others more after left new same (inr done) =
       inr (finishes_of Runs old session (lines ++ more) others before after left new same (finishes_join more after left new done))
 
--- lines by other runs, which each run is one of too
-module _ {C : Type 0} (Runs Through : Leads C) (goes : (a b : C) (steps : List (Request × Response)) → Runs a steps b → Through a steps b) (old : C)
-    (session : Session) (left : Session) (new : C) where
-  finishes_through : (lines : List (List ℕ)) (before after : Option (List ℕ)) → Finishes Runs old session lines before after left new
-      → Finishes Through old session lines before after left new
-  finishes_through lines before after done = record {
-    text = done.text;
-    transcript = record { steps = done.transcript.steps; run = goes _ _ _ done.transcript.run; prints = done.transcript.prints };
-    written = done.written;
-  }
-
-  stops_through : (lines : List (List ℕ)) (before after : Option (List ℕ)) → Stops Runs old session lines before after left new
-      → Stops Through old session lines before after left new
-  stops_through lines before after done = record {
-    earlier = done.earlier;
-    line = done.line;
-    later = done.later;
-    text = done.text;
-    between = done.between;
-    mid = done.mid;
-    reply = done.reply;
-    front = done.front;
-    back = done.back;
-    split = done.split;
-    transcript = record { steps = done.transcript.steps; run = goes _ _ _ done.transcript.run; prints = done.transcript.prints };
-    carried = record { steps = done.carried.steps; run = goes _ _ _ done.carried.run; becomes = done.carried.becomes };
-    cut = done.cut;
-    unwritten = done.unwritten;
-    written = done.written;
-  }
-
-  leaves_through : (lines : List (List ℕ)) (before after : Writing) (result : Result (Unit {0}) RunFault)
-      → ScriptLeaves Runs old session lines before after result left new → ScriptLeaves Through old session lines before after result left new
-  leaves_through lines before after (Ok u) (done, held) = (finishes_through lines before.contents after.contents done, held)
-  leaves_through lines before after (Err fault.Read) (done, held) = (finishes_through lines before.contents after.contents done, held)
-  leaves_through lines before after (Err fault.Write) (inl stops) = inl (stops_through lines before.contents after.contents stops)
-  leaves_through lines before after (Err fault.Write) (inr done) = inr (finishes_through lines before.contents after.contents done)
-  leaves_through lines before after (Err fault.NoMemory) same = same
-
-  pub script_through : (streams : Streams) (result : Result (Unit {0}) RunFault) → RunsScript Runs old session streams result left new
-      → RunsScript Through old session streams result left new
-  script_through streams result script = record {
-    input = script.input;
-    read = script.read;
-    reader = script.reader;
-    run = leaves_through (lines_read streams.reader_after.state script.input) streams.writer streams.writer_after result script.run;
-  }
+-- what the lines that were carried out asked is one run, also where a write failed
+pub carried_run : {C : Type 0} (Runs : Leads C) → ((c : C) → Runs c [] c)
+    → ((a b c : C) (s t : List (Request × Response)) → Runs a s b → Runs b t c → Runs a (s ++ t) c)
+    → (old : C) (session : Session) (lines : List (List ℕ)) (before after : Writing) (result : Result (Unit {0}) RunFault) (left : Session) (new : C)
+    (leaves : ScriptLeaves Runs old session lines before after result left new)
+    → Runs old (carried_steps Runs old session lines before after result left new leaves) new
+carried_run Runs none join old session lines before after (Ok u) left new (done, held) = done.transcript.run
+carried_run Runs none join old session lines before after (Err fault.Read) left new (done, held) = done.transcript.run
+carried_run Runs none join old session lines before after (Err fault.Write) left new (inl stops) =
+    join old stops.mid new stops.transcript.steps stops.carried.steps stops.transcript.run stops.carried.run
+carried_run Runs none join old session lines before after (Err fault.Write) left new (inr done) = done.transcript.run
+carried_run Runs none join old session lines before after (Err fault.NoMemory) left new same = subst (λ (c : _). Runs old [] c) (sym same.0) (none old)

@@ -35,10 +35,10 @@ module _ {D P : Type 0} (bound : DiskGhosts D) (peripherals : Ghosts P) (old : C
 
   module _ (session : Session) (lines : List (List ℕ)) (before after : Option (List ℕ)) (kept : Session) (new : Counter D P) where
     -- lines that were carried out over a counter, over its machine
-    finishes_machine : Finishes (RunsThrough bound peripherals) old session lines before after kept new
+    finishes_machine : Finishes (IsRun bound peripherals) old session lines before after kept new
         → (end : Machine) × Finishes Run begun session lines before after kept end
     finishes_machine h =
-        let r = machine_runs bound peripherals old _ h.transcript.steps left leaves h.transcript.run.0 in (
+        let r = machine_runs bound peripherals old _ h.transcript.steps left leaves h.transcript.run in (
           machine peripherals new (part_of bound new.totals r.0),
           record {
             text = h.text;
@@ -47,11 +47,11 @@ module _ {D P : Type 0} (bound : DiskGhosts D) (peripherals : Ghosts P) (old : C
           },
         )
 
-    stops_machine : Stops (RunsThrough bound peripherals) old session lines before after kept new
+    stops_machine : Stops (IsRun bound peripherals) old session lines before after kept new
         → (end : Machine) × Stops Run begun session lines before after kept end
     stops_machine h =
-        let r = machine_runs bound peripherals old _ h.transcript.steps left leaves h.transcript.run.0 in
-        let s = machine_runs bound peripherals h.mid new h.carried.steps r.0 r.1 h.carried.run.0 in (
+        let r = machine_runs bound peripherals old _ h.transcript.steps left leaves h.transcript.run in
+        let s = machine_runs bound peripherals h.mid new h.carried.steps r.0 r.1 h.carried.run in (
           machine peripherals new (part_of bound new.totals s.0),
           record {
             earlier = h.earlier;
@@ -74,7 +74,7 @@ module _ {D P : Type 0} (bound : DiskGhosts D) (peripherals : Ghosts P) (old : C
 
   -- what a run over a counter leaves, over its machine
   script_leaves : (session : Session) (lines : List (List ℕ)) (before after : Writing) (result : Result (Unit {0}) RunFault) (kept : Session)
-      (new : Counter D P) → ScriptLeaves (RunsThrough bound peripherals) old session lines before after result kept new
+      (new : Counter D P) → ScriptLeaves (IsRun bound peripherals) old session lines before after result kept new
       → (end : Machine) × ScriptLeaves Run begun session lines before after result kept end
   script_leaves session lines before after (Ok u) kept new (done, held) =
       let m = finishes_machine session lines before.contents after.contents kept new done in
@@ -94,7 +94,7 @@ module _ {D P : Type 0} (bound : DiskGhosts D) (peripherals : Ghosts P) (old : C
   pub runs_over : (contents : Contents) (disk : D) → old.totals ≡ off_over disk
       → ((part : TotalsPart) → machine peripherals old part ≡ begun_with (simulated_devices contents.devices) part)
       → (spares : SpareStates) (streams : Streams) (result : Result (Unit {0}) RunFault) (kept : Session) (new : Counter D P)
-      → spares ≡ simulated_all contents.spares → RunsScript (RunsThrough bound peripherals) old (begun_session spares) streams result kept new
+      → spares ≡ simulated_all contents.spares → RunsScript (IsRun bound peripherals) old (begun_session spares) streams result kept new
       → RunsOverProfile contents (new_totals left (bound.state disk).failures) streams result
   runs_over contents disk totals served spares streams result kept new begin_spares script =
       let part = new_totals left (bound.state disk).failures in

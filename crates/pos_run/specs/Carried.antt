@@ -18,8 +18,9 @@ use Rattle.pos_script.specs.Lines.{complete_lines, lines_of}
 use Rattle.pos_script.specs.Commands.{LineRequest}
 use Rattle.pos_script.specs.Text.{reply_text}
 use Rattle.pos_run.specs.Transcript.{Session, session_with, CarriesOut, AskingBecomes, LineBecomes}
-use Rattle.pos_run.specs.Running.{Finishes, Stops}
-use Rattle.pos_run.specs.Streams.{Writing}
+use Rattle.pos_run.specs.declared.scripts.RunFault.{RunFault}
+use Rattle.pos_run.specs.Running.{Finishes, RunsScript, Stops, script_steps}
+use Rattle.pos_run.specs.Streams.{Streams, Writing}
 
 -- the session of these names of controls and these spares
 abbrev pub session_of : {P : Type 0} → Ghosts P → Names → Spares P → Session
@@ -117,3 +118,11 @@ abbrev pub RunsThrough : {D P : Type 0} → DiskGhosts D → Ghosts P
 RunsThrough bound peripherals old steps new =
     IsRun bound peripherals old steps new
     × ((left : List Standing) → Leaves bound old.totals left → RunsFrom bound peripherals left old steps new)
+
+-- What a run of a script leaves of a counter, however it ended: what all lines that were carried out asked is one run,
+-- in a step of which a crash at any moment since the start lies.
+pub record CarriesOutScript {D P : Type 0} (bound : DiskGhosts D) (peripherals : Ghosts P) (old : Counter D P)
+    (session : Session) (streams : Streams) (result : Result (Unit {0}) RunFault) (left : Session) (new : Counter D P)
+    : Type 0 where
+  pub script : RunsScript (IsRun bound peripherals) old session streams result left new
+  pub through : RunsThrough bound peripherals old (script_steps script) new

@@ -1,5 +1,6 @@
 -- What a run of a script leaves (docs/CONSOLE.md, "The program").
 use Rattle.std.specs.Prelude.{◌≡◌, ◌++◌, ◌<◌, ◌∷◌, ◌⊎◌, [], ℕ, false, length, replicate, List, Option, Some, None, Result, Ok, Err, option_map}
+use Rattle.std.proofs.Common.{inl, inr}
 use Rattle.std.specs.Io.KnownBytes.{Appends, Consumes, IsAtEnd}
 use Rattle.pos_counter.specs.Machine.{Device, Machine}
 use Rattle.pos_service.specs.declared.kind.Kind.{Kind}
@@ -10,6 +11,7 @@ use Rattle.pos_store.specs.Standing.{Standing}
 use Rattle.pos_totals.specs.Views.{TotalsView}
 use Rattle.pos_counter.specs.Assembly.{machine_with}
 use Rattle.pos_counter.specs.Totals.{TotalsPart}
+use Rattle.pos_counter.specs.Steps.{Request, Response}
 use Rattle.pos_run.specs.declared.reading.ReadState.{ReadState}
 use Rattle.pos_run.specs.declared.reading.ReadState.TheVariants.{Open, Ended, Failed}
 use Rattle.pos_run.specs.declared.scripts.RunFault.{RunFault}
@@ -74,6 +76,17 @@ ReaderLeaves old (Err fault.Read) new = may_read new.state new.reads ≡ false
 ReaderLeaves old (Err fault.Write) new = new.state ≡ Failed → new ≡ old
 ReaderLeaves old (Err fault.NoMemory) new = new ≡ old
 
+-- what the lines that a run carried out asked of the machine, by its result: the line at which a write failed too
+abbrev pub carried_steps : {C : Type 0} (Runs : Leads C) (old : C) (session : Session) (lines : List (List ℕ))
+    (before after : Writing) (result : Result (Unit {0}) RunFault) (left : Session) (new : C)
+    → ScriptLeaves Runs old session lines before after result left new → List (Request × Response)
+carried_steps Runs old session lines before after (Ok u) left new (done, held) = done.transcript.steps
+carried_steps Runs old session lines before after (Err fault.Read) left new (done, held) = done.transcript.steps
+carried_steps Runs old session lines before after (Err fault.Write) left new (inl stops) =
+    stops.transcript.steps ++ stops.carried.steps
+carried_steps Runs old session lines before after (Err fault.Write) left new (inr done) = done.transcript.steps
+carried_steps Runs old session lines before after (Err fault.NoMemory) left new same = []
+
 -- What a run leaves, from one session to another, by the bytes that it read.
 pub record RunsScript {C : Type 0} (Runs : Leads C) (old : C) (session : Session) (streams : Streams)
     (result : Result (Unit {0}) RunFault) (left : Session) (new : C) : Type 0 where
@@ -82,6 +95,14 @@ pub record RunsScript {C : Type 0} (Runs : Leads C) (old : C) (session : Session
   pub reader : ReaderLeaves streams.reader result streams.reader_after
   pub run : ScriptLeaves Runs old session (lines_read streams.reader_after.state input) streams.writer
       streams.writer_after result left new
+
+-- what the lines that it carried out asked of the machine
+abbrev pub script_steps : {C : Type 0} {Runs : Leads C} {old : C} {session : Session} {streams : Streams}
+    {result : Result (Unit {0}) RunFault} {left : Session} {new : C}
+    → RunsScript Runs old session streams result left new → List (Request × Response)
+script_steps {Runs = Runs} {old = old} {session = session} {streams = streams} {result = result} {left = left}
+    {new = new} script = carried_steps Runs old session (lines_read streams.reader_after.state script.input)
+    streams.writer streams.writer_after result left new script.run
 
 -- a device of this name that is of a kind and has this peripheral, or none
 abbrev pub device_with : List ℕ → Kind → Option PeripheralState → Device

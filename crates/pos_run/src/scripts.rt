@@ -1,6 +1,6 @@
 ghost use Rattle.std.specs.Prelude.{[]};
 ghost use Rattle.pos_counter.specs.Counters.{IsCounterSound, IsRun};
-ghost use Rattle.pos_run.specs.Carried.{CarriesOutEnd, CarriesOutHeld, CarriesOutLast, CarriesOutPiece, RunsThrough, session_of};
+ghost use Rattle.pos_run.specs.Carried.{CarriesOutEnd, CarriesOutHeld, CarriesOutLast, CarriesOutPiece, CarriesOutScript, session_of};
 ghost use Rattle.pos_run.specs.Names.{ControlNames};
 ghost use Rattle.pos_run.specs.Running.{RunsScript};
 ghost use Rattle.pos_script.specs.LineBuffers.{StandsFor};
@@ -186,8 +186,8 @@ fn carry_out_script<R: Read, W: Write, D: Disk, P: Peripheral + Ends>(
 /// Each line is carried out before more is read, and all that the lines before print is handed on and flushed by then.
 /// So it is where a read fails, or there were as many as may be: the lines that a line feed ended were carried out. At
 /// a fault of the writer the earlier lines were carried out and the line at which it came, and no later one. At want of
-/// memory nothing was read. A crash at any moment leaves what it may leave inside a step of the lines that were carried
-/// out.
+/// memory nothing was read. However it ends, a crash at any moment leaves what it may leave inside a step of the lines
+/// that were carried out.
 pub fn run<R: Read, W: Write, D: Disk, P: Peripheral + Ends>(
     alloc: Global,
     reader: &mut ScriptReader<R>,
@@ -197,7 +197,7 @@ pub fn run<R: Read, W: Write, D: Disk, P: Peripheral + Ends>(
 ) -> Result<(), RunFault>
     requires sound { IsCounterSound P.Peripheral counter.old }
     requires spares { AreSparesSound P.Peripheral spares.old }
-    ensures script { (names : ControlNames) × RunsScript (RunsThrough D.Disk P.Peripheral) counter.old
+    ensures script { (names : ControlNames) × CarriesOutScript D.Disk P.Peripheral counter.old
         (begun_session (spares_in P.Peripheral spares.old))
         (streams_of R.remaining reader.old reader.new W.contents writer.old writer.new) result
         (session_with names (spares_in P.Peripheral spares.new)) counter.new }

@@ -16,4 +16,4 @@ returns g c =
     let counter = c.in-Ok.counter in
     λ left honest leaves. inr (runs_over g.D.Disk wrapped counter left
     (begun_leaves g.D.Disk wrapped c.args.disk counter made.totals left honest leaves) c.args.profile.now c.args.disk made.totals made.served
-    (spares_in wrapped c.in-Ok.spares) _ _ _ _ made.left c.run-result.ensures.script.1)
+    (spares_in wrapped c.in-Ok.spares) _ _ _ _ made.left c.run-result.ensures.script.1.script)

@@ -1,31 +1,46 @@
 use Rattle.std.proofs.Common.{[], refl, subst}
 use Rattle.std.proofs.KnownBytes.{Consumes-nil}
 use Rattle.pos_counter.specs.Counters.{IsRun}
-use Rattle.pos_run.specs.Carried.{RunsThrough}
+use Rattle.pos_counter.proofs.Runs.{runs_join}
 use Rattle.pos_run.specs.Names.{names_of}
-use Rattle.pos_run.specs.Running.{RunsScript}
+use Rattle.pos_run.specs.Running.{RunsScript, lines_read, script_steps}
 use Rattle.pos_run.specs.Spares.{spares_in}
 use Rattle.pos_run.specs.Streams.{streams_of}
-use Rattle.pos_run.specs.Transcript.{session_with}
-use Rattle.pos_run.proofs.Finishing.{script_through}
+use Rattle.pos_run.specs.Transcript.{begun_session, session_with}
+use Rattle.pos_run.proofs.Finishing.{carried_run}
 use Rattle.pos_run.proofs.Starting.{runs_through}
 use Rattle.pos_run.proofs.scripts.run.Goals as goal
 
 pub returns-in_default-clause-script : goal.returns-in_default-clause-script
 returns-in_default-clause-script g c =
-    ([], record { input = []; read = Consumes-nil (g.R.Read.remaining c.args.reader.now.reader); reader = refl; run = (refl, refl, refl) })
+    let nothing = Consumes-nil (g.R.Read.remaining c.args.reader.now.reader) in (
+      [],
+      record {
+        script = record { input = []; read = nothing; reader = refl; run = (refl, refl, refl) };
+        through = runs_through g.D.Disk g.P.Peripheral (λ disk bytes honest since. g.met.D.Disk.only_now disk bytes honest since)
+            c.args.counter.now c.args.counter.now [] refl;
+      },
+    )
 
 pub returns-clause-script : goal.returns-clause-script
 returns-clause-script g c =
+    let old = c.args.counter.now in
+    let new = c.carry_out_script.new.counter in
+    let Runs = IsRun g.D.Disk g.P.Peripheral in
+    let result = c.carry_out_script.result in
+    let session = begun_session (spares_in g.P.Peripheral c.args.spares.now) in
     let streams = streams_of g.R.Read.remaining c.args.reader.now c.carry_out_script.new.reader g.W.Write.contents c.args.writer.now
     c.carry_out_script.new.writer in
-    let left = session_with (names_of c.carry_out_script.new.names) (spares_in g.P.Peripheral c.carry_out_script.new.spares) in (
+    let left = session_with (names_of c.carry_out_script.new.names) (spares_in g.P.Peripheral c.carry_out_script.new.spares) in
+    let script : RunsScript Runs old session streams result left new =
+    subst (λ names. RunsScript Runs old (session_with names (spares_in g.P.Peripheral c.args.spares.now)) streams result left new)
+    c.new-names.ensures c.carry_out_script.ensures.script in
+    let run = carried_run Runs (λ counter. refl) (runs_join g.D.Disk g.P.Peripheral) old session (lines_read streams.reader_after.state script.input)
+    streams.writer streams.writer_after result left new script.run in (
       names_of c.carry_out_script.new.names,
-      script_through (IsRun g.D.Disk g.P.Peripheral) (RunsThrough g.D.Disk g.P.Peripheral)
-          (runs_through g.D.Disk g.P.Peripheral
-          (λ disk bytes honest since. g.met.D.Disk.only_now disk bytes honest since)) c.args.counter.now _ left c.carry_out_script.new.counter streams
-          c.carry_out_script.result
-          (subst (λ names. RunsScript (IsRun g.D.Disk g.P.Peripheral) c.args.counter.now
-          (session_with names (spares_in g.P.Peripheral c.args.spares.now)) streams c.carry_out_script.result left c.carry_out_script.new.counter)
-          c.new-names.ensures c.carry_out_script.ensures.script),
+      record {
+        script = script;
+        through = runs_through g.D.Disk g.P.Peripheral (λ disk bytes honest since. g.met.D.Disk.only_now disk bytes honest since) old new
+            (script_steps script) run;
+      },
     )
