@@ -1,5 +1,4 @@
-use Rattle.std.proofs.Common.{subst, sym, Ok}
-use Rattle.kijolvar.specs.Profiles.{Gives}
+use Rattle.std.proofs.Common.{subst, sym}
 use Rattle.kijolvar.specs.Tills.{Begins}
 use Rattle.kijolvar.proofs.kijolvar_open.Goals as goal
 
