@@ -1,0 +1,43 @@
+/* Rings up a sale: a code is scanned, shown, printed and added to the totals, and the drawer opens. */
+#include "till.h"
+
+static void heard(till *self, const char *event, void *with) {
+    (void)self;
+    printf("%s: %s\n", (const char *)with, event);
+}
+
+static void tell(till *self, const char *line) {
+    const char *value = "";
+    int code = till_ask(self, line, &value);
+    printf("%s: %d%s%s\n", line, code, *value ? " " : "", value);
+}
+
+int main(void) {
+    till self;
+    uint32_t code = till_open(&self, "");
+    if (code != KIJOLVAR_OK) return (int)code;
+    static const char *const controls[][3] = {
+        {"drawer", "CashDrawer", "d1"}, {"scanner", "Scanner", "s1"}, {"display", "LineDisplay", "p1"},
+        {"printer", "POSPrinter", "r1"}, {"totals", "HardTotals", "t1"},
+    };
+    printf("controls:");
+    for (size_t place = 0; place < 5; place++)
+        printf(" %d", till_control(&self, controls[place][0], controls[place][1], controls[place][2]));
+    printf("\n");
+    tell(&self, "set scanner DataEventEnabled true");
+    tell(&self, "input s1 scan 104 34303036333831 34303036333831");
+    till_pump(&self, "scanner", heard, "scanner");
+    tell(&self, "get scanner ScanData");
+    printf("display: %d\n", till_display_text(&self, "display", "4.50"));
+    printf("print: %d\n", till_print(&self, "printer", "Bread 4.50\n"));
+    tell(&self, "call printer cutPaper 100");
+    printf("drawer: %d\n", till_open_drawer(&self, "drawer"));
+    till_pump(&self, "drawer", heard, "drawer");
+    tell(&self, "call totals create 64617973616c6573 4 false");
+    tell(&self, "call totals write 1 0 000001c2");
+    tell(&self, "call totals read 1 0 4");
+    tell(&self, "show r1");
+    tell(&self, "show p1");
+    till_close(&self);
+    return 0;
+}

@@ -1,0 +1,124 @@
+/* A till for C, over kijolvar.h: calls as lines, a pump of events. Tested, and not proved. */
+#ifndef TILL_H
+#define TILL_H
+
+#include "kijolvar.h"
+#include <stdio.h>
+#include <stdlib.h>
+#include <string.h>
+
+/* A till, and the answer to the lines that it was given last, which ends in a 0 byte. */
+typedef struct {
+    kijolvar_till till;
+    char *text;
+    size_t room;
+} till;
+
+/* What isn't a result code of the standard: there was no memory, or the line was refused before it reached a control. */
+enum { TILL_NO_MEMORY = -1, TILL_REFUSED = -2 };
+
+/* Opens a till over a profile's text; an empty one is the built profile. */
+static inline uint32_t till_open(till *self, const char *profile) {
+    *self = (till){{NULL}, malloc(1), 1};
+    if (self->text == NULL) return KIJOLVAR_NO_MEMORY;
+    self->text[0] = 0;
+    uint32_t code = kijolvar_version() == KIJOLVAR_VERSION
+        ? kijolvar_open((const uint8_t *)profile, strlen(profile), &self->till.at)
+        : KIJOLVAR_BAD_PROFILE;
+    if (code != KIJOLVAR_OK) free(self->text);
+    return code;
+}
+
+/* Ends a till. */
+static inline void till_close(till *self) {
+    kijolvar_close(self->till);
+    free(self->text);
+}
+
+/* Carries out lines; their answers are in self->text. */
+static inline uint32_t till_carry_out(till *self, const char *lines) {
+    size_t needed = 0;
+    uint32_t code = kijolvar_carry_out(self->till, &self->till.at, (const uint8_t *)lines, strlen(lines),
+                                       (uint8_t *)self->text, self->room - 1, &needed);
+    if (needed >= self->room) {
+        char *text = realloc(self->text, needed + 1);
+        if (text == NULL) return self->text[0] = 0, KIJOLVAR_NO_MEMORY;
+        self->text = text;
+        self->room = needed + 1;
+        uint32_t told = kijolvar_answer(self->till, &self->till.at, (uint8_t *)text, needed, &needed);
+        if (code == KIJOLVAR_SHORT) code = told;
+    }
+    self->text[needed] = 0;
+    return code;
+}
+
+/* Carries out one line: the standard's result code of its answer, or one of the two above. What it gives is told. */
+static inline int till_ask(till *self, const char *line, const char **value) {
+    if (till_carry_out(self, line) != KIJOLVAR_OK || strcmp(self->text, "memory\n") == 0) return TILL_NO_MEMORY;
+    self->text[strcspn(self->text, "\n")] = 0;
+    if (strncmp(self->text, "err ", 4) == 0) return atoi(self->text + 4);
+    if (strncmp(self->text, "ok", 2) != 0) return TILL_REFUSED;
+    if (value != NULL) *value = self->text[2] == ' ' ? self->text + 3 : "";
+    return E_SUCCESS;
+}
+
+/* Hands each event that waits for a control to a listener, in order. A listener may ask the till again. */
+static inline int till_pump(till *self, const char *control, void (*listen)(till *, const char *event, void *), void *with) {
+    char line[64];
+    snprintf(line, sizeof line, "deliver %s", control);
+    for (;;) {
+        if (till_carry_out(self, line) != KIJOLVAR_OK) return TILL_NO_MEMORY;
+        if (strcmp(self->text, "none\n") == 0) return E_SUCCESS;
+        if (strncmp(self->text, "event ", 6) != 0) return TILL_REFUSED;
+        char event[128];
+        snprintf(event, sizeof event, "%.*s", (int)strcspn(self->text + 6, "\n"), self->text + 6);
+        listen(self, event, with);
+    }
+}
+
+/* A control of a category on a device, opened and enabled, claimed first where the category's devices are claimed. */
+static inline int till_control(till *self, const char *control, const char *category, const char *device) {
+    char line[192];
+    snprintf(line, sizeof line, "new %s %s", control, category);
+    int code = till_ask(self, line, NULL);
+    snprintf(line, sizeof line, "open %s %s", control, device);
+    if (code == E_SUCCESS) code = till_ask(self, line, NULL);
+    snprintf(line, sizeof line, "claim %s 0", control);
+    if (code == E_SUCCESS) code = till_ask(self, line, NULL);
+    snprintf(line, sizeof line, "set %s DeviceEnabled true", control);
+    return code == E_SUCCESS ? till_ask(self, line, NULL) : code;
+}
+
+/* Bytes as a line has them, with room for two digits each and a 0 byte. */
+static inline char *till_hex(char *digits, const char *bytes) {
+    size_t count = strlen(bytes);
+    if (count == 0) return strcpy(digits, "-");
+    for (size_t place = 0; place < count; place++)
+        snprintf(digits + 2 * place, 3, "%02x", (unsigned)(unsigned char)bytes[place]);
+    return digits;
+}
+
+/* The cash drawer's openDrawer. */
+static inline int till_open_drawer(till *self, const char *control) {
+    char line[96];
+    snprintf(line, sizeof line, "call %s openDrawer", control);
+    return till_ask(self, line, NULL);
+}
+
+/* The line display's displayText, with attribute 0, of at most 200 bytes. */
+static inline int till_display_text(till *self, const char *control, const char *text) {
+    char line[512], digits[402];
+    if (strlen(text) > 200) return E_ILLEGAL;
+    snprintf(line, sizeof line, "call %s displayText %s 0", control, till_hex(digits, text));
+    return till_ask(self, line, NULL);
+}
+
+/* The receipt printer's printNormal at the receipt station, of at most 200 bytes. */
+static inline int till_print(till *self, const char *control, const char *text) {
+    char line[512], digits[402];
+    if (strlen(text) > 200) return E_ILLEGAL;
+    snprintf(line, sizeof line, "call %s printNormal 2 %s", control, till_hex(digits, text));
+    return till_ask(self, line, NULL);
+}
+
+#endif

@@ -1,0 +1,40 @@
+#!/usr/bin/env python3
+"""Rings up a sale, as c/sale.c does. Usage: sale.py libkijolvar.so"""
+import sys
+
+from till import Fault, Till, load
+
+
+def code(call, *words):
+    try:
+        call(*words)
+        return "0"
+    except Fault as fault:
+        return str(fault)
+
+
+def tell(till, line):
+    try:
+        print(f"{line}: 0 {till.ask(line)}".rstrip())
+    except Fault as fault:
+        print(f"{line}: {fault}")
+
+
+with Till(load(sys.argv[1])) as till:
+    controls = [("drawer", "CashDrawer", "d1"), ("scanner", "Scanner", "s1"), ("display", "LineDisplay", "p1"),
+                ("printer", "POSPrinter", "r1"), ("totals", "HardTotals", "t1")]
+    print("controls:", " ".join(code(till.control, *words) for words in controls))
+    tell(till, "set scanner DataEventEnabled true")
+    tell(till, "input s1 scan 104 34303036333831 34303036333831")
+    till.pump("scanner", lambda event: print("scanner:", event))
+    tell(till, "get scanner ScanData")
+    print("display:", code(till.display_text, "display", b"4.50"))
+    print("print:", code(till.print, "printer", b"Bread 4.50\n"))
+    tell(till, "call printer cutPaper 100")
+    print("drawer:", code(till.open_drawer, "drawer"))
+    till.pump("drawer", lambda event: print("drawer:", event))
+    tell(till, "call totals create 64617973616c6573 4 false")
+    tell(till, "call totals write 1 0 000001c2")
+    tell(till, "call totals read 1 0 4")
+    tell(till, "show r1")
+    tell(till, "show p1")

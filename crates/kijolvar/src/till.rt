@@ -1,0 +1,66 @@
+//! A session behind a pointer, as C holds it.
+ghost use Rattle.std.specs.Prelude.{◌≡◌};
+ghost use Rattle.kijolvar.specs.contracts.kept.Kept as kept_row;
+ghost use Rattle.kijolvar.specs.declared.kept.Kept.{Kept};
+
+use crate::loose::Loose;
+use crate::session::Session;
+use std::alloc::{Allocator, Global};
+use std::marker::Model;
+
+/// A till: C has its pointer alone, and owes that each pointer that it hands in is the one that it was handed out last.
+#[repr(C)]
+pub struct Till {
+    at: *mut u8,
+    alloc: Global,
+    ghost session: { Kept } by { kept_row.the_row.coded },
+}
+
+impl Model for Till {
+    ghost use Rattle.std.specs.Box.Ownership.{box_owns};
+    ghost use Rattle.kijolvar.specs.contracts.session.Session.{the_row as session_row};
+
+    ghost also_owns = { λ t. box_owns (⟦<Global as Allocator>⟧.dealloc_token t.alloc) session_row t.at t.session };
+}
+
+fn wrap(loose: Loose<Session, Global>) -> Till
+    ensures { result.session ≡ loose.value }
+{
+    let Loose { at, alloc } = loose;
+    Till {
+        at: at as *mut u8,
+        alloc,
+    }
+}
+
+fn unwrap(till: Till) -> Loose<Session, Global>
+    ensures { result.value ≡ till.session }
+{
+    let Till { at, alloc } = till;
+    Loose {
+        at: at as *mut Session,
+        alloc,
+    }
+}
+
+/// The till of a session.
+pub fn hold(session: Box<Session>) -> Till
+    ensures { result.session ≡ session.value }
+{
+    wrap(Loose::of(session))
+}
+
+/// The session of a till.
+pub fn take(till: Till) -> Box<Session>
+    ensures { result.value ≡ till.session }
+{
+    unwrap(till).into_box()
+}
+
+/// Leaves a till to C, as the pointer that C is to hand back.
+pub fn give(till: Till) -> *mut u8
+    ensures { result ≡ till.at }
+{
+    let Till { at, alloc: _ } = till;
+    at
+}

@@ -1,0 +1,91 @@
+#!/usr/bin/env bash
+# Tries the library: its archive by both compilers, the header against the exports, the examples in C, Rust and Python,
+# which have to print the same, want of memory at each allocation in turn, and two tills on two threads. It needs rt, gcc,
+# rustc and python3, and installs nothing. Usage: tests/abi.sh. Its last line is 'N passed, M failed'.
+set -u
+top=$(cd "$(dirname "$0")/.." && pwd)
+abi=$top/abi
+archive=$top/crates/kijolvar/out/libkijolvar.a
+work=$(mktemp -d)
+trap 'rm -rf "$work"' EXIT
+passed=0
+failed=0
+
+# told NAME WANTED FOUND: whether two texts are the same
+told() {
+  if [ "$2" = "$3" ]; then
+    passed=$((passed + 1))
+  else
+    failed=$((failed + 1))
+    printf 'failed: %s\n  wanted: %s\n  found:  %s\n' "$1" "$2" "$3"
+  fi
+}
+
+# runs NAME COMMAND ..: whether a command ends well
+runs() {
+  local name=$1
+  shift
+  "$@" > "$work/said" 2>&1
+  told "$name" 0 "$?"
+  [ -s "$work/said" ] && [ "$failed" -gt 0 ] && tail -n 5 "$work/said"
+}
+
+for tool in rt gcc rustc python3; do
+  if ! command -v "$tool" > /dev/null; then
+    echo "failed: $tool isn't installed"
+    failed=$((failed + 1))
+  fi
+done
+if [ "$failed" -gt 0 ]; then
+  echo "$passed passed, $failed failed"
+  exit 1
+fi
+
+# links NAME SOURCE FLAG ..: builds a program in C over the archive $archive and a heap
+links() {
+  local name=$1 source=$2 heap=$3
+  shift 3
+  runs "$name is built" gcc -std=c11 -Wall -Wextra -Werror -O1 -I "$abi" -I "$abi/c" "$@" -o "$work/program" "$source" \
+    $heap "$archive" -lpthread
+}
+
+# tries WHO FLAG ..: the examples and the tests in C over the archive
+tries() {
+  local who=$1
+  shift
+  links "$who: the sale in C" "$abi/c/sale.c" "$abi/heap.c" "$@"
+  "$work/program" > "$work/sale" 2>&1
+  told "$who: the sale in C" "$(cat "$abi/sale.stdout")" "$(cat "$work/sale")"
+  links "$who: want of memory" "$abi/c/memory.c" "" "$@"
+  told "$who: want of memory" "whole in the end, and nothing is left" "$("$work/program" 2>&1 | tail -n 1)"
+  links "$who: short answers" "$abi/c/short.c" "$abi/heap.c" "$@"
+  told "$who: short answers" "as they should be" "$("$work/program" 2>&1 | tail -n 1)"
+  links "$who: two threads" "$abi/c/threads.c" "$abi/heap.c" "$@"
+  told "$who: two threads" "the same" "$("$work/program" 2>&1 | tail -n 1)"
+}
+
+told "the header is that of the exports" "$(python3 "$abi/header.py")" "$(cat "$abi/kijolvar.h")"
+
+(cd "$top/crates/kijolvar" && rt lib > "$work/lib" 2>&1)
+told "the archive by LLVM" 0 "$?"
+tries "LLVM"
+tries "LLVM under the address sanitizer" -fsanitize=address,undefined -fno-sanitize-recover
+
+runs "the heap for Rust" gcc -Wall -Wextra -Werror -O1 -c -fPIC -o "$work/heap.o" "$abi/heap.c"
+cp "$archive" "$work/libkijolvar.a"
+runs "the heap is added" ar r "$work/libkijolvar.a" "$work/heap.o"
+runs "the sale in Rust is built" rustc -D warnings -O -o "$work/sale_rust" "$abi/rust/sale.rs" -L "native=$work" \
+  -l static=kijolvar
+told "the sale in Rust" "$(cat "$abi/sale.stdout")" "$("$work/sale_rust" 2>&1)"
+
+runs "the shared object" gcc -shared -o "$work/libkijolvar.so" -Wl,--whole-archive "$work/libkijolvar.a" \
+  -Wl,--no-whole-archive
+told "the sale in Python" "$(cat "$abi/sale.stdout")" \
+  "$(PYTHONDONTWRITEBYTECODE=1 python3 -W error "$abi/python/sale.py" "$work/libkijolvar.so" 2>&1)"
+
+(cd "$top/crates/kijolvar" && rt lib --backend rattle > "$work/lib" 2>&1)
+told "the archive by Rattle's own compiler" 0 "$?"
+tries "Rattle's own compiler"
+
+echo "$passed passed, $failed failed"
+[ "$failed" -eq 0 ]
