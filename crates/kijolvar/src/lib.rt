@@ -111,8 +111,8 @@ fn begin(alloc: Global, profile: &Profile) -> Result<Box<Session>, NoMemory>
     }
 }
 
-/// A new till over the devices of a profile, which are simulated, with totals on a formatted disk in memory. The profile
-/// is TOML (docs/PROFILE.md); an empty one is the built profile. The till is what is written to `out`.
+/// A new till over the devices of a profile, which are simulated, with totals on a formatted disk in memory. The
+/// profile is TOML (docs/PROFILE.md); an empty one is the built profile. The till is what is written to `out`.
 ///
 /// Answers OK, NO_MEMORY or BAD_PROFILE; where it isn't OK, nothing is written.
 #[unsafe(no_mangle)]
@@ -137,9 +137,9 @@ pub extern "C" fn kijolvar_open(alloc: Global, profile: &[u8], out: &mut *mut u8
 /// how many bytes that is. What stands behind the last line feed is a line too. The till is what is written to `out`
 /// from then on.
 ///
-/// Answers OK; or SHORT where `text` has less room: all lines were carried out, a front of the answer is in `text`, and
-/// `kijolvar_answer` gives it whole; or CUT where there was no memory for what a line prints: that line was carried out,
-/// and no later one, and a front of the answer is kept.
+/// Answers OK; or SHORT where `text` has less room: all lines were carried out, a front of the answer is in `text`,
+/// and `kijolvar_answer` gives it whole; or CUT where there was no memory for what a line prints: that line was
+/// carried out, and no later one, and a front of the answer is kept.
 #[unsafe(no_mangle)]
 pub extern "C" fn kijolvar_carry_out(
     till: Till,
