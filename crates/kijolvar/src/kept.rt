@@ -2,8 +2,8 @@ use pos_counter::Counter;
 use pos_disk::MemDisk;
 use pos_run::{Names, Spares, Wrapped};
 
-/// What a till is between two calls: its counter, whose peripherals are simulated, over a disk, the names and the spares
-/// of its lines, and the answer to the lines that it was given last.
+/// What a till is between two calls: its counter, whose peripherals are simulated, over a disk, the names and the
+/// spares of its lines, and the answer to the lines that it was given last.
 pub struct Kept {
     pub counter: Counter<MemDisk, Wrapped>,
     pub names: Names,
