@@ -75,13 +75,13 @@ uint32_t kijolvar_version(void);
    Answers OK, NO_MEMORY or BAD_PROFILE; where it isn't OK, nothing is written. */
 uint32_t kijolvar_open(const uint8_t *profile, size_t profile_len, void **out);
 
-/* Carries out the lines of a text, each whole before the next, and writes to text what they print, and to needed
-   how many bytes that is. What stands behind the last line feed is a line too. The till is what is written to out
-   from then on.
+/* Carries out the lines of a text, each whole before the next, and writes to text what they print, and to
+   needed how many bytes that is. What stands behind the last line feed is a line too. The till is what is written
+   to out from then on.
 
    Answers OK; or SHORT where text has less room: all lines were carried out, a front of the answer is in text,
-   and kijolvar_answer gives it whole; or CUT where there was no memory for what a line prints: that line was
-   carried out, and no later one, and a front of the answer is kept. */
+   and kijolvar_answer gives it whole; or CUT where there was no memory for what a line prints: that line was carried
+   out, and no later one, and a front of the answer is kept. */
 uint32_t kijolvar_carry_out(kijolvar_till till, void **out, const uint8_t *lines, size_t lines_len, uint8_t *text,
     size_t text_len, size_t *needed);
 

@@ -26,8 +26,8 @@ abbrev pub told : Bool → ℕ
 told true = ok
 told false = short
 
--- the code of lines that were carried out, all of them or as far as there was memory for what they print, by
--- whether the room holds the answer
+-- the code of lines that were carried out, all of them or as far as there was memory for what they print, by whether
+-- the room holds the answer
 abbrev pub carried : {E : Type 0} → Result (Unit {0}) E → Bool → ℕ
 carried (Ok u) holds = told holds
 carried (Err fault) holds = cut

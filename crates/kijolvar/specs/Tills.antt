@@ -22,8 +22,8 @@ use Rattle.kijolvar.specs.Codes.{carried}
 abbrev pub session_in : Ghosts Wrapped → Kept → Session
 session_in peripherals till = session_of peripherals till.names till.spares
 
--- A new till over a disk: the devices of a profile, each served by what is simulated for it, its spares, no
--- control, and totals that are off.
+-- A new till over a disk: the devices of a profile, each served by what is simulated for it, its spares, no control,
+-- and totals that are off.
 pub record Begins (peripherals : Ghosts Wrapped) (contents : Contents) (disk : Memory) (till : Kept) : Type 0 where
   pub served : (part : TotalsPart)
       → machine peripherals till.counter part ≡ begun_with (simulated_devices contents.devices) part
@@ -36,10 +36,10 @@ pub record IsNewDisk (disk : Memory) : Type 0 where
   pub at_rest : IsAtRest (state_of disk)
   pub image : HasNewImage no_files 1 (state_of disk).reading
 
--- The lines of a text are carried out in order, and the new answer is what they print; or, where there was no
--- memory for that, they are as far as it is there, and it is a front.
-abbrev pub CarriesOut : {E : Type 0} → DiskGhosts Memory → Ghosts Wrapped → Kept → List ℕ → Result (Unit {0}) E
-    → Kept → Type 0
+-- The lines of a text are carried out in order, and the new answer is what they print; or, where there was no memory
+-- for that, they are as far as it is there, and it is a front.
+abbrev pub CarriesOut : {E : Type 0} → DiskGhosts Memory → Ghosts Wrapped → Kept → List ℕ → Result (Unit {0}) E → Kept
+    → Type 0
 CarriesOut bound peripherals old text result new =
     CarriesOutLines bound peripherals old.counter (session_in peripherals old) (lines_of text) (Some [])
     (Some new.answer.items) result (session_in peripherals new) new.counter

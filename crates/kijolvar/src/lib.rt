@@ -1,5 +1,6 @@
 //! A till for C, and for whatever calls C: lines in, the text of their answers out (docs/CONSOLE.md, abi/README.md).
 #![tactic(auto)]
+
 ghost use Rattle.std.specs.Prelude.{◌≡◌, ◌≢◌, length, nat_le, IfOk, Ok, Err, Result};
 ghost use Rattle.pos_disk.specs.Memory.{Memory};
 ghost use Rattle.pos_profile.specs.Entries.{Contents};
@@ -133,13 +134,13 @@ pub extern "C" fn kijolvar_open(alloc: Global, profile: &[u8], out: &mut *mut u8
     OK
 }
 
-/// Carries out the lines of a text, each whole before the next, and writes to `text` what they print, and to `needed`
-/// how many bytes that is. What stands behind the last line feed is a line too. The till is what is written to `out`
-/// from then on.
+/// Carries out the lines of a text, each whole before the next, and writes to `text` what they print, and to
+/// `needed` how many bytes that is. What stands behind the last line feed is a line too. The till is what is written
+/// to `out` from then on.
 ///
 /// Answers OK; or SHORT where `text` has less room: all lines were carried out, a front of the answer is in `text`,
-/// and `kijolvar_answer` gives it whole; or CUT where there was no memory for what a line prints: that line was
-/// carried out, and no later one, and a front of the answer is kept.
+/// and `kijolvar_answer` gives it whole; or CUT where there was no memory for what a line prints: that line was carried
+/// out, and no later one, and a front of the answer is kept.
 #[unsafe(no_mangle)]
 pub extern "C" fn kijolvar_carry_out(
     till: Till,

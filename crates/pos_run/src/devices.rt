@@ -11,11 +11,7 @@ use pos_profile::Slot;
 use pos_service::Peripheral;
 
 /// Attaches a peripheral in service to the device of a name. One that is refused is ended.
-pub fn offer<D: Disk, P: Peripheral + Ends>(
-    counter: &mut Counter<D, P>,
-    name: &[u8],
-    peripheral: P,
-)
+pub fn offer<D: Disk, P: Peripheral + Ends>(counter: &mut Counter<D, P>, name: &[u8], peripheral: P)
     requires sound { IsCounterSound P.Peripheral counter.old }
     requires unparked { (P.Peripheral.state peripheral).is_parked ≡ false }
     ensures step { (response : Response) × IsStepBeside P.Peripheral counter.old

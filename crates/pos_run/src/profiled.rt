@@ -18,8 +18,8 @@ use pos_service::{NoMemory, Peripheral};
 use std::alloc::Global;
 use std::io::{Read, Write};
 
-/// A counter whose devices are those of a profile, each with a simulated peripheral, and whose totals are on a
-/// disk; and the profile's spares, which are simulated too. Want of memory ends the disk.
+/// A counter whose devices are those of a profile, each with a simulated peripheral, and whose totals are on a disk;
+/// and the profile's spares, which are simulated too. Want of memory ends the disk.
 pub fn simulate_profile<D: Disk + Drop>(
     alloc: Global,
     profile: &Profile,

@@ -14,10 +14,10 @@ returns c =
       outcome,
       at,
       subst (Answers _ _ c.args.till.session c.args.lines.now room c.tell-holds.new.text c.tell-holds.new.needed c.code_of.result outcome) (sym same)
-      (record {
-        carries = subst (λ old. CarriesOut _ _ old c.args.lines.now outcome c.carry_out-outcome.new.self)
-            (c.deref_mut.ensures.value ∙ c.take-session.ensures) c.carry_out-outcome.ensures;
-        tells = subst (λ answer. Tells answer room c.tell-holds.new.text c.tell-holds.new.needed) shown told.tells;
-        code_told = c.code_of.ensures ∙ ap (carried outcome) (told.whole ∙ ap (λ answer. nat_le (length answer) (length room)) shown);
-      }),
+          (record {
+            carries = subst (λ old. CarriesOut _ _ old c.args.lines.now outcome c.carry_out-outcome.new.self)
+                (c.deref_mut.ensures.value ∙ c.take-session.ensures) c.carry_out-outcome.ensures;
+            tells = subst (λ answer. Tells answer room c.tell-holds.new.text c.tell-holds.new.needed) shown told.tells;
+            code_told = c.code_of.ensures ∙ ap (carried outcome) (told.whole ∙ ap (λ answer. nat_le (length answer) (length room)) shown);
+          }),
     )
