@@ -1,17 +1,22 @@
 #!/usr/bin/env bash
 # Refuses each growth of memory in turn. Over the program it runs each script of crates/pos_console/scripts and refuses the
 # first growth of the run, then the second alone, and so on until a run meets none. Each time
-#   either the run has ended for want of memory before its first line, with nothing printed;
+#   either the run has ended for want of memory before its first line, with nothing printed, and tells so: of the words, of
+#   the profile's file or of the disk's, or of what is made of them;
+#   or it went on without that growth, as where room that is only reserved ahead is refused, and printed what is wanted;
 #   or one line was answered `memory`, all before it as ever, and where that line is written twice, with the same growth
 #   refused, all else is answered as without a refusal, and the disk in the end has the bytes of NAME.left.
-# Over the tests crates that were built it runs the tests that go on after a refusal likewise: they pass, or end where they
-# find no memory for what they begin with.
-# Usage: tests/growths.sh [-v] [PROGRAM]. With -v it says how many growths each script has. It needs a C compiler: the one of
+# Over the tests crates that `rt test` built it runs the tests that go on after a refusal likewise: they pass, or end where
+# they find no memory for what they begin with.
+# Usage: tests/growths.sh [-v] [-s STEP] [PROGRAM]. With -v it says how many growths each script has. With -s it refuses each
+# STEP-th growth alone, another one of them first in each script, and of the program only. It needs a C compiler: the one of
 # the kit, by rt, or cc. Its last line is 'N passed, M failed'; it ends with 0 where none failed.
 set -u
 export LC_ALL=C
 is_loud=
+step=1
 [ "${1:-}" = -v ] && { is_loud=1; shift; }
+[ "${1:-}" = -s ] && { step=$2; shift 2; }
 top=$(cd "$(dirname "$0")/.." && pwd)
 scripts=$top/crates/pos_console/scripts
 program=$(realpath "${1:-$top/crates/pos_console/out/pos_console}")
@@ -110,42 +115,74 @@ lay_disk() {
   done < "$1"
 }
 
+# is_told SCRIPT: whether want of memory was told before anything was printed
+is_told() {
+  [ ! -s out ] || return 1
+  case $(cat err) in
+    'pos_console: no memory' | "pos_console: $1.profile: no memory to read it") ;;
+    'pos_console: disk: no memory to open it') ;;
+    *) return 1 ;;
+  esac
+}
+
+# is_kept SCRIPT: whether the disk in the end has the bytes that it has to have, if there are any
+is_kept() {
+  [ ! -f "$1.left" ] || is_left "$1.left"
+}
+
+# refuse_line NAME SCRIPT NUMBER WORD ..: the growth was refused in a line, which is written twice and has it refused again
+refuse_line() {
+  local name=$1 script=$2 number=$3 line
+  shift 3
+  line=$(cmp out "$script.stdout" 2> /dev/null | sed 's/.* //')
+  if [ -z "$line" ] || [ "$(sed -n "${line}p" out)" != memory ]; then
+    tell "$name" "growth $number: line ${line:-none} is answered $(sed -n "${line:-1}p" out)"
+    return
+  fi
+  repeat "$script" "$script.stdout" "$line"
+  if ! refuse "$number" script "$program" "$@" || ! cmp -s out wanted; then
+    tell "$name" "growth $number: line $line and what follows: $(diff wanted out | head -n 4 | tr '\n' ' ')"
+  elif ! is_kept "$script"; then
+    tell "$name" "growth $number: the disk is left otherwise"
+  else
+    passed=$((passed + 1))
+  fi
+}
+
 # refuse_each NAME SCRIPT WORD ..: refuses each growth of the program with these words over a script
 refuse_each() {
-  local name=$1 script=$2 number line status before=0 lines=0
+  local name=$1 script=$2 number status before=0 spared=0 lines=0
   shift 2
   longest=$(awk '{ if (length > most) most = length } END { print most + 2 }' "$script")
   padded "$script" "$longest" > first
-  for ((number = 1; ; number++)); do
+  begin=$((begin % step + 1))
+  for ((number = begin; ; number += step)); do
     refuse "$number" first "$program" "$@"
     status=$?
     [ -s met ] || break
     if [ "$status" -eq 6 ]; then
       before=$((before + 1))
-      [ "$(cat out err)" = 'pos_console: no memory' ] || tell "$name" "growth $number: want of memory in the midst"
-      continue
-    fi
-    lines=$((lines + 1))
-    line=$(cmp out "$script.stdout" 2> /dev/null | sed 's/.* //')
-    if [ "$status" -ne 0 ] || [ -z "$line" ] || [ "$(sed -n "${line}p" out)" != memory ]; then
-      tell "$name" "growth $number: line ${line:-none} is answered $(sed -n "${line:-1}p" out), status $status"
-      continue
-    fi
-    repeat "$script" "$script.stdout" "$line"
-    if ! refuse "$number" script "$program" "$@" || ! cmp -s out wanted; then
-      tell "$name" "growth $number: line $line and what follows: $(diff wanted out | head -n 4 | tr '\n' ' ')"
-    elif [ -f "$script.left" ] && ! is_left "$script.left"; then
-      tell "$name" "growth $number: the disk is left otherwise"
-    else
+      if is_told "$script"; then
+        passed=$((passed + 1))
+      else
+        tell "$name" "growth $number: $(cat out err | head -n 3 | tr '\n' ' ')"
+      fi
+    elif [ "$status" -ne 0 ]; then
+      tell "$name" "growth $number: status $status"
+    elif cmp -s out "$script.stdout" && is_kept "$script"; then
+      spared=$((spared + 1))
       passed=$((passed + 1))
+    else
+      lines=$((lines + 1))
+      refuse_line "$name" "$script" "$number" "$@"
     fi
   done
-  all=$((all + before + lines))
-  passed=$((passed + before))
+  all=$((all + before + spared + lines))
   [ "$status" -eq 0 ] && cmp -s out "$script.stdout" || tell "$name" "the run that meets no refusal"
-  [ -z "$is_loud" ] || echo "$name: $before growths before the first line, $lines in lines"
+  [ -z "$is_loud" ] || echo "$name: $before growths before the first line, $lines in lines, $spared spared"
 }
 
+begin=0
 for script in "$scripts"/*; do
   case $script in
     *.stdout | *.profile | *.disk | *.left) continue ;;
@@ -191,8 +228,14 @@ refuse_in_test() {
   [ -z "$is_loud" ] || echo "$name: $((number - 1)) growths, $ended of them at its beginning"
 }
 
+[ "$step" -eq 1 ] || {
+  echo "$passed passed, $failed failed"
+  [ "$failed" -eq 0 ]
+  exit
+}
+
 for module in pos_totals_tests:growths pos_devices_tests:growths pos_profile_tests:profiles \
-  pos_profile_tests:registries; do
+  pos_profile_tests:registries pos_counter_tests:growths pos_run_tests:growths; do
   tests=$top/crates/${module%:*}/out/${module%:*}_tests
   if [ ! -x "$tests" ]; then
     tell "$module" "$tests isn't there: rt test builds it"

@@ -9,6 +9,8 @@ mod drivers;
 #[cfg(test)]
 mod exchanges;
 #[cfg(test)]
+mod growths;
+#[cfg(test)]
 mod requests;
 #[cfg(test)]
 mod rows;

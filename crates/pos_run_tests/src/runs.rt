@@ -15,15 +15,15 @@ use std::test::Fail;
 /// A reader of these bytes that gives at most so many a read. Its read of a number, counted from 0, is interrupted, and
 /// the later ones go on. It counts its reads.
 #[derive(Drop)]
-struct Pieces {
+pub struct Pieces {
     bytes: &'static [u8],
     most: usize,
     fails: usize,
-    reads: usize,
+    pub reads: usize,
 }
 
 impl Pieces {
-    fn new(bytes: &'static [u8], most: usize, fails: usize) -> Self {
+    pub fn new(bytes: &'static [u8], most: usize, fails: usize) -> Self {
         Pieces {
             bytes,
             most,
@@ -53,17 +53,17 @@ impl Read for Pieces {
 /// A writer into room for 64 bytes that takes at most so many a write. Its call of a number, counted from 0, fails, and
 /// the later ones go on. It counts its calls, and of them its flushes.
 #[derive(Drop)]
-struct Room {
+pub struct Room {
     bytes: [u8; 64],
     len: usize,
     most: usize,
     fails: usize,
-    calls: usize,
+    pub calls: usize,
     flushes: usize,
 }
 
 impl Room {
-    fn new(most: usize, fails: usize) -> Self {
+    pub fn new(most: usize, fails: usize) -> Self {
         Room {
             bytes: [0; 64],
             len: 0,
@@ -74,7 +74,7 @@ impl Room {
         }
     }
 
-    fn text(&self) -> &[u8] {
+    pub fn text(&self) -> &[u8] {
         &self.bytes[..self.len.min(64)]
     }
 
@@ -109,10 +109,10 @@ impl Write for Room {
 }
 
 /// No call of this number comes.
-const NEVER: usize = usize::MAX;
+pub const NEVER: usize = usize::MAX;
 
 /// A disk that is formatted.
-fn formatted(alloc: Global) -> Result<MemDisk, AllocError> {
+pub fn formatted(alloc: Global) -> Result<MemDisk, AllocError> {
     let disk = MemDisk::new(alloc, vec![in alloc; 0u8; 327_680]?)?;
     Images::format(disk).map_err(|_| AllocError)
 }
