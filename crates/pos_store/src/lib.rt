@@ -14,5 +14,6 @@ mod recovering;
 mod store;
 
 pub use fault::StoreFault;
+pub use layouts::limits_of;
 pub use mode::Mode;
 pub use store::Store;

@@ -2,13 +2,13 @@
 ghost use Rattle.pos_store.specs.Migrations.{Migrates};
 ghost use Rattle.pos_store.specs.Modes.{HasItsFiles, view_of};
 
-use crate::fault::{StoreFault, tell_images};
+use crate::fault::StoreFault;
 use crate::layouts::limits_of;
 use crate::parts::{Parts, turn_off};
 use pos_dir::encode;
 use pos_dir::laws::{is_directory, wider_directory};
 use pos_disk::Disk;
-use pos_image::Layout;
+use pos_image::{ImageFault, Layout};
 use std::alloc::Global;
 
 /// Moves the files of a disk of layout 1 to layout 2: the first image of layout 2 has them.
@@ -37,6 +37,7 @@ pub fn migrate_files<D: Disk>(parts: Parts<D>, alloc: Global) -> (Parts<D>, Resu
             directory.widen(limits_of(Layout::Layout2));
             (Parts::Ready(log, directory), Ok(()))
         }
-        Err(_) => (turn_off(log), Err(StoreFault::Device)),
+        Err(ImageFault::Device) => (turn_off(log), Err(StoreFault::Device)),
+        Err(_) => (Parts::Ready(log, directory), Err(StoreFault::NoMemory)),
     }
 }
