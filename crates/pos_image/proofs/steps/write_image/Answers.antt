@@ -1,5 +1,6 @@
-use Rattle.std.proofs.Common.{◌+◌, ℕ, List, [], ◌∷◌, ◌∙◌, ap, arith}
+use Rattle.std.proofs.Common.{◌≡◌, ◌+◌, ℕ, List, [], ◌∷◌, ◌∙◌, ap, subst, arith}
 use Rattle.pos_disk.specs.State.{splice}
+use Rattle.pos_image.specs.Layout.{start, layout_of, log_place}
 use Rattle.pos_image.proofs.Staged.{fields_written, where_ok}
 use Rattle.pos_image.proofs.steps.write_image.Goals as goal
 
@@ -15,7 +16,14 @@ returns-clause-written g c honest =
     let third = (c.in_ok-write-3.ensures.writes honest2).written in
     let same = (c.sync.ensures.syncs honest3).reading in
     let whole = g.met.D.Disk.whole c.args.disk.now honest in
+    let wrote = same ∙ third ∙ ap (λ (b : List ℕ). splice b (c.start.result + c.log.result) (0 ∷ []))
+        (second ∙ ap (λ (b : List ℕ). splice b (c.start.result + 13) body) first) in
+    let slot = c.args.slot in
+    let log_is : c.log.result ≡ log_place (layout_of slot) = c.log.ensures ∙ ap log_place c.layout.ensures in
     where_ok c.sync.result _ (
-    fields_written s0.reading _ c.head_of.result body c.args.at c.args.sequence
-    (omega (arith, whole, c.requires.fits)) c.requires.short c.ranges.sequence.fits c.head_of.ensures
-    (same ∙ third ∙ ap (λ (b : List ℕ). splice b (c.args.at + 16384) (0 ∷ [])) (second ∙ ap (λ (b : List ℕ). splice b (c.args.at + 13) body) first)))
+    fields_written s0.reading _ c.head_of.result body slot c.args.sequence
+    (omega (arith, whole, c.requires.large)) c.requires.short c.ranges.sequence.fits c.head_of.ensures
+    (subst (λ (log : ℕ). (g.D.Disk.state c.sync.new.self).reading
+    ≡ splice (splice (splice s0.reading (start slot + 1) c.head_of.result) (start slot + 13) body) (start slot + log) (0 ∷ [])) log_is
+    (subst (λ (at : ℕ). (g.D.Disk.state c.sync.new.self).reading
+    ≡ splice (splice (splice s0.reading (at + 1) c.head_of.result) (at + 13) body) (at + c.log.result) (0 ∷ [])) c.start.ensures wrote)))

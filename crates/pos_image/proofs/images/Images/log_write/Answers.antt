@@ -1,6 +1,6 @@
 use Rattle.std.proofs.Common.{◌≡◌, ◌+◌, ℕ, List, sym, subst, arith, rules}
 use Rattle.pos_disk.specs.State.{DiskState, MayLeave, LeavesOnly, Writes, splice}
-use Rattle.pos_image.specs.Found.{prepared_body}
+use Rattle.pos_image.specs.Found.{prepared_image}
 use Rattle.pos_image.specs.Images.{View, images_of}
 use Rattle.pos_image.specs.Layout.{start}
 use Rattle.pos_image.specs.Spans.{IsWritable, KeepsImage, span_of}
@@ -13,7 +13,7 @@ module _ (g : Over) (c : After-write g) where
   abbrev images : View g.row.D.Denot
   images =
       let d = c.self.inside in
-      images_of d.disk d.slot d.current.body.items d.current.sequence (prepared_body d.prepared)
+      images_of d.disk d.current.slot d.current.body.items d.current.sequence (prepared_image d.prepared)
 
   abbrev s0 : DiskState
   s0 = g.D.Disk.state c.self.inside.disk
@@ -28,7 +28,7 @@ module _ (g : Over) (c : After-write g) where
   only honest f left = g.met.D.Disk.only_now c.self.inside.disk f honest left
 
   -- the write began at its place in the slot
-  wrote : g.D.Disk.honest c.self.inside.disk → Writes s0 s1 (start c.self.inside.slot + c.args.at) c.args.bytes.now c.write.result
+  wrote : g.D.Disk.honest c.self.inside.disk → Writes s0 s1 (start c.self.inside.current.slot + c.args.at) c.args.bytes.now c.write.result
   wrote honest = subst (λ (k : ℕ). Writes s0 s1 (k + c.args.at) c.args.bytes.now c.write.result) c.start.ensures (c.write.ensures.writes honest)
 
   -- a crash at any moment, whatever the write answers
