@@ -3,12 +3,12 @@ use Rattle.std.proofs.Common.{◌≡◌, ◌↔◌, inl, inr, ⊎_elim, ℕ, ◌
 use Rattle.std.specs.Prelude.{⊤, MatchOption}
 use Rattle.std.proofs.lemmas.Bool.{cases_lt, cases_Bool}
 use Rattle.std.proofs.lemmas.List.{ext_get_or, get_or_past}
-use Rattle.pos_disk.specs.State.{DiskState, InRange, MayLeave, LeavesOnly, Writes, Syncs, splice, part}
+use Rattle.pos_disk.specs.State.{DiskState, InRange, MayLeave, LeavesOnly, Writes, Syncs, Watches, splice, part}
 use Rattle.pos_disk.specs.Within.{SameBut, IsWithin}
 use Rattle.pos_disk.specs.declared.device.Disk.{Ghosts}
 use Rattle.pos_disk.specs.declared.device.DiskFault.{DiskFault}
 use Rattle.pos_disk.proofs.Bytes.{in_range, length-splice, spliced_within, splice_elsewhere, length-part, get_or-part, part-part}
-use Rattle.pos_disk.proofs.Moments.{started, goes_on}
+use Rattle.pos_disk.proofs.Moments.{started, goes_on, weaker}
 use Rattle.pos_disk.proofs.Within.{within_here, leaves_within, within_write}
 use Rattle.pos_image.specs.Images.{View, Prepared, IsSound, IsReady, HasPrepared, IsBeside}
 use Rattle.pos_image.specs.Layout.{start, other, first_of, layout_of, layout_on, slot_size, longest, log_place, log_size, is_open, sequence_at, length_at}
@@ -157,6 +157,10 @@ module _ {D : Type 0} (images : View D) where
         };
       }
 
+  -- so does a crash while the disk is looked at or synced
+  pub watched_image : (old new : DiskState) → IsHeld old images → Watches old new → LeavesOnly old new (KeepsImage images (span_of images old))
+  watched_image old new held watches = weaker old new (MayLeave old) _ (keeps_image old held) watches.any_moment
+
   -- a disk at rest holds sound images
   held_at_rest : (state : DiskState) → IsSound state images → IsHeld state images
   held_at_rest state sound = record { loose = λ i loose. absurd (sound.at_rest i loose); current = sound.current; prepared = sound.prepared }
@@ -166,9 +170,12 @@ module _ {D : Type 0} (images : View D) where
       (only : (c : List ℕ) → old.left_since old.moment c → MayLeave old c) where
     module _ (at : ℕ) (bytes : List ℕ) (from : log_place (layout_of images.slot) ≤ at) (to : at + length bytes ≤ slot_size (layout_of images.slot))
         (writes : Writes old new (start images.slot + at) bytes result) where
+      log_end : log_place (layout_of images.slot) + log_size (layout_of images.slot) ≡ slot_size (layout_of images.slot)
+      log_end = (places (layout_of images.slot)).end
+
       within : IsWithin old.reading (start images.slot + log_place (layout_of images.slot)) (log_size (layout_of images.slot)) new
       within =
-          within_write old.reading (start images.slot + log_place (layout_of images.slot)) (log_size (layout_of images.slot)) old new result (start images.slot + at) bytes (omega arith) (omega arith)
+          within_write old.reading (start images.slot + log_place (layout_of images.slot)) (log_size (layout_of images.slot)) old new result (start images.slot + at) bytes (omega (arith, from)) (omega (arith, to, log_end))
           (within_here old (start images.slot + log_place (layout_of images.slot)) (log_size (layout_of images.slot)) held.loose) writes
 
       -- a write leaves the images held
@@ -189,24 +196,25 @@ module _ {D : Type 0} (images : View D) where
       elsewhere : (i : ℕ) → ¬ (InRange (at - log_place (layout_of images.slot)) (length bytes) i) → get_or (log_of new.reading) i 0 ≡ get_or (log_of old.reading) i 0
       elsewhere i missed =
           spans_agree images.slot old.reading new.reading images.body images.sequence held.current write_held.current i (λ _.
-          writes.elsewhere (start images.slot + log_place (layout_of images.slot) + i) (λ hit. missed (omega (arith, hit.0), omega (arith, hit.1))))
+          writes.elsewhere (start images.slot + log_place (layout_of images.slot) + i) (λ hit. missed (omega (arith, hit.0, from), omega (arith, hit.1, from))))
 
       -- where the disk has the new bytes, the span has them
       written : new.reading ≡ splice old.reading (start images.slot + at) bytes → log_of new.reading ≡ splice (log_of old.reading) (at - log_place (layout_of images.slot)) bytes
       written is =
-          let here = start_low images.slot in
+          let end = slot_end images.slot in
           let whole = held.current.whole in
           let long = old_length in
-          let fits : at - log_place (layout_of images.slot) + length bytes ≤ length (log_of old.reading) = omega arith in
+          let log_is = log_end in
+          let fits : at - log_place (layout_of images.slot) + length bytes ≤ length (log_of old.reading) = omega (arith, from, to, long, log_is) in
           let spliced = length-splice (log_of old.reading) bytes (at - log_place (layout_of images.slot)) fits in
           ext_get_or 0 (log_of new.reading) (splice (log_of old.reading) (at - log_place (layout_of images.slot)) bytes) (new_length ∙ sym long ∙ sym spliced)
           (λ i _. elim (in_range (at - log_place (layout_of images.slot)) (length bytes) i) [
             | inl inside ↦
-                let place : start images.slot + log_place (layout_of images.slot) + i - (start images.slot + at) ≡ i - (at - log_place (layout_of images.slot)) = omega (arith, inside.0) in
-                span_place images.slot new.reading images.body images.sequence write_held.current i (omega (arith, inside.1))
+                let place : start images.slot + log_place (layout_of images.slot) + i - (start images.slot + at) ≡ i - (at - log_place (layout_of images.slot)) = omega (arith, inside.0, from) in
+                span_place images.slot new.reading images.body images.sequence write_held.current i (omega (arith, inside.1, from, to, log_is))
                 ∙ ap (λ (l : List ℕ). get_or l (start images.slot + log_place (layout_of images.slot) + i) 0) is
-                ∙ spliced_within 0 old.reading bytes (start images.slot + at) (start images.slot + log_place (layout_of images.slot) + i) (omega arith)
-                (omega (arith, inside.0), omega (arith, inside.1))
+                ∙ spliced_within 0 old.reading bytes (start images.slot + at) (start images.slot + log_place (layout_of images.slot) + i)
+                (omega (arith, to, end, whole)) (omega (arith, inside.0, from), omega (arith, inside.1, from))
                 ∙ ap (λ (k : ℕ). get_or bytes k 0) place ∙ sym (spliced_within 0 (log_of old.reading) bytes (at - log_place (layout_of images.slot)) i fits inside)
             | inr missed ↦ elsewhere i missed ∙ sym (splice_elsewhere (log_of old.reading) bytes (at - log_place (layout_of images.slot)) i fits missed)
           ])
@@ -218,7 +226,7 @@ module _ {D : Type 0} (images : View D) where
         written = so_ok answer _ _ written is;
         same_length = new_length ∙ sym old_length;
         elsewhere = elsewhere;
-        loose = λ i loose. ⊎_elim (λ was. inl was) (λ hit. inr (omega (arith, hit.0), omega (arith, hit.1)))
+        loose = λ i loose. ⊎_elim (λ was. inl was) (λ hit. inr (omega (arith, hit.0, from), omega (arith, hit.1, from)))
             (writes.loose (start images.slot + log_place (layout_of images.slot) + i) loose);
       }
 
@@ -266,7 +274,7 @@ synced bound images disk (Ok done) was size honest syncs =
     record { at_rest = (syncs before).at_rest; current = held.current; prepared = held.prepared })
 
 -- the layout of the image that bytes hold, if they hold one
-layout_shown : Layout → ImageStanding → Layout
+abbrev layout_shown : Layout → ImageStanding → Layout
 layout_shown none (OneImage layout body sequence) = layout
 layout_shown none NoImage = none
 layout_shown none DamagedImage = none

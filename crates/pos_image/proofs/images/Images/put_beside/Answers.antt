@@ -2,7 +2,7 @@ use Rattle.std.proofs.Common.{◌≡◌, sym, subst, arith, rules, List, ℕ, So
 use Rattle.pos_disk.specs.State.{LeavesOnly}
 use Rattle.pos_image.specs.Layout.{start, layout_of}
 use Rattle.pos_image.specs.Found.{prepared_image}
-use Rattle.pos_image.specs.Images.{Prepared, IsReady, IsBeside, image_of, images_of}
+use Rattle.pos_image.specs.Images.{View, Prepared, IsReady, IsBeside, image_of, images_of}
 use Rattle.pos_image.specs.Slots.{HasFields}
 use Rattle.pos_image.specs.Standing.{HasImage, log_of}
 use Rattle.pos_image.proofs.Changes.{ready, beside_leaves, placed}
@@ -22,7 +22,7 @@ module _ (g : Over) (c : After-place_image g) where
   it = image_of c.args.image.slot c.args.image.body.items c.args.image.sequence
 
   beside : IsBeside c.self.inside.current.slot c.self.inside.current.sequence it
-  beside = rw c.self.view_is c.requires.beside
+  beside = subst (λ (v : View g.row.D.Denot). IsBeside v.slot v.sequence it) (sym c.self.view_is) c.requires.beside
 
   -- a crash at any moment, whatever the disk answers
   moments : g.D.Disk.honest c.args.self.now.disk → LeavesOnly (g.D.Disk.state c.args.self.now.disk) (g.D.Disk.state c.place_image.new.disk)
