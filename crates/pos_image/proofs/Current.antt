@@ -142,9 +142,11 @@ module _ (target : Slot) (old new : List ℕ) (whole : 327680 ≤ length old) (s
         let end = slot_end target in
         let log = (places (layout_of target)).log in
         let log_end = (places (layout_of target)).end in
-        subst (λ (s : Slot). (is_open old (start s) ≡ true) × (sequence_at new (start s) ≡ sequence_at old (start s))) (sym is)
-        (behind.0, kept_sequence old new (start target) 1 behind.1 (start target) (omega (arith, end, whole, log, log_end))
-        (λ i inside hit. absurd (omega (arith, inside.0, hit.1))))
+        subst (λ (s : Slot). (is_open old (start s) ≡ true) × (sequence_at new (start s) ≡ sequence_at old (start s))) (sym is) (
+          behind.0,
+          kept_sequence old new (start target) 1 behind.1 (start target) (omega (arith, end, whole, log, log_end))
+              (λ i inside hit. absurd (omega (arith, inside.0, hit.1))),
+        )
     | inr apart ↦
         let end = slot_end slot in
         let log = (places (layout_of slot)).log in

@@ -243,10 +243,9 @@ module _ {D : Type 0} (images : View D) where
           goes_on old old new (KeepsImage images (span_of images new))
           (started old (KeepsImage images (span_of images new)) (λ c left. here c (still_may c (only c left)))) writes.time here
 
-  -- a sync leaves them held
-  sync_held : {T : Type 0} (old new : DiskState) (result : Result T DiskFault) → IsHeld old images → Syncs old new result → IsHeld new images
-  sync_held old new result held syncs =
-      rw syncs.reading record { loose = λ i loose. held.loose i (syncs.loose i loose); current = held.current; prepared = held.prepared }
+  -- a disk that was only looked at or synced still holds them
+  pub looked_held : (old new : DiskState) → IsHeld old images → new.reading ≡ old.reading → ((i : ℕ) → new.loose i → old.loose i) → IsHeld new images
+  looked_held old new held same loose = rw same record { loose = λ i is. held.loose i (loose i is); current = held.current; prepared = held.prepared }
 
 -- images that a disk holds are writable
 pub writable : {D : Type 0} (bound : Ghosts D) (images : View D) → 327680 ≤ bound.size images.disk → images.sequence < 2 ^ 64
@@ -270,7 +269,7 @@ synced bound images disk (Err fault) was size honest syncs = tt
 synced bound images disk (Ok done) was size honest syncs =
     ready bound (record images { disk = disk }) (omega (arith, was.large, size)) was.counted (λ now.
     let before = honest.1 now in
-    let held = sync_held images (bound.state images.disk) (bound.state disk) (Ok done) (was.held before) (syncs before) in
+    let held = looked_held images (bound.state images.disk) (bound.state disk) (was.held before) (syncs before).reading (syncs before).loose in
     record { at_rest = (syncs before).at_rest; current = held.current; prepared = held.prepared })
 
 -- the layout of the image that bytes hold, if they hold one

@@ -84,7 +84,7 @@ returns-clause-written g c honest =
     let same = (c.sync.ensures.syncs honest3).reading in
     let whole = g.met.D.Disk.whole c.args.disk.now honest in
     let wrote = same ∙ third ∙ ap (λ (b : List ℕ). splice b (c.start-at.result + c.log.result) (0 ∷ []))
-        (second ∙ ap (λ (b : List ℕ). splice b (c.start-at.result + 13) body) first) in
+    (second ∙ ap (λ (b : List ℕ). splice b (c.start-at.result + 13) body) first) in
     let slot = c.args.slot in
     let log_is : c.log.result ≡ log_place (layout_of slot) = c.log.ensures ∙ ap log_place c.layout.ensures in
     where_ok c.sync.result _ (
