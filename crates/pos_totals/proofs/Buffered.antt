@@ -79,7 +79,8 @@ buffered_after layout files control spent (Rename other name) next (Write handle
     (sym (outlines_kept (is_called other) (λ file. record file { name = name }) files (all_files _ files (λ file called. refl)))) is
 buffered_after layout files control spent (Write other place text) next (Write handle offset bytes) distinct unrefused is =
     same_buffered files (files_after next files (Write other place text)) next (Write handle offset bytes)
-    (sym (writes_keep files other place text (all_fit files other place (length text) distinct (range_fits layout files control spent other place text unrefused)))) is
+    (sym (writes_keep files other place text (all_fit files other place (length text) distinct
+    (range_fits layout files control spent other place text unrefused)))) is
 buffered_after layout files control spent (SetAll other n) next (Write handle offset bytes) distinct unrefused is =
     same_buffered files (files_after next files (SetAll other n)) next (Write handle offset bytes) (sym (sets_keep files other n)) is
 buffered_after layout files control spent change next other distinct unrefused is = absurd is
@@ -131,7 +132,8 @@ first_made : (layout : Layout) (files : List File) (next : ℕ) (change : Change
     → group_of files changes ≡ group_of (files_after next files change) changes
     → outcome_of_all (limits_of layout) (plain (files_after next files change)) (group_of (files_after next files change) changes) ≡ Ok
     (plain (files_after_all next (files_after next files change) changes))
-    → outcome_of_all (limits_of layout) (plain files) (group_of files (change ∷ changes)) ≡ Ok (plain (files_after_all next (files_after next files change) changes))
+    → outcome_of_all (limits_of layout) (plain files) (group_of files (change ∷ changes)) ≡ Ok
+    (plain (files_after_all next (files_after next files change) changes))
 first_made layout files next change changes one same others =
     ap (λ r. and_then r (λ fs. outcome_of_all (limits_of layout) fs (group_of files changes))) one
     ∙ ap (λ (g : List FileChange). outcome_of_all (limits_of layout) (plain (files_after next files change)) g) same ∙ others

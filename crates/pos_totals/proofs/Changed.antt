@@ -232,7 +232,8 @@ given_below (negsuc n) (first ∷ files) next below = (λ called. absurd cc, giv
 
 -- a change that is let through and bufferable is what may be buffered
 is_buffered : (layout : Layout) (files : List File) (control : ℕ) (spent : Option ℕ) (change : Change) (next : ℕ) → AreDistinct (handles_of files)
-    → AllByRecursion (λ h. h < next) (handles_of files) → first_refusal (change_rows (totals_limits layout) files control spent change) ≡ None → is_some spent ≡ true
+    → AllByRecursion (λ h. h < next) (handles_of files) → first_refusal (change_rows (totals_limits layout) files control spent change) ≡ None
+    → is_some spent ≡ true
     → IsBuffered files next change
 is_buffered layout files control None change next distinct below unrefused inside = absurd cc
 is_buffered layout files control (Some spent) (Write handle offset bytes) next distinct below unrefused inside =
@@ -241,7 +242,8 @@ is_buffered layout files control (Some spent) (Write handle offset bytes) next d
       found_has (is_called handle) (λ file. IsGiven next handle) files found.0 (given_below handle files next below) found.1,
       all_fit files handle offset (length bytes) distinct fits,
     )
-is_buffered layout files control (Some spent) (SetAll handle n) next distinct below unrefused inside = (value_fits layout files control (Some spent) handle n unrefused).1
+is_buffered layout files control (Some spent) (SetAll handle n) next distinct below unrefused inside =
+    (value_fits layout files control (Some spent) handle n unrefused).1
 is_buffered layout files control (Some spent) other next distinct below unrefused inside = absurd cc
 
 module _ {D : Type 0} (bound : Ghosts D) (disk : D)
@@ -272,7 +274,8 @@ module _ {D : Type 0} (bound : Ghosts D) (disk : D)
           answer = open_table (refusals_of_change before control change) _ _ _ unrefused (does_inside _ before control change buffer some);
           disk = rw none (idles bound disk only before (totals_of (StoreReady files sequence) (with_change buffer)) [] _ refl refl
               (λ refused. absurd (refused tt))
-              (λ h. their_files holdings.layout holdings.handles.given (StoreReady files sequence) holdings.handles.next (bound.state disk) sound.handles (leaves h)));
+              (λ h. their_files holdings.layout holdings.handles.given (StoreReady files sequence) holdings.handles.next (bound.state disk) sound.handles
+              (leaves h)));
         },
         record {
           found = refl;
@@ -332,7 +335,8 @@ lacking (StoreReady files sequence) holdings control change made checks free out
 
 -- the tags have a place for what the change does to them
 has_place : (layout : Layout) (files : List File) (control : ℕ) (spent : Option ℕ) (change : Change) (next : ℕ)
-    → first_refusal (change_rows (totals_limits layout) files control spent change) ≡ None → (is_create change && nat_eq next last_number) ≡ false → next < 2 ^ 64
+    → first_refusal (change_rows (totals_limits layout) files control spent change) ≡ None → (is_create change && nat_eq next last_number) ≡ false
+    → next < 2 ^ 64
     → HasPlace (tags_of files) next (file_change files change)
 has_place layout files control spent (Create name size) next unrefused left small =
     let good = not_refused (is_some spent || not (is_name name && is_natural size)) _ _ unrefused in
@@ -530,7 +534,8 @@ module _ {D : Type 0} (bound : Ghosts D) (disk : D)
       (both.0, sound_as holdings.layout layout (StoreReady files sequence) (record holdings { transactions = new }) sound.found both.1)
 
   pub store_done : (layout : Layout) (state : State) (tail : ℕ) (new : StoreView D) → HasDirectory holdings.layout state
-      → IsSound layout state holdings → (bound.honest disk → LeavesItsFiles layout state (bound.state disk)) → ChecksAt (totals_of state holdings) control change (Ok made)
+      → IsSound layout state holdings → (bound.honest disk → LeavesItsFiles layout state (bound.state disk))
+      → ChecksAt (totals_of state holdings) control change (Ok made)
       → is_some (transaction_at holdings.transactions control) ≡ false → lacks holdings.handles.next (file_change_of made) ≡ false
       → Commits bound (record { disk = disk; layout = layout; state = state; tail = tail }) (file_change_of made ∷ []) (Ok tt) new
       → Changes bound (view_at disk state holdings) control change (Ok (answer.Done (value_after holdings.handles.next (file_change_of made))))
@@ -540,8 +545,10 @@ module _ {D : Type 0} (bound : Ghosts D) (disk : D)
   store_done layout (StoreReady files sequence) tail new directory sound leaves checks free there commits =
       let xs = with_tags holdings.handles.given files in
       let same = sound_as layout holdings.layout (StoreReady files sequence) holdings refl sound in
-      let left : bound.honest disk → LeavesItsFiles holdings.layout (StoreReady files sequence) (bound.state disk) = λ h. leaves_found layout holdings.layout (StoreReady files sequence) (bound.state disk) sound.found (leaves h) in
-      let before = subst (λ (file : FileChange). Commits bound (record { disk = disk; layout = holdings.layout; state = StoreReady files sequence; tail = tail })
+      let left : bound.honest disk → LeavesItsFiles holdings.layout (StoreReady files sequence) (bound.state disk) = λ h. leaves_found layout holdings.layout
+      (StoreReady files sequence) (bound.state disk) sound.found (leaves h) in
+      let before = subst (λ (file : FileChange). Commits bound
+      (record { disk = disk; layout = holdings.layout; state = StoreReady files sequence; tail = tail })
       (file ∷ []) (Ok tt) new) (sym checks.1.made) (committed_found bound disk layout holdings.layout files sequence tail sound.found commits) in
       let numbers = lacks_so xs change holdings.handles.next made false checks.1.made there in
       subst (λ (file : FileChange). Changes bound (view_at disk (StoreReady files sequence) holdings) control change
@@ -553,7 +560,8 @@ module _ {D : Type 0} (bound : Ghosts D) (disk : D)
 
   -- whatever fault the store has
   pub store_refused : (layout : Layout) (state : State) (tail : ℕ) (new : StoreView D) (cause : StoreFault) → HasDirectory holdings.layout state
-      → IsSound layout state holdings → (bound.honest disk → LeavesItsFiles layout state (bound.state disk)) → ChecksAt (totals_of state holdings) control change (Ok made)
+      → IsSound layout state holdings → (bound.honest disk → LeavesItsFiles layout state (bound.state disk))
+      → ChecksAt (totals_of state holdings) control change (Ok made)
       → is_some (transaction_at holdings.transactions control) ≡ false → lacks holdings.handles.next (file_change_of made) ≡ false
       → Commits bound (record { disk = disk; layout = layout; state = state; tail = tail }) (file_change_of made ∷ []) (Err cause) new
       → Changes bound (view_at disk state holdings) control change (answer_of cause)
@@ -568,7 +576,8 @@ module _ {D : Type 0} (bound : Ghosts D) (disk : D)
       (file ∷ []) (Err cause) new) (sym checks.1.made) (committed_found bound disk layout holdings.layout files sequence tail sound.found commits))
 
 -- the files of a store that is ready have handles of their own, what is buffered fits them, and claims are apart
-pub theirs : {layout : Layout} (state : State) (holdings : Holdings) → HasDirectory holdings.layout state → IsSound layout state holdings → HasItsFiles (totals_of state holdings)
+pub theirs : {layout : Layout} (state : State) (holdings : Holdings) → HasDirectory holdings.layout state → IsSound layout state holdings
+    → HasItsFiles (totals_of state holdings)
 theirs StoreOff holdings directory sound = record { files = tt; buffers = sound.buffers; apart = none_apart holdings.area }
   where
     none_apart : (area : Option ℕ) → IfSome area (λ holder. AllByRecursion (λ file. is_foreign_claim holder file ≡ false) [])

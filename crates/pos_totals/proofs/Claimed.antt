@@ -96,7 +96,8 @@ same_outlines (x ∷ xs) (y ∷ ys) (file ∷ files) same =
     ap (λ n. (n, length file.bytes) ∷ outlines (with_tags xs files)) first ∙ ap (λ os. (y.handle, length file.bytes) ∷ os) (same_outlines xs ys files others)
 
 -- tags of the same handles are as sound
-pub sound_retagged : {layout : Layout} (state : State) (holdings : Holdings) (tags : List Tag) → numbers_of tags ≡ numbers_of holdings.handles.given → IsSound layout state holdings
+pub sound_retagged : {layout : Layout} (state : State) (holdings : Holdings) (tags : List Tag) → numbers_of tags ≡ numbers_of holdings.handles.given
+    → IsSound layout state holdings
     → HasHandles state tags holdings.handles.next × HaveBuffers (mode_of tags state) holdings.handles.next holdings.transactions
 sound_retagged StoreOff holdings tags same sound = (tt, sound.buffers)
 sound_retagged (StoreReady files sequence) holdings tags same sound = (
@@ -201,7 +202,13 @@ pub control_dropped : {layout : Layout} (state : State) (holdings : Holdings) (c
       transactions = slice_set holdings.transactions control
           None;
     }) ≡ without_control (totals_of state holdings) control)
-    × IsSound layout state (record { layout = holdings.layout; handles = table; area = foreign_area control holdings.area; transactions = slice_set holdings.transactions control None })
+    × IsSound layout state (record {
+      layout = holdings.layout;
+      handles = table;
+      area = foreign_area control holdings.area;
+      transactions = slice_set
+          holdings.transactions control None;
+    })
 control_dropped state holdings control table given next sound =
     let tags = map (tag_released control) holdings.handles.given in
     let still = sound_retagged state holdings tags (released_numbers control holdings.handles.given) sound in

@@ -92,7 +92,8 @@ one_group : (files : List PlainFile) (sequence : ℕ) (holdings : Holdings) (con
     → transaction_at holdings.transactions control ≡ Some buffer → IsOneGroup (totals_of (StoreReady files sequence) holdings) buffer
 one_group files sequence holdings control buffer directory sound passes some =
     let xs = with_tags holdings.handles.given files in
-    makes_all holdings.layout xs holdings.handles.next buffer (sound_files holdings.layout holdings.handles.given files holdings.handles.next directory sound.handles).1
+    makes_all holdings.layout xs holdings.handles.next buffer
+    (sound_files holdings.layout holdings.handles.given files holdings.handles.next directory sound.handles).1
     (held_at (Ready xs sequence) holdings.handles.next holdings.transactions control buffer sound.buffers some)
     (all_there files sequence holdings control buffer passes some)
 
@@ -332,7 +333,8 @@ module _ {D : Type 0} (bound : Ghosts D) (disk : D)
     (only : bound.honest disk → (bytes : List ℕ) → (bound.state disk).left_since (bound.state disk).moment bytes → MayLeave (bound.state disk) bytes)
     (holdings : Holdings) (control : ℕ) (group : List FileChange) where
   pub store_committed : (layout : Layout) (state : State) (tail : ℕ) (new : StoreView D) → HasDirectory holdings.layout state
-      → IsSound layout state holdings → (bound.honest disk → LeavesItsFiles layout state (bound.state disk)) → first_refusal (refusals_of_commit (totals_of state holdings) control) ≡ None
+      → IsSound layout state holdings → (bound.honest disk → LeavesItsFiles layout state (bound.state disk))
+      → first_refusal (refusals_of_commit (totals_of state holdings) control) ≡ None
       → Gathers (files_of (totals_of state holdings).mode) (transaction_at holdings.transactions control) group
       → Commits bound (record { disk = disk; layout = layout; state = state; tail = tail }) group (Ok tt) new
       → (transactions : List (Option (List Change))) → transactions ≡ slice_set holdings.transactions control None
@@ -347,7 +349,8 @@ module _ {D : Type 0} (bound : Ghosts D) (disk : D)
       (Ok tt) new) gathered.made (committed_found bound disk layout holdings.layout files sequence tail sound.found commits)))
 
   pub store_failed : (layout : Layout) (state : State) (tail : ℕ) (new : StoreView D) (cause : StoreFault) → HasDirectory holdings.layout state
-      → IsSound layout state holdings → (bound.honest disk → LeavesItsFiles layout state (bound.state disk)) → first_refusal (refusals_of_commit (totals_of state holdings) control) ≡ None
+      → IsSound layout state holdings → (bound.honest disk → LeavesItsFiles layout state (bound.state disk))
+      → first_refusal (refusals_of_commit (totals_of state holdings) control) ≡ None
       → Gathers (files_of (totals_of state holdings).mode) (transaction_at holdings.transactions control) group
       → Commits bound (record { disk = disk; layout = layout; state = state; tail = tail }) group (Err cause) new
       → CommitsBuffer bound (view_at disk state holdings) control (answer_of cause)

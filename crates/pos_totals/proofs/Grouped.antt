@@ -122,19 +122,23 @@ up_to : (limit : ℕ) (n : ℤ) → is_up_to limit n ≡ true → nat_abs n ≤ 
 up_to limit (pos n) fits = leb-true n limit fits
 up_to limit (negsuc n) fits = absurd cc
 
-made_create : (layout : Layout) (files : List File) (control : ℕ) (spent : Option ℕ) (name : List ℕ) (size : ℤ) (next : ℕ) → total_size (plain files) ≤ (limits_of layout).bytes
+made_create : (layout : Layout) (files : List File) (control : ℕ) (spent : Option ℕ) (name : List ℕ) (size : ℤ) (next : ℕ)
+    → total_size (plain files) ≤ (limits_of layout).bytes
     → first_refusal (change_rows (totals_limits layout) files control spent (Create name size)) ≡ None → Makes layout files (Create name size) next
 made_create layout files control spent name size next small unrefused =
     let good = not_refused (is_some spent || not (is_name name && is_natural size)) _ _ unrefused in
     let free = not_refused (has_file (is_named name) files) _ _ good.1 in
     let room = not_refused (not (has_room (totals_limits layout) files size)) _ _ free.1 in
-    let parts = and_parts (is_up_to (free_data (totals_limits layout) files) size) (nat_lt (length files) (limits_of layout).files) (not-false (has_room (totals_limits layout) files size) room.0) in
-    let few : nat_lt (length (plain files)) (limits_of layout).files ≡ true = ap (λ n. nat_lt n (limits_of layout).files) (length-map files plain_file) ∙ parts.1 in
+    let parts = and_parts (is_up_to (free_data (totals_limits layout) files) size) (nat_lt (length files) (limits_of layout).files)
+    (not-false (has_room (totals_limits layout) files size) room.0) in
+    let few : nat_lt (length (plain files)) (limits_of layout).files ≡ true = ap (λ n. nat_lt n (limits_of layout).files) (length-map files plain_file) ∙
+    parts.1 in
     let fits : nat_le (total_size (plain files) + nat_abs size) (limits_of layout).bytes ≡ true =
     le-leb _ _ (omega (arith, small, plain_size files, up_to (free_data (totals_limits layout) files) size parts.0)) in
     let new : PlainFile = record { name = name; bytes = replicate (nat_abs size) 0 } in
     cond-false (has_name (plain files) name) _ _ (plain_name files name ∙ free.0)
-    ∙ cond-true (nat_lt (length (plain files)) (limits_of layout).files && nat_le (total_size (plain files) + nat_abs size) (limits_of layout).bytes) _ _ (and_from _ _ few fits)
+    ∙ cond-true (nat_lt (length (plain files)) (limits_of layout).files && nat_le (total_size (plain files) + nat_abs size) (limits_of layout).bytes) _ _
+    (and_from _ _ few fits)
     ∙ ap (λ (fs : List PlainFile). Ok fs)
     (sym (map-append plain_file files (record { handle = next; name = name; bytes = replicate (nat_abs size) 0; claim = None } ∷ [])))
 
@@ -234,7 +238,8 @@ makes layout files control spent (SetAll handle n) next sound distinct unrefused
     made_set_all layout files handle n next distinct (value_fits layout files control spent handle n unrefused).0
 
 -- so does its group
-pub makes_group : (layout : Layout) (files : List File) (control : ℕ) (spent : Option ℕ) (change : Change) (next : ℕ) → IsDirectory (limits_of layout) (plain files)
+pub makes_group : (layout : Layout) (files : List File) (control : ℕ) (spent : Option ℕ) (change : Change) (next : ℕ)
+    → IsDirectory (limits_of layout) (plain files)
     → AreDistinct (handles_of files) → first_refusal (change_rows (totals_limits layout) files control spent change) ≡ None
     → outcome_of_all (limits_of layout) (plain files) (group_of files (change ∷ [])) ≡ Ok (plain (files_after next files change))
 makes_group layout files control spent change next sound distinct unrefused =

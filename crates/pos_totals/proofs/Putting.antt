@@ -88,8 +88,11 @@ passes_here disk layout next (Ready files sequence) changes left only leaves the
 -- the files that a store has, with their tags, are sound
 pub sound_files : (layout : Layout) (tags : List Tag) (files : List PlainFile) (next : ℕ) → IsDirectory (limits_of layout) files
     → AreHandles tags files next → IsDirectory (limits_of layout) (plain (with_tags tags files)) × AreDistinct (handles_of (with_tags tags files))
-sound_files layout tags files next directory sound =
-    (subst (IsDirectory (limits_of layout)) (sym (plain_of tags files sound.count)) directory, subst AreDistinct (sym (numbers_in tags files sound.count)) sound.distinct)
+sound_files layout tags files next directory sound = (
+  subst (IsDirectory (limits_of layout)) (sym (plain_of tags files sound.count)) directory,
+  subst AreDistinct (sym (numbers_in tags files sound.count))
+      sound.distinct,
+)
 
 -- ---- where the disk isn't touched
 
@@ -177,20 +180,24 @@ module _ {D : Type 0} (bound : Ghosts D) (disk : D) (files : List PlainFile) (se
       → StandsForOneOf (before_or_after layout holdings.handles.next (Ready xs sequence) (change ∷ changes)) bytes
   among left bytes stands =
       ⊎_elim
-      (λ before. inl (subst (λ (fs : List PlainFile). StandsFor (Stands layout fs sequence) bytes) (sym (plain_of holdings.handles.given files sound.count)) before))
+      (λ before. inl (subst (λ (fs : List PlainFile). StandsFor (Stands layout fs sequence) bytes) (sym (plain_of holdings.handles.given files sound.count))
+      before))
       (λ rest. ⊎_elim (λ behind. inr
-      (stands_among layout (plain after) then_sequence (next_sequences sequence) (follows layout tail all sequence left) bytes behind)) (λ none. absurd none) rest)
+      (stands_among layout (plain after) then_sequence (next_sequences sequence) (follows layout tail all sequence left) bytes behind)) (λ none. absurd none)
+      rest)
       (subst (λ (o : Result (List PlainFile) DirectoryFault). StandsForOneOf (store.before_or_after layout files sequence then_sequence o) bytes) made stands)
 
   -- what a crash leaves around the store's commit, by the files of the totals before it and the store's state after it
   passes : {result : Result (Unit {0}) StoreFault} (new : StoreView D) (state : State) → Commits bound old_store all result new → new.state ≡ state
       → bound.honest disk
-      → Passes (bound.state disk) (bound.state new.disk) (Stands layout (plain xs) sequence ∷ []) (store_settled layout state (store.left_by layout files sequence tail all))
+      → Passes (bound.state disk) (bound.state new.disk) (Stands layout (plain xs) sequence ∷ [])
+      (store_settled layout state (store.left_by layout files sequence tail all))
   passes new state commits is h =
       subst (λ (s : State). Passes (bound.state disk) (bound.state new.disk) (Stands layout (plain xs) sequence ∷ [])
       (store_settled layout s (store.left_by layout files sequence tail all))) is
       (subst (λ (fs : List PlainFile). Passes (bound.state disk) (bound.state new.disk) (Stands layout fs sequence ∷ [])
-      (store_settled layout new.state (store.left_by layout files sequence tail all))) (sym (plain_of holdings.handles.given files sound.count)) (commits.crash h))
+      (store_settled layout new.state (store.left_by layout files sequence tail all))) (sym (plain_of holdings.handles.given files sound.count))
+      (commits.crash h))
 
   -- what the store's commit answered
   pub put_down : (result : Result (Unit {0}) StoreFault) (new : StoreView D) → store.Answers (StoreReady files sequence) old_store all result new

@@ -112,7 +112,11 @@ off_recovers bound disk layout tail holdings result mid told new recovers same f
   ready = tt;
   answer = finds _ recovers.answer;
   one_of = λ h candidates leaves. let one =
-      recovers.one_of h candidates leaves in record { found = finds _ one.found; passes = settles new.totals.layout (stored new.totals.mode) _ _ candidates one.passes (now h) };
+      recovers.one_of h candidates leaves in record {
+        found = finds _ one.found;
+        passes = settles new.totals.layout (stored new.totals.mode) _ _ candidates
+            one.passes (now h);
+      };
   reading = recovers.reading;
   now = now;
   device = λ is h. recovers.device h (device.0 is);
@@ -153,7 +157,8 @@ same_device why result tells = (
 
 -- a fault of a recovery is one that is told
 pub is_told : {D : Type 0} (bound : Ghosts D) (disk : D) (layout : Layout) (state : State) (tail : ℕ) (why : StoreFault) (mid : StoreView D)
-    → store_mode_of state ≡ mode.Off → store.Recovers bound (record { disk = disk; layout = layout; state = state; tail = tail }) (Err why) mid → is_some (told_as why) ≡ true
+    → store_mode_of state ≡ mode.Off → store.Recovers bound (record { disk = disk; layout = layout; state = state; tail = tail }) (Err why) mid
+    → is_some (told_as why) ≡ true
 is_told bound disk layout (StoreReady files sequence) tail why mid off recovers = absurd cc
 is_told bound disk layout StoreOff tail cause.Off mid off recovers = absurd recovers.answer
 is_told bound disk layout StoreOff tail (cause.Refused refusal) mid off recovers = absurd recovers.answer
@@ -185,7 +190,8 @@ store_failed bound disk layout StoreOff tail holdings why result mid off sound r
 -- the files that the store found got handles
 files_numbered : {D : Type 0} (bound : Ghosts D) (disk after : D) (layout other : Layout) (tail then_tail : ℕ) (found : State) (holdings : Holdings)
     (count : ℕ) (table : HandleTable) → IsSound layout StoreOff holdings
-    → store.Recovers bound (record { disk = disk; layout = layout; state = StoreOff; tail = tail }) (Ok tt) (record { disk = after; layout = other; state = found; tail = then_tail })
+    → store.Recovers bound (record { disk = disk; layout = layout; state = StoreOff; tail = tail }) (Ok tt)
+    (record { disk = after; layout = other; state = found; tail = then_tail })
     → (files : List PlainFile) → store_files_of found ≡ Some files → count ≡ length files
     → Numbers holdings.handles.given holdings.handles.next count true table.given table.next
     → Recovers bound (view_at disk StoreOff holdings) (Ok tt) (view_at after found (found_by holdings other table))
@@ -198,11 +204,13 @@ files_numbered bound disk after layout other tail then_tail (StoreReady found se
     let next_is : table.next ≡ next + length found = numbers.2 ∙ ap (λ n. next + n) same in
     let handles : AreHandles (tags_from next (length found)) found (next + length found) = are_numbers found next in
     rw (tags_are, next_is) (
-      off_recovers bound disk layout tail holdings (Ok tt) (record { disk = after; layout = other; state = StoreReady found sequence; tail = then_tail }) (Ok tt)
+      off_recovers bound disk layout tail holdings (Ok tt) (record { disk = after; layout = other; state = StoreReady found sequence; tail = then_tail })
+          (Ok tt)
           (view_at after (StoreReady found sequence) (found_by holdings other (found_table next (length found)))) recovers refl
           (λ P finds. numbered_finds P holdings other found sequence finds (let left = numbers.0 in omega (arith, left, same)))
           ((λ is. absurd cc), (λ is. absurd cc))
-          (λ h. their_files other (tags_from next (length found)) (StoreReady found sequence) (next + length found) (bound.state after) handles (recovers.now h)),
+          (λ h. their_files other (tags_from next (length found)) (StoreReady found sequence) (next + length found) (bound.state after) handles
+          (recovers.now h)),
       record {
         found = refl;
         handles = handles;
@@ -225,13 +233,15 @@ store_found bound disk layout StoreOff tail holdings count mid table off sound r
 
 -- the files that the store found are too many
 files_left : {D : Type 0} (bound : Ghosts D) (disk after : D) (layout other : Layout) (tail then_tail : ℕ) (found : State) (holdings : Holdings) (count : ℕ)
-    → store.Recovers bound (record { disk = disk; layout = layout; state = StoreOff; tail = tail }) (Ok tt) (record { disk = after; layout = other; state = found; tail = then_tail })
+    → store.Recovers bound (record { disk = disk; layout = layout; state = StoreOff; tail = tail }) (Ok tt)
+    (record { disk = after; layout = other; state = found; tail = then_tail })
     → (files : List PlainFile) → store_files_of found ≡ Some files → count ≡ length files → last_number < holdings.handles.next + count
     → Recovers bound (view_at disk StoreOff holdings) (Err fault.Handles) (view_at after StoreOff holdings)
 files_left bound disk after layout other tail then_tail StoreOff holdings count recovers files is counted many = absurd recovers.answer
 files_left bound disk after layout other tail then_tail (StoreReady found sequence) holdings count recovers files is counted many =
     let same : count ≡ length found = counted ∙ ap (λ (fs : List PlainFile). length fs) (sym (same_Some found files is)) in
-    off_recovers bound disk layout tail holdings (Ok tt) (record { disk = after; layout = other; state = StoreReady found sequence; tail = then_tail }) (Err fault.Handles)
+    off_recovers bound disk layout tail holdings (Ok tt) (record { disk = after; layout = other; state = StoreReady found sequence; tail = then_tail })
+    (Err fault.Handles)
     (view_at after StoreOff holdings) recovers refl
     (λ P finds. (record { layout = other; files = found; sequence = sequence; found = finds; handles = λ few. omega (arith, few, many, same) }, refl))
     ((λ is. absurd cc), (λ is. absurd cc))
@@ -241,7 +251,8 @@ pub store_found_more : {D : Type 0} (bound : Ghosts D) (disk : D) (layout : Layo
     (mid new : StoreView D) (table : HandleTable) → store_mode_of state ≡ mode.Off → IsSound layout state holdings
     → store.Recovers bound (record { disk = disk; layout = layout; state = state; tail = tail }) (Ok tt) mid → (files : List PlainFile)
     → store_files_of mid.state ≡ Some files → count ≡ length files
-    → Numbers holdings.handles.given holdings.handles.next count false table.given table.next → new ≡ record { disk = mid.disk; layout = Layout1; state = StoreOff; tail = 0 }
+    → Numbers holdings.handles.given holdings.handles.next count false table.given table.next
+    → new ≡ record { disk = mid.disk; layout = Layout1; state = StoreOff; tail = 0 }
     → Recovers bound (view_at disk state holdings) (Err fault.Handles) (view_of new (with_table holdings table))
     × IsSound new.layout new.state (with_table holdings table)
 store_found_more {D = D} bound disk layout

@@ -11,4 +11,5 @@ returns c =
     let tags = c.args.files.tags.now in
     let files = c.args.files.directory.now.files in
     ap (λ n. n - c.size.result) c.totals_size.ensures
-    ∙ ap (λ n. (totals_limits c.args.files.layout).bytes - n) (c.size.ensures ∙ ap total_size (sym (plain_of tags files c.requires.paired)) ∙ plain_size (with_tags tags files))
+    ∙ ap (λ n. (totals_limits c.args.files.layout).bytes - n)
+    (c.size.ensures ∙ ap total_size (sym (plain_of tags files c.requires.paired)) ∙ plain_size (with_tags tags files))

@@ -6,7 +6,8 @@ use Rattle.pos_totals.specs.Numbering.{Numbers}
 use Rattle.pos_totals.proofs.recovering.recover_off.Goals as goal
 
 pub tell_fault-requires : goal.tell_fault-requires
-tell_fault-requires g c = is_told g.D.Disk c.args.store.now.disk c.args.store.now.layout c.args.store.now.state c.args.store.now.tail c.in-Err.fault c.recover.new.self
+tell_fault-requires g c = is_told g.D.Disk c.args.store.now.disk c.args.store.now.layout c.args.store.now.state c.args.store.now.tail c.in-Err.fault
+    c.recover.new.self
     c.requires.off c.in-Err.ensures
 
 pub number-requires : goal.number-requires
@@ -17,12 +18,14 @@ number-requires g c =
 
 pub returns-in-Err-clause-sound : goal.returns-in-Err-clause-sound
 returns-in-Err-clause-sound g c =
-    (store_failed g.D.Disk c.args.store.now.disk c.args.store.now.layout c.args.store.now.state c.args.store.now.tail c.args.holdings.now c.in-Err.fault c.tell_fault.result
+    (store_failed g.D.Disk c.args.store.now.disk c.args.store.now.layout c.args.store.now.state c.args.store.now.tail c.args.holdings.now c.in-Err.fault
+    c.tell_fault.result
     c.recover.new.self c.requires.off c.requires.sound c.in-Err.ensures c.tell_fault.ensures).1
 
 pub returns-in-Err-clause-recovers : goal.returns-in-Err-clause-recovers
 returns-in-Err-clause-recovers g c =
-    (store_failed g.D.Disk c.args.store.now.disk c.args.store.now.layout c.args.store.now.state c.args.store.now.tail c.args.holdings.now c.in-Err.fault c.tell_fault.result
+    (store_failed g.D.Disk c.args.store.now.disk c.args.store.now.layout c.args.store.now.state c.args.store.now.tail c.args.holdings.now c.in-Err.fault
+    c.tell_fault.result
     c.recover.new.self c.requires.off c.requires.sound c.in-Err.ensures c.tell_fault.ensures).0
 
 pub returns-then-number-clause-sound : goal.returns-then-number-clause-sound
