@@ -8,7 +8,7 @@ use Rattle.pos_image.specs.Layout.{log_place}
 use Rattle.pos_image.specs.declared.layout.Layout.{Layout}
 use Rattle.pos_image.specs.declared.layout.Layout.TheVariants.{Layout1, Layout2}
 use Rattle.pos_store.specs.Modes.{StoreState, StoreView, Off, Ready, settled}
-use Rattle.pos_store.specs.Standing.{Standing, Stands, Passes}
+use Rattle.pos_store.specs.Standing.{Stands, Passes}
 use Rattle.pos_store.specs.declared.fault.StoreFault.{StoreFault}
 use Rattle.pos_store.specs.declared.fault.StoreFault.TheVariants as fault
 
@@ -28,18 +28,13 @@ AnswersMigration Off layout old result new = (result ≡ Err fault.Off) × (new 
 AnswersMigration (Ready files sequence) Layout1 old result new = Moves files old result new
 AnswersMigration (Ready files sequence) Layout2 old result new = (result ≡ Err fault.AlreadyLayout2) × (new ≡ old)
 
--- the files of a store by the layout that it has, or by layout 2 with sequence 1
-abbrev pub either_layout : Layout → StoreState → List Standing
-either_layout layout Off = []
-either_layout layout (Ready files sequence) = Stands layout files sequence ∷ Stands Layout2 files 1 ∷ []
-
 -- what a crash leaves around a migration, by the store before it and the layout and state after: the same files all
 -- along, by the layout before or by layout 2; where it is off then, by either
 abbrev pub LeavesItsFilesMoved : Layout → StoreState → Layout → StoreState → DiskState → DiskState → Type 0
 LeavesItsFilesMoved layout Off then_layout now old new = ⊤
 LeavesItsFilesMoved layout (Ready files sequence) then_layout now old new =
     Passes old new (Stands layout files sequence ∷ [])
-    (settled then_layout now (either_layout layout (Ready files sequence)))
+    (settled then_layout now (Stands layout files sequence ∷ Stands Layout2 files 1 ∷ []))
 
 -- What a migration does. Of the disk itself, and of what a crash may leave, it speaks where the disk is honest.
 pub record Migrates {D : Type 0} (bound : Ghosts D) (old : StoreView D) (result : Result (Unit {0}) StoreFault)

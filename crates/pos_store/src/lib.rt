@@ -6,6 +6,8 @@ mod committing;
 mod draft;
 mod fault;
 pub mod laws;
+mod layouts;
+mod migrating;
 mod mode;
 mod parts;
 mod recovering;
