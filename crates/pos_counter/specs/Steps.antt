@@ -41,7 +41,7 @@ use Rattle.pos_service.specs.declared.exchange_fault.AttachFault.{AttachFault}
 use Rattle.pos_service.specs.declared.exchange_fault.AttachFault.TheVariants as attach
 use Rattle.pos_service.specs.declared.exchange_fault.DetachFault.{DetachFault}
 use Rattle.pos_service.specs.declared.exchange_fault.DetachFault.TheVariants as detach
-use Rattle.pos_totals.specs.HardTotals.{layout_1, in_transaction, with_control as with_place}
+use Rattle.pos_totals.specs.HardTotals.{totals_limits, in_transaction, with_control as with_place}
 use Rattle.pos_totals.specs.TotalsClaims.{is_area_taken, without_control}
 use Rattle.pos_totals.specs.TotalsCalls.{file_call, file_rows}
 use Rattle.pos_counter.specs.Totals.{TotalsDo, Recovered, Recovers, recovers, file_facts}
@@ -61,8 +61,8 @@ abbrev pub facts_of : Machine → ℕ → Control → Facts
 facts_of machine number control = record {
   kind = kind_of machine control;
   signs = signs_in (station_in (device_at machine.devices control.device));
-  totals_size = layout_1.bytes;
-  files = file_facts machine.totals.totals.mode;
+  totals_size = (totals_limits machine.totals.totals.layout).bytes;
+  files = file_facts machine.totals.totals.layout machine.totals.totals.mode;
   is_claimed = is_own number (holder_of machine control);
   in_transaction = in_transaction machine.totals.totals number;
 }

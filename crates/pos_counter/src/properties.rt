@@ -79,7 +79,7 @@ pub(crate) fn find_holder(control: &Control, claims: &Claims, area: Option<usize
 
 /// What is known of the files: nothing while the totals are off.
 fn find_file_facts<D: Disk>(totals: &Totals<D>) -> Option<FileFacts>
-    ensures { result ≡ file_facts totals.now.totals.mode }
+    ensures { result ≡ file_facts totals.now.totals.layout totals.now.totals.mode }
 {
     if !totals.is_ready() {
         return None;
