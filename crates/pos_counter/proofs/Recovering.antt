@@ -151,11 +151,11 @@ module _ {D : Type 0} (bound : Ghosts D) (old new : TotalsView D) (off : old.tot
 
   -- a recovery leaves the files that were found, and else what it was
   recovered_leaves : (r : Result (Unit {0}) RecoveryFault) (left : List Standing) → DiskRecovers bound old r new → Leaves bound old left
-      → Leaves bound new (settled new.totals.mode left)
+      → Leaves bound new (settled new.totals.layout new.totals.mode left)
   recovered_leaves r left recovers leaves = record {
     honest = recovers.kept.honest.0 leaves.honest;
     leaves = (found_one r left recovers leaves).passes.now;
-    is_settled = settled_twice left new.totals.mode;
+    is_settled = settled_twice new.totals.layout left new.totals.mode;
   }
 
   -- a recovery that fails keeps the totals
@@ -169,8 +169,8 @@ module _ {D : Type 0} (bound : Ghosts D) (old new : TotalsView D) (off : old.tot
       by_fault fault.NoMemory h = h
       by_fault fault.Device h = h
 
-  failed_left : (x : RecoveryFault) (left : List Standing) → DiskRecovers bound old (Err x) new → Leaves bound old left → settled new.totals.mode left ≡ left
-  failed_left x left recovers leaves = ap (λ (t : Totals). settled t.mode left) (kept_totals x recovers) ∙ sym leaves.is_settled
+  failed_left : (x : RecoveryFault) (left : List Standing) → DiskRecovers bound old (Err x) new → Leaves bound old left → settled new.totals.layout new.totals.mode left ≡ left
+  failed_left x left recovers leaves = ap (λ (t : Totals). settled t.layout t.mode left) (kept_totals x recovers) ∙ sym leaves.is_settled
 
   -- unless the disk's fault is answered, it hasn't failed
   never_failed : (r : Result (Unit {0}) RecoveryFault) → DiskRecovers bound old r new → bound.honest old.disk → (IsErrOf r fault.Device → ⊥)
@@ -227,7 +227,7 @@ module _ {D : Type 0} (bound : Ghosts D) (old new : TotalsView D) (off : old.tot
     recovered_serves g r recovers done is = record {
       steps = λ left leaves.
           let f = found_one (Ok tt) left recovers leaves in
-          let after = settled new.totals.mode left in
+          let after = settled new.totals.layout new.totals.mode left in
           record {
             after = after;
             leaves = recovered_leaves (Ok tt) left recovers leaves;
