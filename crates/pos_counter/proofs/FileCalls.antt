@@ -73,12 +73,9 @@ pub kept_left : (changes : List Change) (old : TotalsPart) → old.left ≡ sett
     → left_after old changes old.totals.mode ≡ old.left
 kept_left changes old is = by old.totals.mode refl is
   where
-    abbrev layout : Layout
-    layout = old.totals.layout
-
-    by : (m : Mode) → old.totals.mode ≡ m → old.left ≡ settled layout m old.left
-        → settled layout m (in_doubt layout old.totals.next old.left changes old.totals.mode) ≡ old.left
-    by Off off is = ap (in_doubt layout old.totals.next old.left changes) off
+    by : (m : Mode) → old.totals.mode ≡ m → old.left ≡ settled old.totals.layout m old.left
+        → settled old.totals.layout m (in_doubt old.totals.layout old.totals.next old.left changes old.totals.mode) ≡ old.left
+    by Off off is = ap (in_doubt old.totals.layout old.totals.next old.left changes) off
     by (Ready files sequence) ready is = sym is
 
 -- files with other claims are the same files

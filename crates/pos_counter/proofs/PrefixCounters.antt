@@ -20,7 +20,8 @@ use Rattle.pos_counter.proofs.Runs.{run_append}
 
 module _ {D P : Type 0} (bound : DiskGhosts D) (peripherals : Ghosts P) (layout : Layout) (start : List PlainFile) (sequence : ℕ) where
   -- the disk of a counter that begins leaves these files alone
-  begins_leaves : (counter : Counter D P) → BeginsOver bound peripherals layout start sequence counter → Leaves bound counter.totals (Stands layout start sequence ∷ [])
+  begins_leaves : (counter : Counter D P) → BeginsOver bound peripherals layout start sequence counter
+      → Leaves bound counter.totals (Stands layout start sequence ∷ [])
   begins_leaves counter is = subst (λ (v : TotalsView D). Leaves bound v (Stands layout start sequence ∷ [])) (sym is.begins.totals) (record {
     honest = is.honest;
     leaves = λ bytes may. inl (subst (StandsFor (Stands layout start sequence)) (sym (rest_leaves (bound.state is.disk) bytes is.at_rest may)) is.stands);
@@ -32,7 +33,8 @@ module _ {D P : Type 0} (bound : DiskGhosts D) (peripherals : Ghosts P) (layout 
   begins_with counter is = record { off = ap (λ (v : TotalsView D). v.totals.mode) is.begins.totals; left = refl }
 
   -- it has run through nothing
-  pub has_begun : (counter : Counter D P) → BeginsOver bound peripherals layout start sequence counter → HasBegun bound peripherals layout start sequence counter
+  pub has_begun : (counter : Counter D P) → BeginsOver bound peripherals layout start sequence counter
+      → HasBegun bound peripherals layout start sequence counter
   has_begun counter is = record {
     past = record { first = counter; begins = is; left = Stands layout start sequence ∷ []; leaves = begins_leaves counter is; run = refl };
     history = refl;

@@ -94,7 +94,8 @@ into_doubt = (
 -- the recovery of a machine in doubt finds these files, which are one of those
 abbrev recovered : List PlainFile → ℕ → Machine
 recovered files sequence =
-    with_one (one_set one_disabled true) (part_with (Ready (numbered 1 files) sequence) (1 + length files) (Stands Layout1 (plain (numbered 1 files)) sequence ∷ []) 1)
+    with_one (one_set one_disabled true) (part_with (Ready (numbered 1 files) sequence) (1 + length files)
+    (Stands Layout1 (plain (numbered 1 files)) sequence ∷ []) 1)
 
 out_of_doubt : (files : List PlainFile) (sequence : ℕ) → IsOneOf both (Stands Layout1 files sequence) → AreLeft 1 (length files)
     → Run in_doubt (sets_enabled false ∷ sets_enabled true ∷ []) (recovered files sequence)

@@ -82,7 +82,8 @@ module _ (layout : Layout) (start : List PlainFile) (sequence : ℕ) (first last
 
   -- inside one more step
   pub law_inside : (q : Request) (r : Response) (new : Machine) → Step last q r new
-      → LeavesPrefixInside (history_of layout start first steps last run) last.totals (history_with (history_of layout start first steps last run) last q r new) new.totals
+      → LeavesPrefixInside (history_of layout start first steps last run) last.totals
+      (history_with (history_of layout start first steps last run) last q r new) new.totals
   law_inside q r new step =
       let history = history_of layout start first steps last run in
       fits_inside history last.totals (event_of last q r new) new.totals fits_last (step_told last q r new (fits_settled history last.totals fits_last) step)

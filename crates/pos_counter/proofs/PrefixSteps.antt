@@ -123,14 +123,16 @@ refused_undone (row ∷ rows) refusal result is same = by row.applies is (λ res
 -- ---- changes
 
 module _ (old new : TotalsPart) (result : Answer) (is : old.left ≡ settled old.totals.layout old.totals.mode old.left) (ended : Totals)
-    (layout : ended.layout ≡ old.totals.layout) (mode : ended.mode ≡ old.totals.mode) (next : ended.next ≡ old.totals.next) (change : Change) (changes : List Change)
+    (layout : ended.layout ≡ old.totals.layout) (mode : ended.mode ≡ old.totals.mode) (next : ended.next ≡ old.totals.next)
+    (change : Change) (changes : List Change)
     (group : IsOneGroup old.totals (change ∷ changes)) (left : new.left ≡ left_after old (change ∷ changes) new.totals.mode) where
   abbrev all : List Change
   all = change ∷ changes
 
   -- what a group makes of the files
   made_at : (files : List File) (sequence : ℕ) → old.totals.mode ≡ Ready files sequence
-      → outcome_of_all (limits_of old.totals.layout) (plain files) (group_of files all) ≡ Ok (plain (files_after_all old.totals.next files all))
+      → outcome_of_all (limits_of old.totals.layout) (plain files) (group_of files all)
+      ≡ Ok (plain (files_after_all old.totals.next files all))
   made_at files sequence ready =
       subst (λ m. outcome_of_all (limits_of old.totals.layout) (plain (files_of m)) (group_of (files_of m) all) ≡ Ok
       (plain (files_after_all old.totals.next (files_of m) all))) ready group
@@ -210,7 +212,8 @@ module _ (old new : TotalsPart) (result : Answer) (is : old.left ≡ settled old
 still_told : (old new : TotalsPart) (response : Response) → old.left ≡ settled old.totals.layout old.totals.mode old.left
     → new.left ≡ left_after old [] new.totals.mode → new.totals.layout ≡ old.totals.layout → new.totals.mode ≡ old.totals.mode
     → Told [] old response new
-still_told old new response is left layout mode = rest_beside old new response layout (ap stored mode) (left ∙ ap (left_after old []) mode ∙ kept_left [] old is)
+still_told old new response is left layout mode =
+    rest_beside old new response layout (ap stored mode) (left ∙ ap (left_after old []) mode ∙ kept_left [] old is)
 
 changed_told : (change : Change) (old new : TotalsPart) (number : ℕ) (result : Answer) → old.left ≡ settled old.totals.layout old.totals.mode old.left
     → ChangesTotals old number change result new → Told (put_at_once (in_transaction old.totals number) change) old (Answered result) new
@@ -422,7 +425,8 @@ same_machine : (old new then : Machine) (response : Response) → new ≡ then �
 same_machine old new then response is same = rest_unasked old.totals new.totals response (ap (λ (m : Machine). m.totals) is ∙ same)
 
 -- Each step of the machine is what its event says.
-pub step_told : (old : Machine) (q : Request) (r : Response) (new : Machine) → old.totals.left ≡ settled old.totals.totals.layout old.totals.totals.mode old.totals.left
+pub step_told : (old : Machine) (q : Request) (r : Response) (new : Machine)
+    → old.totals.left ≡ settled old.totals.totals.layout old.totals.totals.mode old.totals.left
     → Step old q r new → Happens old.totals (event_of old q r new) new.totals
 step_told old (NewControl u k) (Made number) new is h =
     rest_beside old.totals new.totals (Made number) (ap (λ (m : Machine). m.totals.totals.layout) h.2)

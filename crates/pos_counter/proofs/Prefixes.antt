@@ -53,7 +53,8 @@ same_Ok files others same = cc
 -- the files after groups, and then after one more
 one_more : (limits : Limits) (start before : List PlainFile) (groups : List Group) (group : Group) → after_groups limits start groups ≡ Ok before
     → after_groups limits start (groups ++ group ∷ []) ≡ outcome_of_all limits before group
-one_more limits start before [] group made = last (outcome_of_all limits start group) ∙ ap (λ files. outcome_of_all limits files group) (same_Ok start before made)
+one_more limits start before [] group made =
+    last (outcome_of_all limits start group) ∙ ap (λ files. outcome_of_all limits files group) (same_Ok start before made)
   where
     last : (o : Result (List PlainFile) DirectoryFault) → and_then o (λ next. Ok next) ≡ o
     last (Err fault) = refl
@@ -61,7 +62,8 @@ one_more limits start before [] group made = last (outcome_of_all limits start g
 one_more limits start before (first ∷ groups) group made = by (outcome_of_all limits start first) made (λ next. one_more limits next before groups group)
   where
     by : (o : Result (List PlainFile) DirectoryFault) → and_then o (λ next. after_groups limits next groups) ≡ Ok before
-        → ((next : List PlainFile) → after_groups limits next groups ≡ Ok before → after_groups limits next (groups ++ group ∷ []) ≡ outcome_of_all limits before group)
+        → ((next : List PlainFile) → after_groups limits next groups ≡ Ok before
+        → after_groups limits next (groups ++ group ∷ []) ≡ outcome_of_all limits before group)
         → and_then o (λ next. after_groups limits next (groups ++ group ∷ [])) ≡ outcome_of_all limits before group
     by (Err fault) made rest = absurd cc
     by (Ok next) made rest = rest next made
@@ -189,43 +191,49 @@ found_layout : (history : History) (doubt : Option Group) (layout : Layout) (bef
 found_layout history doubt layout before found sequence (inl w) = (same_stands layout history.layout found before sequence w.0 w.1).0
 found_layout history doubt layout before found sequence (inr w) = (same_stands layout history.layout found w.files sequence w.sequence w.stands).0
 
+-- it is what the totals have now
+found_now : (history : History) (layout : Layout) (found : List PlainFile) (now : List File) (sequence : ℕ) → layout ≡ history.layout
+    → plain now ≡ found → Stands layout found sequence ∷ [] ≡ Stands history.layout (plain now) sequence ∷ []
+found_now history layout found now sequence same is =
+    ap (λ l. Stands l found sequence ∷ []) same ∙ ap (λ (fs : List PlainFile). Stands history.layout fs sequence ∷ []) (sym is)
+
+-- which may be the files without the group in doubt
+made_without : (history : History) (layout : Layout) (before found : List PlainFile) (now : List File) (sequence : ℕ)
+    → files_after history history.settled ≡ Ok before → plain now ≡ found → IsWithout history.layout before (Stands layout found sequence)
+    → files_after history history.settled ≡ Ok (plain now)
+made_without history layout before found now sequence made is w =
+    made ∙ ap (λ (fs : List PlainFile). Ok fs) (sym (same_stands layout history.layout found before sequence w.0 w.1).1 ∙ sym is)
+
 -- a recovery decides on the group in doubt
 decided_fits : (history : History) (doubt : Option Group) (layout : Layout) (before found : List PlainFile) (now : List File) (sequence : ℕ)
     → history.doubt ≡ doubt → files_after history history.settled ≡ Ok before → plain now ≡ found
     → IsWithout history.layout before (Stands layout found sequence) ⊎ IsWith history.layout before doubt (Stands layout found sequence)
     → FitsIn (decided history doubt found) layout (Ready now sequence) (Stands layout found sequence ∷ [])
-decided_fits history doubt layout before found now sequence is_doubt made is one = decide doubt is_doubt one
+decided_fits history None layout before found now sequence none made is (inl w) =
+    let same = found_layout history None layout before found sequence (inl w) in
+    (made_without history layout before found now sequence made is w, none, found_now history layout found now sequence same is, same)
+decided_fits history None layout before found now sequence none made is (inr w) = absurd (let no = w.doubted in cc)
+decided_fits history (Some group) layout before found now sequence some made is one =
+    by (has_made (files_after history (history.settled ++ group ∷ [])) found) refl
   where
     same : layout ≡ history.layout
-    same = found_layout history doubt layout before found sequence one
+    same = found_layout history (Some group) layout before found sequence one
 
     here : Stands layout found sequence ∷ [] ≡ Stands history.layout (plain now) sequence ∷ []
-    here = ap (λ l. Stands l found sequence ∷ []) same ∙ ap (λ (fs : List PlainFile). Stands history.layout fs sequence ∷ []) (sym is)
+    here = found_now history layout found now sequence same is
 
-    without : IsWithout history.layout before (Stands layout found sequence) → files_after history history.settled ≡ Ok (plain now)
-    without w =
-        made ∙ ap (λ (fs : List PlainFile). Ok fs)
-        (sym (same_stands layout history.layout found before sequence w.0 w.1).1 ∙ sym is)
-
-    decide : (doubt : Option Group) → history.doubt ≡ doubt
-        → IsWithout history.layout before (Stands layout found sequence) ⊎ IsWith history.layout before doubt (Stands layout found sequence)
-        → FitsIn (decided history doubt found) layout (Ready now sequence) (Stands layout found sequence ∷ [])
-    decide None none (inl w) = (without w, none, here, same)
-    decide None none (inr w) = absurd (let no = w.doubted in cc)
-    decide (Some group) some one = by (has_made (files_after history (history.settled ++ group ∷ [])) found) refl
-      where
-        by : (b : Bool) → has_made (files_after history (history.settled ++ group ∷ [])) found ≡ b
-            → FitsIn (cond b (with_settled history group) (without_doubt history)) layout (Ready now sequence) (Stands layout found sequence ∷ [])
-        by true test = (these_files _ found test ∙ ap (λ (fs : List PlainFile). Ok fs) (sym is), refl, here, same)
-        by false test = elim one [
-          | inl w ↦ (without w, refl, here, same)
-          | inr w ↦ absurd (
-              let after = one_more (limits_of history.layout) history.start before history.settled group made
-              ∙ ap (outcome_of_all (limits_of history.layout) before) (same_Some group w.group w.doubted) ∙ w.made
-              ∙ ap (λ (fs : List PlainFile). Ok fs) (sym (same_stands layout history.layout found w.files sequence w.sequence w.stands).1) in
-              let yes = are_these _ found after in
-              cc)
-        ]
+    by : (b : Bool) → has_made (files_after history (history.settled ++ group ∷ [])) found ≡ b
+        → FitsIn (cond b (with_settled history group) (without_doubt history)) layout (Ready now sequence) (Stands layout found sequence ∷ [])
+    by true test = (these_files _ found test ∙ ap (λ (fs : List PlainFile). Ok fs) (sym is), refl, here, same)
+    by false test = elim one [
+      | inl w ↦ (made_without history layout before found now sequence made is w, refl, here, same)
+      | inr w ↦ absurd (
+          let after = one_more (limits_of history.layout) history.start before history.settled group made
+          ∙ ap (outcome_of_all (limits_of history.layout) before) (same_Some group w.group w.doubted) ∙ w.made
+          ∙ ap (λ (fs : List PlainFile). Ok fs) (sym (same_stands layout history.layout found w.files sequence w.sequence w.stands).1) in
+          let yes = are_these _ found after in
+          cc)
+    ]
 
 -- ---- a crash
 

@@ -169,7 +169,8 @@ module _ {D : Type 0} (bound : Ghosts D) (old new : TotalsView D) (off : old.tot
       by_fault fault.NoMemory h = h
       by_fault fault.Device h = h
 
-  failed_left : (x : RecoveryFault) (left : List Standing) → DiskRecovers bound old (Err x) new → Leaves bound old left → settled new.totals.layout new.totals.mode left ≡ left
+  failed_left : (x : RecoveryFault) (left : List Standing) → DiskRecovers bound old (Err x) new → Leaves bound old left
+      → settled new.totals.layout new.totals.mode left ≡ left
   failed_left x left recovers leaves = ap (λ (t : Totals). settled t.layout t.mode left) (kept_totals x recovers) ∙ sym leaves.is_settled
 
   -- unless the disk's fault is answered, it hasn't failed

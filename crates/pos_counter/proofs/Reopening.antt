@@ -77,10 +77,12 @@ module _ (layout : Layout) (start : List PlainFile) (sequence : ℕ) (old new : 
   -- or fails, for a cause
   has_cause : HasTooMany (IsOneOf old.left) old.totals.next ⊎ Rises old.failures new.failures → HasCause start old new
   has_cause (inl many) =
-      inr (subst (λ (files : List PlainFile). ¬ (AreLeft old.totals.next (length files))) (these many.layout many.files many.sequence many.found).1 many.handles)
+      inr (subst (λ (files : List PlainFile). ¬ (AreLeft old.totals.next (length files)))
+      (these many.layout many.files many.sequence many.found).1 many.handles)
   has_cause (inr rises) = inl rises
 
-module _ (layout : Layout) (start : List PlainFile) (sequence : ℕ) (old : Machine) (is : StartsWith layout start sequence old.totals) (number : ℕ) (control : Control)
+module _ (layout : Layout) (start : List PlainFile) (sequence : ℕ) (old : Machine) (is : StartsWith layout start sequence old.totals)
+    (number : ℕ) (control : Control)
     (asks : asks_recovery control property.DeviceEnabled (value.Truth true) ≡ true) where
   -- the totals are to be recovered
   is_recovering : recovers old.totals control property.DeviceEnabled (value.Truth true) ≡ true
@@ -153,7 +155,8 @@ few_stand layout files sequence bytes is = few_applied (limits_of layout) is.bas
 few_groups : (limits : Limits) (files next : List PlainFile) (groups : List Group) → length files ≤ limits.files
     → after_groups limits files groups ≡ Ok next → length next ≤ limits.files
 few_groups limits files next [] few made = subst (λ (fs : List PlainFile). length fs ≤ limits.files) (same_Ok files next made) few
-few_groups limits files next (group ∷ groups) few made = by (outcome_of_all limits files group) refl made (λ mid less rest. few_groups limits mid next groups less rest)
+few_groups limits files next (group ∷ groups) few made =
+    by (outcome_of_all limits files group) refl made (λ mid less rest. few_groups limits mid next groups less rest)
   where
     by : (o : Result (List PlainFile) DirectoryFault) → outcome_of_all limits files group ≡ o → and_then o (λ mid. after_groups limits mid groups) ≡ Ok next
         → ((mid : List PlainFile) → length mid ≤ limits.files → after_groups limits mid groups ≡ Ok next → length next ≤ limits.files)
@@ -162,7 +165,7 @@ few_groups limits files next (group ∷ groups) few made = by (outcome_of_all li
     by (Err fault) is made rest = absurd cc
 
 -- a history keeps the layout and the files that it starts with
-HasStart : Layout → List PlainFile → History → Type 0
+abbrev HasStart : Layout → List PlainFile → History → Type 0
 HasStart layout files history = (history.layout ≡ layout) × (history.start ≡ files)
 
 decided_start : (history : History) (doubt : Option Group) (found : List PlainFile)

@@ -91,7 +91,8 @@ stepped_sound hs gs ds one other q r sound step = record {
 -- parts that serve a request in which the disk has no part, over totals that know the same files
 pub arranges_serve : {D : Type 0} (bound : Ghosts D) (view new : TotalsView D) (totals : Totals) (hs gs : List Held) (cl dl : List (Option ℕ))
     (ds : List Device) (q : Request) (r : Response) → OnlyNow bound view.disk
-    → new.disk ≡ view.disk → new.totals ≡ totals → ((left : List Standing) → settled totals.layout totals.mode left ≡ settled view.totals.layout view.totals.mode left)
+    → new.disk ≡ view.disk → new.totals ≡ totals
+    → ((left : List Standing) → settled totals.layout totals.mode left ≡ settled view.totals.layout view.totals.mode left)
     → ArePartsSound hs ds → length dl ≡ length cl
     → ((left : List Standing) → Step (machine_with hs cl ds (part_of bound view left)) q r
     (machine_with gs dl ds (part_of bound (record { disk = view.disk; totals = totals }) left)))

@@ -28,8 +28,8 @@ pub record BeginsOver {D P : Type 0} (bound : DiskGhosts D) (peripherals : Ghost
 -- A counter has run through these steps since it began over such a disk; and for what its disk may stand that a crash
 -- leaves now.
 pub record HasRun {D P : Type 0} (bound : DiskGhosts D) (peripherals : Ghosts P)
-    (layout : Layout) (start : List PlainFile) (sequence : ℕ) (steps : List (Request × Response)) (counter : Counter D P)
-    : Type 0 where
+    (layout : Layout) (start : List PlainFile) (sequence : ℕ) (steps : List (Request × Response))
+    (counter : Counter D P) : Type 0 where
   pub first : Counter D P
   pub begins : BeginsOver bound peripherals layout start sequence first
   pub left : List Standing
@@ -39,17 +39,19 @@ pub record HasRun {D P : Type 0} (bound : DiskGhosts D) (peripherals : Ghosts P)
 
 -- the machine that it stands for now
 abbrev pub machine_now : {D P : Type 0} {bound : DiskGhosts D} {peripherals : Ghosts P}
-    {layout : Layout} {start : List PlainFile} {sequence : ℕ} {steps : List (Request × Response)} {counter : Counter D P}
+    {layout : Layout} {start : List PlainFile} {sequence : ℕ} {steps : List (Request × Response)}
+    {counter : Counter D P}
     → HasRun bound peripherals layout start sequence steps counter → Machine
 machine_now {bound = bound} {peripherals = peripherals} {counter = counter} past =
     machine peripherals counter (part_of bound counter.totals past.left)
 
 -- the history of what it has run through
 abbrev pub history_until : {D P : Type 0} {bound : DiskGhosts D}
-    {peripherals : Ghosts P} {layout : Layout} {start : List PlainFile} {sequence : ℕ} {steps : List (Request × Response)}
-    {counter : Counter D P} → HasRun bound peripherals layout start sequence steps counter → History
-history_until {bound = bound} {peripherals = peripherals} {layout = layout} {start = start} {sequence = q} {steps = steps} past =
-    let first = machine peripherals past.first (part_of bound past.first.totals (Stands layout start q ∷ [])) in
+    {peripherals : Ghosts P} {layout : Layout} {start : List PlainFile} {sequence : ℕ}
+    {steps : List (Request × Response)} {counter : Counter D P}
+    → HasRun bound peripherals layout start sequence steps counter → History
+history_until {bound = b} {peripherals = p} {layout = layout} {start = start} {sequence = q} {steps = steps} past =
+    let first = machine p past.first (part_of b past.first.totals (Stands layout start q ∷ [])) in
     history_of layout start first steps (machine_now past) past.run
 
 -- A counter that has run through nothing, with the history at the start.
@@ -84,4 +86,5 @@ abbrev pub KeepsPrefixes : {D P : Type 0} (bound : DiskGhosts D) (peripherals : 
 KeepsPrefixes bound peripherals layout start sequence steps old past [] new run = Unit {0}
 KeepsPrefixes bound peripherals layout start sequence steps old past (step ∷ more) new run =
     (one : KeepsPrefix bound peripherals layout start sequence steps old past step.0 step.1 run.0)
-    × KeepsPrefixes bound peripherals layout start sequence (steps ++ (step.0, step.1) ∷ []) run.0 one.next more new run.2
+    × KeepsPrefixes bound peripherals layout start sequence (steps ++ (step.0, step.1) ∷ []) run.0 one.next more new
+    run.2

@@ -18,9 +18,10 @@ use Rattle.pos_counter.specs.Assembly.{machine_with}
 use Rattle.pos_counter.specs.KeptDevices.{totals_devices}
 use Rattle.pos_counter.specs.Steps.{Request, NewControl, CallOf, Response, Made, Answered, Run}
 
--- From a machine whose disk stands for these files by a layout, these steps may be run through so that they have this history.
-pub record MayHave (first : Machine) (layout : Layout) (start : List PlainFile) (steps : List (Request × Response))
-    (history : History) : Type 0 where
+-- From a machine whose disk stands for these files by a layout, these steps may be run through so that they have this
+-- history.
+pub record MayHave (first : Machine) (layout : Layout) (start : List PlainFile)
+    (steps : List (Request × Response)) (history : History) : Type 0 where
   pub last : Machine
   pub run : Run first steps last
   pub is : history_of layout start first steps last run ≡ history

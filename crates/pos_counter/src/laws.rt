@@ -34,26 +34,31 @@ use pos_service::Peripheral;
 /// prefix of the history, each group whole or absent, which holds each group that was settled before.
 pub fn crash_prefix()
     // after a run
-    ensures after { (layout : Layout) (start : List File) (sequence : ℕ) (first last : Machine) (steps : List (Request × Response))
+    ensures after { (layout : Layout) (start : List File) (sequence : ℕ) (first last : Machine)
+        (steps : List (Request × Response))
         (run : Run first steps last) → StartsWith layout start sequence first.totals
         → LeavesPrefix (history_of layout start first steps last run) last.totals }
     // inside a step after one
-    ensures inside { (layout : Layout) (start : List File) (sequence : ℕ) (first old : Machine) (steps : List (Request × Response))
+    ensures inside { (layout : Layout) (start : List File) (sequence : ℕ) (first old : Machine)
+        (steps : List (Request × Response))
         (run : Run first steps old) (request : Request) (response : Response) (new : Machine)
         → Step old request response new → StartsWith layout start sequence first.totals
         → LeavesPrefixInside (history_of layout start first steps old run) old.totals
         (history_with (history_of layout start first steps old run) old request response new) new.totals }
     // at each moment of one
-    ensures along { (layout : Layout) (start : List File) (sequence : ℕ) (first last : Machine) (steps : List (Request × Response))
+    ensures along { (layout : Layout) (start : List File) (sequence : ℕ) (first last : Machine)
+        (steps : List (Request × Response))
         (run : Run first steps last) → StartsWith layout start sequence first.totals
         → (bytes : List ℕ) → IsLeftDuring first steps last run bytes
         → StandsForSome (IsPrefixAlong (begun layout start) first steps last run) bytes }
     // and never damage, nor a disk without totals
-    ensures files { (layout : Layout) (start : List File) (sequence : ℕ) (first last : Machine) (steps : List (Request × Response))
+    ensures files { (layout : Layout) (start : List File) (sequence : ℕ) (first last : Machine)
+        (steps : List (Request × Response))
         → Run first steps last → StartsWith layout start sequence first.totals
         → (left : Standing) → IsOneOf last.totals.left left → IsFiles left }
     // so a recovery that recovers nothing has met a fault of the disk, or more files than handles are left
-    ensures recovers { (layout : Layout) (start : List File) (sequence : ℕ) (first last : Machine) (steps : List (Request × Response))
+    ensures recovers { (layout : Layout) (start : List File) (sequence : ℕ) (first last : Machine)
+        (steps : List (Request × Response))
         → Run first steps last → StartsWith layout start sequence first.totals
         → (result : Answer) (new : TotalsPart) → Recovers last.totals result new
         → (result ≡ Refused Failure 0)
@@ -79,7 +84,8 @@ pub fn crash_leaves_a_prefix<D: Disk, P: Peripheral>(counter: &Counter<D, P>)
         → KeepsPrefix D.Disk P.Peripheral layout start sequence steps old past
         request response counter.now }
     // a list of requests
-    ensures list { (layout : Layout) (start : List File) (sequence : ℕ) (steps more : List (Request × Response)) (old : _)
+    ensures list { (layout : Layout) (start : List File) (sequence : ℕ)
+        (steps more : List (Request × Response)) (old : _)
         (past : HasRun D.Disk P.Peripheral layout start sequence steps old)
         (run : IsRun D.Disk P.Peripheral old more counter.now)
         → KeepsPrefixes D.Disk P.Peripheral layout start sequence steps old past more counter.now run }
@@ -98,14 +104,16 @@ pub fn crash_leaves_a_prefix<D: Disk, P: Peripheral>(counter: &Counter<D, P>)
 /// Hard Totals finds these very files, and else it was refused by its table, or the disk failed, or there were too few
 /// handles, or no memory.
 pub fn enabling_finds_the_files()
-    ensures finds { (layout : Layout) (start : List File) (sequence : ℕ) (old new : Machine) (number : ℕ) (control : Control)
+    ensures finds { (layout : Layout) (start : List File) (sequence : ℕ) (old new : Machine)
+        (number : ℕ) (control : Control)
         (response : Response)
         → StartsWith layout start sequence old.totals → slice_get old.controls number ≡ Some control
         → asks_recovery control DeviceEnabled (Truth true) ≡ true
         → Step old (CallOf number enabling) response new
         → FindsThem layout start sequence old number control response new }
     // of a counter that has given no handle there are enough: so E_FAILURE of a recovery means that the disk failed
-    ensures failed { (layout : Layout) (start : List File) (sequence : ℕ) (first last : Machine) (steps : List (Request × Response))
+    ensures failed { (layout : Layout) (start : List File) (sequence : ℕ) (first last : Machine)
+        (steps : List (Request × Response))
         → Run first steps last → StartsWith layout start sequence first.totals → length start ≤ (limits_of layout).files
         → last.totals.totals.next ≡ 1
         → (result : Answer) (new : TotalsPart) → Recovers last.totals result new

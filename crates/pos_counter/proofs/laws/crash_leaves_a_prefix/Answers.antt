@@ -11,7 +11,8 @@ returns-clause-call g c layout start sequence steps old past request response st
     keeps_prefix g.D.Disk _ layout start sequence steps old c.args.counter.now past request response step
 
 pub returns-clause-list : goal.returns-clause-list
-returns-clause-list g c layout start sequence steps more old past run = keeps_prefixes g.D.Disk _ layout start sequence steps more old c.args.counter.now past run
+returns-clause-list g c layout start sequence steps more old past run =
+    keeps_prefixes g.D.Disk _ layout start sequence steps more old c.args.counter.now past run
 
 pub returns-clause-moments : goal.returns-clause-moments
 returns-clause-moments g c left steps old leaves run =

@@ -12,7 +12,8 @@ returns-clause-inside c layout start sequence first old steps run request respon
     law_inside layout start sequence first old steps run is request response new step
 
 pub returns-clause-along : goal.returns-clause-along
-returns-clause-along c layout start sequence first last steps run is = bytes_along (begun layout start) first steps last run (fits_begun layout start sequence first.totals is)
+returns-clause-along c layout start sequence first last steps run is =
+    bytes_along (begun layout start) first steps last run (fits_begun layout start sequence first.totals is)
 
 pub returns-clause-files : goal.returns-clause-files
 returns-clause-files c layout start sequence first last steps run is = law_files layout start sequence first last steps run is
