@@ -292,7 +292,7 @@ fits_rest history layout (Ready files sequence) (Ready others next) left same fi
       fits.0 ∙ ap (λ (fs : List PlainFile). Ok fs) (sym equal.0),
       fits.1,
       fits.2 ∙ ap (λ fs. Stands history.layout fs sequence ∷ []) (sym equal.0)
-      ∙ ap (λ n. Stands history.layout (plain others) n ∷ []) (sym equal.1),
+          ∙ ap (λ n. Stands history.layout (plain others) n ∷ []) (sym equal.1),
       fits.3,
     )
 
@@ -302,10 +302,9 @@ pub fits_next : (history : History) (old : TotalsPart) (event : FilesEvent) (new
 fits_next history old (GroupAccepted group) new fits h =
     let was = fits_from history old (Ready h.before h.sequence) h.ready fits in
     fits_at (with_settled history group) new (Ready h.now h.next) (Stands history.layout (plain h.now) h.next ∷ []) h.still
-    (h.left ∙ ap (λ l. Stands l (plain h.now) h.next ∷ []) was.3)
-    (
+    (h.left ∙ ap (λ l. Stands l (plain h.now) h.next ∷ []) was.3) (
       one_more (limits_of history.layout) history.start (plain h.before) history.settled group was.0
-      ∙ subst (λ l. outcome_of_all (limits_of l) (plain h.before) group ≡ Ok (plain h.now)) was.3 h.made,
+          ∙ subst (λ l. outcome_of_all (limits_of l) (plain h.before) group ≡ Ok (plain h.now)) was.3 h.made,
       refl,
       refl,
       h.layout ∙ was.3,
