@@ -22,8 +22,8 @@ pub fn room_all(controls: &mut [Control], place: usize, count: usize) -> Result<
 }
 
 /// Enqueues the statuses that have changed in each control that has the device at a place open and enabled, and in
-/// no other, in the order drawer, cover, paper, power; that of power in those only that are to be notified of it (common
-/// chapter, StatusUpdateEvent and device power reporting).
+/// no other, in the order drawer, cover, paper, power; that of power in those only that are to be notified of it
+/// (common chapter, StatusUpdateEvent and device power reporting).
 pub fn hear_all(controls: &mut [Control], place: usize, old: Signs, new: Signs)
     requires { All (HasRoom place sign_events) controls.old }
     ensures heard { controls_of controls.new ≡

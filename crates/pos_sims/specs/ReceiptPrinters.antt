@@ -11,8 +11,8 @@ use Rattle.pos_service.specs.Peripherals.{PeripheralState}
 use Rattle.pos_sims.specs.Powers.{switched}
 use Rattle.pos_sims.specs.declared.roll_printer.RollPrinter.{RollPrinter}
 
--- a printer that is on, with this paper, which is near its end at so many lines, out of service or not, whose line never
--- fails, and that was given no order
+-- a printer that is on, with this paper, which is near its end at so many lines, out of service or not, whose line
+-- never fails, and that was given no order
 abbrev pub printer_state : Printer → ℕ → Bool → PeripheralState
 printer_state printed near is_parked = record {
   kind = kind.Printer printed.chars near;

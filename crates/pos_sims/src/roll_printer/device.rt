@@ -13,8 +13,8 @@ use pos_service::{
 use std::alloc::Global;
 
 impl RollPrinter {
-    /// A printer of 1 to 255 characters a line that is on and in service and has printed nothing, with 0 to 100,000 lines
-    /// of paper left, which are near their end at 1 to `near`, 0 to 100,000. The cover is closed.
+    /// A printer of 1 to 255 characters a line that is on and in service and has printed nothing, with 0 to 100,000
+    /// lines of paper left, which are near their end at 1 to `near`, 0 to 100,000. The cover is closed.
     pub fn new(alloc: Global, chars: u32, lines: u32, near: u32) -> Self
         requires chars { (1 ≤ chars) × (chars ≤ 255) }
         requires lines { lines ≤ 100000 }
