@@ -12,7 +12,7 @@ use Rattle.pos_totals.specs.Recoveries.{AreLeft, numbered}
 use Rattle.pos_totals.specs.Views.{plain}
 use Rattle.pos_counter.specs.Examples.{MayHave, new_machine, steps_into_doubt, steps_through_doubt, sets_enabled, a_group}
 use Rattle.pos_counter.specs.History.{begun}
-use Rattle.pos_counter.specs.Machine.{Machine}
+use Rattle.pos_counter.specs.Machine.{Machine, signs_at}
 use Rattle.pos_counter.specs.Steps.{Run}
 use Rattle.pos_counter.specs.Totals.{TotalsPart}
 use Rattle.pos_counter.proofs.Runs.{run_append}
@@ -39,7 +39,7 @@ abbrev one_opened : Control
 one_opened = opened (new_control category.HardTotals) (Some 0)
 
 abbrev one_set : Control → Bool → Control
-one_set control enabled = after_set control property.DeviceEnabled (value.Truth enabled)
+one_set control enabled = after_set (signs_at new_machine control) control property.DeviceEnabled (value.Truth enabled)
 
 abbrev one_enabled : Control
 one_enabled = one_set one_opened true

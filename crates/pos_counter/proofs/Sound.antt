@@ -34,6 +34,7 @@ use Rattle.pos_service.specs.Controls.{Control, new_control, closed, stopped, de
 use Rattle.pos_service.specs.Events.{EventList, Enqueued}
 use Rattle.pos_service.specs.Refusals.{Row, Decided, first_refusal}
 use Rattle.pos_service.specs.Calls.{serves, place_found, close_rows}
+use Rattle.pos_service.specs.declared.signs.Signs.{Signs}
 use Rattle.pos_service.specs.Properties.{takes, after_set, cursor_after, get_rows}
 use Rattle.pos_service.specs.Deeds.{CarriedOut, ChangesOne, Does as CarriesOut, Follows, LineFailed, Ordered, Queued, changed, id_rows}
 use Rattle.pos_service.specs.Displays.{origin}
@@ -43,7 +44,7 @@ use Rattle.pos_service.specs.Claims.{after_release, holder_at, is_exclusive}
 use Rattle.pos_service.specs.Stations.{Station, Effect, SameStation, TakesIn, reaction}
 use Rattle.pos_service.specs.Statuses.{status_events}
 use Rattle.pos_totals.specs.HardTotals.{with_control as with_place}
-use Rattle.pos_counter.specs.Machine.{Device, Machine, device_at, holder_of, kind_in, kind_of, place_of, found_at, with_control, with_totals}
+use Rattle.pos_counter.specs.Machine.{Device, Machine, device_at, holder_of, kind_in, kind_of, signs_at, place_of, found_at, with_control, with_totals}
 use Rattle.pos_counter.specs.Steps.{Request, NewControl, CallOf, InputTo, WorkOn, Deliver, Snapshot, Attach, Detach, Response, Made, Full, Answered, TakenIn, NoDevice, WrongInput, Worked, Delivered, Shown, Attached, NotAttached, Detached, NotDetached, OutOfMemory, IsAttached, IsDetached, has_open, is_open_at, is_place, OnStation, Step, Called, Sets, SetsByRecovery, CategoryDoes, DeviceDoes, category_rows, device_deed, device_rows, claimed, released, dropped, facts_of, refusals, IsSound, IsPlaceOn, HasItsKind, HasItsDevice}
 use Rattle.pos_counter.specs.Totals.{TotalsPart, recovers}
 use Rattle.pos_counter.proofs.Cursors.{NoneApplies, none_applies, place_opened, place_set, unless_not}
@@ -412,16 +413,18 @@ category_sound k m m' n c own r e served allowed h s =
     (λ place before new after stands. device_keeps k m own r n place c before new after e (served before stands) allowed stands) h s
 
 -- a control with a property set to what it takes has its device
-pub set_seat : (ds : List Device) (c : Control) (p : Property) (v : Value) → takes (kind_in (device_at ds c.device)) p v ≡ true → HasItsDevice ds c
-    → HasItsDevice ds (after_set c p v)
-set_seat ds c p v may h = moved_seat ds c.category c.cursor.place (cursor_after c.cursor p v).place c.device
+pub set_seat : (ds : List Device) (s : Signs) (c : Control) (p : Property) (v : Value) → takes (kind_in (device_at ds c.device)) p v ≡ true
+    → HasItsDevice ds c → HasItsDevice ds (after_set s c p v)
+set_seat ds s c p v may h = moved_seat ds c.category c.cursor.place (cursor_after c.cursor p v).place c.device
     (place_set (kind_in (device_at ds c.device)) c.cursor p v may) h
 
 set_sound : (m m' : Machine) (n : ℕ) (c : Control) (p : Property) (v : Value) (r : Answer) (b : Bool) → takes (kind_of m c) p v ≡ true
     → slice_get m.controls n ≡ Some c → MatchBool b (SetsByRecovery m n c p v r m') (Sets m n c p v r m') → IsSound m → IsSound m'
-set_sound m m' n c p v r false may e h s = same_machine _ m' h.1 (with_control_sound m n (after_set c p v) (set_seat m.devices c p v may (seated m n c s e)) s)
+set_sound m m' n c p v r false may e h s =
+    same_machine _ m' h.1
+    (with_control_sound m n (after_set (signs_at m c) c p v) (set_seat m.devices (signs_at m c) c p v may (seated m n c s e)) s)
 set_sound m m' n c p v r true may e (inl h) s =
-    let there = with_control_sound m n (after_set c p v) (set_seat m.devices c p v may (seated m n c s e)) s in
+    let there = with_control_sound m n (after_set (signs_at m c) c p v) (set_seat m.devices (signs_at m c) c p v may (seated m n c s e)) s in
     same_machine _ m' h.2 (record { kinds = there.kinds; places = there.places })
 set_sound m m' n c p v r true may e (inr h) s = other_totals m m' h.1 s
 
