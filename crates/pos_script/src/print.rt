@@ -12,8 +12,8 @@ use crate::write::{WriteFault, write_hex, write_parts};
 use itoa::Buffer;
 use pos_service::display_text::DisplayCell;
 use pos_service::{
-    Answer, AttachFault, Code, DetachFault, Event, Form, Locus, Receipt, Response, Snapshot,
-    Value, Worked,
+    Answer, AttachFault, Code, DetachFault, Event, Form, Locus, Receipt, Response, Snapshot, Value,
+    Worked,
 };
 use std::io::Write;
 

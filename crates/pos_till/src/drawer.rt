@@ -3,7 +3,8 @@ ghost use Rattle.pos_service.specs.declared.kind.Kind.TheVariants as kind;
 ghost use Rattle.pos_service.specs.declared.plant.Form.TheVariants as form;
 
 use pos_service::{
-    Form, Input, Kind, NoMemory, Order, PaperLevel, Peripheral, Plant, Reply, Signs, Snapshot, Taken,
+    Form, Input, Kind, NoMemory, Order, PaperLevel, Peripheral, Plant, Reply, Signs, Snapshot,
+    Taken,
 };
 
 /// The driver of a cash drawer. Its contracts are the trait's, which speak of the state that it says it has.
