@@ -49,13 +49,20 @@ links() {
     $heap "$archive" -lpthread
 }
 
+# sells NAME COMMAND ..: whether a command, given a new file for totals, prints what a sale has to
+sells() {
+  local name=$1
+  shift
+  rm -f "$work/totals"
+  told "$name" "$(cat "$abi/sale.stdout")" "$("$@" "$work/totals" 2>&1)"
+}
+
 # tries WHO FLAG ..: the examples and the tests in C over the archive
 tries() {
   local who=$1
   shift
   links "$who: the sale in C" "$abi/c/sale.c" "$abi/heap.c" "$@"
-  "$work/program" > "$work/sale" 2>&1
-  told "$who: the sale in C" "$(cat "$abi/sale.stdout")" "$(cat "$work/sale")"
+  sells "$who: the sale in C" "$work/program"
   links "$who: want of memory" "$abi/c/memory.c" "" "$@"
   told "$who: want of memory" "whole in the end, and nothing is left" "$("$work/program" 2>&1 | tail -n 1)"
   links "$who: short answers" "$abi/c/short.c" "$abi/heap.c" "$@"
@@ -64,7 +71,9 @@ tries() {
   told "$who: two threads" "the same" "$("$work/program" 2>&1 | tail -n 1)"
 }
 
-told "the header is that of the exports" "$(python3 "$abi/header.py")" "$(cat "$abi/kijolvar.h")"
+told "the header is that of the exports" "$(python3 "$abi/declare.py" c)" "$(cat "$abi/kijolvar.h")"
+told "the numbers for Python" "$(python3 "$abi/declare.py" python)" "$(cat "$abi/python/standard.py")"
+told "the numbers for Rust" "$(python3 "$abi/declare.py" rust)" "$(cat "$abi/rust/standard.rs")"
 
 (cd "$top/crates/kijolvar" && rt lib > "$work/lib" 2>&1)
 told "the archive by LLVM" 0 "$?"
@@ -76,12 +85,14 @@ cp "$archive" "$work/libkijolvar.a"
 runs "the heap is added" ar r "$work/libkijolvar.a" "$work/heap.o"
 runs "the sale in Rust is built" rustc -D warnings -O -o "$work/sale_rust" "$abi/rust/sale.rs" -L "native=$work" \
   -l static=kijolvar
-told "the sale in Rust" "$(cat "$abi/sale.stdout")" "$("$work/sale_rust" 2>&1)"
+sells "the sale in Rust" "$work/sale_rust"
 
 runs "the shared object" gcc -shared -o "$work/libkijolvar.so" -Wl,--whole-archive "$work/libkijolvar.a" \
   -Wl,--no-whole-archive
-told "the sale in Python" "$(cat "$abi/sale.stdout")" \
-  "$(PYTHONDONTWRITEBYTECODE=1 python3 -W error "$abi/python/sale.py" "$work/libkijolvar.so" 2>&1)"
+export PYTHONDONTWRITEBYTECODE=1
+sells "the sale in Python" python3 -W error "$abi/python/sale.py" "$work/libkijolvar.so"
+told "files, and tills that are killed" "8 passed, 0 failed" \
+  "$(python3 -W error "$top/tests/abi_files.py" "$work/libkijolvar.so" 2>&1 | tail -n 1)"
 
 (cd "$top/crates/kijolvar" && rt lib --backend rattle > "$work/lib" 2>&1)
 told "the archive by Rattle's own compiler" 0 "$?"

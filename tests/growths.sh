@@ -115,6 +115,13 @@ lay_disk() {
   done < "$1"
 }
 
+# move_disk SCRIPT: where the script has one that is run before, runs it and moves the file `disk` to layout 2
+move_disk() {
+  [ -f "$1.before" ] || return 0
+  "$program" run --profile "$1.profile" --disk disk < "$1.before" > /dev/null
+  "$program" migrate --disk disk
+}
+
 # is_told SCRIPT: whether want of memory was told before anything was printed
 is_told() {
   [ ! -s out ] || return 1
@@ -182,10 +189,30 @@ refuse_each() {
   [ -z "$is_loud" ] || echo "$name: $before growths before the first line, $lines in lines, $spared spared"
 }
 
+# refuse_each_of_move: refuses each growth of the program as it moves the disk `disk.start`: it ends for want of memory, tells
+# so, and leaves the disk as it was
+refuse_each_of_move() {
+  local number status
+  for ((number = 1; ; number++)); do
+    refuse "$number" /dev/null "$program" migrate --disk disk
+    status=$?
+    [ -s met ] || break
+    all=$((all + 1))
+    case $status:$(cat out err) in
+      '6:pos_console: no memory' | '6:pos_console: disk: no memory to open it' | '6:pos_console: disk: no memory to move it '*)
+        if cmp -s disk disk.start; then passed=$((passed + 1)); else tell migrate "growth $number: the disk was written"; fi
+        ;;
+      0:) passed=$((passed + 1)) ;;
+      *) tell migrate "growth $number: status $status $(cat out err | head -n 3 | tr '\n' ' ')" ;;
+    esac
+  done
+  [ "$status" -eq 0 ] || tell migrate 'the move that meets no refusal'
+}
+
 begin=0
 for script in "$scripts"/*; do
   case $script in
-    *.stdout | *.profile | *.disk | *.left) continue ;;
+    *.stdout | *.profile | *.disk | *.left | *.before) continue ;;
   esac
   name=${script##*/}
   rm -f disk.start
@@ -195,6 +222,7 @@ for script in "$scripts"/*; do
   elif [ ! -f "$script.disk" ]; then
     rm -f disk
     "$program" format --disk disk
+    move_disk "$script"
     mv disk disk.start
     refuse_each "$name" "$script" "${over[@]}"
   else
@@ -202,11 +230,18 @@ for script in "$scripts"/*; do
     awk -v RS= '{ print > sprintf("paragraph-%02d", NR) }' "$script.disk"
     for paragraph in paragraph-*; do
       lay_disk "$paragraph"
+      move_disk "$script"
       mv disk disk.start
       refuse_each "$name over its ${paragraph/-/ }" "$script" "${over[@]}"
     done
   fi
 done
+rm -f disk
+"$program" format --disk disk
+printf 'new a HardTotals\nopen a t1\nset a DeviceEnabled true\ncall a create 41 64 false\n' |
+  "$program" run --profile "$scripts/disk.moved.profile" --disk disk > /dev/null
+mv disk disk.start
+refuse_each_of_move
 echo "$all growths of the program"
 
 # refuse_in_test TESTS NAME: refuses each growth of a test. It passes, or ends with a fault of memory
@@ -216,7 +251,7 @@ refuse_in_test() {
   rm -f disk.start
   for ((number = 1; ; number++)); do
     if ! refuse "$number" /dev/null "$1" "$2"; then
-      if grep -q 'AllocError\|NoMemory\|no memory' err; then
+      if grep -q 'AllocError\|AllocFailed\|NoMemory\|no memory' err; then
         ended=$((ended + 1))
       else
         tell "$name" "growth $number: $(head -n 3 err | tr '\n' ' ')"

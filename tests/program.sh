@@ -55,7 +55,7 @@ first_bytes() {
   head -c "$2" "$1" | od -An -tx1 | tr -d ' \n'
 }
 
-usage='give no words, `run --profile FILE --disk FILE` or `format --disk FILE`'
+usage='give no words, `run --profile FILE --disk FILE`, `format --disk FILE` or `migrate --disk FILE`'
 
 profile() {
   cat <<'PROFILE'
@@ -142,6 +142,38 @@ ends 'format in no folder' 4 "pos_console: none/till.disk: $opened: No such file
 ends 'format of a folder' 4 "pos_console: .: $opened: Is a directory (os error 21)" format --disk .
 ends 'a path with a line feed' 4 \
   'pos_console: none/a\nb: '"$opened: No such file or directory (os error 2)" format --disk "$(printf 'none/a\nb')"
+
+# --- moves to layout 2
+ends 'a move of no file' 4 "pos_console: none.disk: $opened: No such file or directory (os error 2)" migrate --disk none.disk
+told 'a move makes no file' '' "$(ls none.disk 2> /dev/null)"
+printf abc > abc.disk
+ends 'a move of a short file' 4 \
+  "pos_console: abc.disk: isn't formatted: format it first, which makes totals without files" migrate --disk abc.disk
+told 'a move keeps a short file' abc "$(cat abc.disk)"
+cp till.disk moved.disk
+ends 'a move' 0 '' migrate --disk moved.disk
+told 'a move: output' '' "$(cat out)"
+told 'a move keeps the length' 327680 "$(wc -c < moved.disk)"
+told 'a move keeps layout 1' same "$(cmp -s -n 65536 moved.disk till.disk && echo same)"
+told 'a move: bytes' a50000000000000001000000020000 "$(tail -c +65537 moved.disk | head -c 15 | od -An -tx1 | tr -d ' \n')"
+cp moved.disk kept
+ends 'a second move' 4 'pos_console: moved.disk: has layout 2 already: there is nothing to do' migrate "--disk=moved.disk"
+told 'a second move keeps the bytes' same "$(cmp -s moved.disk kept && echo same)"
+ends 'format refuses totals that were moved' 4 "pos_console: moved.disk: $formatted" format --disk moved.disk
+{ head -c 12 till.disk; printf '\003'; tail -c +14 till.disk; } > damaged.disk
+cp damaged.disk kept
+ends 'a move of damaged totals' 4 \
+  'pos_console: damaged.disk: its totals are damaged: keep it, and read a copy of it by hand' migrate --disk damaged.disk
+told 'a move keeps damaged totals' same "$(cmp -s damaged.disk kept && echo same)"
+cp till.disk small.disk
+truncate -s 65536 small.disk
+truncate -s 327680 small.disk
+(trap '' XFSZ; ulimit -f 32; exec "$program" migrate --disk small.disk > out 2> err)
+told 'a move on a disk that takes no more: status' 4 $?
+told 'a move on a disk that takes no more: message' \
+  'pos_console: small.disk: a read, a write or a sync failed while it was moved to layout 2: its files stay, so move it again' \
+  "$(cat err)"
+ends 'and once more' 0 '' migrate --disk small.disk
 
 # --- profiles
 profile > sound.toml
@@ -232,6 +264,8 @@ calls() {
 if strace -o /dev/null true 2> /dev/null; then
   rm -f traced.disk
   told 'the calls of format' slswswsws "$(calls format --disk traced.disk)"
+  cp traced.disk traced2.disk
+  told 'the calls of a move' swsws "$(calls migrate --disk traced2.disk)"
   printf 'new a HardTotals\nopen a t1\nset a DeviceEnabled true\ncall a create 41 4 false\ncall a setAll 1 7\n' > script
   told 'the calls of two changes' swswswswst "$(calls run --profile sound.toml --disk traced.disk)"
   printf 'new a HardTotals\nopen a t1\nset a DeviceEnabled true\ncall a create 41 4 false\ncall a read 1 0 4\n' > script

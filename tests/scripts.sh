@@ -5,6 +5,7 @@
 #   NAME.profile  the profile that it runs over, with a disk in a file. Without it the program is given no words;
 #   NAME.disk     the disks that it runs over in place of a formatted one, each a paragraph: places and the bytes that stand
 #                 from there on, in hex, among zero bytes. It has to print the same over each. HEX*N stands for HEX N times;
+#   NAME.before   a script that is run before over the same profile and disk, which is then moved to layout 2;
 #   NAME.left     places and the bytes that have to stand there in the end, written likewise.
 # Each runs four times: as a file, and through a pipe that gives the program pieces of 1, 2 and 7 bytes. One without a
 # profile runs once more over the built profile with each optional key, where no ask fails: it has to print the same.
@@ -114,6 +115,30 @@ format_disk() {
   "$program" format --disk disk
 }
 
+# move_disk SCRIPT: where the script has one that is run before, runs it and moves the file `disk` to layout 2
+move_disk() {
+  [ -f "$1.before" ] || return 0
+  "$program" run --profile "$1.profile" --disk disk < "$1.before" > /dev/null
+  "$program" migrate --disk disk
+}
+
+# write_line HANDLE COUNT: the line that writes so many bytes at the start of a file
+write_line() {
+  printf 'call a write %s 0 ' "$1"
+  head -c "$2" /dev/zero | tr '\000' '\007' | od -An -v -tx1 | tr -d ' \n'
+  echo
+}
+
+# over_layout_2 NAME ANSWERS: runs the lines of standard input behind those that enable, over no files by layout 2; they have
+# to print ANSWERS, and the disk has the bytes in the file `left` in the end
+over_layout_2() {
+  format_disk
+  "$program" migrate --disk disk
+  { printf 'new a HardTotals\nopen a t1\nset a DeviceEnabled true\n'; cat; } > script
+  printf "ok\nok\nok\n$2" > stdout
+  run_script "$1" script stdout left run --profile wrapped.profile --disk disk
+}
+
 for pieces in whole 1 2 7; do
   how="read in pieces of $pieces"
   cut=(python3 "$top/tests/cut.py" "$pieces")
@@ -124,7 +149,7 @@ for pieces in whole 1 2 7; do
 
   for script in "$scripts"/*; do
     case $script in
-      *.stdout | *.profile | *.disk | *.left) continue ;;
+      *.stdout | *.profile | *.disk | *.left | *.before) continue ;;
     esac
     name=${script##*/}
     left=$script.left
@@ -138,12 +163,14 @@ for pieces in whole 1 2 7; do
       fi
     elif [ ! -f "$script.disk" ]; then
       format_disk
+      move_disk "$script"
       run_script "$name" "$script" "$script.stdout" "$left" "${over[@]}"
     else
       rm -f paragraph-*
       awk -v RS= '{ print > sprintf("paragraph-%02d", NR) }' "$script.disk"
       for paragraph in paragraph-*; do
         lay_disk "$paragraph"
+        move_disk "$script"
         run_script "$name over its ${paragraph/-/ }" "$script" "$script.stdout" "$left" "${over[@]}"
       done
     fi
@@ -170,6 +197,20 @@ for pieces in whole 1 2 7; do
     printf 'refused Full\nbad control\nok 1\nbad control\nok\nok\nrefused Full\n'
   } > stdout
   run_script 'as many controls as there may be' script stdout ''
+
+  # Limits of layout 2, in lines that are too long, or too many, to be kept: what fits its log and its transactions, and how
+  # many files it may have.
+  create='call a create 46 65536 false'
+  begin="$create\ncall a beginTrans\n"
+  printf '196608 00\n' > left
+  over_layout_2 'the longest record of layout 2' 'ok 1\nok\n' < <(echo "$create"; write_line 1 49119)
+  over_layout_2 'the longest transaction of layout 2' 'ok 1\nok\nok\nerr 114 201\n' \
+    < <(printf "$begin"; write_line 1 65520; echo 'call a setAll 1 0')
+  over_layout_2 'a transaction that is longer' 'ok 1\nok\nerr 114 201\n' < <(printf "$begin"; write_line 1 65521)
+  over_layout_2 'as many files as layout 2 may have' "$(printf 'ok %d\\n' $(seq 250))err 114 201\\n" \
+    < <(for first in 41 42 43; do printf "call a create $first%02x 0 false\n" $(seq 33 126); done | head -n 251)
+  printf '196608 a5 0000000000000002 00010008\n' > left
+  over_layout_2 'a record that is longer' 'ok 1\nok\n' < <(echo "$create"; write_line 1 49120)
 done
 
 echo "$passed passed, $failed failed"

@@ -3,9 +3,13 @@
 #define TILL_H
 
 #include "kijolvar.h"
+#include <fcntl.h>
 #include <stdio.h>
 #include <stdlib.h>
 #include <string.h>
+#include <sys/file.h>
+#include <sys/stat.h>
+#include <unistd.h>
 
 /* A till, and the answer to the lines that it was given last, which ends in a 0 byte. */
 typedef struct {
@@ -17,14 +21,33 @@ typedef struct {
 /* What isn't a result code of the standard: there was no memory, or the line was refused before it reached a control. */
 enum { TILL_NO_MEMORY = -1, TILL_REFUSED = -2 };
 
-/* Opens a till over a profile's text; an empty one is the built profile. */
-static inline uint32_t till_open(till *self, const char *profile) {
+/* A file for totals, opened for this till alone, made and formatted where it isn't yet. A negative number where that
+   can't be: it is to be removed first, if its totals may go. */
+static inline int till_totals_file(const char *path) {
+    struct stat told;
+    int descriptor = open(path, O_RDWR | O_CREAT | O_CLOEXEC, 0600);
+    if (descriptor < 0) return -1;
+    if (flock(descriptor, LOCK_EX | LOCK_NB) == 0 && fstat(descriptor, &told) == 0
+        && (told.st_size >= KIJOLVAR_DISK_LENGTH
+            || (ftruncate(descriptor, KIJOLVAR_DISK_LENGTH) == 0 && fsync(descriptor) == 0))) {
+        uint32_t code = kijolvar_format(descriptor);
+        if (code == KIJOLVAR_OK || code == KIJOLVAR_FORMATTED) return descriptor;
+    }
+    close(descriptor);
+    return -1;
+}
+
+/* Opens a till over a profile's text (an empty one is the built profile), and a file for totals, which stays the caller's
+   to close behind it; over totals in memory where the descriptor is negative. */
+static inline uint32_t till_open(till *self, const char *profile, int descriptor) {
+    const uint8_t *text = (const uint8_t *)profile;
     *self = (till){{NULL}, malloc(1), 1};
     if (self->text == NULL) return KIJOLVAR_NO_MEMORY;
     self->text[0] = 0;
-    uint32_t code = kijolvar_version() == KIJOLVAR_VERSION
-        ? kijolvar_open((const uint8_t *)profile, strlen(profile), &self->till.at)
-        : KIJOLVAR_BAD_PROFILE;
+    uint32_t code = KIJOLVAR_BAD_PROFILE;
+    if (kijolvar_version() == KIJOLVAR_VERSION)
+        code = descriptor < 0 ? kijolvar_open(text, strlen(profile), &self->till.at)
+                              : kijolvar_open_file(text, strlen(profile), descriptor, &self->till.at);
     if (code != KIJOLVAR_OK) free(self->text);
     return code;
 }
@@ -105,11 +128,11 @@ static inline int till_open_drawer(till *self, const char *control) {
     return till_ask(self, line, NULL);
 }
 
-/* The line display's displayText, with attribute 0, of at most 200 bytes. */
+/* The line display's displayText, with the normal attribute, of at most 200 bytes. */
 static inline int till_display_text(till *self, const char *control, const char *text) {
     char line[512], digits[402];
     if (strlen(text) > 200) return E_ILLEGAL;
-    snprintf(line, sizeof line, "call %s displayText %s 0", control, till_hex(digits, text));
+    snprintf(line, sizeof line, "call %s displayText %s %d", control, till_hex(digits, text), DISP_DT_NORMAL);
     return till_ask(self, line, NULL);
 }
 
@@ -117,7 +140,7 @@ static inline int till_display_text(till *self, const char *control, const char 
 static inline int till_print(till *self, const char *control, const char *text) {
     char line[512], digits[402];
     if (strlen(text) > 200) return E_ILLEGAL;
-    snprintf(line, sizeof line, "call %s printNormal 2 %s", control, till_hex(digits, text));
+    snprintf(line, sizeof line, "call %s printNormal %d %s", control, PTR_S_RECEIPT, till_hex(digits, text));
     return till_ask(self, line, NULL);
 }
 

@@ -1,8 +1,8 @@
 #!/usr/bin/env python3
-"""Rings up a sale, as c/sale.c does. Usage: sale.py libkijolvar.so"""
+"""Rings up a sale, as c/sale.c does. Usage: sale.py libkijolvar.so FILE"""
 import sys
 
-from till import Fault, Till, load
+from till import Fault, Till, load, totals_file
 
 
 def code(call, *words):
@@ -20,7 +20,7 @@ def tell(till, line):
         print(f"{line}: {fault}")
 
 
-with Till(load(sys.argv[1])) as till:
+def sell(till):
     controls = [("drawer", "CashDrawer", "d1"), ("scanner", "Scanner", "s1"), ("display", "LineDisplay", "p1"),
                 ("printer", "POSPrinter", "r1"), ("totals", "HardTotals", "t1")]
     print("controls:", " ".join(code(till.control, *words) for words in controls))
@@ -35,6 +35,18 @@ with Till(load(sys.argv[1])) as till:
     till.pump("drawer", lambda event: print("drawer:", event))
     tell(till, "call totals create 64617973616c6573 4 false")
     tell(till, "call totals write 1 0 000001c2")
-    tell(till, "call totals read 1 0 4")
     tell(till, "show r1")
     tell(till, "show p1")
+
+
+def look(till):
+    print("totals:", code(till.control, "totals", "HardTotals", "t1"))
+    tell(till, "call totals find 64617973616c6573")
+    tell(till, "call totals read 1 0 4")
+
+
+library = load(sys.argv[1])
+with totals_file(library, sys.argv[2]) as totals:
+    for part in (sell, look):
+        with Till(library, "", totals) as till:
+            part(till)

@@ -1,7 +1,7 @@
-//! Rings up a sale, as c/sale.c does.
+//! Rings up a sale, as c/sale.c does. Usage: sale_rust FILE
 mod till;
 
-use till::Till;
+use till::{Till, totals_file};
 
 fn tell(till: &mut Till, line: &str) {
     match till.ask(line) {
@@ -15,8 +15,7 @@ fn code<T>(outcome: Result<T, till::Fault>) -> String {
     outcome.map_or_else(|fault| fault.to_string(), |_| "0".to_string())
 }
 
-fn main() -> Result<(), till::Fault> {
-    let mut till = Till::open("")?;
+fn sell(till: &mut Till) -> Result<(), till::Fault> {
     let controls = [
         ("drawer", "CashDrawer", "d1"),
         ("scanner", "Scanner", "s1"),
@@ -26,19 +25,31 @@ fn main() -> Result<(), till::Fault> {
     ];
     let codes = controls.map(|(name, category, device)| code(till.control(name, category, device)));
     println!("controls: {}", codes.join(" "));
-    tell(&mut till, "set scanner DataEventEnabled true");
-    tell(&mut till, "input s1 scan 104 34303036333831 34303036333831");
+    tell(till, "set scanner DataEventEnabled true");
+    tell(till, "input s1 scan 104 34303036333831 34303036333831");
     till.pump("scanner", |_, event| println!("scanner: {event}"))?;
-    tell(&mut till, "get scanner ScanData");
+    tell(till, "get scanner ScanData");
     println!("display: {}", code(till.display_text("display", b"4.50")));
     println!("print: {}", code(till.print("printer", b"Bread 4.50\n")));
-    tell(&mut till, "call printer cutPaper 100");
+    tell(till, "call printer cutPaper 100");
     println!("drawer: {}", code(till.open_drawer("drawer")));
     till.pump("drawer", |_, event| println!("drawer: {event}"))?;
-    tell(&mut till, "call totals create 64617973616c6573 4 false");
-    tell(&mut till, "call totals write 1 0 000001c2");
-    tell(&mut till, "call totals read 1 0 4");
-    tell(&mut till, "show r1");
-    tell(&mut till, "show p1");
+    tell(till, "call totals create 64617973616c6573 4 false");
+    tell(till, "call totals write 1 0 000001c2");
+    tell(till, "show r1");
+    tell(till, "show p1");
+    Ok(())
+}
+
+fn look(till: &mut Till) {
+    println!("totals: {}", code(till.control("totals", "HardTotals", "t1")));
+    tell(till, "call totals find 64617973616c6573");
+    tell(till, "call totals read 1 0 4");
+}
+
+fn main() -> Result<(), till::Fault> {
+    let mut totals = totals_file(&std::env::args().nth(1).unwrap_or_default())?;
+    sell(&mut Till::open("", Some(&mut totals))?)?;
+    look(&mut Till::open("", Some(&mut totals))?);
     Ok(())
 }

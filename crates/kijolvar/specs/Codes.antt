@@ -1,5 +1,5 @@
 -- What C is told by a number (abi/README.md, "Codes").
-use Rattle.std.specs.Prelude.{ℕ, Bool, true, false, Result, Ok, Err}
+use Rattle.std.specs.Prelude.{◌≡◌, ◌⊎◌, ℕ, Bool, true, false, Result, Ok, Err}
 
 -- the call did what it says
 abbrev pub ok : ℕ
@@ -21,6 +21,18 @@ short = 3
 abbrev pub cut : ℕ
 cut = 4
 
+-- the descriptor is that of no file
+abbrev pub no_file : ℕ
+no_file = 5
+
+-- totals are in the file already
+abbrev pub formatted : ℕ
+formatted = 6
+
+-- the disk failed, or it is too short
+abbrev pub disk_failed : ℕ
+disk_failed = 7
+
 -- the code of an answer, by whether the room holds it
 abbrev pub told : Bool → ℕ
 told true = ok
@@ -31,3 +43,7 @@ told false = short
 abbrev pub carried : {E : Type 0} → Result (Unit {0}) E → Bool → ℕ
 carried (Ok u) holds = told holds
 carried (Err fault) holds = cut
+
+-- what formatting answers
+abbrev pub IsFormatCode : ℕ → Type 0
+IsFormatCode code = (code ≡ ok) ⊎ (code ≡ no_file) ⊎ (code ≡ formatted) ⊎ (code ≡ disk_failed)

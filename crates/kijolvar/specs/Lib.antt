@@ -1,3 +1,4 @@
 pub mod Codes
+pub mod Disks
 pub mod Tills
 pub mod Profiles

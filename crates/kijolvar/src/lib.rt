@@ -1,23 +1,28 @@
 //! A till for C, and for whatever calls C: lines in, the text of their answers out (docs/CONSOLE.md, abi/README.md).
 #![tactic(auto)]
 
-ghost use Rattle.std.specs.Prelude.{◌≡◌, ◌≢◌, length, nat_le, IfOk, Ok, Err, Result};
+ghost use Rattle.std.specs.Prelude.{◌≡◌, ◌≢◌, ◌⊎◌, length, nat_le, IfOk, Ok, Err, Result};
 ghost use Rattle.pos_disk.specs.Memory.{Memory};
 ghost use Rattle.pos_profile.specs.Entries.{Contents};
 ghost use Rattle.pos_script.specs.declared.write.WriteFault.{WriteFault};
-ghost use Rattle.kijolvar.specs.Codes.{carried, told};
+ghost use Rattle.kijolvar.specs.Codes.{IsFormatCode, carried, no_file, told};
 ghost use Rattle.kijolvar.specs.Profiles.{Gives};
 ghost use Rattle.kijolvar.specs.Tills.{Answers, Begins, IsNewDisk, Tells};
 ghost use Rattle.kijolvar.specs.declared.till.Till.{Till};
+ghost use Rattle.kijolvar.specs.declared.till_disk.TillDisk.TheVariants.{Memory as InMemory, File as InFile};
+ghost use Rattle.pos_descriptor.specs.declared.descriptor_disk.DescriptorDisk.{DescriptorDisk};
 
 mod disk;
 mod kept;
 mod loose;
 mod session;
 mod till;
+mod till_disk;
 
 use disk::format_disk;
-use pos_disk::{Disk, MemDisk};
+use pos_descriptor::DescriptorDisk;
+use pos_disk::Disk;
+use pos_image::{ImageFault, Images};
 use pos_profile::{Profile, ProfileFault};
 use pos_run::Wrapped;
 use pos_script::WriteFault;
@@ -26,6 +31,7 @@ use session::Session;
 use std::alloc::Global;
 use std::str;
 use till::{Till, give, hold, take};
+use till_disk::TillDisk;
 
 /// The call did what it says.
 const OK: u32 = 0;
@@ -41,6 +47,15 @@ const SHORT: u32 = 3;
 
 /// There was no memory for the whole answer.
 const CUT: u32 = 4;
+
+/// The descriptor is that of no file whose length can be told.
+const NO_FILE: u32 = 5;
+
+/// Totals are in the file already.
+const FORMATTED: u32 = 6;
+
+/// A read, a write or a sync failed, or the file is shorter than a disk.
+const DISK_FAILED: u32 = 7;
 
 /// The version of this interface. It changes where a call's meaning or its parameters do, and not with the language of
 /// the lines.
@@ -100,12 +115,11 @@ fn leave(session: Box<Session>, out: &mut *mut u8)
     *out = give(hold(session));
 }
 
-/// A new session of a profile over a formatted disk in memory.
-fn begin(alloc: Global, profile: &Profile) -> Result<Box<Session>, NoMemory>
-    ensures { IfOk result (λ session. (disk : Memory) × IsNewDisk disk
-        × Begins ⟦<Wrapped as Peripheral>⟧ profile.now disk session.value) }
+/// A new session of a profile over a disk.
+fn begin(alloc: Global, profile: &Profile, disk: TillDisk) -> Result<Box<Session>, NoMemory>
+    ensures { IfOk result (λ session. Begins ⟦<Wrapped as Peripheral>⟧ profile.now disk session.value) }
 {
-    let session = Session::new(alloc, profile, format_disk(alloc)?)?;
+    let session = Session::new(alloc, profile, disk)?;
     match Box::new(alloc, session) {
         Ok(kept) => Ok(kept),
         Err(_) => Err(NoMemory),
@@ -120,18 +134,71 @@ fn begin(alloc: Global, profile: &Profile) -> Result<Box<Session>, NoMemory>
 pub extern "C" fn kijolvar_open(alloc: Global, profile: &[u8], out: &mut *mut u8) -> u32
     ensures opened { result ≡ 0 → (contents : Contents) × (disk : Memory) × (kept : Till)
         × Gives profile.now (Ok contents) × IsNewDisk disk × (out.new ≡ kept.at)
-        × Begins ⟦<Wrapped as Peripheral>⟧ contents disk kept.session }
+        × Begins ⟦<Wrapped as Peripheral>⟧ contents (InMemory disk) kept.session }
     ensures refused { result ≢ 0 → (out.new ≡ out.old) × Gives profile.now (Err result) }
 {
     let profile = match read_profile(alloc, profile) {
         Ok(profile) => profile,
         Err(code) => return code,
     };
-    let Ok(session) = begin(alloc, &profile) else {
+    let Ok(disk) = format_disk(alloc) else {
+        return NO_MEMORY;
+    };
+    let Ok(session) = begin(alloc, &profile, TillDisk::Memory(disk)) else {
         return NO_MEMORY;
     };
     leave(session, out);
     OK
+}
+
+/// A new till as `kijolvar_open` makes it, but with totals in the file of a descriptor, which the host has opened for
+/// reading and writing, keeps open as long as the till is there, and lets nobody else write. A file that is not
+/// formatted (`kijolvar_format`, or the program's `format`) is one whose totals can't be enabled.
+///
+/// Answers OK, NO_MEMORY, BAD_PROFILE or NO_FILE; where it isn't OK, nothing is written.
+#[unsafe(no_mangle)]
+pub extern "C" fn kijolvar_open_file(
+    alloc: Global,
+    profile: &[u8],
+    descriptor: i32,
+    out: &mut *mut u8,
+) -> u32
+    ensures opened { result ≡ 0 → (contents : Contents) × (disk : DescriptorDisk) × (kept : Till)
+        × Gives profile.now (Ok contents) × (disk.descriptor ≡ descriptor) × (out.new ≡ kept.at)
+        × Begins ⟦<Wrapped as Peripheral>⟧ contents (InFile disk) kept.session }
+    ensures refused { result ≢ 0 → (out.new ≡ out.old) × ((result ≡ no_file) ⊎ Gives profile.now (Err result)) }
+{
+    let profile = match read_profile(alloc, profile) {
+        Ok(profile) => profile,
+        Err(code) => return code,
+    };
+    let Ok(disk) = DescriptorDisk::over(descriptor) else {
+        return NO_FILE;
+    };
+    let Ok(session) = begin(alloc, &profile, TillDisk::File(disk)) else {
+        return NO_MEMORY;
+    };
+    leave(session, out);
+    OK
+}
+
+/// Puts no files into the file of a descriptor, which the host has opened for reading and writing and made at least
+/// 327,680 bytes long (docs/DISK.md, "Formatting").
+///
+/// Answers OK, NO_FILE, FORMATTED where totals are there, which stay as they are, or DISK_FAILED, also where the file
+/// is shorter.
+#[unsafe(no_mangle)]
+pub extern "C" fn kijolvar_format(descriptor: i32) -> u32
+    ensures { IsFormatCode result }
+{
+    let Ok(disk) = DescriptorDisk::over(descriptor) else {
+        return NO_FILE;
+    };
+    match Images::format(disk) {
+        Ok(_) => OK,
+        Err((ImageFault::AlreadyFormatted, _)) => FORMATTED,
+        Err((_, _)) => DISK_FAILED,
+    }
 }
 
 /// Carries out the lines of a text, each whole before the next, and writes to `text` what they print, and to
@@ -150,7 +217,7 @@ pub extern "C" fn kijolvar_carry_out(
     needed: &mut usize,
 ) -> u32
     ensures { (kept : Till) × (outcome : Result (Unit {0}) WriteFault) × (out.new ≡ kept.at)
-        × Answers ⟦<MemDisk as Disk>⟧ ⟦<Wrapped as Peripheral>⟧ till.session lines.now text.old text.new needed.new
+        × Answers ⟦<TillDisk as Disk>⟧ ⟦<Wrapped as Peripheral>⟧ till.session lines.now text.old text.new needed.new
         result outcome kept.session }
 {
     let mut session = take(till);

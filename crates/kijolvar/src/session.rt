@@ -3,7 +3,8 @@ ghost use Rattle.std.specs.Prelude.{◌≡◌, IfOk};
 ghost use Rattle.kijolvar.specs.Tills.{Begins, CarriesOut};
 
 use crate::kept::Kept;
-use pos_disk::{Disk, MemDisk};
+use crate::till_disk::TillDisk;
+use pos_disk::Disk;
 use pos_profile::Profile;
 use pos_run::{Names, Wrapped, carry_out_lines, end_counter, simulate_profile};
 use pos_script::{LineBuffer, WriteFault};
@@ -36,7 +37,7 @@ impl Model for Session {
 
 impl Session {
     /// A till of a profile over a disk. Want of memory ends the disk.
-    pub fn new(alloc: Global, profile: &Profile, disk: MemDisk) -> Result<Session, NoMemory>
+    pub fn new(alloc: Global, profile: &Profile, disk: TillDisk) -> Result<Session, NoMemory>
         ensures { IfOk result (λ till. Begins ⟦<Wrapped as Peripheral>⟧ profile.now disk till) }
     {
         let Ok(held) = LineBuffer::new(alloc) else {
@@ -55,7 +56,7 @@ impl Session {
     /// Carries out the lines of a text, and keeps what they print as the answer. Where there is no memory for what a
     /// line prints, that line was carried out, and no later one, and a front of the answer is kept.
     pub fn carry_out(&mut self, lines: &[u8]) -> Result<(), WriteFault>
-        ensures { CarriesOut ⟦<MemDisk as Disk>⟧ ⟦<Wrapped as Peripheral>⟧ self.old lines.now result self.new }
+        ensures { CarriesOut ⟦<TillDisk as Disk>⟧ ⟦<Wrapped as Peripheral>⟧ self.old lines.now result self.new }
     {
         self.kept.answer.clear();
         carry_out_lines(

@@ -1,5 +1,5 @@
 -- A control as the code holds it.
-use Rattle.std.specs.Prelude.{◌≡◌, ℕ, ◌≤◌, ◌+◌, List, [], ◌∷◌, None, Result, MatchResult, IsTrue, ⊤, count_by, length, map, All}
+use Rattle.std.specs.Prelude.{◌≡◌, ℕ, ◌≤◌, ◌+◌, Bool, List, [], ◌∷◌, None, Result, MatchResult, IsTrue, ⊤, count_by, length, map, All}
 use Rattle.pos_service.specs.declared.answer.Answer.{Answer}
 use Rattle.pos_service.specs.declared.answer.Answer.TheVariants as answer
 use Rattle.pos_service.specs.declared.answer.Value.{Value}
@@ -22,9 +22,9 @@ pub record Held : Type 0 where
 abbrev pub controls_of : List Held → List Control
 controls_of helds = map (λ held. held.control) helds
 
--- a change of a device's signs has at most so many events: drawer, cover, paper
+-- a change of a device's signs has at most so many events: drawer, cover, paper, power
 abbrev pub sign_events : ℕ
-sign_events = 3
+sign_events = 4
 
 -- a scan has at most so many events: a DataEvent
 abbrev pub scan_events : ℕ
@@ -36,7 +36,7 @@ fault_events = 2
 
 -- a request that is worked on has at most so many events: a change of signs, and OutputCompleteEvent or EL_OUTPUT
 abbrev pub work_events : ℕ
-work_events = 4
+work_events = 5
 
 -- a control that has the device at a place open and enabled has room for so many events
 abbrev pub HasRoom : ℕ → ℕ → Held → Type 0
@@ -65,6 +65,13 @@ pub record ReadsCopy (scan : Scan) (place : ℕ) (old new : Held) (copies left :
 abbrev pub TurnsInto : List Row → Answer → Held → Held → Control → Type 0
 TurnsInto rows result old new control =
     Decided rows result (new ≡ old) ((result ≡ answer.Done value.Empty) × (new.control ≡ control))
+
+-- A property is set as its table says, and the control is this one then. Memory is wanted for the event of the device's
+-- power alone, where there is one, and only behind the table; then the control is as it was.
+abbrev pub SetsTo : List Row → Bool → Result Answer NoMemory → Held → Held → Control → Type 0
+SetsTo rows tells outcome old new control = MatchResult outcome
+    (λ result. TurnsInto rows result old new control)
+    (λ want. IsTrue tells × (first_refusal rows ≡ None) × (new.control ≡ old.control))
 
 -- A property is told as its table says, and else with its value. Memory is wanted for a copy of bytes alone, and only
 -- behind the table.

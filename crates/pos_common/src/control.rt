@@ -1,5 +1,5 @@
 ghost use Rattle.std.specs.Prelude.{◌≡◌};
-ghost use Rattle.pos_service.specs.Controls.{new_control};
+ghost use Rattle.pos_service.specs.Controls.{is_notified, new_control};
 ghost use Rattle.pos_service.specs.Deeds.{changed};
 
 mod calls;
@@ -24,6 +24,7 @@ pub struct Control {
     device: Option<usize>,
     is_enabled: bool,
     is_frozen: bool,
+    power_notify: bool,
     reader: Reader,
     cursor: Cursor,
     writer: Writer,
@@ -41,6 +42,7 @@ impl Model for Control {
         device = a.device;
         enabled = a.is_enabled;
         frozen = a.is_frozen;
+        power_notify = a.power_notify;
         reader = a.reader;
         cursor = a.cursor;
         writer = a.writer;
@@ -60,6 +62,7 @@ impl Control {
             device: None,
             is_enabled: false,
             is_frozen: false,
+            power_notify: false,
             reader: Reader::new(alloc),
             cursor: Cursor::new(),
             writer: Writer::new(alloc),
@@ -79,6 +82,14 @@ impl Control {
         ensures { result ≡ self.now.control.enabled }
     {
         self.is_enabled
+    }
+
+    /// Whether it is to be notified of its device's power, as far as that is told at all (common chapter, device power
+    /// reporting).
+    pub(crate) fn is_notified(&self) -> bool
+        ensures { result ≡ is_notified self.now.control }
+    {
+        self.category.reports_power() && self.power_notify
     }
 
     /// The place in the profile of the device that it has open.

@@ -1,7 +1,7 @@
 ghost use Rattle.std.specs.Prelude.{◌≡◌, [], ◌∷◌, ℕ, ◌+◌, All, OnOk, OnErr, IfOk};
 ghost use Rattle.pos_service.specs.declared.scan.Scan.{Scan};
-ghost use Rattle.pos_service.specs.Controls.{all_listening, heard, read, failed};
-ghost use Rattle.pos_service.specs.Statuses.{status_events};
+ghost use Rattle.pos_service.specs.Controls.{all_listening, read, failed};
+ghost use Rattle.pos_service.specs.Statuses.{heard_signs};
 ghost use Rattle.pos_common.specs.Held.{HasRoom, AreCopies, ReadsCopy, controls_of, sign_events, scan_events, fault_events};
 
 use crate::control::Control;
@@ -22,11 +22,12 @@ pub fn room_all(controls: &mut [Control], place: usize, count: usize) -> Result<
 }
 
 /// Enqueues the statuses that have changed in each control that has the device at a place open and enabled, and in
-/// no other, in the order drawer, cover, paper (common chapter, StatusUpdateEvent).
+/// no other, in the order drawer, cover, paper, power; that of power in those only that are to be notified of it
+/// (common chapter, StatusUpdateEvent and device power reporting).
 pub fn hear_all(controls: &mut [Control], place: usize, old: Signs, new: Signs)
     requires { All (HasRoom place sign_events) controls.old }
-    ensures heard { let events = status_events old new in
-        controls_of controls.new ≡ all_listening place (heard events) (controls_of controls.old) }
+    ensures heard { controls_of controls.new ≡
+        all_listening place (heard_signs old new) (controls_of controls.old) }
     ensures room { (count : ℕ) → All (HasRoom place (sign_events + count)) controls.old →
         All (HasRoom place count) controls.new }
 {

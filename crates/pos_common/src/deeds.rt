@@ -12,8 +12,9 @@ use pos_service::{Answer, Change, Deed, NoMemory, Order, Peripheral, Reply, Valu
 /// Does what a call of the control with a number comes to, whose device is at a place. Want of memory changes nothing.
 /// The peripheral is given one order, or none where the call comes to none or there is no room for what it brings.
 ///
-/// Refused as the peripheral says to an order: with E_EXTENDED for an open cover or too little paper, E_FAILURE for a
-/// line that failed; and with E_FAILURE where no OutputID is left for an order that is to be queued.
+/// Refused as the peripheral says to an order: with E_FAILURE for a line that failed, E_OFFLINE where it is off,
+/// E_EXTENDED for an open cover or too little paper; and with E_FAILURE where no OutputID is left for an order that is
+/// to be queued.
 pub fn carry_out<P: Peripheral>(
     controls: &mut [Control],
     number: usize,

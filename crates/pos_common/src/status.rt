@@ -1,5 +1,5 @@
 ghost use Rattle.std.specs.Prelude.{◌≡◌};
-ghost use Rattle.pos_service.specs.Statuses.{drawer_status, cover_status, paper_status};
+ghost use Rattle.pos_service.specs.Statuses.{drawer_status, cover_status, paper_status, power_status};
 
 use pos_service::PaperLevel;
 
@@ -26,4 +26,12 @@ pub(crate) fn paper_status(level: PaperLevel) -> u32
         PaperLevel::NearEnd => 25,
         PaperLevel::Good => 26,
     }
+}
+
+/// SUE_POWER_ONLINE or SUE_POWER_OFF_OFFLINE, which are also PS_ONLINE and PS_OFF_OFFLINE (common chapter, device power
+/// reporting).
+pub(crate) fn power_status(powered: bool) -> u32
+    ensures { result ≡ power_status powered }
+{
+    if powered { 2001 } else { 2004 }
 }

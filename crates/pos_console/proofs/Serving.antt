@@ -4,6 +4,7 @@ use Rattle.std.specs.Prelude.{◌⊎◌, Result}
 use Rattle.std.specs.Io.KnownBytes.{Consumes}
 use Rattle.pos_disk.proofs.Moments.{rest_leaves}
 use Rattle.pos_disk.specs.Memory.{Memory, state_of}
+use Rattle.pos_image.specs.declared.layout.Layout.TheVariants.{Layout1}
 use Rattle.pos_profile.specs.Built.{built}
 use Rattle.pos_profile.specs.Entries.{Contents}
 use Rattle.pos_store.specs.Standing.{LeavesOneOf, Stands, StandsForOneOf}
@@ -17,9 +18,9 @@ use Rattle.std.proofs.KnownBytes.{Consumes-nil}
 use Rattle.pos_console.specs.Serving.{IsNewDisk, Serves, start, start_spares}
 
 -- a disk that was formatted leaves no files, with sequence 1
-pub new_disk_leaves : (disk : Memory) → IsNewDisk disk → LeavesOneOf (Stands [] 1 ∷ []) (state_of disk)
+pub new_disk_leaves : (disk : Memory) → IsNewDisk disk → LeavesOneOf (Stands Layout1 [] 1 ∷ []) (state_of disk)
 new_disk_leaves disk new bytes may =
-    subst (StandsForOneOf (Stands [] 1 ∷ [])) (sym (rest_leaves (state_of disk) bytes new.at_rest may))
+    subst (StandsForOneOf (Stands Layout1 [] 1 ∷ [])) (sym (rest_leaves (state_of disk) bytes new.at_rest may))
     (inl (new_standing (state_of disk).reading new.image))
 
 -- where there was no memory, the program leaves what it leaves then, wherever it began
@@ -40,8 +41,8 @@ served_nothing streams result (same, (reader, writer)) =
 pub serves_built : (contents : Contents) (disk : Memory) (streams : Streams) (result : Result (Unit {0}) RunFault) → contents ≡ built
     → IsNewDisk disk → ProfileLeaves contents (Unit {0}) (state_of disk) streams result → Serves streams result
 serves_built contents disk streams result is new serves =
-    from_start (subst (λ (c : Contents). ProfileLeaves c (Unit {0}) (state_of disk) streams result) is serves (Stands [] 1 ∷ []) tt (new_disk_leaves disk new))
+    from_start (subst (λ (c : Contents). ProfileLeaves c (Unit {0}) (state_of disk) streams result) is serves (Stands Layout1 [] 1 ∷ []) tt (new_disk_leaves disk new))
   where
-    from_start : FindsNoMemory streams result ⊎ RunsOverProfile built (new_totals (Stands [] 1 ∷ []) 0) streams result → Serves streams result
+    from_start : FindsNoMemory streams result ⊎ RunsOverProfile built (new_totals (Stands Layout1 [] 1 ∷ []) 0) streams result → Serves streams result
     from_start (inl none) = served_nothing streams result none
     from_start (inr over) = record { end = over.end; left = over.left; run = over.run }

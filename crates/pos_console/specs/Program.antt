@@ -11,7 +11,7 @@ use Rattle.pos_program.specs.declared.fault.Fault.TheVariants as fault
 use Rattle.pos_program.specs.declared.file_fault.FileFault.{FileFault}
 use Rattle.pos_program.specs.declared.named_files.NamedFiles.{Ghosts}
 use Rattle.pos_program.specs.declared.words.Task.{Task}
-use Rattle.pos_program.specs.declared.words.Task.TheVariants.{Demo, Run, Format}
+use Rattle.pos_program.specs.declared.words.Task.TheVariants.{Demo, Run, Format, Migrate}
 use Rattle.pos_run.specs.declared.scripts.RunFault.{RunFault}
 use Rattle.pos_run.specs.declared.scripts.RunFault.TheVariants as run
 use Rattle.pos_run.specs.Simulating.{ProfileLeaves}
@@ -43,16 +43,21 @@ RunsFiles {F} {D} files disks them profile disk streams result =
     (opened : Result (Contents × D) Fault) × OpensRun files them profile disk opened
     × RunsOpened disks opened streams result
 
--- what formatting the disk in the file at a path is to the program
-abbrev pub EndsFormat : List ℕ → Result (Unit {0}) FileFault → Result (Unit {0}) Fault → Type 0
-EndsFormat path (Ok u) result = result ≡ Ok tt
-EndsFormat path (Err cause) (Err (fault.Disk at why)) = (at.now ≡ path) × (why ≡ cause)
-EndsFormat path (Err cause) other = ⊥
+-- what is answered of the disk in the file at a path, to the program
+abbrev pub EndsAtDisk : List ℕ → Result (Unit {0}) FileFault → Result (Unit {0}) Fault → Type 0
+EndsAtDisk path (Ok u) result = result ≡ Ok tt
+EndsAtDisk path (Err cause) (Err (fault.Disk at why)) = (at.now ≡ path) × (why ≡ cause)
+EndsAtDisk path (Err cause) other = ⊥
 
 -- it formats the disk in the file at a path
 abbrev pub FormatsFile : {F D : Type 0} → Ghosts F D → F → List ℕ → Result (Unit {0}) Fault → Type 0
 FormatsFile files them path result =
-    (answer : Result (Unit {0}) FileFault) × files.formats them path answer × EndsFormat path answer result
+    (answer : Result (Unit {0}) FileFault) × files.formats them path answer × EndsAtDisk path answer result
+
+-- it moves the totals on the disk in the file at a path to layout 2
+abbrev pub MigratesFile : {F D : Type 0} → Ghosts F D → F → List ℕ → Result (Unit {0}) Fault → Type 0
+MigratesFile files them path result =
+    (answer : Result (Unit {0}) FileFault) × files.migrates them path answer × EndsAtDisk path answer result
 
 -- what it does for a task, over these files: by how its reader and its writer stood before, and after
 abbrev pub Does : {F D : Type 0} → Ghosts F D → DiskGhosts D → F → Task → Streams → Result (Unit {0}) Fault
@@ -62,6 +67,8 @@ Does files disks them (Run profile disk) streams result =
     RunsFiles files disks them profile.now disk.now streams result
 Does files disks them (Format disk) streams result =
     FormatsFile files them disk.now result × AreUntouched streams
+Does files disks them (Migrate disk) streams result =
+    MigratesFile files them disk.now result × AreUntouched streams
 
 -- what it does for what the words ask for: nothing where they ask for nothing
 abbrev pub DoesChosen : {F D : Type 0} → Ghosts F D → DiskGhosts D → F → Result Task ChoiceFault → Streams

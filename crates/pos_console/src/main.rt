@@ -1,5 +1,6 @@
 //! The program: it runs a script of requests to the devices of a shop counter, which it reads from standard input, and
-//! writes what each line prints to standard output; or it formats a disk for one (docs/CONSOLE.md).
+//! writes what each line prints to standard output; or it formats a disk for one, or moves it to layout 2
+//! (docs/CONSOLE.md).
 #![tactic(auto)]
 
 mod disk;

@@ -3,11 +3,12 @@ ghost use Rattle.std.specs.Prelude.{◌≡◌, map};
 ghost use Rattle.std.specs.Process.{exit_status};
 ghost use Rattle.pos_program.specs.Faults.{status_of};
 ghost use Rattle.pos_run.specs.Streams.{streams_of};
-ghost use Rattle.pos_console.specs.Program.{Does, DoesAsAsked, FormatsFile, Performs, RunsFiles, fault_of_run};
+ghost use Rattle.pos_console.specs.Program.{Does, DoesAsAsked, EndsAtDisk, FormatsFile, MigratesFile, Performs, RunsFiles};
+ghost use Rattle.pos_console.specs.Program.{fault_of_run};
 
 use crate::scripts::serve_built;
 use pos_disk::Disk;
-use pos_program::{ChoiceFault, Fault, NamedFiles, Task, choice, open_run, status_of};
+use pos_program::{ChoiceFault, Fault, FileFault, NamedFiles, Task, choice, open_run, status_of};
 use pos_run::{AnswerWriter, RunFault, ScriptReader, run_over_profile};
 use std::alloc::Global;
 use std::convert::AsStr;
@@ -42,14 +43,28 @@ fn run_files<'a, F: NamedFiles, R: Read, W: Write>(
     ended(run_over_profile(alloc, reader, writer, &profile, disk))
 }
 
+/// What is answered of the disk in a file, to the program.
+fn at_disk<'a>(path: &'a str, answer: Result<(), FileFault>) -> Result<(), Fault<'a>>
+    ensures { EndsAtDisk path.entry.now answer result }
+{
+    match answer {
+        Ok(()) => Ok(()),
+        Err(cause) => Err(Fault::Disk { path, cause }),
+    }
+}
+
 /// Formats the disk in a file.
 fn format<'a, F: NamedFiles>(files: &F, path: &'a str) -> Result<(), Fault<'a>>
     ensures { FormatsFile F.NamedFiles files.now path.entry.now result }
 {
-    match files.format_disk(path) {
-        Ok(()) => Ok(()),
-        Err(cause) => Err(Fault::Disk { path, cause }),
-    }
+    at_disk(path, files.format_disk(path))
+}
+
+/// Moves the totals on the disk in a file to layout 2.
+fn migrate<'a, F: NamedFiles>(files: &F, path: &'a str) -> Result<(), Fault<'a>>
+    ensures { MigratesFile F.NamedFiles files.now path.entry.now result }
+{
+    at_disk(path, files.migrate_disk(path))
 }
 
 /// Does what the words of the command line chose.
@@ -67,6 +82,7 @@ fn carry_out<'a, F: NamedFiles, R: Read, W: Write>(
         Task::Demo => ended(serve_built(alloc, reader, writer)),
         Task::Run { profile, disk } => run_files(alloc, files, reader, writer, profile, disk),
         Task::Format { disk } => format(files, disk),
+        Task::Migrate { disk } => migrate(files, disk),
     }
 }
 

@@ -14,6 +14,7 @@ use Rattle.pos_service.specs.declared.code.Code.TheVariants as code
 use Rattle.pos_service.specs.Calls.{close_rows}
 use Rattle.pos_service.specs.Claims.{is_own, is_foreign, holder_at, claim_rows, claimed_by, release_rows, released_by, after_release}
 use Rattle.pos_service.specs.Controls.{Control, closed}
+use Rattle.pos_store.specs.Standing.{Standing}
 use Rattle.pos_totals.specs.HardTotals.{Totals}
 use Rattle.pos_totals.specs.TotalsClaims.{is_area_taken, without_control}
 use Rattle.pos_service.specs.Refusals.{Row, Decided, first_refusal, when}
@@ -21,7 +22,7 @@ use Rattle.pos_common.specs.Held.{Held, TurnsInto, controls_of}
 use Rattle.pos_counter.specs.Machine.{Device, Machine, Shared, holder_in, with_control}
 use Rattle.pos_counter.specs.Assembly.{machine_with, AreCovered, ArePartsSound}
 use Rattle.pos_counter.specs.Steps.{CallOf, Answered, Step, claimed, dropped, released, is_taken, refusals, HasItsDevice}
-use Rattle.pos_counter.specs.Totals.{TotalsPart, is_totals}
+use Rattle.pos_counter.specs.Totals.{TotalsPart, is_totals, settled}
 use Rattle.pos_counter.proofs.Lifts.{match_at_some, match_at_none, match_by, match_cases, match_weaker}
 use Rattle.pos_counter.proofs.Sound.{Served}
 
@@ -78,18 +79,20 @@ released_covers rows r cl dl o n Same Turns d = elim (match_cases (first_refusal
 ]
 
 -- a claim of the area or its release leaves the mode
-pub area_claim_mode : (rows : List Row) (r : Answer) (old new : Totals) (area : Option ℕ)
-    → Decided rows r (new ≡ old) ((r ≡ answer.Done value.Empty) × (new ≡ record old { area = area })) → new.mode ≡ old.mode
-area_claim_mode rows r old new area d = elim (match_cases (first_refusal rows) _ _ d.outcome) [
-  | inl x ↦ ap (λ (t : Totals). t.mode) x.1.1
-  | inr x ↦ ap (λ (t : Totals). t.mode) x.2.1
+pub area_claim_settled : (rows : List Row) (r : Answer) (old new : Totals) (area : Option ℕ)
+    → Decided rows r (new ≡ old) ((r ≡ answer.Done value.Empty) × (new ≡ record old { area = area })) → (left : List Standing)
+    → settled new.layout new.mode left ≡ settled old.layout old.mode left
+area_claim_settled rows r old new area d left = elim (match_cases (first_refusal rows) _ _ d.outcome) [
+  | inl x ↦ ap (λ (t : Totals). settled t.layout t.mode left) x.1.1
+  | inr x ↦ ap (λ (t : Totals). settled t.layout t.mode left) x.2.1
 ]
 
-pub area_release_mode : (rows : List Row) (r : Answer) (old new : Totals) (area : Option ℕ) (Same Turns : Type 0)
-    → Decided rows r (Same × (new ≡ old)) ((r ≡ answer.Done value.Empty) × Turns × (new ≡ record old { area = area })) → new.mode ≡ old.mode
-area_release_mode rows r old new area Same Turns d = elim (match_cases (first_refusal rows) _ _ d.outcome) [
-  | inl x ↦ ap (λ (t : Totals). t.mode) x.1.2
-  | inr x ↦ ap (λ (t : Totals). t.mode) x.2.1.1
+pub area_release_settled : (rows : List Row) (r : Answer) (old new : Totals) (area : Option ℕ) (Same Turns : Type 0)
+    → Decided rows r (Same × (new ≡ old)) ((r ≡ answer.Done value.Empty) × Turns × (new ≡ record old { area = area }))
+    → (left : List Standing) → settled new.layout new.mode left ≡ settled old.layout old.mode left
+area_release_settled rows r old new area Same Turns d left = elim (match_cases (first_refusal rows) _ _ d.outcome) [
+  | inl x ↦ ap (λ (t : Totals). settled t.layout t.mode left) x.1.2
+  | inr x ↦ ap (λ (t : Totals). settled t.layout t.mode left) x.2.1.1
 ]
 
 -- the device of a control that is open has a claim

@@ -4,6 +4,7 @@ use Rattle.std.specs.Prelude.{MatchOption, MatchResult, IsSome, IsTrue, is_none}
 use Rattle.pos_disk.specs.Keeps.{KeepsDisk}
 use Rattle.pos_disk.specs.State.{LeavesOnly, Rises}
 use Rattle.pos_disk.specs.declared.device.Disk.{Ghosts}
+use Rattle.pos_image.specs.declared.layout.Layout.{Layout}
 use Rattle.pos_service.specs.declared.answer.Answer.{Answer}
 use Rattle.pos_service.specs.declared.answer.Answer.TheVariants as answer
 use Rattle.pos_service.specs.declared.answer.Value.{Value}
@@ -11,7 +12,7 @@ use Rattle.pos_service.specs.declared.answer.Value.TheVariants as value
 use Rattle.pos_service.specs.declared.call.Call.{Call}
 use Rattle.pos_service.specs.declared.memory.NoMemory.{NoMemory}
 use Rattle.pos_service.specs.Calls.{takes_memory}
-use Rattle.pos_totals.specs.HardTotals.{File, Mode, Off, Ready, Totals, Change, layout_1}
+use Rattle.pos_totals.specs.HardTotals.{File, Mode, Off, Ready, Totals, Change}
 use Rattle.pos_totals.specs.TotalsQuestions.{Question, refusals_of_question, MayTell}
 use Rattle.pos_totals.specs.TotalsChanges.{refusals_of_change, number_rows, given_by, Done, DoesChange}
 use Rattle.pos_totals.specs.TotalsArrangements.{Arrangement, ClaimFile, ReleaseFile, BeginTrans, Rollback, after_arrangement, claimed, refusals_of_arrangement}
@@ -29,7 +30,7 @@ use Rattle.pos_counter.specs.Serving.{CallsFiles, FilesStepped}
 use Rattle.pos_counter.specs.History.{changes_asked}
 use Rattle.pos_counter.specs.Leaving.{Leaves, part_of}
 use Rattle.pos_counter.specs.Totals.{TotalsPart, TotalsDo, FilesCalled, PutsChanges, put_at_once, settled, left_after}
-use Rattle.pos_counter.proofs.Lifts.{match_weaker, match_at_none, match_at_some}
+use Rattle.pos_counter.proofs.Lifts.{match_cases, match_weaker, match_at_none, match_at_some}
 use Rattle.pos_counter.proofs.Serving.{OnlyNow, kept_disk, same_view}
 
 -- ---- what is answered to a call of the totals' own
@@ -50,7 +51,8 @@ called_err n fc asked part want is takes none =
 
 -- totals that know the same files on a disk that wasn't touched: what a crash leaves is as it was
 beside : {D : Type 0} (bound : Ghosts D) (view : TotalsView D) (totals : Totals) (left : List Standing) (n : ℕ) (asked : Call)
-    (outcome : Result Answer NoMemory) → OnlyNow bound view.disk → Leaves bound view left → settled totals.mode left ≡ settled view.totals.mode left
+    (outcome : Result Answer NoMemory) → OnlyNow bound view.disk → Leaves bound view left
+    → settled totals.layout totals.mode left ≡ settled view.totals.layout view.totals.mode left
     → FilesCalled n asked (part_of bound view left) outcome (part_of bound (record { disk = view.disk; totals = totals }) left)
     → FilesStepped bound left view n asked outcome (record { disk = view.disk; totals = totals })
 beside bound view totals left n asked outcome only leaves same called = record {
@@ -67,11 +69,13 @@ rests : {D : Type 0} (bound : Ghosts D) (view : TotalsView D) (left : List Stand
 rests bound view left n asked outcome only leaves called = beside bound view view.totals left n asked outcome only leaves refl called
 
 -- what a crash leaves is said of the files that the totals have
-pub kept_left : (changes : List Change) (old : TotalsPart) → old.left ≡ settled old.totals.mode old.left → left_after old changes old.totals.mode ≡ old.left
+pub kept_left : (changes : List Change) (old : TotalsPart) → old.left ≡ settled old.totals.layout old.totals.mode old.left
+    → left_after old changes old.totals.mode ≡ old.left
 kept_left changes old is = by old.totals.mode refl is
   where
-    by : (m : Mode) → old.totals.mode ≡ m → old.left ≡ settled m old.left → settled m (in_doubt old.totals.next old.left changes old.totals.mode) ≡ old.left
-    by Off off is = ap (in_doubt old.totals.next old.left changes) off
+    by : (m : Mode) → old.totals.mode ≡ m → old.left ≡ settled old.totals.layout m old.left
+        → settled old.totals.layout m (in_doubt old.totals.layout old.totals.next old.left changes old.totals.mode) ≡ old.left
+    by Off off is = ap (in_doubt old.totals.layout old.totals.next old.left changes) off
     by (Ready files sequence) ready is = sym is
 
 -- files with other claims are the same files
@@ -84,19 +88,19 @@ plain_claimed test claim (file ∷ files) = by (test file) (plain_claimed test c
     by true same = ap (λ fs. plain_file file ∷ fs) same
     by false same = ap (λ fs. plain_file file ∷ fs) same
 
-pub settled_claimed : (test : File → Bool) (claim : Option ℕ) (mode : Mode) (left : List Standing)
-    → settled (with_files (with_each test (claimed claim)) mode) left ≡ settled mode left
-settled_claimed test claim Off left = refl
-settled_claimed test claim (Ready files sequence) left = ap (λ fs. Stands fs sequence ∷ []) (plain_claimed test claim files)
+pub settled_claimed : (test : File → Bool) (claim : Option ℕ) (layout : Layout) (mode : Mode) (left : List Standing)
+    → settled layout (with_files (with_each test (claimed claim)) mode) left ≡ settled layout mode left
+settled_claimed test claim layout Off left = refl
+settled_claimed test claim layout (Ready files sequence) left = ap (λ fs. Stands layout fs sequence ∷ []) (plain_claimed test claim files)
 
 never_turns : (mode : Mode) → TurnsOff mode mode → ⊥
 never_turns Off turns = turns
 never_turns (Ready files sequence) turns = turns
 
 -- what is settled is so once
-pub settled_twice : (left : List Standing) (mode : Mode) → settled mode left ≡ settled mode (settled mode left)
-settled_twice left Off = refl
-settled_twice left (Ready files sequence) = refl
+pub settled_twice : (layout : Layout) (left : List Standing) (mode : Mode) → settled layout mode left ≡ settled layout mode (settled layout mode left)
+settled_twice layout left Off = refl
+settled_twice layout left (Ready files sequence) = refl
 
 -- what holds anyhow holds while the totals are off
 when_off : (mode : Mode) (P : Type 0) → P → WhenOff mode P
@@ -120,6 +124,7 @@ no_group None changes (inr none) = none
 module _ {D : Type 0} (bound : Ghosts D) (old new : TotalsView D) (only : OnlyNow bound old.disk) (n : ℕ) (asked : Call) (fc : FileCall)
     (is : file_call asked ≡ fc) (takes : takes_memory asked ≡ true) (PutsThem : Type 0 → Answer → Totals → Type 0)
     (puts_fewer : (P Q : Type 0) → (P → Q) → (result : Answer) → PutsThem P result new.totals → PutsThem Q result new.totals)
+    (keeps_layout : (P : Type 0) (result : Answer) → PutsThem P result new.totals → new.totals.layout ≡ old.totals.layout)
     (does_so : (left after : List Standing) (result : Answer)
     → PutsChanges (PutsThem (Rises (bound.state old.disk).failures (bound.state new.disk).failures)) (part_of bound old left)
     (changes_asked old.totals n fc) result (part_of bound new after) → TotalsDo fc (part_of bound old left) n result (part_of bound new after)) where
@@ -163,8 +168,9 @@ module _ {D : Type 0} (bound : Ghosts D) (old new : TotalsView D) (only : OnlyNo
           leaves = record {
             honest = puts.kept.honest.0 leaves.honest;
             leaves = passes.now;
-            is_settled = settled_twice
-                (in_doubt old.totals.next left changes old.totals.mode) new.totals.mode;
+            is_settled = subst (λ l. after ≡ settled l new.totals.mode after)
+                (sym (keeps_layout (HasFailed bound old.disk new.disk) result does))
+                (settled_twice old.totals.layout (in_doubt old.totals.layout old.totals.next left changes old.totals.mode) new.totals.mode);
           };
           answer = called_ok n fc asked part (part_of bound new after) result is (record {
             outcome = match_at_none (first_refusal rows) _ _ none (does_so left after result (record {
@@ -208,6 +214,12 @@ fails_so : (P Q : Type 0) → (P → Q) → (old : Totals) (changes : List Chang
 fails_so P Q to old changes given result new (inl done) = inl done
 fails_so P Q to old changes given result new (inr failed) = inr (failed.0, to failed.1, failed.2)
 
+-- and the layout is kept
+done_layout : (P : Type 0) (old : Totals) (changes : List Change) (given : Value) (result : Answer) (new : Totals)
+    → Done P old changes given result new → new.layout ≡ old.layout
+done_layout P old changes given result new (inl done) = ap (λ (t : Totals). t.layout) done.1.totals
+done_layout P old changes given result new (inr failed) = ap (λ (t : Totals). t.layout) failed.2
+
 -- ---- a change
 
 change_so : (P Q : Type 0) → (P → Q) → (old : Totals) (n : ℕ) (change : Change) (result : Answer) (new : Totals)
@@ -220,6 +232,18 @@ change_so P Q to old n change result new does =
           (λ refusal y. y) d.outcome;
     })
     (λ buffer y. y) does
+
+change_layout : (P : Type 0) (old : Totals) (n : ℕ) (change : Change) (result : Answer) (new : Totals)
+    → DoesChange P old n change result new → new.layout ≡ old.layout
+change_layout P old n change result new does =
+    elim (match_cases (transaction_of old n) _ _ does) [
+      | inl x ↦ elim (match_cases (first_refusal (number_rows old change)) _ _ x.1.outcome) [
+        | inl y ↦ ⊎_elim (λ out. ap (λ (t : Totals). t.layout) out.2)
+            (λ done. done_layout P old (change ∷ []) (given_by old.next change) result new done) y.1
+        | inr y ↦ ap (λ (t : Totals). t.layout) y.2.1
+      ]
+      | inr x ↦ ap (λ (t : Totals). t.layout) x.2.1
+    ]
 
 -- the group of a change is what it puts there at once, where nothing refuses it
 at_once : (o : Option Answer) (transacting : Bool) (change : Change)
@@ -234,9 +258,10 @@ pub change_calls : {D : Type 0} (bound : Ghosts D) (view new : TotalsView D) (n 
     → Changes bound view n change outcome new → CallsFiles bound view n asked outcome new
 change_calls bound view new n change asked outcome only is takes changes =
     group_calls bound view new only n asked (Makes change) is takes (λ P result totals. DoesChange P view.totals n change result totals)
-    (λ P Q to result does. change_so P Q to view.totals n change result new.totals does) (λ left after result puts. puts) outcome changes.answer
+    (λ P Q to result does. change_so P Q to view.totals n change result new.totals does)
+    (λ P result does. change_layout P view.totals n change result new.totals does) (λ left after result puts. puts) outcome changes.answer
     (subst (λ g. PutsGroup bound view g outcome new)
-    (at_once (first_refusal (refusals_of_change layout_1 view.totals n change)) (in_transaction view.totals n) change) changes.disk)
+    (at_once (first_refusal (refusals_of_change view.totals n change)) (in_transaction view.totals n) change) changes.disk)
 
 -- ---- a commit
 
@@ -245,6 +270,13 @@ commit_so : (P Q : Type 0) → (P → Q) → (old ended : Totals) (changes : Lis
 commit_so P Q to old ended [] result new does = does
 commit_so P Q to old ended (change ∷ changes) result new does =
     ⊎_elim (λ out. inl out) (λ done. inr (fails_so P Q to ended (change ∷ changes) value.Empty result new done)) does
+
+commit_layout : (P : Type 0) (old : Totals) (n : ℕ) (changes : List Change) (result : Answer) (new : Totals)
+    → DoesCommit P old (with_transaction old n None) changes result new → new.layout ≡ old.layout
+commit_layout P old n [] result new does = ap (λ (t : Totals). t.layout) does.1
+commit_layout P old n (change ∷ changes) result new does =
+    ⊎_elim (λ out. ap (λ (t : Totals). t.layout) out.2)
+    (λ done. done_layout P (with_transaction old n None) (change ∷ changes) value.Empty result new done) does
 
 -- a call that commits
 pub commit_calls : {D : Type 0} (bound : Ghosts D) (view new : TotalsView D) (n : ℕ) (asked : Call) (outcome : Result Answer NoMemory)
@@ -255,15 +287,16 @@ commit_calls bound view new n asked outcome only is takes commits =
     let buffered = changes_in (transaction_of view.totals n) in
     group_calls bound view new only n asked Commits is takes (λ P result totals. DoesCommit P view.totals ended buffered result totals)
     (λ P Q to result does. commit_so P Q to view.totals ended buffered result new.totals does)
+    (λ P result does. commit_layout P view.totals n buffered result new.totals does)
     (λ left after result puts. puts) outcome commits.answer commits.disk
 
 -- ---- an arrangement
 
 -- it leaves the files as they are, but for their claims
 arranged_settled : (old : Totals) (n : ℕ) (arrangement : Arrangement) (left : List Standing)
-    → settled (after_arrangement old n arrangement).mode left ≡ settled old.mode left
-arranged_settled old n (ClaimFile handle timeout) left = settled_claimed (is_called handle) (Some n) old.mode left
-arranged_settled old n (ReleaseFile handle) left = settled_claimed (is_called handle) None old.mode left
+    → settled (after_arrangement old n arrangement).layout (after_arrangement old n arrangement).mode left ≡ settled old.layout old.mode left
+arranged_settled old n (ClaimFile handle timeout) left = settled_claimed (is_called handle) (Some n) old.layout old.mode left
+arranged_settled old n (ReleaseFile handle) left = settled_claimed (is_called handle) None old.layout old.mode left
 arranged_settled old n BeginTrans left = refl
 arranged_settled old n Rollback left = refl
 

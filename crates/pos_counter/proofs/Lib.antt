@@ -19,4 +19,5 @@ pub mod PrefixSteps
 pub mod PrefixRuns
 pub mod PrefixCounters
 pub mod PrefixExamples
+pub mod Moves
 pub mod Reopening

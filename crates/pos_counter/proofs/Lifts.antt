@@ -49,7 +49,7 @@ pub control_at : (hs : List Held) (n : ℕ) (d : Held) → n < length hs → sli
 control_at hs n d lt = slice_get-map (λ (h : Held). h.control) hs n ∙ ap (option_map (λ (h : Held). h.control)) (slice_get-get_or hs n d lt)
 
 -- the machine with other controls
-over_same : (cs ds : List Control) (devices : List Device) (shared : Shared) → cs ≡ ds → with_controls cs devices shared ≡ with_controls ds devices shared
+pub over_same : (cs ds : List Control) (devices : List Device) (shared : Shared) → cs ≡ ds → with_controls cs devices shared ≡ with_controls ds devices shared
 over_same cs ds devices shared e = ap (λ (c : List Control). with_controls c devices shared) e
 
 -- a call that is decided on one control is decided on the machine

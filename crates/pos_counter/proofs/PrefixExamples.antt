@@ -1,6 +1,7 @@
 -- The runs of the example, machine by machine.
 use Rattle.std.proofs.Common.{ℕ, ◌+◌, length, Bool, true, false, List, [], ◌∷◌, Some, None, inl, inr, refl, arith}
 use Rattle.pos_dir.specs.declared.file.File.{File as PlainFile}
+use Rattle.pos_image.specs.declared.layout.Layout.TheVariants.{Layout1}
 use Rattle.pos_service.specs.declared.category.Category.TheVariants as category
 use Rattle.pos_service.specs.declared.property.Property.TheVariants as property
 use Rattle.pos_service.specs.declared.answer.Value.TheVariants as value
@@ -12,7 +13,7 @@ use Rattle.pos_totals.specs.Recoveries.{AreLeft, numbered}
 use Rattle.pos_totals.specs.Views.{plain}
 use Rattle.pos_counter.specs.Examples.{MayHave, new_machine, steps_into_doubt, steps_through_doubt, sets_enabled, a_group}
 use Rattle.pos_counter.specs.History.{begun}
-use Rattle.pos_counter.specs.Machine.{Machine}
+use Rattle.pos_counter.specs.Machine.{Machine, signs_at}
 use Rattle.pos_counter.specs.Steps.{Run}
 use Rattle.pos_counter.specs.Totals.{TotalsPart}
 use Rattle.pos_counter.proofs.Runs.{run_append}
@@ -23,7 +24,7 @@ with_one control part = record { controls = control ∷ []; devices = new_machin
 
 abbrev part_with : Mode → ℕ → List Standing → ℕ → TotalsPart
 part_with mode next left failures = record {
-  totals = record { mode = mode; next = next; area = None; transactions = None ∷ [] };
+  totals = record { layout = Layout1; mode = mode; next = next; area = None; transactions = None ∷ [] };
   left = left;
   failures = failures;
 }
@@ -33,13 +34,13 @@ abbrev a_file : PlainFile
 a_file = record { name = 97 ∷ []; bytes = 0 ∷ [] }
 
 abbrev both : List Standing
-both = Stands [] 1 ∷ Stands (a_file ∷ []) 1 ∷ Stands (a_file ∷ []) 2 ∷ []
+both = Stands Layout1 [] 1 ∷ Stands Layout1 (a_file ∷ []) 1 ∷ Stands Layout1 (a_file ∷ []) 2 ∷ []
 
 abbrev one_opened : Control
 one_opened = opened (new_control category.HardTotals) (Some 0)
 
 abbrev one_set : Control → Bool → Control
-one_set control enabled = after_set control property.DeviceEnabled (value.Truth enabled)
+one_set control enabled = after_set (signs_at new_machine control) control property.DeviceEnabled (value.Truth enabled)
 
 abbrev one_enabled : Control
 one_enabled = one_set one_opened true
@@ -52,18 +53,18 @@ in_doubt = with_one one_enabled (part_with Off 1 both 1)
 
 into_doubt : Run new_machine steps_into_doubt in_doubt
 into_doubt = (
-  with_one (new_control category.HardTotals) (part_with Off 1 (Stands [] 1 ∷ []) 0),
+  with_one (new_control category.HardTotals) (part_with Off 1 (Stands Layout1 [] 1 ∷ []) 0),
   (omega arith, refl, refl),
   (
-    with_one one_opened (part_with Off 1 (Stands [] 1 ∷ []) 0),
+    with_one one_opened (part_with Off 1 (Stands Layout1 [] 1 ∷ []) 0),
     record { outcome = (refl, refl) },
     (
-      with_one one_enabled (part_with (Ready [] 1) 1 (Stands [] 1 ∷ []) 0),
+      with_one one_enabled (part_with (Ready [] 1) 1 (Stands Layout1 [] 1 ∷ []) 0),
       record {
         outcome = inl (
           refl,
           record {
-            found = record { files = []; sequence = 1; found = inl refl; handles = omega arith; totals = refl };
+            found = record { layout = Layout1; files = []; sequence = 1; found = inl refl; handles = omega arith; totals = refl };
             left = refl;
             counts = refl;
           },
@@ -93,9 +94,10 @@ into_doubt = (
 -- the recovery of a machine in doubt finds these files, which are one of those
 abbrev recovered : List PlainFile → ℕ → Machine
 recovered files sequence =
-    with_one (one_set one_disabled true) (part_with (Ready (numbered 1 files) sequence) (1 + length files) (Stands (plain (numbered 1 files)) sequence ∷ []) 1)
+    with_one (one_set one_disabled true) (part_with (Ready (numbered 1 files) sequence) (1 + length files)
+    (Stands Layout1 (plain (numbered 1 files)) sequence ∷ []) 1)
 
-out_of_doubt : (files : List PlainFile) (sequence : ℕ) → IsOneOf both (Stands files sequence) → AreLeft 1 (length files)
+out_of_doubt : (files : List PlainFile) (sequence : ℕ) → IsOneOf both (Stands Layout1 files sequence) → AreLeft 1 (length files)
     → Run in_doubt (sets_enabled false ∷ sets_enabled true ∷ []) (recovered files sequence)
 out_of_doubt files sequence found handles = (
   with_one one_disabled (part_with Off 1 both 1),
@@ -106,7 +108,7 @@ out_of_doubt files sequence found handles = (
       outcome = inl (
         refl,
         record {
-          found = record { files = files; sequence = sequence; found = found; handles = handles; totals = refl };
+          found = record { layout = Layout1; files = files; sequence = sequence; found = found; handles = handles; totals = refl };
           left = refl;
           counts = refl;
         },
@@ -118,12 +120,12 @@ out_of_doubt files sequence found handles = (
 )
 
 -- in doubt
-pub may_doubt : MayHave new_machine [] steps_into_doubt (record { start = []; settled = []; doubt = Some a_group })
+pub may_doubt : MayHave new_machine Layout1 [] steps_into_doubt (record { layout = Layout1; start = []; settled = []; doubt = Some a_group })
 unfolding into_doubt
 may_doubt = record { last = in_doubt; run = into_doubt; is = refl }
 
 -- kept
-pub may_keep : MayHave new_machine [] steps_through_doubt (record { start = []; settled = a_group ∷ []; doubt = None })
+pub may_keep : MayHave new_machine Layout1 [] steps_through_doubt (record { layout = Layout1; start = []; settled = a_group ∷ []; doubt = None })
 unfolding into_doubt out_of_doubt run_append
 may_keep = record {
   last = recovered (a_file ∷ []) 2;
@@ -133,7 +135,7 @@ may_keep = record {
 }
 
 -- dropped
-pub may_drop : MayHave new_machine [] steps_through_doubt (begun [])
+pub may_drop : MayHave new_machine Layout1 [] steps_through_doubt (begun Layout1 [])
 unfolding into_doubt out_of_doubt run_append
 may_drop = record {
   last = recovered [] 1;

@@ -3,6 +3,7 @@ use Rattle.std.proofs.Math.Path.{path_j, subst_refl}
 use Rattle.std.proofs.Common.{◌≡◌, ◌⊎◌, ℕ, List, [], ◌∷◌, ◌++◌, inl, inr, refl, sym, ap, subst}
 use Rattle.pos_dir.specs.declared.file.File.{File as PlainFile}
 use Rattle.pos_disk.specs.State.{Rises}
+use Rattle.pos_image.specs.declared.layout.Layout.{Layout}
 use Rattle.pos_service.specs.declared.answer.Answer.{Answer}
 use Rattle.pos_service.specs.declared.answer.Answer.TheVariants as answer
 use Rattle.pos_service.specs.declared.code.Code.TheVariants as code
@@ -70,26 +71,27 @@ bytes_inside history old q r new bytes fits step h =
 
 -- ---- the law
 
-module _ (start : List PlainFile) (sequence : ℕ) (first last : Machine) (steps : List (Request × Response)) (run : Run first steps last)
-    (is : StartsWith start sequence first.totals) where
-  fits_last : Fits (history_of start first steps last run) last.totals
-  fits_last = run_fits (begun start) first steps last run (fits_begun start sequence first.totals is)
+module _ (layout : Layout) (start : List PlainFile) (sequence : ℕ) (first last : Machine) (steps : List (Request × Response)) (run : Run first steps last)
+    (is : StartsWith layout start sequence first.totals) where
+  fits_last : Fits (history_of layout start first steps last run) last.totals
+  fits_last = run_fits (begun layout start) first steps last run (fits_begun layout start sequence first.totals is)
 
   -- after the run
-  pub law_after : LeavesPrefix (history_of start first steps last run) last.totals
-  law_after = fits_leaves (history_of start first steps last run) last.totals fits_last
+  pub law_after : LeavesPrefix (history_of layout start first steps last run) last.totals
+  law_after = fits_leaves (history_of layout start first steps last run) last.totals fits_last
 
   -- inside one more step
   pub law_inside : (q : Request) (r : Response) (new : Machine) → Step last q r new
-      → LeavesPrefixInside (history_of start first steps last run) last.totals (history_with (history_of start first steps last run) last q r new) new.totals
+      → LeavesPrefixInside (history_of layout start first steps last run) last.totals
+      (history_with (history_of layout start first steps last run) last q r new) new.totals
   law_inside q r new step =
-      let history = history_of start first steps last run in
+      let history = history_of layout start first steps last run in
       fits_inside history last.totals (event_of last q r new) new.totals fits_last (step_told last q r new (fits_settled history last.totals fits_last) step)
 
   -- never damage, nor a disk without totals
   pub law_files : (left : Standing) → IsOneOf last.totals.left left → IsFiles left
   law_files left one =
-      let history = history_of start first steps last run in
+      let history = history_of layout start first steps last run in
       prefix_files history history.settled left (law_after left one)
 
   -- what a recovery answers that recovers nothing

@@ -6,7 +6,7 @@ use Rattle.std.proofs.lemmas.Bool.{and_parts}
 use Rattle.std.proofs.lemmas.Option.{same_Some}
 use Rattle.pos_dir.specs.Changes.{outcome_of_all}
 use Rattle.pos_dir.specs.declared.file.File.{File as PlainFile}
-use Rattle.pos_dir.specs.declared.limits.TheConstants.{LAYOUT_1}
+use Rattle.pos_image.specs.declared.layout.Layout.{Layout}
 use Rattle.pos_service.specs.declared.answer.Answer.{Answer}
 use Rattle.pos_service.specs.declared.answer.Answer.TheVariants as answer
 use Rattle.pos_service.specs.declared.answer.Value.{Value}
@@ -31,6 +31,7 @@ use Rattle.pos_service.specs.Refusals.{Row, Decided, first_refusal}
 use Rattle.pos_service.specs.Stations.{Effect}
 use Rattle.pos_totals.specs.TotalsCalls.{FileCall, Arranges, Asks, Commits, Makes, Nothing, file_call}
 use Rattle.pos_disk.specs.State.{Rises}
+use Rattle.pos_store.specs.Layouts.{limits_of}
 use Rattle.pos_store.specs.Modes.{Ready as StoreReady}
 use Rattle.pos_store.specs.Standing.{Stands, IsOneOf}
 use Rattle.pos_totals.specs.Changes.{IsOneGroup, in_doubt}
@@ -79,21 +80,27 @@ undone (change ∷ changes) (Ready files sequence) Off response is same = absurd
 
 -- totals that rest
 rest : (changes : List Change) (old new : TotalsPart) (response : Response)
-    → event_between changes old.totals.mode response new.totals.mode ≡ NothingDone → stored new.totals.mode ≡ stored old.totals.mode
-    → new.left ≡ old.left → Told changes old response new
-rest changes old new response nothing mode left = subst (λ e. Happens old e new) (sym nothing) (record { mode = mode; left = left })
+    → event_between changes old.totals.mode response new.totals.mode ≡ NothingDone → new.totals.layout ≡ old.totals.layout
+    → stored new.totals.mode ≡ stored old.totals.mode → new.left ≡ old.left → Told changes old response new
+rest changes old new response nothing layout mode left =
+    subst (λ e. Happens old e new) (sym nothing) (record { layout = layout; mode = mode; left = left })
 
 -- where no change is asked: the files are what they were
-rest_beside : (old new : TotalsPart) (response : Response) → stored new.totals.mode ≡ stored old.totals.mode → new.left ≡ old.left → Told [] old response new
-rest_beside old new response mode left = rest [] old new response (unasked old.totals.mode new.totals.mode response mode) mode left
+rest_beside : (old new : TotalsPart) (response : Response) → new.totals.layout ≡ old.totals.layout
+    → stored new.totals.mode ≡ stored old.totals.mode → new.left ≡ old.left → Told [] old response new
+rest_beside old new response layout mode left =
+    rest [] old new response (unasked old.totals.mode new.totals.mode response mode) layout mode left
 
 rest_unasked : (old new : TotalsPart) (response : Response) → new ≡ old → Told [] old response new
-rest_unasked old new response same = rest_beside old new response (ap (λ (t : TotalsPart). stored t.totals.mode) same) (ap (λ (t : TotalsPart). t.left) same)
+rest_unasked old new response same =
+    rest_beside old new response (ap (λ (t : TotalsPart). t.totals.layout) same) (ap (λ (t : TotalsPart). stored t.totals.mode) same)
+    (ap (λ (t : TotalsPart). t.left) same)
 
 rest_undone : (changes : List Change) (old new : TotalsPart) (response : Response) → IsUndone response → new ≡ old → Told changes old response new
 rest_undone changes old new response is same =
     let mode = ap (λ (t : TotalsPart). stored t.totals.mode) same in
-    rest changes old new response (undone changes old.totals.mode new.totals.mode response is mode) mode (ap (λ (t : TotalsPart). t.left) same)
+    rest changes old new response (undone changes old.totals.mode new.totals.mode response is mode) (ap (λ (t : TotalsPart). t.totals.layout) same)
+    mode (ap (λ (t : TotalsPart). t.left) same)
 
 -- files with other claims are stored as they were
 stored_claimed : (test : File → Bool) (claim : Option ℕ) (mode : Mode) → stored (with_files (with_each test (claimed_file claim)) mode) ≡ stored mode
@@ -115,17 +122,19 @@ refused_undone (row ∷ rows) refusal result is same = by row.applies is (λ res
 
 -- ---- changes
 
-module _ (old new : TotalsPart) (result : Answer) (is : old.left ≡ settled old.totals.mode old.left) (ended : Totals)
-    (mode : ended.mode ≡ old.totals.mode) (next : ended.next ≡ old.totals.next) (change : Change) (changes : List Change)
+module _ (old new : TotalsPart) (result : Answer) (is : old.left ≡ settled old.totals.layout old.totals.mode old.left) (ended : Totals)
+    (layout : ended.layout ≡ old.totals.layout) (mode : ended.mode ≡ old.totals.mode) (next : ended.next ≡ old.totals.next)
+    (change : Change) (changes : List Change)
     (group : IsOneGroup old.totals (change ∷ changes)) (left : new.left ≡ left_after old (change ∷ changes) new.totals.mode) where
   abbrev all : List Change
   all = change ∷ changes
 
   -- what a group makes of the files
   made_at : (files : List File) (sequence : ℕ) → old.totals.mode ≡ Ready files sequence
-      → outcome_of_all LAYOUT_1 (plain files) (group_of files all) ≡ Ok (plain (files_after_all old.totals.next files all))
+      → outcome_of_all (limits_of old.totals.layout) (plain files) (group_of files all)
+      ≡ Ok (plain (files_after_all old.totals.next files all))
   made_at files sequence ready =
-      subst (λ m. outcome_of_all LAYOUT_1 (plain (files_of m)) (group_of (files_of m) all) ≡ Ok
+      subst (λ m. outcome_of_all (limits_of old.totals.layout) (plain (files_of m)) (group_of (files_of m) all) ≡ Ok
       (plain (files_after_all old.totals.next (files_of m) all))) ready group
 
   -- a group that was done
@@ -147,6 +156,7 @@ module _ (old new : TotalsPart) (result : Answer) (is : old.left ≡ settled old
             next = h.sequence;
             ready = ready;
             made = made_at files sequence ready;
+            layout = ap (λ (t : Totals). t.layout) h.totals ∙ layout;
             still = still;
             left = left ∙ ap (left_after old all) still;
           })
@@ -161,7 +171,11 @@ module _ (old new : TotalsPart) (result : Answer) (is : old.left ≡ settled old
       by : (m : Mode) → old.totals.mode ≡ m → Told all old (Answered result) new
       by Off was =
           told_at all old new Off Off (Answered result) (Answered result) was off refl
-          (record { mode = ap stored (off ∙ sym was); left = left ∙ ap (left_after old all) off ∙ ap (in_doubt old.totals.next old.left all) was })
+          (record {
+            layout = ap (λ (t : Totals). t.layout) same ∙ layout;
+            mode = ap stored (off ∙ sym was);
+            left = left ∙ ap (left_after old all) off ∙ ap (in_doubt old.totals.layout old.totals.next old.left all) was;
+          })
       by (Ready files sequence) ready =
           told_at all old new (Ready files sequence) Off (Answered result) (Answered (answer.Refused code.Failure 0)) ready off (ap (λ a. Answered a) failed)
           (record {
@@ -171,7 +185,7 @@ module _ (old new : TotalsPart) (result : Answer) (is : old.left ≡ settled old
             ready = ready;
             made = made_at files sequence ready;
             off = off;
-            left = left ∙ ap (left_after old all) off ∙ ap (in_doubt old.totals.next old.left all) ready;
+            left = left ∙ ap (left_after old all) off ∙ ap (in_doubt old.totals.layout old.totals.next old.left all) ready;
           })
 
   -- a group that is refused
@@ -180,7 +194,7 @@ module _ (old new : TotalsPart) (result : Answer) (is : old.left ≡ settled old
       let mode = ap (λ (t : Totals). t.mode) still in
       rest all old new (Answered result)
       (undone all old.totals.mode new.totals.mode (Answered result) (subst (λ a. IsUndone (Answered a)) (sym same) undone_there) (ap stored mode))
-      (ap stored mode) (left ∙ ap (left_after old all) mode ∙ kept_left all old is)
+      (ap (λ (t : Totals). t.layout) still) (ap stored mode) (left ∙ ap (left_after old all) mode ∙ kept_left all old is)
 
   -- a group for which the sequences have run out, that is done, or in which the disk fails
   group_told : (failed : Type 0) (given : Value) → RunsOut old.totals result new.totals ⊎ Done failed ended all given result new.totals
@@ -195,11 +209,13 @@ module _ (old new : TotalsPart) (result : Answer) (is : old.left ≡ settled old
       ]
 
 -- totals whose files are as they were, and in which nothing is put on the disk
-still_told : (old new : TotalsPart) (response : Response) → old.left ≡ settled old.totals.mode old.left
-    → new.left ≡ left_after old [] new.totals.mode → new.totals.mode ≡ old.totals.mode → Told [] old response new
-still_told old new response is left mode = rest_beside old new response (ap stored mode) (left ∙ ap (left_after old []) mode ∙ kept_left [] old is)
+still_told : (old new : TotalsPart) (response : Response) → old.left ≡ settled old.totals.layout old.totals.mode old.left
+    → new.left ≡ left_after old [] new.totals.mode → new.totals.layout ≡ old.totals.layout → new.totals.mode ≡ old.totals.mode
+    → Told [] old response new
+still_told old new response is left layout mode =
+    rest_beside old new response layout (ap stored mode) (left ∙ ap (left_after old []) mode ∙ kept_left [] old is)
 
-changed_told : (change : Change) (old new : TotalsPart) (number : ℕ) (result : Answer) → old.left ≡ settled old.totals.mode old.left
+changed_told : (change : Change) (old new : TotalsPart) (number : ℕ) (result : Answer) → old.left ≡ settled old.totals.layout old.totals.mode old.left
     → ChangesTotals old number change result new → Told (put_at_once (in_transaction old.totals number) change) old (Answered result) new
 changed_told change old new number result is h =
     elim (match_cases (transaction_of old.totals number) _ _ h.does) [
@@ -211,7 +227,8 @@ changed_told change old new number result is h =
       | inr x ↦
           let kept : put_at_once (in_transaction old.totals number) change ≡ [] = ap (λ (o : Option (List Change)). put_at_once (is_some o) change) x.1 in
           subst (λ changes. Told changes old (Answered result) new) (sym kept)
-          (still_told old new (Answered result) is (h.left ∙ ap (λ changes. left_after old changes new.totals.mode) kept) (ap (λ (t : Totals). t.mode) x.2.1))
+          (still_told old new (Answered result) is (h.left ∙ ap (λ changes. left_after old changes new.totals.mode) kept)
+          (ap (λ (t : Totals). t.layout) x.2.1) (ap (λ (t : Totals). t.mode) x.2.1))
     ]
   where
     given : Value
@@ -223,12 +240,12 @@ changed_told change old new number result is h =
         → Told (change ∷ []) old (Answered result) new
     unbuffered group left d =
         elim (match_cases (first_refusal (number_rows old.totals change)) _ _ d.outcome) [
-          | inl x ↦ group_told old new result is old.totals refl refl change [] group left _ given x.1
-          | inr x ↦ refused_told old new result is old.totals refl refl change [] group left x.0
+          | inl x ↦ group_told old new result is old.totals refl refl refl change [] group left _ given x.1
+          | inr x ↦ refused_told old new result is old.totals refl refl refl change [] group left x.0
               (refused_undone (number_rows old.totals change) x.0 x.0 x.1 refl) x.2.0 x.2.1
         ]
 
-commit_told : (old new : TotalsPart) (number : ℕ) (result : Answer) → old.left ≡ settled old.totals.mode old.left
+commit_told : (old new : TotalsPart) (number : ℕ) (result : Answer) → old.left ≡ settled old.totals.layout old.totals.mode old.left
     → CommitsTotals old number result new → Told (changes_in (transaction_of old.totals number)) old (Answered result) new
 commit_told old new number result is h = by (changes_in (transaction_of old.totals number)) h.group h.left h.does
   where
@@ -237,8 +254,8 @@ commit_told old new number result is h = by (changes_in (transaction_of old.tota
 
     by : (changes : List Change) → IsOneGroup old.totals changes → new.left ≡ left_after old changes new.totals.mode
         → DoesCommit (Rises old.failures new.failures) old.totals ended changes result new.totals → Told changes old (Answered result) new
-    by [] group left does = still_told old new (Answered result) is left (ap (λ (t : Totals). t.mode) does.1)
-    by (change ∷ changes) group left does = group_told old new result is ended refl refl change changes group left _ _ does
+    by [] group left does = still_told old new (Answered result) is left (ap (λ (t : Totals). t.layout) does.1) (ap (λ (t : Totals). t.mode) does.1)
+    by (change ∷ changes) group left does = group_told old new result is ended refl refl refl change changes group left _ _ does
 
 -- an arrangement leaves the files as they are, but for their claims
 stored_arranged : (old : Totals) (number : ℕ) (arrangement : Arrangement) → stored (after_arrangement old number arrangement).mode ≡ stored old.mode
@@ -247,12 +264,19 @@ stored_arranged old number (ReleaseFile handle) = stored_claimed (is_called hand
 stored_arranged old number BeginTrans = refl
 stored_arranged old number Rollback = refl
 
-files_told : (asked : FileCall) (old new : TotalsPart) (number : ℕ) (result : Answer) → old.left ≡ settled old.totals.mode old.left
+layout_arranged : (old : Totals) (number : ℕ) (arrangement : Arrangement) → (after_arrangement old number arrangement).layout ≡ old.layout
+layout_arranged old number (ClaimFile handle timeout) = refl
+layout_arranged old number (ReleaseFile handle) = refl
+layout_arranged old number BeginTrans = refl
+layout_arranged old number Rollback = refl
+
+files_told : (asked : FileCall) (old new : TotalsPart) (number : ℕ) (result : Answer) → old.left ≡ settled old.totals.layout old.totals.mode old.left
     → TotalsDo asked old number result new → Told (changes_asked old.totals number asked) old (Answered result) new
 files_told (Asks question) old new number result is h = rest_unasked old new (Answered result) h.1
 files_told (Makes change) old new number result is h = changed_told change old new number result is h
 files_told (Arranges arrangement) old new number result is h =
-    rest_beside old new (Answered result) (ap (λ (t : TotalsPart). stored t.totals.mode) h.1 ∙ stored_arranged old.totals number arrangement)
+    rest_beside old new (Answered result) (ap (λ (t : TotalsPart). t.totals.layout) h.1 ∙ layout_arranged old.totals number arrangement)
+    (ap (λ (t : TotalsPart). stored t.totals.mode) h.1 ∙ stored_arranged old.totals number arrangement)
     (ap (λ (t : TotalsPart). t.left) h.1)
 files_told Commits old new number result is h = commit_told old new number result is h
 files_told Nothing old new number result is h = absurd h
@@ -268,16 +292,18 @@ found_told : (old new : TotalsPart) (response : Response) → old.totals.mode �
 found_told old new response off h =
     let now = numbered old.totals.next h.found.files in
     let ready : new.totals.mode ≡ Ready now h.found.sequence = ap (λ (t : Totals). t.mode) h.found.totals in
+    let layout : new.totals.layout ≡ h.found.layout = ap (λ (t : Totals). t.layout) h.found.totals in
     let same = plain_numbered old.totals.next h.found.files in
     told_at [] old new Off (Ready now h.found.sequence) response response off ready refl
     (record {
       now = now;
       sequence = h.found.sequence;
       off = off;
-      candidate = subst (λ fs. IsOneOf old.left (Stands fs h.found.sequence)) (sym same) h.found.found;
+      candidate = subst (λ (l : Layout). IsOneOf old.left (Stands l (plain now) h.found.sequence)) (sym layout)
+          (subst (λ fs. IsOneOf old.left (Stands h.found.layout fs h.found.sequence)) (sym same) h.found.found);
       ready = ready;
       files = refl;
-      left = h.left ∙ ap (λ m. settled m old.left) ready;
+      left = h.left ∙ ap (λ m. settled new.totals.layout m old.left) ready;
     })
 
 -- totals that are recovered are off
@@ -296,8 +322,8 @@ set_told old new n c p v result true e (inr (h, is)) = elim h [
   | inl x ↦ rest_unasked old.totals new.totals (Answered result) x.2
   | inr x ↦ elim x.1 [
     | inl y ↦ rest_unasked old.totals new.totals (Answered result) y.1
-    | inr y ↦ rest_beside old.totals new.totals (Answered result) (ap (λ (t : TotalsPart). stored t.totals.mode) y.else_same)
-        (ap (λ (t : TotalsPart). t.left) y.else_same)
+    | inr y ↦ rest_beside old.totals new.totals (Answered result) (ap (λ (t : TotalsPart). t.totals.layout) y.else_same)
+        (ap (λ (t : TotalsPart). stored t.totals.mode) y.else_same) (ap (λ (t : TotalsPart). t.left) y.else_same)
   ]
 ]
 
@@ -338,7 +364,7 @@ at_device_told k old new n c own result other has same =
     (sym (asks_nothing own (one_category (row_of own).category k other has))) (rest_unasked old.totals new.totals (Answered result) same)
 
 category_told : (k : Category) (old new : Machine) (n : ℕ) (c : Control) (own : Call) (result : Answer)
-    → old.totals.left ≡ settled old.totals.totals.mode old.totals.left → has_call k own ≡ true → CategoryDoes k old n c own result new
+    → old.totals.left ≡ settled old.totals.totals.layout old.totals.totals.mode old.totals.left → has_call k own ≡ true → CategoryDoes k old n c own result new
     → Told (changes_asked old.totals.totals n (file_call own)) old.totals (Answered result) new.totals
 category_told category.HardTotals old new n c own result is has h = files_told (file_call own) old.totals new.totals n result is h.0
 category_told k old new n c own result is has h = at_device_told k old new n c own result refl has (station_same old new c.device _ h)
@@ -346,25 +372,27 @@ category_told k old new n c own result is has h = at_device_told k old new n c o
 -- what a control's claim, its release and its end leave of the files
 claimed_told : (k : Category) (old new : Machine) (n : ℕ) (c : Control) (response : Response) → new ≡ claimed k old n c → Told [] old.totals response new.totals
 claimed_told category.HardTotals old new n c response h =
-    rest_beside old.totals new.totals response (ap (λ (m : Machine). stored m.totals.totals.mode) h) (ap (λ (m : Machine). m.totals.left) h)
+    rest_beside old.totals new.totals response (ap (λ (m : Machine). m.totals.totals.layout) h)
+    (ap (λ (m : Machine). stored m.totals.totals.mode) h) (ap (λ (m : Machine). m.totals.left) h)
 claimed_told k old new n c response h = rest_unasked old.totals new.totals response (ap (λ (m : Machine). m.totals) h)
 
 released_told : (k : Category) (old new : Machine) (n : ℕ) (c : Control) (response : Response)
     → new ≡ released k (with_control old n (after_release k c)) n c → Told [] old.totals response new.totals
 released_told category.HardTotals old new n c response h =
-    rest_beside old.totals new.totals response (ap (λ (m : Machine). stored m.totals.totals.mode) h) (ap (λ (m : Machine). m.totals.left) h)
+    rest_beside old.totals new.totals response (ap (λ (m : Machine). m.totals.totals.layout) h)
+    (ap (λ (m : Machine). stored m.totals.totals.mode) h) (ap (λ (m : Machine). m.totals.left) h)
 released_told k old new n c response h = rest_unasked old.totals new.totals response (ap (λ (m : Machine). m.totals) h)
 
 dropped_told : (k : Category) (old new : Machine) (n : ℕ) (c : Control) (response : Response) → new ≡ dropped k (with_control old n (closed c)) n c
     → Told [] old.totals response new.totals
 dropped_told category.HardTotals old new n c response h =
-    rest_beside old.totals new.totals response
+    rest_beside old.totals new.totals response (ap (λ (m : Machine). m.totals.totals.layout) h)
     (ap (λ (m : Machine). stored m.totals.totals.mode) h ∙ stored_claimed (is_own_claim n) None old.totals.totals.mode)
     (ap (λ (m : Machine). m.totals.left) h)
 dropped_told k old new n c response h = rest_unasked old.totals new.totals response (ap (λ (m : Machine). m.totals) h)
 
 does_told : (old new : Machine) (n : ℕ) (c : Control) (asked : Call) (result : Answer)
-    → old.totals.left ≡ settled old.totals.totals.mode old.totals.left → (is_common asked ≡ false → has_call c.category asked ≡ true)
+    → old.totals.left ≡ settled old.totals.totals.layout old.totals.totals.mode old.totals.left → (is_common asked ≡ false → has_call c.category asked ≡ true)
     → Does old n c asked result new → Told (changes_asked old.totals.totals n (file_call asked)) old.totals (Answered result) new.totals
 does_told old new n c (call.Open name) result is has h = rest_unasked old.totals new.totals (Answered result) (ap (λ (m : Machine). m.totals) h.1)
 does_told old new n c call.Close result is has h = dropped_told c.category old new n c (Answered result) h.1
@@ -382,7 +410,7 @@ own_of m n c asked own none = unless_not (has_call c.category asked)
     (ap first_refusal (sym (own_refusals m n c asked own)) ∙ none)).1.0
 
 called_told : (old new : Machine) (n : ℕ) (c : Control) (asked : Call) (result : Answer)
-    → old.totals.left ≡ settled old.totals.totals.mode old.totals.left → Called old n c asked result new
+    → old.totals.left ≡ settled old.totals.totals.layout old.totals.totals.mode old.totals.left → Called old n c asked result new
     → Told (changes_asked old.totals.totals n (file_call asked)) old.totals (Answered result) new.totals
 called_told old new n c asked result is h =
     elim (match_cases (first_refusal (refusals old n c asked)) _ _ h.outcome) [
@@ -397,10 +425,12 @@ same_machine : (old new then : Machine) (response : Response) → new ≡ then �
 same_machine old new then response is same = rest_unasked old.totals new.totals response (ap (λ (m : Machine). m.totals) is ∙ same)
 
 -- Each step of the machine is what its event says.
-pub step_told : (old : Machine) (q : Request) (r : Response) (new : Machine) → old.totals.left ≡ settled old.totals.totals.mode old.totals.left
+pub step_told : (old : Machine) (q : Request) (r : Response) (new : Machine)
+    → old.totals.left ≡ settled old.totals.totals.layout old.totals.totals.mode old.totals.left
     → Step old q r new → Happens old.totals (event_of old q r new) new.totals
 step_told old (NewControl u k) (Made number) new is h =
-    rest_beside old.totals new.totals (Made number) (ap (λ (m : Machine). stored m.totals.totals.mode) h.2) (ap (λ (m : Machine). m.totals.left) h.2)
+    rest_beside old.totals new.totals (Made number) (ap (λ (m : Machine). m.totals.totals.layout) h.2)
+    (ap (λ (m : Machine). stored m.totals.totals.mode) h.2) (ap (λ (m : Machine). m.totals.left) h.2)
 step_told old (NewControl u k) Full new is h = same_machine old new old Full h.1 refl
 step_told old (NewControl u k) OutOfMemory new is h = same_machine old new old OutOfMemory h.1 refl
 step_told old (CallOf n asked) (Answered result) new is h =

@@ -9,12 +9,14 @@ use Rattle.std.proofs.lemmas.Slice.Eq.{bytes_eq-Decides}
 use Rattle.pos_dir.specs.Changes.{outcome_of_all, and_then}
 use Rattle.pos_dir.specs.declared.fault.DirectoryFault.{DirectoryFault}
 use Rattle.pos_dir.specs.declared.file.File.{File as PlainFile}
-use Rattle.pos_dir.specs.declared.limits.TheConstants.{LAYOUT_1}
+use Rattle.pos_dir.specs.declared.limits.Limits.{Limits}
+use Rattle.pos_image.specs.declared.layout.Layout.{Layout}
 use Rattle.pos_totals.specs.HardTotals.{File, Mode, Off, Ready, next_sequences}
+use Rattle.pos_store.specs.Layouts.{limits_of}
 use Rattle.pos_store.specs.Standing.{Standing, Stands, IsOneOf}
 use Rattle.pos_store.specs.Modes.{Ready as StoreReady}
 use Rattle.pos_totals.specs.Views.{plain, stored}
-use Rattle.pos_counter.specs.History.{Group, History, FilesEvent, GroupAccepted, GroupInDoubt, FilesFound, NothingDone, begun, listed, with_settled, without_doubt, after_groups, is_same, has_made, decided, told}
+use Rattle.pos_counter.specs.History.{Group, History, FilesEvent, GroupAccepted, GroupInDoubt, FilesFound, NothingDone, begun, listed, with_settled, without_doubt, after_groups, files_after, is_same, has_made, decided, told}
 use Rattle.pos_counter.specs.Prefixes.{BeginsWith, IsFiles, IsPrefix, LeavesPrefix, LeavesPrefixInside, StartsWith}
 use Rattle.pos_counter.specs.Totals.{TotalsPart, settled}
 
@@ -49,18 +51,20 @@ pub same_Ok : (files others : List PlainFile) → ◌≡◌ {A = Result (List Pl
 same_Ok files others same = cc
 
 -- the files after groups, and then after one more
-one_more : (start before : List PlainFile) (groups : List Group) (group : Group) → after_groups start groups ≡ Ok before
-    → after_groups start (groups ++ group ∷ []) ≡ outcome_of_all LAYOUT_1 before group
-one_more start before [] group made = last (outcome_of_all LAYOUT_1 start group) ∙ ap (λ files. outcome_of_all LAYOUT_1 files group) (same_Ok start before made)
+one_more : (limits : Limits) (start before : List PlainFile) (groups : List Group) (group : Group) → after_groups limits start groups ≡ Ok before
+    → after_groups limits start (groups ++ group ∷ []) ≡ outcome_of_all limits before group
+one_more limits start before [] group made =
+    last (outcome_of_all limits start group) ∙ ap (λ files. outcome_of_all limits files group) (same_Ok start before made)
   where
     last : (o : Result (List PlainFile) DirectoryFault) → and_then o (λ next. Ok next) ≡ o
     last (Err fault) = refl
     last (Ok files) = refl
-one_more start before (first ∷ groups) group made = by (outcome_of_all LAYOUT_1 start first) made (λ next. one_more next before groups group)
+one_more limits start before (first ∷ groups) group made = by (outcome_of_all limits start first) made (λ next. one_more limits next before groups group)
   where
-    by : (o : Result (List PlainFile) DirectoryFault) → and_then o (λ next. after_groups next groups) ≡ Ok before
-        → ((next : List PlainFile) → after_groups next groups ≡ Ok before → after_groups next (groups ++ group ∷ []) ≡ outcome_of_all LAYOUT_1 before group)
-        → and_then o (λ next. after_groups next (groups ++ group ∷ [])) ≡ outcome_of_all LAYOUT_1 before group
+    by : (o : Result (List PlainFile) DirectoryFault) → and_then o (λ next. after_groups limits next groups) ≡ Ok before
+        → ((next : List PlainFile) → after_groups limits next groups ≡ Ok before
+        → after_groups limits next (groups ++ group ∷ []) ≡ outcome_of_all limits before group)
+        → and_then o (λ next. after_groups limits next (groups ++ group ∷ [])) ≡ outcome_of_all limits before group
     by (Err fault) made rest = absurd cc
     by (Ok next) made rest = rest next made
 
@@ -73,9 +77,10 @@ pub record Accepts (group : Group) (old new : TotalsPart) : Type 0 where
   pub now : List File
   pub next : ℕ
   pub ready : old.totals.mode ≡ Ready before sequence
-  pub made : outcome_of_all LAYOUT_1 (plain before) group ≡ Ok (plain now)
+  pub made : outcome_of_all (limits_of old.totals.layout) (plain before) group ≡ Ok (plain now)
+  pub layout : new.totals.layout ≡ old.totals.layout
   pub still : new.totals.mode ≡ Ready now next
-  pub left : new.left ≡ Stands (plain now) next ∷ []
+  pub left : new.left ≡ Stands old.totals.layout (plain now) next ∷ []
 
 -- The disk failed in a group.
 pub record Doubts (group : Group) (old new : TotalsPart) : Type 0 where
@@ -83,22 +88,24 @@ pub record Doubts (group : Group) (old new : TotalsPart) : Type 0 where
   pub sequence : ℕ
   pub files : List PlainFile
   pub ready : old.totals.mode ≡ Ready before sequence
-  pub made : outcome_of_all LAYOUT_1 (plain before) group ≡ Ok files
+  pub made : outcome_of_all (limits_of old.totals.layout) (plain before) group ≡ Ok files
   pub off : new.totals.mode ≡ Off
-  pub left : new.left ≡ Stands (plain before) sequence ∷ map (λ next. Stands files next) (next_sequences sequence)
+  pub left : new.left ≡ Stands old.totals.layout (plain before) sequence
+      ∷ map (λ next. Stands old.totals.layout files next) (next_sequences sequence)
 
 -- A recovery has found files.
 pub record Finds (found : List PlainFile) (old new : TotalsPart) : Type 0 where
   pub now : List File
   pub sequence : ℕ
   pub off : old.totals.mode ≡ Off
-  pub candidate : IsOneOf old.left (Stands found sequence)
+  pub candidate : IsOneOf old.left (Stands new.totals.layout found sequence)
   pub ready : new.totals.mode ≡ Ready now sequence
   pub files : plain now ≡ found
-  pub left : new.left ≡ Stands found sequence ∷ []
+  pub left : new.left ≡ Stands new.totals.layout found sequence ∷ []
 
--- The files are what they were, their handles and claims aside.
+-- The layout and the files are what they were, handles and claims aside.
 pub record Rest (old new : TotalsPart) : Type 0 where
+  pub layout : new.totals.layout ≡ old.totals.layout
   pub mode : stored new.totals.mode ≡ stored old.totals.mode
   pub left : new.left ≡ old.left
 
@@ -112,91 +119,118 @@ Happens old NothingDone new = Rest old new
 -- ---- what the disk may stand for
 
 -- the files before the group in doubt, with some sequence
-abbrev pub IsWithout : List PlainFile → Standing → Type 0
-IsWithout before left = (sequence : ℕ) × (left ≡ Stands before sequence)
+abbrev pub IsWithout : Layout → List PlainFile → Standing → Type 0
+IsWithout layout before left = (sequence : ℕ) × (left ≡ Stands layout before sequence)
 
 -- The files after it.
-pub record IsWith (before : List PlainFile) (doubt : Option Group) (left : Standing) : Type 0 where
+pub record IsWith (layout : Layout) (before : List PlainFile) (doubt : Option Group) (left : Standing) : Type 0 where
   pub group : Group
   pub files : List PlainFile
   pub sequence : ℕ
   pub doubted : doubt ≡ Some group
-  pub made : outcome_of_all LAYOUT_1 before group ≡ Ok files
-  pub stands : left ≡ Stands files sequence
+  pub made : outcome_of_all (limits_of layout) before group ≡ Ok files
+  pub stands : left ≡ Stands layout files sequence
 
--- Totals that are ready have the files after the settled groups, none is in doubt, and a crash leaves them alone. While they
--- are off, a crash leaves these files, or those after the group in doubt.
-abbrev FitsIn : History → Mode → List Standing → Type 0
-FitsIn history (Ready files sequence) left =
-    (after_groups history.start history.settled ≡ Ok (plain files)) × (history.doubt ≡ None) × (left ≡ Stands (plain files) sequence ∷ [])
-FitsIn history Off left =
-    (before : List PlainFile) × (after_groups history.start history.settled ≡ Ok before)
-    × ((standing : Standing) → IsOneOf left standing → IsWithout before standing ⊎ IsWith before history.doubt standing)
+-- Totals that are ready have the layout of the history and the files after the settled groups, none is in doubt, and a
+-- crash leaves them alone. While they are off, a crash leaves these files, or those after the group in doubt, by that layout.
+abbrev FitsIn : History → Layout → Mode → List Standing → Type 0
+FitsIn history layout (Ready files sequence) left =
+    (files_after history history.settled ≡ Ok (plain files)) × (history.doubt ≡ None)
+    × (left ≡ Stands history.layout (plain files) sequence ∷ []) × (layout ≡ history.layout)
+FitsIn history layout Off left =
+    (before : List PlainFile) × (files_after history history.settled ≡ Ok before)
+    × ((standing : Standing) → IsOneOf left standing
+    → IsWithout history.layout before standing ⊎ IsWith history.layout before history.doubt standing)
 
 abbrev pub Fits : History → TotalsPart → Type 0
-Fits history totals = FitsIn history totals.totals.mode totals.left
+Fits history totals = FitsIn history totals.totals.layout totals.totals.mode totals.left
 
 -- by what they are
-fits_at : (history : History) (totals : TotalsPart) (mode : Mode) (left : List Standing) → totals.totals.mode ≡ mode → totals.left ≡ left
-    → FitsIn history mode left → Fits history totals
-fits_at history totals mode left m l fits = subst (λ n. FitsIn history n totals.left) (sym m) (subst (FitsIn history mode) (sym l) fits)
+pub fits_at : (history : History) (totals : TotalsPart) (mode : Mode) (left : List Standing) → totals.totals.mode ≡ mode → totals.left ≡ left
+    → FitsIn history totals.totals.layout mode left → Fits history totals
+fits_at history totals mode left m l fits =
+    subst (λ n. FitsIn history totals.totals.layout n totals.left) (sym m) (subst (FitsIn history totals.totals.layout mode) (sym l) fits)
 
-fits_from : (history : History) (totals : TotalsPart) (mode : Mode) → totals.totals.mode ≡ mode → Fits history totals → FitsIn history mode totals.left
-fits_from history totals mode m fits = subst (λ n. FitsIn history n totals.left) m fits
+fits_from : (history : History) (totals : TotalsPart) (mode : Mode) → totals.totals.mode ≡ mode → Fits history totals
+    → FitsIn history totals.totals.layout mode totals.left
+fits_from history totals mode m fits = subst (λ n. FitsIn history totals.totals.layout n totals.left) m fits
 
 -- what is left is settled
-pub fits_settled : (history : History) (totals : TotalsPart) → Fits history totals → totals.left ≡ settled totals.totals.mode totals.left
-fits_settled history totals fits = by totals.totals.mode totals.left fits
+pub fits_settled : (history : History) (totals : TotalsPart) → Fits history totals
+    → totals.left ≡ settled totals.totals.layout totals.totals.mode totals.left
+fits_settled history totals fits = by totals.totals.layout totals.totals.mode totals.left fits
   where
-    by : (mode : Mode) (left : List Standing) → FitsIn history mode left → left ≡ settled mode left
-    by Off left fits = refl
-    by (Ready files sequence) left fits = fits.2
+    by : (layout : Layout) (mode : Mode) (left : List Standing) → FitsIn history layout mode left → left ≡ settled layout mode left
+    by layout Off left fits = refl
+    by layout (Ready files sequence) left fits = fits.2 ∙ ap (λ l. Stands l (plain files) sequence ∷ []) (sym fits.3)
 
-pub same_stands : (files others : List PlainFile) (m n : ℕ) → Stands files m ≡ Stands others n → files ≡ others
-same_stands files others m n same = cc
+pub same_stands : (layout other : Layout) (files others : List PlainFile) (m n : ℕ) → Stands layout files m ≡ Stands other others n
+    → (layout ≡ other) × (files ≡ others) × (m ≡ n)
+same_stands layout other files others m n same = (cc, cc, cc)
 
 -- files with one of the sequences
-with_some : (files : List PlainFile) (sequences : List ℕ) (left : Standing) → IsOneOf (map (λ n. Stands files n) sequences) left
-    → (n : ℕ) × (left ≡ Stands files n)
-with_some files [] left is = absurd is
-with_some files (n ∷ sequences) left (inl is) = (n, is)
-with_some files (n ∷ sequences) left (inr is) = with_some files sequences left is
+with_some : (layout : Layout) (files : List PlainFile) (sequences : List ℕ) (left : Standing)
+    → IsOneOf (map (λ n. Stands layout files n) sequences) left → (n : ℕ) × (left ≡ Stands layout files n)
+with_some layout files [] left is = absurd is
+with_some layout files (n ∷ sequences) left (inl is) = (n, is)
+with_some layout files (n ∷ sequences) left (inr is) = with_some layout files sequences left is
 
-in_doubt_fits : (before : List PlainFile) (sequence : ℕ) (group : Group) (files : List PlainFile) (left : Standing)
-    → outcome_of_all LAYOUT_1 before group ≡ Ok files
-    → IsOneOf (Stands before sequence ∷ map (λ next. Stands files next) (next_sequences sequence)) left
-    → IsWithout before left ⊎ IsWith before (Some group) left
-in_doubt_fits before sequence group files left made (inl is) = inl (sequence, is)
-in_doubt_fits before sequence group files left made (inr is) =
-    let found = with_some files (next_sequences sequence) left is in
+in_doubt_fits : (layout : Layout) (before : List PlainFile) (sequence : ℕ) (group : Group) (files : List PlainFile) (left : Standing)
+    → outcome_of_all (limits_of layout) before group ≡ Ok files
+    → IsOneOf (Stands layout before sequence ∷ map (λ next. Stands layout files next) (next_sequences sequence)) left
+    → IsWithout layout before left ⊎ IsWith layout before (Some group) left
+in_doubt_fits layout before sequence group files left made (inl is) = inl (sequence, is)
+in_doubt_fits layout before sequence group files left made (inr is) =
+    let found = with_some layout files (next_sequences sequence) left is in
     inr (record { group = group; files = files; sequence = found.0; doubted = refl; made = made; stands = found.1 })
 
--- a recovery decides on the group in doubt
-decided_fits : (history : History) (doubt : Option Group) (before found : List PlainFile) (now : List File) (sequence : ℕ)
-    → history.doubt ≡ doubt → after_groups history.start history.settled ≡ Ok before → plain now ≡ found
-    → IsWithout before (Stands found sequence) ⊎ IsWith before doubt (Stands found sequence)
-    → FitsIn (decided history doubt found) (Ready now sequence) (Stands found sequence ∷ [])
-decided_fits history None before found now sequence none made is (inl w) = (
-  made ∙ ap (λ (fs : List PlainFile). Ok fs) (sym (same_stands found before sequence w.0 w.1) ∙ sym is),
-  none,
-  ap (λ (fs : List PlainFile). Stands fs sequence ∷ []) (sym is),
-)
-decided_fits history None before found now sequence none made is (inr w) = absurd (let no = w.doubted in cc)
-decided_fits history (Some group) before found now sequence some made is one =
-    by (has_made (after_groups history.start (history.settled ++ group ∷ [])) found) refl
-  where
-    here : Stands found sequence ∷ [] ≡ Stands (plain now) sequence ∷ []
-    here = ap (λ (fs : List PlainFile). Stands fs sequence ∷ []) (sym is)
+-- what was found has the layout of the history
+found_layout : (history : History) (doubt : Option Group) (layout : Layout) (before found : List PlainFile) (sequence : ℕ)
+    → IsWithout history.layout before (Stands layout found sequence) ⊎ IsWith history.layout before doubt (Stands layout found sequence)
+    → layout ≡ history.layout
+found_layout history doubt layout before found sequence (inl w) = (same_stands layout history.layout found before sequence w.0 w.1).0
+found_layout history doubt layout before found sequence (inr w) = (same_stands layout history.layout found w.files sequence w.sequence w.stands).0
 
-    by : (b : Bool) → has_made (after_groups history.start (history.settled ++ group ∷ [])) found ≡ b
-        → FitsIn (cond b (with_settled history group) (without_doubt history)) (Ready now sequence) (Stands found sequence ∷ [])
-    by true test = (these_files _ found test ∙ ap (λ (fs : List PlainFile). Ok fs) (sym is), refl, here)
+-- it is what the totals have now
+found_now : (history : History) (layout : Layout) (found : List PlainFile) (now : List File) (sequence : ℕ) → layout ≡ history.layout
+    → plain now ≡ found → Stands layout found sequence ∷ [] ≡ Stands history.layout (plain now) sequence ∷ []
+found_now history layout found now sequence same is =
+    ap (λ l. Stands l found sequence ∷ []) same ∙ ap (λ (fs : List PlainFile). Stands history.layout fs sequence ∷ []) (sym is)
+
+-- which may be the files without the group in doubt
+made_without : (history : History) (layout : Layout) (before found : List PlainFile) (now : List File) (sequence : ℕ)
+    → files_after history history.settled ≡ Ok before → plain now ≡ found → IsWithout history.layout before (Stands layout found sequence)
+    → files_after history history.settled ≡ Ok (plain now)
+made_without history layout before found now sequence made is w =
+    made ∙ ap (λ (fs : List PlainFile). Ok fs) (sym (same_stands layout history.layout found before sequence w.0 w.1).1 ∙ sym is)
+
+-- a recovery decides on the group in doubt
+decided_fits : (history : History) (doubt : Option Group) (layout : Layout) (before found : List PlainFile) (now : List File) (sequence : ℕ)
+    → history.doubt ≡ doubt → files_after history history.settled ≡ Ok before → plain now ≡ found
+    → IsWithout history.layout before (Stands layout found sequence) ⊎ IsWith history.layout before doubt (Stands layout found sequence)
+    → FitsIn (decided history doubt found) layout (Ready now sequence) (Stands layout found sequence ∷ [])
+decided_fits history None layout before found now sequence none made is (inl w) =
+    let same = found_layout history None layout before found sequence (inl w) in
+    (made_without history layout before found now sequence made is w, none, found_now history layout found now sequence same is, same)
+decided_fits history None layout before found now sequence none made is (inr w) = absurd (let no = w.doubted in cc)
+decided_fits history (Some group) layout before found now sequence some made is one =
+    by (has_made (files_after history (history.settled ++ group ∷ [])) found) refl
+  where
+    same : layout ≡ history.layout
+    same = found_layout history (Some group) layout before found sequence one
+
+    here : Stands layout found sequence ∷ [] ≡ Stands history.layout (plain now) sequence ∷ []
+    here = found_now history layout found now sequence same is
+
+    by : (b : Bool) → has_made (files_after history (history.settled ++ group ∷ [])) found ≡ b
+        → FitsIn (cond b (with_settled history group) (without_doubt history)) layout (Ready now sequence) (Stands layout found sequence ∷ [])
+    by true test = (these_files _ found test ∙ ap (λ (fs : List PlainFile). Ok fs) (sym is), refl, here, same)
     by false test = elim one [
-      | inl w ↦ (made ∙ ap (λ (fs : List PlainFile). Ok fs) (sym (same_stands found before sequence w.0 w.1) ∙ sym is), refl, here)
+      | inl w ↦ (made_without history layout before found now sequence made is w, refl, here, same)
       | inr w ↦ absurd (
-          let after = one_more history.start before history.settled group made
-          ∙ ap (outcome_of_all LAYOUT_1 before) (same_Some group w.group w.doubted) ∙ w.made
-          ∙ ap (λ (fs : List PlainFile). Ok fs) (sym (same_stands found w.files sequence w.sequence w.stands)) in
+          let after = one_more (limits_of history.layout) history.start before history.settled group made
+          ∙ ap (outcome_of_all (limits_of history.layout) before) (same_Some group w.group w.doubted) ∙ w.made
+          ∙ ap (λ (fs : List PlainFile). Ok fs) (sym (same_stands layout history.layout found w.files sequence w.sequence w.stands).1) in
           let yes = are_these _ found after in
           cc)
     ]
@@ -205,10 +239,10 @@ decided_fits history (Some group) before found now sequence some made is one =
 
 -- where the history fits, a crash leaves a prefix of it
 pub fits_leaves : (history : History) (totals : TotalsPart) → Fits history totals → LeavesPrefix history totals
-fits_leaves history totals fits standing is = by totals.totals.mode totals.left fits is
+fits_leaves history totals fits standing is = by totals.totals.layout totals.totals.mode totals.left fits is
   where
-    all_settled : (files : List PlainFile) (sequence : ℕ) → after_groups history.start history.settled ≡ Ok files → standing ≡ Stands files sequence
-        → IsPrefix history history.settled standing
+    all_settled : (files : List PlainFile) (sequence : ℕ) → files_after history history.settled ≡ Ok files
+        → standing ≡ Stands history.layout files sequence → IsPrefix history history.settled standing
     all_settled files sequence made stands = record {
       prefix = history.settled;
       first = (listed history.doubt, refl);
@@ -219,12 +253,13 @@ fits_leaves history totals fits standing is = by totals.totals.mode totals.left 
       stands = stands;
     }
 
-    by : (mode : Mode) (left : List Standing) → FitsIn history mode left → IsOneOf left standing → IsPrefix history history.settled standing
-    by (Ready files sequence) left fits is = elim (subst (λ (l : List Standing). IsOneOf l standing) fits.2 is) [
+    by : (layout : Layout) (mode : Mode) (left : List Standing) → FitsIn history layout mode left → IsOneOf left standing
+        → IsPrefix history history.settled standing
+    by layout (Ready files sequence) left fits is = elim (subst (λ (l : List Standing). IsOneOf l standing) fits.2 is) [
       | inl e ↦ all_settled (plain files) sequence fits.0 e
       | inr e ↦ absurd e
     ]
-    by Off left fits is = elim (fits.2 standing is) [
+    by layout Off left fits is = elim (fits.2 standing is) [
       | inl w ↦ all_settled fits.0 w.0 fits.1 w.1
       | inr w ↦ record {
         prefix = history.settled ++ w.group ∷ [];
@@ -232,7 +267,7 @@ fits_leaves history totals fits standing is = by totals.totals.mode totals.left 
         holds = (w.group ∷ [], refl);
         files = w.files;
         sequence = w.sequence;
-        made = one_more history.start fits.0 history.settled w.group fits.1 ∙ w.made;
+        made = one_more (limits_of history.layout) history.start fits.0 history.settled w.group fits.1 ∙ w.made;
         stands = w.stands;
       }
     ]
@@ -247,15 +282,18 @@ same_stored : (files others : List PlainFile) (m n : ℕ) → StoreReady files m
 same_stored files others m n same = (cc, cc)
 
 -- a history that fits totals fits those of the same files
-fits_rest : (history : History) (early late : Mode) (left : List Standing) → stored late ≡ stored early → FitsIn history early left → FitsIn history late left
-fits_rest history Off Off left same fits = fits
-fits_rest history Off (Ready files sequence) left same fits = absurd cc
-fits_rest history (Ready files sequence) Off left same fits = absurd cc
-fits_rest history (Ready files sequence) (Ready others next) left same fits =
+fits_rest : (history : History) (layout : Layout) (early late : Mode) (left : List Standing) → stored late ≡ stored early
+    → FitsIn history layout early left → FitsIn history layout late left
+fits_rest history layout Off Off left same fits = fits
+fits_rest history layout Off (Ready files sequence) left same fits = absurd cc
+fits_rest history layout (Ready files sequence) Off left same fits = absurd cc
+fits_rest history layout (Ready files sequence) (Ready others next) left same fits =
     let equal = same_stored (plain others) (plain files) next sequence same in (
       fits.0 ∙ ap (λ (fs : List PlainFile). Ok fs) (sym equal.0),
       fits.1,
-      fits.2 ∙ ap (λ fs. Stands fs sequence ∷ []) (sym equal.0) ∙ ap (λ n. Stands (plain others) n ∷ []) (sym equal.1),
+      fits.2 ∙ ap (λ fs. Stands history.layout fs sequence ∷ []) (sym equal.0)
+          ∙ ap (λ n. Stands history.layout (plain others) n ∷ []) (sym equal.1),
+      fits.3,
     )
 
 -- what happens keeps the history fitting
@@ -263,29 +301,42 @@ pub fits_next : (history : History) (old : TotalsPart) (event : FilesEvent) (new
     → Fits (told history event) new
 fits_next history old (GroupAccepted group) new fits h =
     let was = fits_from history old (Ready h.before h.sequence) h.ready fits in
-    fits_at (with_settled history group) new (Ready h.now h.next) (Stands (plain h.now) h.next ∷ []) h.still h.left
-    (one_more history.start (plain h.before) history.settled group was.0 ∙ h.made, refl, refl)
+    fits_at (with_settled history group) new (Ready h.now h.next) (Stands history.layout (plain h.now) h.next ∷ []) h.still
+    (h.left ∙ ap (λ l. Stands l (plain h.now) h.next ∷ []) was.3) (
+      one_more (limits_of history.layout) history.start (plain h.before) history.settled group was.0
+          ∙ subst (λ l. outcome_of_all (limits_of l) (plain h.before) group ≡ Ok (plain h.now)) was.3 h.made,
+      refl,
+      refl,
+      h.layout ∙ was.3,
+    )
 fits_next history old (GroupInDoubt group) new fits h =
     let was = fits_from history old (Ready h.before h.sequence) h.ready fits in
+    let made = subst (λ l. outcome_of_all (limits_of l) (plain h.before) group ≡ Ok h.files) was.3 h.made in
     fits_at (told history (GroupInDoubt group)) new Off
-    (Stands (plain h.before) h.sequence ∷ map (λ next. Stands h.files next) (next_sequences h.sequence)) h.off h.left
-    (plain h.before, was.0, λ left is. in_doubt_fits (plain h.before) h.sequence group h.files left h.made is)
+    (Stands history.layout (plain h.before) h.sequence ∷ map (λ next. Stands history.layout h.files next) (next_sequences h.sequence)) h.off
+    (h.left ∙ ap (λ l. Stands l (plain h.before) h.sequence ∷ map (λ next. Stands l h.files next) (next_sequences h.sequence)) was.3)
+    (plain h.before, was.0, λ left is. in_doubt_fits history.layout (plain h.before) h.sequence group h.files left made is)
 fits_next history old (FilesFound found) new fits h =
     let was = fits_from history old Off h.off fits in
-    fits_at (decided history history.doubt found) new (Ready h.now h.sequence) (Stands found h.sequence ∷ []) h.ready h.left
-    (decided_fits history history.doubt was.0 found h.now h.sequence refl was.1 h.files (was.2 (Stands found h.sequence) h.candidate))
+    let layout = new.totals.layout in
+    fits_at (decided history history.doubt found) new (Ready h.now h.sequence) (Stands layout found h.sequence ∷ []) h.ready h.left
+    (decided_fits history history.doubt layout was.0 found h.now h.sequence refl was.1 h.files
+    (was.2 (Stands layout found h.sequence) h.candidate))
 fits_next history old NothingDone new fits h =
-    subst (λ (left : List Standing). FitsIn history new.totals.mode left) (sym h.left) (fits_rest history old.totals.mode new.totals.mode old.left h.mode fits)
+    subst (λ (left : List Standing). FitsIn history new.totals.layout new.totals.mode left) (sym h.left)
+    (fits_rest history new.totals.layout old.totals.mode new.totals.mode old.left h.mode
+    (subst (λ l. FitsIn history l old.totals.mode old.left) (sym h.layout) fits))
 
 -- the history at the start fits
-pub fits_begun : (start : List PlainFile) (sequence : ℕ) (totals : TotalsPart) → StartsWith start sequence totals → Fits (begun start) totals
-fits_begun start sequence totals is =
-    fits_at (begun start) totals Off (Stands start sequence ∷ []) is.off is.left
+pub fits_begun : (layout : Layout) (start : List PlainFile) (sequence : ℕ) (totals : TotalsPart) → StartsWith layout start sequence totals
+    → Fits (begun layout start) totals
+fits_begun layout start sequence totals is =
+    fits_at (begun layout start) totals Off (Stands layout start sequence ∷ []) is.off is.left
     (start, refl, λ left one. elim one [ inl e ↦ inl (sequence, e) | inr e ↦ absurd e ])
 
 decided_grows : (history : History) (doubt : Option Group) (found : List PlainFile) → BeginsWith (decided history doubt found).settled history.settled
 decided_grows history None found = ([], sym (append-nil history.settled))
-decided_grows history (Some group) found = by (has_made (after_groups history.start (history.settled ++ group ∷ [])) found)
+decided_grows history (Some group) found = by (has_made (files_after history (history.settled ++ group ∷ [])) found)
   where
     by : (b : Bool) → BeginsWith (cond b (with_settled history group) (without_doubt history)).settled history.settled
     by true = (group ∷ [], refl)

@@ -1,8 +1,8 @@
 -- Setting a property as a step of the machine, where it recovers the totals and where it doesn't.
 use Rattle.std.proofs.Common.{◌≡◌, ◌⊎◌, inl, inr, ℕ, List, [], ◌∷◌, Option, Some, None, Result, Ok, Err, Bool, true, false, not, ◌&&◌, set, get_or, length, ◌<◌, refl, sym, ap, ◌∙◌, subst}
 use Rattle.std.specs.Bool.{MatchBool}
-use Rattle.std.specs.Prelude.{MatchOption, IsErrOf, IsSome, is_some, is_none, slice_get, ⊤}
-use Rattle.std.proofs.lemmas.List.{map-set}
+use Rattle.std.specs.Prelude.{◌||◌, MatchOption, IsErrOf, IsSome, IsTrue, is_some, is_none, slice_get, ⊤}
+use Rattle.std.proofs.lemmas.List.{map-set, set-get_or}
 use Rattle.pos_disk.specs.State.{LeavesOnly}
 use Rattle.pos_disk.specs.declared.device.Disk.{Ghosts}
 use Rattle.pos_service.specs.declared.answer.Answer.{Answer}
@@ -15,29 +15,33 @@ use Rattle.pos_service.specs.declared.category.Category.TheVariants as category
 use Rattle.pos_service.specs.declared.code.Code.{Code}
 use Rattle.pos_service.specs.declared.code.Code.TheVariants as code
 use Rattle.pos_service.specs.declared.kind.Kind.{Kind}
+use Rattle.pos_service.specs.declared.memory.NoMemory.{NoMemory}
 use Rattle.pos_service.specs.declared.property.Property.{Property}
 use Rattle.pos_service.specs.declared.property.Property.TheVariants as property
+use Rattle.pos_service.specs.declared.signs.Signs.{Signs}
 use Rattle.pos_service.specs.Needs.{needs_holder, needs_no_other}
-use Rattle.pos_service.specs.Properties.{set_rows, after_set, needs_to_set, takes}
-use Rattle.pos_service.specs.Controls.{Control}
+use Rattle.pos_service.specs.Properties.{set_rows, after_set, needs_to_set, takes, tells_power}
+use Rattle.pos_service.specs.Controls.{Control, reports_power}
+use Rattle.pos_service.specs.Stations.{signs_in}
 use Rattle.pos_totals.specs.HardTotals.{Mode, Off, Ready, Totals, is_ready}
 use Rattle.pos_service.specs.Claims.{is_foreign}
 use Rattle.pos_service.specs.Refusals.{Row, first_refusal, when}
-use Rattle.pos_common.specs.Held.{Held, TurnsInto, controls_of}
+use Rattle.pos_common.specs.Held.{Held, SetsTo, controls_of}
 use Rattle.pos_store.specs.Standing.{Standing, LeavesOneOf, StandsForEither}
 use Rattle.pos_totals.specs.declared.fault.RecoveryFault.{RecoveryFault}
 use Rattle.pos_totals.specs.declared.fault.RecoveryFault.TheVariants as fault
 use Rattle.pos_totals.specs.Recoveries.{Recovers as DiskRecovers, RecoversOneOf, FindsFiles, ReadsAs, code_of}
 use Rattle.pos_totals.specs.Views.{TotalsView, IsReady, WhenOff}
-use Rattle.pos_counter.specs.Machine.{Device, Machine, device_at, holder_in, holder_of, kind_in, kind_of, with_control}
+use Rattle.pos_counter.specs.Machine.{Device, Machine, Shared, device_at, holder_in, holder_of, kind_in, kind_of, station_in, with_control}
 use Rattle.pos_counter.specs.DiskUse.{SparesDisk}
 use Rattle.pos_counter.specs.Assembly.{over, machine_with, ArePartsSound}
 use Rattle.pos_counter.specs.Leaving.{part_of, Leaves}
+use Rattle.pos_counter.specs.Responses.{answered}
 use Rattle.pos_counter.specs.Serving.{IsRecovering, Serves}
 use Rattle.pos_counter.specs.Steps.{CallOf, Answered, IsSound, Step, Sets, SetsByRecovery}
 use Rattle.pos_counter.specs.Totals.{TotalsPart, Recovers, asks_recovery, recovers, is_enabling, is_totals, settled}
 use Rattle.pos_counter.proofs.FileCalls.{settled_twice}
-use Rattle.pos_counter.proofs.Lifts.{control_at, decided_at, match_at_none, match_at_some, match_cases, match_weaker}
+use Rattle.pos_counter.proofs.Lifts.{control_at, decided_at, over_same, match_at_none, match_at_some, match_cases, match_weaker}
 use Rattle.pos_counter.proofs.Sound.{seated, set_seat, with_control_sound}
 
 and_left : (a b : Bool) → (a && b) ≡ true → a ≡ true
@@ -91,6 +95,7 @@ enabling_unrefused n holder at c p v e =
             ∷ when (needs_no_other needs.claim && is_foreign n holder) code.Claimed
             ∷ when (needs_holder needs.claim && is_none holder) code.NotClaimed
             ∷ when false code.Disabled
+            ∷ when false code.Illegal
             ∷ when false code.Illegal ∷ []
 
         by_parts : (o : Option ℕ) (k : Category) → is_some o ≡ true → k ≡ category.HardTotals → first_refusal (Rows o k) ≡ None
@@ -111,26 +116,36 @@ enabling_taken at c p v e =
     subst (λ q. takes at q v ≡ true) (sym asks.0) (subst (λ u. takes at property.DeviceEnabled u ≡ true) (sym asks.1) refl)
 
 -- a control that is to be enabled keeps the parts sound
-set_sound : (hs : List Held) (ds : List Device) (n : ℕ) (g : Held) (c : Control) (p : Property) (v : Value) → slice_get (controls_of hs) n ≡ Some c
-    → asks_recovery c p v ≡ true → g.control ≡ after_set c p v → ArePartsSound hs ds → ArePartsSound (set hs n g) ds
-set_sound hs ds n g c p v at asks e sound = record {
+set_sound : (hs : List Held) (ds : List Device) (n : ℕ) (g : Held) (s : Signs) (c : Control) (p : Property) (v : Value)
+    → slice_get (controls_of hs) n ≡ Some c → asks_recovery c p v ≡ true → g.control ≡ after_set s c p v → ArePartsSound hs ds
+    → ArePartsSound (set hs n g) ds
+set_sound hs ds n g s c p v at asks e sound = record {
   machine = λ shared.
       let m = over hs ds shared in
-      let seat = set_seat m.devices c p v (enabling_taken (kind_of m c) c p v asks) (seated m n c (sound.machine shared) at) in
-      let there = with_control_sound m n (after_set c p v) seat (sound.machine shared) in
-      subst IsSound (sym (set_machine hs shared.claims ds n g (after_set c p v) shared.totals shared.totals e))
+      let seat = set_seat m.devices s c p v (enabling_taken (kind_of m c) c p v asks) (seated m n c (sound.machine shared) at) in
+      let there = with_control_sound m n (after_set s c p v) seat (sound.machine shared) in
+      subst IsSound (sym (set_machine hs shared.claims ds n g (after_set s c p v) shared.totals shared.totals e))
       (record { kinds = there.kinds; places = there.places });
 }
 
--- a property is set, and nothing is recovered
+-- a control that is as it was leaves the machine so
+same_control : (hs : List Held) (ds : List Device) (shared : Shared) (n : ℕ) (g h : Held) → h ≡ get_or hs n h → g.control ≡ h.control
+    → over (set hs n g) ds shared ≡ over hs ds shared
+same_control hs ds shared n g h is same =
+    over_same _ _ ds shared (map-set (λ (k : Held). k.control) hs n g ∙ ap (set (controls_of hs) n) same
+    ∙ sym (map-set (λ (k : Held). k.control) hs n h) ∙ ap controls_of (ap (set hs n) is ∙ set-get_or hs n h))
+
+-- a property is set, or finds no memory, and nothing is recovered
 pub plain_set : (hs : List Held) (cl : List (Option ℕ)) (ds : List Device) (part : TotalsPart) (n : ℕ) (g h : Held) (p : Property) (v : Value)
-    (r : Answer) → n < length hs → h ≡ get_or hs n h → recovers part h.control p v ≡ false
-    → TurnsInto (set_rows n (holder_in h.control.category cl part.totals.area h.control.device)
-    (kind_in (device_at ds h.control.device)) h.control p v) r h g (after_set h.control p v)
-    → Step (machine_with hs cl ds part) (CallOf n (call.Set p v)) (Answered r) (machine_with (set hs n g) cl ds part)
-plain_set hs cl ds part n g h p v r lt is plain turns =
+    (r : Result Answer NoMemory) → n < length hs → h ≡ get_or hs n h → recovers part h.control p v ≡ false
+    → SetsTo (set_rows n (holder_in h.control.category cl part.totals.area h.control.device)
+    (kind_in (device_at ds h.control.device)) h.control p v) (tells_power h.control p v) r h g
+    (after_set (signs_in (station_in (device_at ds h.control.device))) h.control p v)
+    → Step (machine_with hs cl ds part) (CallOf n (call.Set p v)) (answered r) (machine_with (set hs n g) cl ds part)
+plain_set hs cl ds part n g h p v (Ok r) lt is plain turns =
     let rows = set_rows n (holder_in h.control.category cl part.totals.area h.control.device) (kind_in (device_at ds h.control.device)) h.control p v in
-    let d = decided_at hs ds (record { claims = cl; totals = part }) n g h rows r _ (after_set h.control p v) is turns in
+    let signs = signs_in (station_in (device_at ds h.control.device)) in
+    let d = decided_at hs ds (record { claims = cl; totals = part }) n g h rows r _ (after_set signs h.control p v) is turns in
     match_at_some _ h.control _ _ (control_at hs n h lt ∙ ap (λ (k : Held). Some k.control) (sym is)) (record {
       outcome = match_weaker (first_refusal rows) _ _ _ _
           (λ y. subst (λ b. MatchBool b (SetsByRecovery (machine_with hs cl ds part) n h.control p v r (machine_with (set hs n g) cl ds part))
@@ -138,6 +153,12 @@ plain_set hs cl ds part n g h p v r lt is plain turns =
           (λ refusal y. y)
           d.outcome;
     })
+plain_set hs cl ds part n g h p v (Err want) lt is plain wants =
+    match_at_some _ h.control _ _ (control_at hs n h lt ∙ ap (λ (k : Held). Some k.control) (sym is)) (
+      subst (λ b. IsTrue (b || tells_power h.control p v)) (sym plain) wants.0,
+      wants.1,
+      same_control hs ds (record { claims = cl; totals = part }) n g h is wants.2,
+    )
 
 -- ---- a recovery
 
@@ -151,11 +172,11 @@ module _ {D : Type 0} (bound : Ghosts D) (old new : TotalsView D) (off : old.tot
 
   -- a recovery leaves the files that were found, and else what it was
   recovered_leaves : (r : Result (Unit {0}) RecoveryFault) (left : List Standing) → DiskRecovers bound old r new → Leaves bound old left
-      → Leaves bound new (settled new.totals.mode left)
+      → Leaves bound new (settled new.totals.layout new.totals.mode left)
   recovered_leaves r left recovers leaves = record {
     honest = recovers.kept.honest.0 leaves.honest;
     leaves = (found_one r left recovers leaves).passes.now;
-    is_settled = settled_twice left new.totals.mode;
+    is_settled = settled_twice new.totals.layout left new.totals.mode;
   }
 
   -- a recovery that fails keeps the totals
@@ -169,8 +190,9 @@ module _ {D : Type 0} (bound : Ghosts D) (old new : TotalsView D) (off : old.tot
       by_fault fault.NoMemory h = h
       by_fault fault.Device h = h
 
-  failed_left : (x : RecoveryFault) (left : List Standing) → DiskRecovers bound old (Err x) new → Leaves bound old left → settled new.totals.mode left ≡ left
-  failed_left x left recovers leaves = ap (λ (t : Totals). settled t.mode left) (kept_totals x recovers) ∙ sym leaves.is_settled
+  failed_left : (x : RecoveryFault) (left : List Standing) → DiskRecovers bound old (Err x) new → Leaves bound old left
+      → settled new.totals.layout new.totals.mode left ≡ left
+  failed_left x left recovers leaves = ap (λ (t : Totals). settled t.layout t.mode left) (kept_totals x recovers) ∙ sym leaves.is_settled
 
   -- unless the disk's fault is answered, it hasn't failed
   never_failed : (r : Result (Unit {0}) RecoveryFault) → DiskRecovers bound old r new → bound.honest old.disk → (IsErrOf r fault.Device → ⊥)
@@ -202,6 +224,9 @@ module _ {D : Type 0} (bound : Ghosts D) (old new : TotalsView D) (off : old.tot
     abbrev holder : List Standing → Option ℕ
     holder left = holder_of (before left) c
 
+    abbrev enabled : Control
+    enabled = after_set (signs_in (station_in (device_at ds c.device))) c p v
+
     -- the call recovers totals that are off, and nothing refuses it
     uses : (left : List Standing) → SparesDisk (before left) (CallOf n (call.Set p v)) → ⊥
     uses left spares = by_row (subst (λ (o : Option Control). MatchOption o ⊤ Spares) at spares)
@@ -222,29 +247,30 @@ module _ {D : Type 0} (bound : Ghosts D) (old new : TotalsView D) (off : old.tot
     was_off ready = subst IsReady off ready
 
     -- the totals are recovered, and the control is enabled
-    pub recovered_serves : (g : Held) (r : Answer) → DiskRecovers bound old (Ok tt) new → r ≡ answer.Done value.Empty → g.control ≡ after_set c p v
-        → Serves bound hs cl ds old (CallOf n (call.Set p v)) (Answered r) (set hs n g) cl ds new
-    recovered_serves g r recovers done is = record {
+    pub recovered_serves : (g : Held) → DiskRecovers bound old (Ok tt) new → g.control ≡ enabled
+        → Serves bound hs cl ds old (CallOf n (call.Set p v)) (Answered (answer.Done value.Empty)) (set hs n g) cl ds new
+    recovered_serves g recovers is = record {
       steps = λ left leaves.
           let f = found_one (Ok tt) left recovers leaves in
-          let after = settled new.totals.mode left in
+          let after = settled new.totals.layout new.totals.mode left in
           record {
             after = after;
             leaves = recovered_leaves (Ok tt) left recovers leaves;
             step = match_at_some _ c _ _ at (record {
               outcome = match_at_none (first_refusal (set_rows n (holder left) (kind_of (before left) c) c p v)) _ _
                   (enabling_unrefused n (holder left) (kind_of (before left) c) c p v asks)
-                  (subst (λ b. MatchBool b (SetsByRecovery (before left) n c p v r (machine_with (set hs n g) cl ds (part_of bound new after)))
-                  (Sets (before left) n c p v r (machine_with (set hs n g) cl ds (part_of bound new after)))) (sym recovering)
+                  (subst (λ b. MatchBool b
+                  (SetsByRecovery (before left) n c p v (answer.Done value.Empty) (machine_with (set hs n g) cl ds (part_of bound new after)))
+                  (Sets (before left) n c p v (answer.Done value.Empty) (machine_with (set hs n g) cl ds (part_of bound new after)))) (sym recovering)
                   (inl (
-                    done,
+                    refl,
                     record { found = f.found; left = refl; counts = never_failed (Ok tt) recovers leaves.honest (λ failed. cc) },
-                    set_machine hs cl ds n g (after_set c p v) (part_of bound old left) (part_of bound new after) is,
+                    set_machine hs cl ds n g enabled (part_of bound old left) (part_of bound new after) is,
                   )));
             });
             any_moment = f.passes.any_moment;
           };
-      sound = set_sound hs ds n g c p v at asks is sound;
+      sound = set_sound hs ds n g (signs_in (station_in (device_at ds c.device))) c p v at asks is sound;
       covers = refl;
       places = refl;
       untouched = λ left spares. absurd (uses left spares);
@@ -336,16 +362,35 @@ asks_there hs n p v mode h =
     is_off Off e = refl
     is_off (Ready files q) e = cc
 
--- nothing refuses to set the property
-pub done_set : (hs : List Held) (n : ℕ) (holder : Option ℕ) (kind : Option Kind) (h g : Held) (c : Control) (p : Property) (v : Value) (r : Answer)
-    → n < length hs → h ≡ get_or hs n h → slice_get (controls_of hs) n ≡ Some c → asks_recovery c p v ≡ true
-    → TurnsInto (set_rows n holder kind h.control p v) r h g (after_set h.control p v) → (r ≡ answer.Done value.Empty) × (g.control ≡ after_set c p v)
-done_set hs n holder kind h g c p v r lt is at asks turns =
-    let same : h.control ≡ c = some_same h.control c (sym (control_at hs n h lt ∙ ap (λ (k : Held). Some k.control) (sym is)) ∙ at) in
-    let none = subst (λ (k : Control). first_refusal (set_rows n holder kind k p v) ≡ None) (sym same) (enabling_unrefused n holder kind c p v asks) in
-    let done = subst (λ o. MatchOption o ((r ≡ answer.Done value.Empty) × (g.control ≡ after_set h.control p v))
-    (λ refusal. (r ≡ refusal) × (g ≡ h))) none turns.outcome in
-    (done.0, done.1 ∙ ap (λ (k : Control). after_set k p v) same)
+-- the power of the device of Hard Totals isn't told
+silent : (c : Control) (p : Property) (v : Value) → asks_recovery c p v ≡ true → IsTrue (tells_power c p v) → ⊥
+silent c p v e tells =
+    let asks = asks_enabling c p v e in
+    let first = subst (λ q. IsTrue (tells_power c q v)) asks.0 tells in
+    never (not c.enabled) c.category c.power_notify asks.3 (subst (λ u. IsTrue (tells_power c property.DeviceEnabled u)) asks.1 first)
+  where
+    never : (b : Bool) (k : Category) (notified : Bool) → k ≡ category.HardTotals → IsTrue (b && (reports_power k && notified)) → ⊥
+    never false k notified e t = cc
+    never true category.HardTotals notified e t = cc
+    never true k notified e t = cc
+
+-- the control is the one that is to be enabled
+pub asked_control : (hs : List Held) (n : ℕ) (h : Held) (c : Control) → n < length hs → h ≡ get_or hs n h → slice_get (controls_of hs) n ≡ Some c
+    → h.control ≡ c
+asked_control hs n h c lt is at = some_same h.control c (sym (control_at hs n h lt ∙ ap (λ (k : Held). Some k.control) (sym is)) ∙ at)
   where
     some_same : (a b : Control) → Some a ≡ Some b → a ≡ b
     some_same a b e = cc
+
+-- nothing refuses to set the property, nor does it want memory
+pub done_set : (n : ℕ) (holder : Option ℕ) (kind : Option Kind) (s : Signs) (h g : Held) (c : Control) (p : Property) (v : Value)
+    (r : Result Answer NoMemory) → h.control ≡ c → asks_recovery c p v ≡ true
+    → SetsTo (set_rows n holder kind h.control p v) (tells_power h.control p v) r h g (after_set s h.control p v)
+    → (r ≡ Ok (answer.Done value.Empty)) × (g.control ≡ after_set s c p v)
+done_set n holder kind s h g c p v (Ok r) same asks turns =
+    let none = subst (λ (k : Control). first_refusal (set_rows n holder kind k p v) ≡ None) (sym same) (enabling_unrefused n holder kind c p v asks) in
+    let done = subst (λ o. MatchOption o ((r ≡ answer.Done value.Empty) × (g.control ≡ after_set s h.control p v))
+    (λ refusal. (r ≡ refusal) × (g ≡ h))) none turns.outcome in
+    (ap Ok done.0, done.1 ∙ ap (λ (k : Control). after_set s k p v) same)
+done_set n holder kind s h g c p v (Err want) same asks wants =
+    absurd (silent c p v asks (subst (λ (k : Control). IsTrue (tells_power k p v)) same wants.0))

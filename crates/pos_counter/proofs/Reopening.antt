@@ -4,13 +4,15 @@ use Rattle.std.specs.Bool.{MatchBool}
 use Rattle.std.specs.Prelude.{slice_get, MatchOption}
 use Rattle.std.proofs.lemmas.Bool.{and_from}
 use Rattle.pos_dir.specs.declared.file.File.{File as PlainFile}
-use Rattle.pos_dir.specs.declared.limits.TheConstants.{LAYOUT_1}
+use Rattle.pos_dir.specs.declared.limits.Limits.{Limits}
 use Rattle.pos_dir.specs.Changes.{and_then, outcome_of_all}
 use Rattle.pos_dir.specs.declared.fault.DirectoryFault.{DirectoryFault}
 use Rattle.pos_dir.proofs.Kept.{few_after_all}
 use Rattle.pos_disk.specs.State.{Rises, IsAtRest}
 use Rattle.pos_disk.specs.declared.device.Disk.{Ghosts as DiskGhosts}
 use Rattle.pos_disk.proofs.Moments.{rest_leaves}
+use Rattle.pos_image.specs.declared.layout.Layout.{Layout}
+use Rattle.pos_image.specs.declared.layout.Layout.TheVariants.{Layout1, Layout2}
 use Rattle.pos_profile.specs.declared.entry.Entry.{Entry}
 use Rattle.pos_service.specs.declared.answer.Answer.{Answer}
 use Rattle.pos_service.specs.declared.answer.Answer.TheVariants as answer
@@ -20,6 +22,7 @@ use Rattle.pos_service.specs.declared.peripheral.Peripheral.{Ghosts}
 use Rattle.pos_service.specs.declared.property.Property.TheVariants as property
 use Rattle.pos_service.specs.Controls.{Control}
 use Rattle.pos_service.specs.Refusals.{first_refusal}
+use Rattle.pos_store.specs.Layouts.{limits_of}
 use Rattle.pos_store.specs.Standing.{Standing, Stands, StandsFor, IsOneOf, IsBytes, Applies}
 use Rattle.pos_store.proofs.Deciding.{some_standing}
 use Rattle.pos_totals.specs.HardTotals.{Ready, is_ready}
@@ -27,7 +30,7 @@ use Rattle.pos_totals.specs.Recoveries.{AreLeft, HasTooMany, numbered}
 use Rattle.pos_totals.specs.Views.{TotalsView}
 use Rattle.pos_counter.specs.declared.counter.Counter.{Counter}
 use Rattle.pos_counter.specs.Counters.{Begins}
-use Rattle.pos_counter.specs.History.{Group, History, FilesEvent, GroupAccepted, GroupInDoubt, FilesFound, NothingDone, after_groups, begun, decided, event_of, has_made, history_along, history_with, told, with_settled, without_doubt}
+use Rattle.pos_counter.specs.History.{Group, History, FilesEvent, GroupAccepted, GroupInDoubt, FilesFound, NothingDone, after_groups, begun, decided, event_of, files_after, has_made, history_along, history_of, history_with, told, with_settled, without_doubt}
 use Rattle.pos_counter.specs.Leaving.{Leaves}
 use Rattle.pos_counter.specs.Machine.{Machine}
 use Rattle.pos_counter.specs.Prefixes.{StartsWith}
@@ -41,37 +44,45 @@ use Rattle.pos_counter.proofs.PrefixSteps.{plain_numbered, refused_undone}
 
 -- ---- an enabling
 
-module _ (start : List PlainFile) (sequence : ℕ) (old new : TotalsPart) (is : StartsWith start sequence old) where
+module _ (layout : Layout) (start : List PlainFile) (sequence : ℕ) (old new : TotalsPart) (is : StartsWith layout start sequence old) where
   -- what is left is these files
-  these : (files : List PlainFile) (q : ℕ) → IsOneOf old.left (Stands files q) → (files ≡ start) × (q ≡ sequence)
-  these files q one = elim (subst (λ (left : List Standing). IsOneOf left (Stands files q)) is.left one) [
-    | inl e ↦ (cc (e), cc (e))
+  these : (other : Layout) (files : List PlainFile) (q : ℕ) → IsOneOf old.left (Stands other files q)
+      → (other ≡ layout) × (files ≡ start) × (q ≡ sequence)
+  these other files q one = elim (subst (λ (left : List Standing). IsOneOf left (Stands other files q)) is.left one) [
+    | inl e ↦ same_stands other layout files start q sequence e
     | inr e ↦ absurd e
   ]
 
   -- a recovery finds them
-  found_them : Recovered old new → HasThem start sequence old new
+  found_them : Recovered old new → HasThem layout start sequence old new
   found_them h =
-      let same = these h.found.files h.found.sequence h.found.found in
+      let same = these h.found.layout h.found.files h.found.sequence h.found.found in
+      let found : new.totals.layout ≡ layout = ap (λ t. t.layout) h.found.totals ∙ same.0 in
       let ready : new.totals.mode ≡ Ready (numbered old.totals.next start) sequence =
-      ap (λ t. t.mode) h.found.totals ∙ ap (λ files. Ready (numbered old.totals.next files) h.found.sequence) same.0
-      ∙ ap (λ q. Ready (numbered old.totals.next start) q) same.1 in
+      ap (λ t. t.mode) h.found.totals ∙ ap (λ files. Ready (numbered old.totals.next files) h.found.sequence) same.1
+      ∙ ap (λ q. Ready (numbered old.totals.next start) q) same.2 in
       record {
+        found = found;
         mode = ready;
-        left = h.left ∙ is_settled ready;
+        left = h.left ∙ is_settled found ready;
         counts = h.counts;
       }
     where
-      is_settled : new.totals.mode ≡ Ready (numbered old.totals.next start) sequence → settled new.totals.mode old.left ≡ Stands start sequence ∷ []
-      is_settled ready = ap (λ m. settled m old.left) ready ∙ ap (λ files. Stands files sequence ∷ []) (plain_numbered old.totals.next start)
+      is_settled : new.totals.layout ≡ layout → new.totals.mode ≡ Ready (numbered old.totals.next start) sequence
+          → settled new.totals.layout new.totals.mode old.left ≡ Stands layout start sequence ∷ []
+      is_settled found ready =
+          ap (λ l. settled l new.totals.mode old.left) found ∙ ap (λ m. settled layout m old.left) ready
+          ∙ ap (λ files. Stands layout files sequence ∷ []) (plain_numbered old.totals.next start)
 
   -- or fails, for a cause
   has_cause : HasTooMany (IsOneOf old.left) old.totals.next ⊎ Rises old.failures new.failures → HasCause start old new
   has_cause (inl many) =
-      inr (subst (λ (files : List PlainFile). ¬ (AreLeft old.totals.next (length files))) (these many.files many.sequence many.found).0 many.handles)
+      inr (subst (λ (files : List PlainFile). ¬ (AreLeft old.totals.next (length files)))
+      (these many.layout many.files many.sequence many.found).1 many.handles)
   has_cause (inr rises) = inl rises
 
-module _ (start : List PlainFile) (sequence : ℕ) (old : Machine) (is : StartsWith start sequence old.totals) (number : ℕ) (control : Control)
+module _ (layout : Layout) (start : List PlainFile) (sequence : ℕ) (old : Machine) (is : StartsWith layout start sequence old.totals)
+    (number : ℕ) (control : Control)
     (asks : asks_recovery control property.DeviceEnabled (value.Truth true) ≡ true) where
   -- the totals are to be recovered
   is_recovering : recovers old.totals control property.DeviceEnabled (value.Truth true) ≡ true
@@ -80,13 +91,13 @@ module _ (start : List PlainFile) (sequence : ℕ) (old : Machine) (is : StartsW
       (ap (λ mode. not (is_ready mode)) is.off)
 
   by_recovery : (result : Answer) (new : Machine) → SetsByRecovery old number control property.DeviceEnabled (value.Truth true) result new
-      → FindsThem start sequence old number control (Answered result) new
+      → FindsThem layout start sequence old number control (Answered result) new
   by_recovery result new (inl h) =
-      subst (λ r. FindsThem start sequence old number control (Answered r) new) (sym h.0) (found_them start sequence old.totals new.totals is h.1)
+      subst (λ r. FindsThem layout start sequence old number control (Answered r) new) (sym h.0) (found_them layout start sequence old.totals new.totals is h.1)
   by_recovery result new (inr h) =
-      let failed = law_recovers start sequence old old [] refl is result new.totals h.0 in
-      subst (λ r. FindsThem start sequence old number control (Answered r) new) (sym failed.0)
-      (inr (refl, refl, has_cause start sequence old.totals new.totals is failed.1))
+      let failed = law_recovers layout start sequence old old [] refl is result new.totals h.0 in
+      subst (λ r. FindsThem layout start sequence old number control (Answered r) new) (sym failed.0)
+      (inr (refl, refl, has_cause layout start sequence old.totals new.totals is failed.1))
 
   does : (result : Answer) (new : Machine) (b : Bool) → recovers old.totals control property.DeviceEnabled (value.Truth true) ≡ b
       → MatchBool b (SetsByRecovery old number control property.DeviceEnabled (value.Truth true) result new)
@@ -96,21 +107,21 @@ module _ (start : List PlainFile) (sequence : ℕ) (old : Machine) (is : StartsW
   does result new false e h = absurd (let on = is_recovering in cc)
 
   refused : (answered refusal : Answer) (new : Machine) → answered ≡ refusal → first_refusal (refusals old number control enabling) ≡ Some refusal
-      → new ≡ old → FindsThem start sequence old number control (Answered answered) new
+      → new ≡ old → FindsThem layout start sequence old number control (Answered answered) new
   refused answered (answer.Refused why extended) new same first unchanged =
-      subst (λ r. FindsThem start sequence old number control (Answered r) new) (sym same) (inl (first, unchanged))
+      subst (λ r. FindsThem layout start sequence old number control (Answered r) new) (sym same) (inl (first, unchanged))
   refused answered (answer.Done given) new same first unchanged =
       absurd (refused_undone (refusals old number control enabling) (answer.Done given) (answer.Done given) first refl)
 
   called : (result : Answer) (new : Machine) → Called old number control enabling result new
-      → FindsThem start sequence old number control (Answered result) new
+      → FindsThem layout start sequence old number control (Answered result) new
   called result new h = elim (match_cases (first_refusal (refusals old number control enabling)) _ _ h.outcome) [
     | inl x ↦ by_recovery result new (does result new (recovers old.totals control property.DeviceEnabled (value.Truth true)) refl x.1)
     | inr x ↦ refused result x.0 new x.2.0 x.1 x.2.1
   ]
 
   pub finds_them : (response : Response) (new : Machine) → slice_get old.controls number ≡ Some control
-      → Step old (CallOf number enabling) response new → FindsThem start sequence old number control response new
+      → Step old (CallOf number enabling) response new → FindsThem layout start sequence old number control response new
   finds_them (Answered result) new at step =
       called result new (subst (λ found. MatchOption found ((result ≡ answer.Refused code.Illegal 0) × (new ≡ old))
       (λ c. Called old number c enabling result new)) at step)
@@ -131,63 +142,82 @@ module _ (start : List PlainFile) (sequence : ℕ) (old : Machine) (is : StartsW
 
 -- ---- how many files a disk stands for
 
-few_applied : (base files : List PlainFile) (texts : List (List ℕ)) → length base ≤ LAYOUT_1.files → Applies base texts files → length files ≤ LAYOUT_1.files
-few_applied base files [] few is = subst (λ (fs : List PlainFile). length fs ≤ LAYOUT_1.files) is few
-few_applied base files (text ∷ texts) few is =
-    few_applied is.0 files texts (few_after_all LAYOUT_1 base is.0 is.1.changes few is.1.outcome) is.2
+few_applied : (limits : Limits) (base files : List PlainFile) (texts : List (List ℕ)) → length base ≤ limits.files
+    → Applies limits base texts files → length files ≤ limits.files
+few_applied limits base files [] few is = subst (λ (fs : List PlainFile). length fs ≤ limits.files) is few
+few_applied limits base files (text ∷ texts) few is =
+    few_applied limits is.0 files texts (few_after_all limits base is.0 is.1.changes few is.1.outcome) is.2
 
-pub few_stand : (files : List PlainFile) (sequence : ℕ) (bytes : List ℕ) → StandsFor (Stands files sequence) bytes → length files ≤ LAYOUT_1.files
-few_stand files sequence bytes is = few_applied is.base files is.texts is.directory.count is.applies
+pub few_stand : (layout : Layout) (files : List PlainFile) (sequence : ℕ) (bytes : List ℕ) → StandsFor (Stands layout files sequence) bytes
+    → length files ≤ (limits_of layout).files
+few_stand layout files sequence bytes is = few_applied (limits_of layout) is.base files is.texts is.directory.count is.applies
 
-few_groups : (files next : List PlainFile) (groups : List Group) → length files ≤ LAYOUT_1.files → after_groups files groups ≡ Ok next
-    → length next ≤ LAYOUT_1.files
-few_groups files next [] few made = subst (λ (fs : List PlainFile). length fs ≤ LAYOUT_1.files) (same_Ok files next made) few
-few_groups files next (group ∷ groups) few made = by (outcome_of_all LAYOUT_1 files group) refl made (λ mid less rest. few_groups mid next groups less rest)
+few_groups : (limits : Limits) (files next : List PlainFile) (groups : List Group) → length files ≤ limits.files
+    → after_groups limits files groups ≡ Ok next → length next ≤ limits.files
+few_groups limits files next [] few made = subst (λ (fs : List PlainFile). length fs ≤ limits.files) (same_Ok files next made) few
+few_groups limits files next (group ∷ groups) few made =
+    by (outcome_of_all limits files group) refl made (λ mid less rest. few_groups limits mid next groups less rest)
   where
-    by : (o : Result (List PlainFile) DirectoryFault) → outcome_of_all LAYOUT_1 files group ≡ o → and_then o (λ mid. after_groups mid groups) ≡ Ok next
-        → ((mid : List PlainFile) → length mid ≤ LAYOUT_1.files → after_groups mid groups ≡ Ok next → length next ≤ LAYOUT_1.files)
-        → length next ≤ LAYOUT_1.files
-    by (Ok mid) is made rest = rest mid (few_after_all LAYOUT_1 files mid group few is) made
+    by : (o : Result (List PlainFile) DirectoryFault) → outcome_of_all limits files group ≡ o → and_then o (λ mid. after_groups limits mid groups) ≡ Ok next
+        → ((mid : List PlainFile) → length mid ≤ limits.files → after_groups limits mid groups ≡ Ok next → length next ≤ limits.files)
+        → length next ≤ limits.files
+    by (Ok mid) is made rest = rest mid (few_after_all limits files mid group few is) made
     by (Err fault) is made rest = absurd cc
 
--- a history keeps the files that it starts with
-decided_start : (history : History) (doubt : Option Group) (found : List PlainFile) → (decided history doubt found).start ≡ history.start
-decided_start history None found = refl
-decided_start history (Some group) found = by (has_made (after_groups history.start (history.settled ++ group ∷ [])) found)
-  where
-    by : (b : Bool) → (cond b (with_settled history group) (without_doubt history)).start ≡ history.start
-    by true = refl
-    by false = refl
+-- a history keeps the layout and the files that it starts with
+abbrev HasStart : Layout → List PlainFile → History → Type 0
+HasStart layout files history = (history.layout ≡ layout) × (history.start ≡ files)
 
-told_start : (history : History) (event : FilesEvent) → (told history event).start ≡ history.start
-told_start history (GroupAccepted group) = refl
-told_start history (GroupInDoubt group) = refl
+decided_start : (history : History) (doubt : Option Group) (found : List PlainFile)
+    → HasStart history.layout history.start (decided history doubt found)
+decided_start history None found = (refl, refl)
+decided_start history (Some group) found = by (has_made (files_after history (history.settled ++ group ∷ [])) found)
+  where
+    by : (b : Bool) → HasStart history.layout history.start (cond b (with_settled history group) (without_doubt history))
+    by true = (refl, refl)
+    by false = (refl, refl)
+
+told_start : (history : History) (event : FilesEvent) → HasStart history.layout history.start (told history event)
+told_start history (GroupAccepted group) = (refl, refl)
+told_start history (GroupInDoubt group) = (refl, refl)
 told_start history (FilesFound found) = decided_start history history.doubt found
-told_start history NothingDone = refl
+told_start history NothingDone = (refl, refl)
 
 along_start : (history : History) (old : Machine) (steps : List (Request × Response)) (new : Machine) (run : Run old steps new)
-    → (history_along history old steps new run).start ≡ history.start
-along_start history old [] new run = refl
+    → HasStart history.layout history.start (history_along history old steps new run)
+along_start history old [] new run = (refl, refl)
 along_start history old (s ∷ steps) new run =
-    along_start (history_with history old s.0 s.1 run.0) run.0 steps new run.2 ∙ told_start history (event_of old s.0 s.1 run.0)
+    let first = told_start history (event_of old s.0 s.1 run.0) in
+    let rest = along_start (history_with history old s.0 s.1 run.0) run.0 steps new run.2 in
+    (rest.0 ∙ first.0, rest.1 ∙ first.1)
+
+-- no layout allows more files than layout 2
+few_for_all : (layout : Layout) → (limits_of layout).files ≤ 250
+few_for_all Layout1 = omega arith
+few_for_all Layout2 = omega arith
 
 -- E_FAILURE of a recovery in a counter that has given no handle
-module _ (start : List PlainFile) (sequence : ℕ) (first last : Machine) (steps : List (Request × Response)) (run : Run first steps last)
-    (is : StartsWith start sequence first.totals) (few : length start ≤ LAYOUT_1.files) (next : last.totals.totals.next ≡ 1) where
-  few_left : (files : List PlainFile) (q : ℕ) → IsOneOf last.totals.left (Stands files q) → length files ≤ LAYOUT_1.files
-  few_left files q one =
-      let prefix = law_after start sequence first last steps run is (Stands files q) one in
-      subst (λ (fs : List PlainFile). length fs ≤ LAYOUT_1.files) (sym (same_stands files prefix.files q prefix.sequence prefix.stands))
-      (few_groups start prefix.files prefix.prefix few
-      (subst (λ from. after_groups from prefix.prefix ≡ Ok prefix.files) (along_start (begun start) first steps last run) prefix.made))
+module _ (layout : Layout) (start : List PlainFile) (sequence : ℕ) (first last : Machine) (steps : List (Request × Response)) (run : Run first steps last)
+    (is : StartsWith layout start sequence first.totals) (few : length start ≤ (limits_of layout).files) (next : last.totals.totals.next ≡ 1) where
+  few_left : (other : Layout) (files : List PlainFile) (q : ℕ) → IsOneOf last.totals.left (Stands other files q)
+      → length files ≤ (limits_of layout).files
+  few_left other files q one =
+      let history = history_of layout start first steps last run in
+      let prefix = law_after layout start sequence first last steps run is (Stands other files q) one in
+      let from = along_start (begun layout start) first steps last run in
+      let same = same_stands other history.layout files prefix.files q prefix.sequence prefix.stands in
+      subst (λ (fs : List PlainFile). length fs ≤ (limits_of layout).files) (sym same.1)
+      (few_groups (limits_of layout) start prefix.files prefix.prefix few
+      (subst (λ l. after_groups (limits_of l) start prefix.prefix ≡ Ok prefix.files) from.0
+      (subst (λ fs. after_groups (limits_of history.layout) fs prefix.prefix ≡ Ok prefix.files) from.1 prefix.made)))
 
   pub disk_failed : (result : Answer) (new : TotalsPart) → Recovers last.totals result new
       → (result ≡ answer.Refused code.Failure 0) × Rises last.totals.failures new.failures
   disk_failed result new h =
-      let failed = law_recovers start sequence first last steps run is result new h in (
+      let failed = law_recovers layout start sequence first last steps run is result new h in (
         failed.0,
         elim failed.1 [
-          | inl many ↦ absurd (many.handles (omega (arith, few_left many.files many.sequence many.found, next)))
+          | inl many ↦ absurd (many.handles (omega (arith, few_left many.layout many.files many.sequence many.found, few_for_all layout, next)))
           | inr rises ↦ rises
         ],
       )

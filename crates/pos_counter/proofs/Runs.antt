@@ -86,7 +86,8 @@ module _ {D P : Type 0} (bound : DiskGhosts D) (peripherals : Ghosts P) where
     steps = λ left leaves. subst (λ (v : TotalsView D). Stepped bound left (machine_of_counter peripherals old) old.totals (NewControl tt k)
         (made outcome) (machine_of_counter peripherals new) v) (sym (same_view old.totals new.totals new.totals.totals makes.disk refl))
         (arranges_stepped bound old.totals new.totals.totals (machine_of_counter peripherals old) (machine_of_counter peripherals new)
-        (NewControl tt k) (made outcome) left only (ap (λ mode. settled mode left) makes.mode) leaves
+        (NewControl tt k) (made outcome) left only (ap (λ layout. settled layout new.totals.totals.mode left) makes.layout
+        ∙ ap (λ mode. settled old.totals.totals.layout mode left) makes.mode) leaves
         (subst (λ m. Step (machine_of_counter peripherals old (part_of bound old.totals left)) (NewControl tt k) (made outcome) m) (sym (same (now left)))
         (makes.step (devices_in peripherals old.devices) old.claims left (bound.state old.totals.disk).failures)));
     untouched = λ left spares. makes.disk;

@@ -58,7 +58,7 @@ OnlyNow bound disk = (bytes : List ℕ) → bound.honest disk → (bound.state d
 -- a step in which the disk has no part, over totals that know the same files
 pub arranges_stepped : {D : Type 0} (bound : Ghosts D) (view : TotalsView D) (totals : Totals) (old new : TotalsPart → Machine) (q : Request)
     (r : Response) (left : List Standing) → OnlyNow bound view.disk
-    → settled totals.mode left ≡ settled view.totals.mode left → Leaves bound view left
+    → settled totals.layout totals.mode left ≡ settled view.totals.layout view.totals.mode left → Leaves bound view left
     → Step (old (part_of bound view left)) q r (new (part_of bound (record { disk = view.disk; totals = totals }) left))
     → Stepped bound left old view q r new (record { disk = view.disk; totals = totals })
 arranges_stepped bound view totals old new q r left only same leaves step = record {
@@ -91,7 +91,8 @@ stepped_sound hs gs ds one other q r sound step = record {
 -- parts that serve a request in which the disk has no part, over totals that know the same files
 pub arranges_serve : {D : Type 0} (bound : Ghosts D) (view new : TotalsView D) (totals : Totals) (hs gs : List Held) (cl dl : List (Option ℕ))
     (ds : List Device) (q : Request) (r : Response) → OnlyNow bound view.disk
-    → new.disk ≡ view.disk → new.totals ≡ totals → ((left : List Standing) → settled totals.mode left ≡ settled view.totals.mode left)
+    → new.disk ≡ view.disk → new.totals ≡ totals
+    → ((left : List Standing) → settled totals.layout totals.mode left ≡ settled view.totals.layout view.totals.mode left)
     → ArePartsSound hs ds → length dl ≡ length cl
     → ((left : List Standing) → Step (machine_with hs cl ds (part_of bound view left)) q r
     (machine_with gs dl ds (part_of bound (record { disk = view.disk; totals = totals }) left)))

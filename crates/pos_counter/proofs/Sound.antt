@@ -30,10 +30,11 @@ use Rattle.pos_service.specs.declared.deed.Change.{Change}
 use Rattle.pos_service.specs.declared.deed.Change.TheVariants as change
 use Rattle.pos_service.specs.declared.deed.Deed.{Deed}
 use Rattle.pos_service.specs.declared.deed.Deed.TheVariants as deed
-use Rattle.pos_service.specs.Controls.{Control, new_control, closed, stopped, delivered, heard, queued, read, listens, if_listening, all_listening}
-use Rattle.pos_service.specs.Events.{EventList, Enqueued}
+use Rattle.pos_service.specs.Controls.{Control, new_control, closed, stopped, delivered, queued, read, listens, if_listening, all_listening}
+use Rattle.pos_service.specs.Events.{EventList}
 use Rattle.pos_service.specs.Refusals.{Row, Decided, first_refusal}
 use Rattle.pos_service.specs.Calls.{serves, place_found, close_rows}
+use Rattle.pos_service.specs.declared.signs.Signs.{Signs}
 use Rattle.pos_service.specs.Properties.{takes, after_set, cursor_after, get_rows}
 use Rattle.pos_service.specs.Deeds.{CarriedOut, ChangesOne, Does as CarriesOut, Follows, LineFailed, Ordered, Queued, changed, id_rows}
 use Rattle.pos_service.specs.Displays.{origin}
@@ -41,9 +42,9 @@ use Rattle.pos_service.specs.Peripherals.{IsInRange, signs_of}
 use Rattle.pos_service.specs.PrinterCalls.{DueRequest, WorksAt, WorksOn, after_work, due_request_at}
 use Rattle.pos_service.specs.Claims.{after_release, holder_at, is_exclusive}
 use Rattle.pos_service.specs.Stations.{Station, Effect, SameStation, TakesIn, reaction}
-use Rattle.pos_service.specs.Statuses.{status_events}
+use Rattle.pos_service.specs.Statuses.{heard_signs}
 use Rattle.pos_totals.specs.HardTotals.{with_control as with_place}
-use Rattle.pos_counter.specs.Machine.{Device, Machine, device_at, holder_of, kind_in, kind_of, place_of, found_at, with_control, with_totals}
+use Rattle.pos_counter.specs.Machine.{Device, Machine, device_at, holder_of, kind_in, kind_of, signs_at, place_of, found_at, with_control, with_totals}
 use Rattle.pos_counter.specs.Steps.{Request, NewControl, CallOf, InputTo, WorkOn, Deliver, Snapshot, Attach, Detach, Response, Made, Full, Answered, TakenIn, NoDevice, WrongInput, Worked, Delivered, Shown, Attached, NotAttached, Detached, NotDetached, OutOfMemory, IsAttached, IsDetached, has_open, is_open_at, is_place, OnStation, Step, Called, Sets, SetsByRecovery, CategoryDoes, DeviceDoes, category_rows, device_deed, device_rows, claimed, released, dropped, facts_of, refusals, IsSound, IsPlaceOn, HasItsKind, HasItsDevice}
 use Rattle.pos_counter.specs.Totals.{TotalsPart, recovers}
 use Rattle.pos_counter.proofs.Cursors.{NoneApplies, none_applies, place_opened, place_set, unless_not}
@@ -143,8 +144,8 @@ all_listening_keep ds place change cs keeps all =
     (All-weaker (HasItsDevice ds) (λ c. HasItsDevice ds (if_listening place change c))
     (λ c h. listening_seat ds (listens place c) c (change c) h (changed_seat ds change c keeps h)) cs all)
 
-heard_keeps : (statuses : List Enqueued) → KeepsDevice (heard statuses)
-heard_keeps statuses = record { category = λ c. refl; device = λ c. refl; cursor = λ c. refl }
+heard_keeps : (was is : Signs) → KeepsDevice (heard_signs was is)
+heard_keeps was is = record { category = λ c. refl; device = λ c. refl; cursor = λ c. refl }
 
 read_keeps : (scan : Scan) → KeepsDevice (read scan)
 read_keeps scan = record {
@@ -166,11 +167,11 @@ read_keeps scan = record {
     cursor true c list enabled = refl
     cursor false c list enabled = refl
 
-reaction_keeps : (i : Input) (t : Taken) (statuses : List Enqueued) → KeepsDevice (reaction i t statuses)
-reaction_keeps i taken.Quiet statuses = heard_keeps statuses
-reaction_keeps (input.Scan kind bytes label) taken.Scan statuses = read_keeps _
-reaction_keeps i taken.Scan statuses = record { category = λ c. refl; device = λ c. refl; cursor = λ c. refl }
-reaction_keeps i taken.Fault statuses = record { category = λ c. refl; device = λ c. refl; cursor = λ c. refl }
+reaction_keeps : (i : Input) (t : Taken) (was is : Signs) → KeepsDevice (reaction i t was is)
+reaction_keeps i taken.Quiet was is = heard_keeps was is
+reaction_keeps (input.Scan kind bytes label) taken.Scan was is = read_keeps _
+reaction_keeps i taken.Scan was is = record { category = λ c. refl; device = λ c. refl; cursor = λ c. refl }
+reaction_keeps i taken.Fault was is = record { category = λ c. refl; device = λ c. refl; cursor = λ c. refl }
 
 -- another station at a device, of its kind
 abbrev with_after : Device → Station → Device
@@ -237,7 +238,7 @@ takes_keeps : (ds : List Device) (i : Input) (place : ℕ) (old : List Control) 
     → TakesIn i place old before new after → Keeps ds before old after new
 takes_keeps ds i place old before new after h = record {
   kind = ap (λ (s : Station). s.kind) h.station;
-  seats = λ all. subst (All (HasItsDevice ds)) (sym h.controls) (all_listening_keep ds place _ old (reaction_keeps i h.taken _) all);
+  seats = λ all. subst (All (HasItsDevice ds)) (sym h.controls) (all_listening_keep ds place _ old (reaction_keeps i h.taken _ _) all);
 }
 
 -- a control that changes keeps its device
@@ -261,7 +262,8 @@ carried_keeps : (ds : List Device) (given : Order) (place : ℕ) (old : List Con
     → CarriedOut given place old before new after → Keeps ds before old after new
 carried_keeps ds given place old before new after h = record {
   kind = ap (λ (s : Station). s.kind) h.station;
-  seats = λ all. subst (All (HasItsDevice ds)) (sym h.controls) (all_listening_keep ds place _ old (heard_keeps _) all);
+  seats = λ all. subst (All (HasItsDevice ds)) (sym h.controls)
+      (all_listening_keep ds place _ old (heard_keeps (signs_of before.kind before.plant) (signs_of after.kind after.plant)) all);
 }
 
 -- whatever a peripheral says to an order
@@ -271,6 +273,7 @@ ordered_keeps ds given place reply.Done old before new after h = carried_keeps d
 ordered_keeps ds given place reply.CoverOpen old before new after h = same_keeps ds old before new after h.same
 ordered_keeps ds given place reply.PaperEnd old before new after h = same_keeps ds old before new after h.same
 ordered_keeps ds given place reply.LineFault old before new after h = failed_keeps ds old before new after h
+ordered_keeps ds given place reply.Offline old before new after h = same_keeps ds old before new after h.same
 
 -- a control that a call changes so has its device
 change_seat : (ds : List Device) (what : Change) (c : Control) → StaysOn (kind_in (device_at ds c.device)) c.cursor.place what → HasItsDevice ds c
@@ -282,19 +285,19 @@ change_seat ds change.InputProperties c stays h = same_seat ds c (changed change
 change_seat ds change.Output c stays h = same_seat ds c (changed change.Output c) refl refl refl h
 
 -- a control that has heard is where it was
-heard_there : (place number : ℕ) (events : List Enqueued) (c : Control) (old : List Control) → slice_get old number ≡ Some c
-    → (g : Control) × (slice_get (all_listening place (heard events) old) number ≡ Some g) × (g.category ≡ c.category) × (g.device ≡ c.device) ×
+heard_there : (place number : ℕ) (was is : Signs) (c : Control) (old : List Control) → slice_get old number ≡ Some c
+    → (g : Control) × (slice_get (all_listening place (heard_signs was is) old) number ≡ Some g) × (g.category ≡ c.category) × (g.device ≡ c.device) ×
     (g.cursor ≡ c.cursor)
-heard_there place number events c old at =
+heard_there place number was is c old at =
     let same = kept (listens place c) in (
-      if_listening place (heard events) c,
-      slice_get-map (if_listening place (heard events)) old number ∙ ap (option_map (if_listening place (heard events))) at,
+      if_listening place (heard_signs was is) c,
+      slice_get-map (if_listening place (heard_signs was is)) old number ∙ ap (option_map (if_listening place (heard_signs was is))) at,
       same.0,
       same.1,
       same.2,
     )
   where
-    kept : (b : Bool) → let g : Control = cond b (heard events c) c in (g.category ≡ c.category) × (g.device ≡ c.device) × (g.cursor ≡ c.cursor)
+    kept : (b : Bool) → let g : Control = cond b (heard_signs was is c) c in (g.category ≡ c.category) × (g.device ≡ c.device) × (g.cursor ≡ c.cursor)
     kept true = (refl, refl, refl)
     kept false = (refl, refl, refl)
 
@@ -318,7 +321,7 @@ deed_keeps ds (deed.Gives given what) r number place c old before new after at s
     by : (said : Reply) → Ordered given place said old before h.heard after → Follows said what number h.heard new → All (HasItsDevice ds) h.heard
         → All (HasItsDevice ds) new
     by reply.Done ordered follows all =
-        let there = heard_there place number (status_events (signs_of before.kind before.plant) (signs_of after.kind after.plant)) c old at in
+        let there = heard_there place number (signs_of before.kind before.plant) (signs_of after.kind after.plant) c old at in
         let now = ap (λ (cs : List Control). slice_get cs number) ordered.controls ∙ there.1 in
         changes_keep ds what number there.0 h.heard new now
         (subst (λ (o : Option ℕ). StaysOn (kind_in (device_at ds o)) there.0.cursor.place what) (sym there.3)
@@ -327,6 +330,7 @@ deed_keeps ds (deed.Gives given what) r number place c old before new after at s
     by reply.CoverOpen ordered same all = subst (All (HasItsDevice ds)) (sym same) all
     by reply.PaperEnd ordered same all = subst (All (HasItsDevice ds)) (sym same) all
     by reply.LineFault ordered same all = subst (All (HasItsDevice ds)) (sym same) all
+    by reply.Offline ordered same all = subst (All (HasItsDevice ds)) (sym same) all
 deed_keeps ds (deed.Changes what) r number place c old before new after at stays h = record {
   kind = ap (λ (s : Station). s.kind) h.station;
   seats = changes_keep ds what number c old new at stays h.controls;
@@ -348,6 +352,7 @@ work_keeps id reply.Done = record { category = λ c. refl; device = λ c. refl; 
 work_keeps id reply.CoverOpen = record { category = λ c. refl; device = λ c. refl; cursor = λ c. refl }
 work_keeps id reply.PaperEnd = record { category = λ c. refl; device = λ c. refl; cursor = λ c. refl }
 work_keeps id reply.LineFault = record { category = λ c. refl; device = λ c. refl; cursor = λ c. refl }
+work_keeps id reply.Offline = record { category = λ c. refl; device = λ c. refl; cursor = λ c. refl }
 
 worked_keeps : (ds : List Device) (work : DueRequest) (place : ℕ) (r : WorkResult) (old : List Control) (before : Station) (new : List Control)
     (after : Station) → WorksOn work place r old before new after → Keeps ds before old after new
@@ -412,16 +417,18 @@ category_sound k m m' n c own r e served allowed h s =
     (λ place before new after stands. device_keeps k m own r n place c before new after e (served before stands) allowed stands) h s
 
 -- a control with a property set to what it takes has its device
-pub set_seat : (ds : List Device) (c : Control) (p : Property) (v : Value) → takes (kind_in (device_at ds c.device)) p v ≡ true → HasItsDevice ds c
-    → HasItsDevice ds (after_set c p v)
-set_seat ds c p v may h = moved_seat ds c.category c.cursor.place (cursor_after c.cursor p v).place c.device
+pub set_seat : (ds : List Device) (s : Signs) (c : Control) (p : Property) (v : Value) → takes (kind_in (device_at ds c.device)) p v ≡ true
+    → HasItsDevice ds c → HasItsDevice ds (after_set s c p v)
+set_seat ds s c p v may h = moved_seat ds c.category c.cursor.place (cursor_after c.cursor p v).place c.device
     (place_set (kind_in (device_at ds c.device)) c.cursor p v may) h
 
 set_sound : (m m' : Machine) (n : ℕ) (c : Control) (p : Property) (v : Value) (r : Answer) (b : Bool) → takes (kind_of m c) p v ≡ true
     → slice_get m.controls n ≡ Some c → MatchBool b (SetsByRecovery m n c p v r m') (Sets m n c p v r m') → IsSound m → IsSound m'
-set_sound m m' n c p v r false may e h s = same_machine _ m' h.1 (with_control_sound m n (after_set c p v) (set_seat m.devices c p v may (seated m n c s e)) s)
+set_sound m m' n c p v r false may e h s =
+    same_machine _ m' h.1
+    (with_control_sound m n (after_set (signs_at m c) c p v) (set_seat m.devices (signs_at m c) c p v may (seated m n c s e)) s)
 set_sound m m' n c p v r true may e (inl h) s =
-    let there = with_control_sound m n (after_set c p v) (set_seat m.devices c p v may (seated m n c s e)) s in
+    let there = with_control_sound m n (after_set (signs_at m c) c p v) (set_seat m.devices (signs_at m c) c p v may (seated m n c s e)) s in
     same_machine _ m' h.2 (record { kinds = there.kinds; places = there.places })
 set_sound m m' n c p v r true may e (inr h) s = other_totals m m' h.1 s
 

@@ -13,6 +13,7 @@ use Rattle.pos_counter.specs.KeptDevices.{devices_in, profile_devices, AreDevice
 use Rattle.pos_counter.specs.Assembly.{machine_with, ArePartsSound}
 use Rattle.pos_counter.specs.Leaving.{part_of, Leaves, Stepped}
 use Rattle.pos_counter.specs.DiskUse.{IsUndone, SparesDisk}
+use Rattle.pos_image.specs.declared.layout.Layout.TheVariants.{Layout1}
 use Rattle.pos_profile.specs.declared.entry.Entry.{Entry}
 use Rattle.pos_counter.specs.Steps.{Request, Response, Step, Run}
 use Rattle.pos_counter.specs.Totals.{TotalsPart}
@@ -23,13 +24,16 @@ machine peripherals counter part =
     machine_with counter.desk counter.claims (devices_in peripherals counter.devices) part
 
 -- A counter as it begins over the devices of a profile and a disk: no control, each device vacant and held by nobody,
--- totals that are off.
+-- totals that are off and have the layout of a new disk.
 pub record Begins {D P : Type 0} (peripherals : Ghosts P)
     (entries : List Entry) (disk : D) (counter : Counter D P) : Type 0 where
   pub machine : (part : TotalsPart) → machine peripherals counter part
       ≡ machine_with [] (replicate (length (profile_devices entries)) None) (profile_devices entries) part
   pub totals : counter.totals
-      ≡ record { disk = disk; totals = record { mode = Off; next = 1; area = None; transactions = [] } }
+      ≡ record {
+        disk = disk;
+        totals = record { layout = Layout1; mode = Off; next = 1; area = None; transactions = [] };
+      }
 
 -- From an old counter to a new one, a step in which the totals have no part: the request gets this response.
 pub record IsStepBeside {D P : Type 0} (peripherals : Ghosts P) (old : Counter D P)

@@ -8,6 +8,8 @@ use Rattle.pos_service.specs.declared.call.Call.TheVariants as call
 use Rattle.pos_service.specs.declared.category.Category.TheVariants as category
 use Rattle.pos_service.specs.declared.code.Code.TheVariants as code
 use Rattle.pos_service.specs.declared.property.Property.TheVariants as property
+use Rattle.pos_image.specs.declared.layout.Layout.{Layout}
+use Rattle.pos_image.specs.declared.layout.Layout.TheVariants.{Layout1}
 use Rattle.pos_totals.specs.HardTotals.{Off}
 use Rattle.pos_store.specs.Standing.{Stands}
 use Rattle.pos_counter.specs.History.{Group, History, history_of}
@@ -16,18 +18,20 @@ use Rattle.pos_counter.specs.Assembly.{machine_with}
 use Rattle.pos_counter.specs.KeptDevices.{totals_devices}
 use Rattle.pos_counter.specs.Steps.{Request, NewControl, CallOf, Response, Made, Answered, Run}
 
--- From a machine whose disk stands for these files, these steps may be run through so that they have this history.
-pub record MayHave (first : Machine) (start : List PlainFile) (steps : List (Request × Response)) (history : History)
-    : Type 0 where
+-- From a machine whose disk stands for these files by a layout, these steps may be run through so that they have this
+-- history.
+pub record MayHave (first : Machine) (layout : Layout) (start : List PlainFile)
+    (steps : List (Request × Response)) (history : History) : Type 0 where
   pub last : Machine
   pub run : Run first steps last
-  pub is : history_of start first steps last run ≡ history
+  pub is : history_of layout start first steps last run ≡ history
 
--- a machine as it begins, with the Hard Totals device t1 alone, over a disk that stands for no files
+-- a machine as it begins, with the Hard Totals device t1 alone, over a disk that stands for no
+-- files by layout 1
 abbrev pub new_machine : Machine
 new_machine = machine_with [] (None ∷ []) (totals_devices (Some (116 ∷ 49 ∷ []))) (record {
-  totals = record { mode = Off; next = 1; area = None; transactions = [] };
-  left = Stands [] 1 ∷ [];
+  totals = record { layout = Layout1; mode = Off; next = 1; area = None; transactions = [] };
+  left = Stands Layout1 [] 1 ∷ [];
   failures = 0;
 })
 

@@ -5,8 +5,10 @@ use Rattle.pos_dir.specs.Changes.{outcome_of_all, and_then}
 use Rattle.pos_dir.specs.declared.change.Change.{Change as FileChange}
 use Rattle.pos_dir.specs.declared.fault.DirectoryFault.{DirectoryFault}
 use Rattle.pos_dir.specs.declared.file.File.{File as PlainFile}
-use Rattle.pos_dir.specs.declared.limits.TheConstants.{LAYOUT_1}
+use Rattle.pos_dir.specs.declared.limits.Limits.{Limits}
+use Rattle.pos_image.specs.declared.layout.Layout.{Layout}
 use Rattle.pos_service.specs.declared.answer.Answer.TheVariants as answer
+use Rattle.pos_store.specs.Layouts.{limits_of}
 use Rattle.pos_totals.specs.HardTotals.{Change, Mode, Off, Ready, Totals, changes_in, in_transaction, transaction_of}
 use Rattle.pos_totals.specs.TotalsCalls.{FileCall, Commits, Makes, file_call}
 use Rattle.pos_totals.specs.Groups.{group_of}
@@ -19,17 +21,18 @@ use Rattle.pos_counter.specs.Totals.{put_at_once}
 abbrev pub Group : Type 0
 Group = List FileChange
 
--- The files for which the disk stood at the start; the groups that are settled, in order, each acknowledged to its
--- caller or kept by a recovery; and the group in doubt, if there is one: the disk failed in it, and no recovery has
--- found files since.
+-- The layout and the files for which the disk stood at the start; the groups that are settled, in order, each
+-- acknowledged to its caller or kept by a recovery; and the group in doubt, if there is one: the disk failed in it, and
+-- no recovery has found files since.
 pub record History : Type 0 where
+  pub layout : Layout
   pub start : List PlainFile
   pub settled : List Group
   pub doubt : Option Group
 
 -- the history at the start
-abbrev pub begun : List PlainFile → History
-begun files = record { start = files; settled = []; doubt = None }
+abbrev pub begun : Layout → List PlainFile → History
+begun layout files = record { layout = layout; start = files; settled = []; doubt = None }
 
 -- no group, or one
 abbrev pub listed : Option Group → List Group
@@ -42,19 +45,24 @@ groups_in history = history.settled ++ listed history.doubt
 
 -- a history goes on: by one more settled group; by a group in doubt; without the group in doubt
 abbrev pub with_settled : History → Group → History
-with_settled history group = record { start = history.start; settled = history.settled ++ group ∷ []; doubt = None }
+with_settled history group = record history { settled = history.settled ++ group ∷ []; doubt = None }
 
 abbrev pub with_doubt : History → Group → History
-with_doubt history group = record { start = history.start; settled = history.settled; doubt = Some group }
+with_doubt history group = record history { doubt = Some group }
 
 abbrev pub without_doubt : History → History
-without_doubt history = record { start = history.start; settled = history.settled; doubt = None }
+without_doubt history = record history { doubt = None }
 
--- the files after all groups in order, each whole, or the fault of the first change that isn't applicable
-abbrev pub after_groups : List PlainFile → List Group → Result (List PlainFile) DirectoryFault
-after_groups files [] = Ok files
-after_groups files (group ∷ groups) =
-    and_then (outcome_of_all LAYOUT_1 files group) (λ next. after_groups next groups)
+-- the files after all groups in order, each whole, or the fault of the first change that isn't applicable within the
+-- limits
+abbrev pub after_groups : Limits → List PlainFile → List Group → Result (List PlainFile) DirectoryFault
+after_groups limits files [] = Ok files
+after_groups limits files (group ∷ groups) =
+    and_then (outcome_of_all limits files group) (λ next. after_groups limits next groups)
+
+-- the files after groups in order from the start of a history, within the limits of its layout
+abbrev pub files_after : History → List Group → Result (List PlainFile) DirectoryFault
+files_after history groups = after_groups (limits_of history.layout) history.start groups
 
 -- the same name and the same bytes
 abbrev pub is_same : PlainFile → PlainFile → Bool
@@ -69,7 +77,7 @@ has_made (Err fault) found = false
 abbrev pub decided : History → Option Group → List PlainFile → History
 decided history None found = history
 decided history (Some group) found =
-    if has_made (after_groups history.start (history.settled ++ group ∷ [])) found
+    if has_made (files_after history (history.settled ++ group ∷ [])) found
     then with_settled history group else without_doubt history
 
 -- what a step does to the files: a group is done and acknowledged, the disk fails in a group, a recovery finds files,
@@ -125,7 +133,7 @@ history_along history old [] new run = history
 history_along history old (step ∷ steps) new run =
     history_along (history_with history old step.0 step.1 run.0) run.0 steps new run.2
 
--- the history of a run of a machine whose disk stood for these files at its start
-abbrev pub history_of : List PlainFile → (old : Machine) (steps : List (Request × Response)) (new : Machine)
+-- the history of a run of a machine whose disk stood for these files by a layout at its start
+abbrev pub history_of : Layout → List PlainFile → (old : Machine) (steps : List (Request × Response)) (new : Machine)
     → Run old steps new → History
-history_of start old steps new run = history_along (begun start) old steps new run
+history_of layout start old steps new run = history_along (begun layout start) old steps new run

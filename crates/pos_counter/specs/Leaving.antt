@@ -17,7 +17,7 @@ part_of bound view left = record { totals = view.totals; left = left; failures =
 pub record Leaves {D : Type 0} (bound : Ghosts D) (view : TotalsView D) (left : List Standing) : Type 0 where
   pub honest : bound.honest view.disk
   pub leaves : LeavesOneOf left (bound.state view.disk)
-  pub is_settled : left ≡ settled view.totals.mode left
+  pub is_settled : left ≡ settled view.totals.layout view.totals.mode left
 
 -- A step, by what the disk may leave before it: a crash at any moment leaves what may be left before the step or after
 -- it, and a crash now what may be left after it.

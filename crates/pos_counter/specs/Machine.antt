@@ -5,11 +5,12 @@ use Rattle.pos_service.specs.declared.category.Category.TheVariants as category
 use Rattle.pos_service.specs.declared.finding.Finding.{Finding}
 use Rattle.pos_service.specs.declared.finding.Finding.TheVariants as finding
 use Rattle.pos_service.specs.declared.kind.Kind.{Kind}
+use Rattle.pos_service.specs.declared.signs.Signs.{Signs}
 use Rattle.pos_service.specs.Calls.{serves}
 use Rattle.pos_service.specs.Claims.{holder_at}
 use Rattle.pos_service.specs.Controls.{Control}
 use Rattle.pos_totals.specs.HardTotals.{Totals}
-use Rattle.pos_service.specs.Stations.{Station}
+use Rattle.pos_service.specs.Stations.{Station, signs_in}
 use Rattle.pos_counter.specs.Totals.{TotalsPart}
 
 -- a device of the profile: of a kind, and without a station where no peripheral is attached
@@ -104,6 +105,10 @@ holder_of machine control = holder_in control.category machine.claims machine.to
 -- what a control's device is
 abbrev pub kind_of : Machine → Control → Option Kind
 kind_of machine control = kind_in (device_at machine.devices control.device)
+
+-- what a control's device shows of itself
+abbrev pub signs_at : Machine → Control → Signs
+signs_at machine control = signs_in (station_in (device_at machine.devices control.device))
 
 -- the machine with other totals over the same disk
 abbrev pub with_totals : Machine → Totals → Machine

@@ -1,9 +1,11 @@
 -- What a prefix of a history is, and where in a run a crash leaves one.
-use Rattle.std.specs.Prelude.{◌≡◌, ◌⊎◌, ◌++◌, ℕ, List, [], ◌∷◌, Ok, ⊤}
+use Rattle.std.specs.Prelude.{◌≡◌, ◌⊎◌, ◌++◌, ℕ, List, [], ◌∷◌, None, Ok, ⊤}
 use Rattle.pos_dir.specs.declared.file.File.{File as PlainFile}
+use Rattle.pos_image.specs.declared.layout.Layout.{Layout}
+use Rattle.pos_image.specs.declared.layout.Layout.TheVariants.{Layout2}
 use Rattle.pos_totals.specs.HardTotals.{Off}
 use Rattle.pos_store.specs.Standing.{Standing, Unformatted, Damaged, Stands, StandsFor, IsOneOf}
-use Rattle.pos_counter.specs.History.{Group, History, groups_in, after_groups, history_with}
+use Rattle.pos_counter.specs.History.{Group, History, groups_in, files_after, history_with}
 use Rattle.pos_counter.specs.Machine.{Machine}
 use Rattle.pos_counter.specs.Steps.{Request, Response, Run}
 use Rattle.pos_counter.specs.Totals.{TotalsPart}
@@ -12,16 +14,21 @@ use Rattle.pos_counter.specs.Totals.{TotalsPart}
 abbrev pub BeginsWith : List Group → List Group → Type 0
 BeginsWith groups first = (rest : List Group) × (groups ≡ first ++ rest)
 
--- What is left are the files after a prefix of the history: those at its start with the first of its groups applied in
--- order, each whole. The prefix begins with the groups that it has to hold.
+-- What is left are the files after a prefix of the history, by its layout: those at its start with the first of its
+-- groups applied in order, each whole. The prefix begins with the groups that it has to hold.
 pub record IsPrefix (history : History) (held : List Group) (left : Standing) : Type 0 where
   pub prefix : List Group
   pub first : BeginsWith (groups_in history) prefix
   pub holds : BeginsWith prefix held
   pub files : List PlainFile
   pub sequence : ℕ
-  pub made : after_groups history.start prefix ≡ Ok files
-  pub stands : left ≡ Stands files sequence
+  pub made : files_after history prefix ≡ Ok files
+  pub stands : left ≡ Stands history.layout files sequence
+
+-- The history of a disk that was moved to layout 2 where it had the files after these groups: they are settled, and
+-- none is in doubt.
+abbrev pub moved_with : History → List Group → History
+moved_with history groups = record { layout = Layout2; start = history.start; settled = groups; doubt = None }
 
 -- the prefix holds each settled group
 abbrev pub IsPrefixOf : History → Standing → Type 0
@@ -52,12 +59,12 @@ LeavesPrefixInside before old after new = (left : Standing) → IsOneOf old.left
 abbrev pub IsFiles : Standing → Type 0
 IsFiles Unformatted = ⊥
 IsFiles Damaged = ⊥
-IsFiles (Stands files sequence) = ⊤
+IsFiles (Stands layout files sequence) = ⊤
 
--- The totals are off, and a crash leaves what stands for these files alone.
-pub record StartsWith (start : List PlainFile) (sequence : ℕ) (totals : TotalsPart) : Type 0 where
+-- The totals are off, and a crash leaves what stands for these files by a layout alone.
+pub record StartsWith (layout : Layout) (start : List PlainFile) (sequence : ℕ) (totals : TotalsPart) : Type 0 where
   pub off : totals.totals.mode ≡ Off
-  pub left : totals.left ≡ Stands start sequence ∷ []
+  pub left : totals.left ≡ Stands layout start sequence ∷ []
 
 -- The bytes stand for something that has P.
 pub record StandsForSome (P : Standing → Type 0) (bytes : List ℕ) : Type 0 where

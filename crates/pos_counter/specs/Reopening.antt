@@ -2,6 +2,7 @@
 use Rattle.std.specs.Prelude.{◌≡◌, ◌⊎◌, ℕ, true, List, [], ◌∷◌, Some, length}
 use Rattle.pos_dir.specs.declared.file.File.{File as PlainFile}
 use Rattle.pos_disk.specs.State.{Rises}
+use Rattle.pos_image.specs.declared.layout.Layout.{Layout}
 use Rattle.pos_service.specs.declared.answer.Answer.TheVariants as answer
 use Rattle.pos_service.specs.declared.answer.Value.TheVariants as value
 use Rattle.pos_service.specs.declared.call.Call.{Call}
@@ -21,11 +22,12 @@ use Rattle.pos_counter.specs.Totals.{TotalsPart}
 abbrev pub enabling : Call
 enabling = call.Set property.DeviceEnabled (value.Truth true)
 
--- The totals have these very files, in this order, with the handles from the next one on; a crash leaves them alone,
--- and the disk hasn't failed.
-pub record HasThem (files : List PlainFile) (sequence : ℕ) (old new : TotalsPart) : Type 0 where
+-- The totals have the layout and these very files, in this order, with the handles from the next one on; a crash leaves
+-- them alone, and the disk hasn't failed.
+pub record HasThem (layout : Layout) (files : List PlainFile) (sequence : ℕ) (old new : TotalsPart) : Type 0 where
+  pub found : new.totals.layout ≡ layout
   pub mode : new.totals.mode ≡ Ready (numbered old.totals.next files) sequence
-  pub left : new.left ≡ Stands files sequence ∷ []
+  pub left : new.left ≡ Stands layout files sequence ∷ []
   pub counts : new.failures ≡ old.failures
 
 -- the disk failed, or fewer handles are left than there are files
@@ -35,11 +37,11 @@ HasCause files old new = Rises old.failures new.failures ⊎ (¬ (AreLeft old.to
 -- What the enabling of a control comes to over totals that are off, whose disk stands for these files: it finds them;
 -- or a row of its table refuses it, and nothing has changed; or it fails, for a cause; or no memory is found, and
 -- nothing has changed.
-abbrev pub FindsThem : List PlainFile → ℕ → Machine → ℕ → Control → Response → Machine → Type 0
-FindsThem files sequence old number control (Answered (answer.Done given)) new =
-    HasThem files sequence old.totals new.totals
-FindsThem files sequence old number control (Answered (answer.Refused why extended)) new =
+abbrev pub FindsThem : Layout → List PlainFile → ℕ → Machine → ℕ → Control → Response → Machine → Type 0
+FindsThem layout files sequence old number control (Answered (answer.Done given)) new =
+    HasThem layout files sequence old.totals new.totals
+FindsThem layout files sequence old number control (Answered (answer.Refused why extended)) new =
     ((first_refusal (refusals old number control enabling) ≡ Some (answer.Refused why extended)) × (new ≡ old))
     ⊎ ((why ≡ code.Failure) × (extended ≡ 0) × HasCause files old.totals new.totals)
-FindsThem files sequence old number control OutOfMemory new = new ≡ old
-FindsThem files sequence old number control other new = ⊥
+FindsThem layout files sequence old number control OutOfMemory new = new ≡ old
+FindsThem layout files sequence old number control other new = ⊥

@@ -72,6 +72,7 @@ pub record MakesControl {D : Type 0} (helds : List Held) (before : TotalsView D)
       let new : TotalsPart = record { totals = now.totals; left = left; failures = failures } in
       Step (over helds devices (record { claims = claims; totals = old })) (NewControl tt category) (made outcome)
       (over new_helds devices (record { claims = claims; totals = new }))
+  pub layout : now.totals.layout ≡ before.totals.layout
   pub mode : now.totals.mode ≡ before.totals.mode
   pub disk : now.disk ≡ before.disk
 

@@ -22,8 +22,8 @@ use Rattle.pos_service.specs.Claims.{is_own, is_foreign, holder_at, claimed_by, 
 use Rattle.pos_service.specs.Refusals.{Row, Decided, first_refusal}
 use Rattle.pos_service.specs.Calls.{takes_memory as own_takes_memory}
 use Rattle.pos_service.specs.Calls.{serves, needs_of, place_found, open_rows, close_rows}
-use Rattle.pos_service.specs.Properties.{set_rows, after_set, get_rows, is_of_bytes, property_of}
-use Rattle.pos_service.specs.Stations.{Station, Effect, TakesIn, signs_in}
+use Rattle.pos_service.specs.Properties.{set_rows, after_set, tells_power, get_rows, is_of_bytes, property_of}
+use Rattle.pos_service.specs.Stations.{Station, Effect, TakesIn}
 use Rattle.pos_service.specs.Deeds.{Does as CarriesOut}
 use Rattle.pos_service.specs.DisplayCalls.{display_rows, display_deed}
 use Rattle.pos_service.specs.DrawerCalls.{drawer_deed}
@@ -41,11 +41,11 @@ use Rattle.pos_service.specs.declared.exchange_fault.AttachFault.{AttachFault}
 use Rattle.pos_service.specs.declared.exchange_fault.AttachFault.TheVariants as attach
 use Rattle.pos_service.specs.declared.exchange_fault.DetachFault.{DetachFault}
 use Rattle.pos_service.specs.declared.exchange_fault.DetachFault.TheVariants as detach
-use Rattle.pos_totals.specs.HardTotals.{layout_1, in_transaction, with_control as with_place}
+use Rattle.pos_totals.specs.HardTotals.{totals_limits, in_transaction, with_control as with_place}
 use Rattle.pos_totals.specs.TotalsClaims.{is_area_taken, without_control}
 use Rattle.pos_totals.specs.TotalsCalls.{file_call, file_rows}
 use Rattle.pos_counter.specs.Totals.{TotalsDo, Recovered, Recovers, recovers, file_facts}
-use Rattle.pos_counter.specs.Machine.{Device, Machine, place_of, device_at, station_in, station_named, kind_named, found_under, holder_of, kind_of, with_control, with_station, with_standing, with_totals}
+use Rattle.pos_counter.specs.Machine.{Device, Machine, place_of, station_named, kind_named, found_under, holder_of, kind_of, signs_at, with_control, with_station, with_standing, with_totals}
 
 -- what may be asked of the machine: a new control without a name, controls by their numbers; a peripheral that is to be
 -- attached by what would stand at the device
@@ -60,9 +60,9 @@ Response = ResponseOf Station
 abbrev pub facts_of : Machine → ℕ → Control → Facts
 facts_of machine number control = record {
   kind = kind_of machine control;
-  signs = signs_in (station_in (device_at machine.devices control.device));
-  totals_size = layout_1.bytes;
-  files = file_facts machine.totals.totals.mode;
+  signs = signs_at machine control;
+  totals_size = (totals_limits machine.totals.totals.layout).bytes;
+  files = file_facts machine.totals.totals.layout machine.totals.totals.mode;
   is_claimed = is_own number (holder_of machine control);
   in_transaction = in_transaction machine.totals.totals number;
 }
@@ -90,7 +90,8 @@ takes_memory machine control (call.Open name) = true
 takes_memory machine control call.Close = false
 takes_memory machine control (call.Claim timeout) = false
 takes_memory machine control call.Release = false
-takes_memory machine control (call.Set property v) = recovers machine.totals control property v
+takes_memory machine control (call.Set property v) =
+    recovers machine.totals control property v || tells_power control property v
 takes_memory machine control (call.Get property) = is_of_bytes property
 takes_memory machine control own = own_takes_memory own
 
@@ -171,13 +172,16 @@ refusals machine number control own =
 -- a property is set, and nothing else changes
 abbrev pub Sets : Machine → ℕ → Control → Property → Value → Answer → Machine → Type 0
 Sets old number control property v result new =
-    (result ≡ answer.Done value.Empty) × (new ≡ with_control old number (after_set control property v))
+    (result ≡ answer.Done value.Empty)
+    × (new ≡ with_control old number (after_set (signs_at old control) control property v))
 
 -- DeviceEnabled is set once the totals are recovered, and stays as it is where they aren't
 abbrev pub SetsByRecovery : Machine → ℕ → Control → Property → Value → Answer → Machine → Type 0
 SetsByRecovery old number control property v result new =
     ((result ≡ answer.Done value.Empty) × Recovered old.totals new.totals
-    × (new ≡ record (with_control old number (after_set control property v)) { totals = new.totals }))
+    × (new ≡ record (with_control old number (after_set (signs_at old control) control property v)) {
+      totals = new.totals;
+    }))
     ⊎ (Recovers old.totals result new.totals × (new ≡ record old { totals = new.totals }))
 
 -- What each call does where nothing refuses it.

@@ -1,6 +1,7 @@
 -- Hard Totals in the device machine (chapter Hard Totals).
 use Rattle.std.specs.Prelude.{◌≡◌, ◌≤◌, ◌⊎◌, ℕ, Bool, true, false, not, ◌&&◌, List, [], ◌∷◌, Option, Some, None, Result, MatchResult, IsTrue, is_some, length, if◌then◌else◌}
 use Rattle.pos_disk.specs.State.{Rises}
+use Rattle.pos_image.specs.declared.layout.Layout.{Layout}
 use Rattle.pos_service.specs.declared.answer.Answer.{Answer}
 use Rattle.pos_service.specs.declared.answer.Answer.TheVariants as answer
 use Rattle.pos_service.specs.declared.answer.Value.{Value}
@@ -14,7 +15,7 @@ use Rattle.pos_service.specs.declared.facts.FileFacts.{FileFacts}
 use Rattle.pos_service.specs.declared.property.Property.{Property}
 use Rattle.pos_service.specs.declared.property.Property.TheVariants as property
 use Rattle.pos_service.specs.Controls.{Control}
-use Rattle.pos_totals.specs.HardTotals.{Totals, Mode, Off, Ready, Change, layout_1, files_of, is_ready}
+use Rattle.pos_totals.specs.HardTotals.{Totals, Mode, Off, Ready, Change, totals_limits, files_of, is_ready}
 use Rattle.pos_totals.specs.TotalsFiles.{free_data}
 use Rattle.pos_totals.specs.TotalsQuestions.{told_of}
 use Rattle.pos_totals.specs.TotalsChanges.{DoesChange}
@@ -38,13 +39,14 @@ pub record TotalsPart : Type 0 where
   pub failures : ℕ
 
 -- what is known of the files, as properties tell it
-abbrev pub file_facts : Mode → Option FileFacts
-file_facts Off = None
-file_facts (Ready files sequence) = Some (record { free = free_data layout_1 files; count = length files })
+abbrev pub file_facts : Layout → Mode → Option FileFacts
+file_facts layout Off = None
+file_facts layout (Ready files sequence) =
+    Some (record { free = free_data (totals_limits layout) files; count = length files })
 
 -- what a crash leaves after changes were put on the disk as one group, by the mode then
 abbrev pub left_after : TotalsPart → List Change → Mode → List Standing
-left_after old changes now = left_after_group old.totals.next old.left old.totals.mode changes now
+left_after old changes now = left_after_group old.totals old.left changes now
 
 -- the disk fails only where that turns the totals off: else the count of its failures is as it was
 abbrev pub FailsTurningOff : TotalsPart → TotalsPart → Type 0
@@ -103,7 +105,7 @@ FilesCalled number asked old outcome new =
 -- One of the standings was found, which a crash leaves alone from then on. The disk hasn't failed.
 pub record Recovered (old new : TotalsPart) : Type 0 where
   pub found : HasFound (IsOneOf old.left) old.totals new.totals
-  pub left : new.left ≡ settled new.totals.mode old.left
+  pub left : new.left ≡ settled new.totals.layout new.totals.mode old.left
   pub counts : new.failures ≡ old.failures
 
 -- The disk failed in a recovery: the count of its failures rose, and all else is as it was.

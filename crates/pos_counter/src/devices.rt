@@ -119,7 +119,7 @@ impl<P: Peripheral> Devices<P> {
         registry.into_entries()
     }
 
-    /// The signs of the peripheral at the place, each false or good where there is none.
+    /// The signs of the peripheral at the place: where there is none, that it is on, and else each false or good.
     pub(crate) fn signs_at(&self, place: Option<usize>) -> Signs
         ensures { let devices = devices_in P.Peripheral self.now in
             result ≡ signs_in (station_in (device_at devices place)) }
@@ -130,6 +130,7 @@ impl<P: Peripheral> Devices<P> {
             }
         }
         Signs {
+            powered: true,
             drawer_open: false,
             cover_open: false,
             paper: PaperLevel::Good,

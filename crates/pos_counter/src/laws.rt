@@ -1,8 +1,9 @@
 //! Laws over the device machine, and what they say of a counter.
 ghost use Rattle.std.specs.Prelude.{◌≡◌, ◌≤◌, ◌⊎◌, true, List, [], ◌∷◌, ◌++◌, Some, None, ℕ, length, slice_get};
 ghost use Rattle.pos_dir.specs.declared.file.File.{File};
-ghost use Rattle.pos_dir.specs.declared.limits.TheConstants.{LAYOUT_1};
 ghost use Rattle.pos_disk.specs.State.{IsAtRest, Rises};
+ghost use Rattle.pos_image.specs.declared.layout.Layout.{Layout};
+ghost use Rattle.pos_image.specs.declared.layout.Layout.TheVariants.{Layout1, Layout2};
 ghost use Rattle.pos_profile.specs.declared.entry.Entry.{Entry};
 ghost use Rattle.pos_service.specs.declared.answer.Answer.{Answer};
 ghost use Rattle.pos_service.specs.declared.answer.Answer.TheVariants.{Refused};
@@ -10,16 +11,18 @@ ghost use Rattle.pos_service.specs.declared.answer.Value.TheVariants.{Truth};
 ghost use Rattle.pos_service.specs.declared.code.Code.TheVariants.{Failure};
 ghost use Rattle.pos_service.specs.declared.property.Property.TheVariants.{DeviceEnabled};
 ghost use Rattle.pos_service.specs.Controls.{Control};
+ghost use Rattle.pos_store.specs.Layouts.{limits_of};
 ghost use Rattle.pos_store.specs.Standing.{Standing, Stands, StandsFor, IsBytes, IsOneOf};
 ghost use Rattle.pos_totals.specs.Recoveries.{HasTooMany};
 ghost use Rattle.pos_counter.specs.Counters.{Begins, IsLeftDuring, IsRun, IsStep, IsStepBeside, RunsFrom};
 ghost use Rattle.pos_counter.specs.Crashes.{BeginsOver, HasBegun, HasRun, KeepsPrefix, KeepsPrefixes};
 ghost use Rattle.pos_counter.specs.Examples.{MayHave, new_machine, steps_into_doubt, steps_through_doubt, a_group};
-ghost use Rattle.pos_counter.specs.History.{History, FilesEvent, begun, told, history_of, history_with};
+ghost use Rattle.pos_counter.specs.History.{Group, History, FilesEvent, begun, told};
+ghost use Rattle.pos_counter.specs.History.{history_along, history_of, history_with};
 ghost use Rattle.pos_counter.specs.Machine.{Machine};
 ghost use Rattle.pos_counter.specs.Leaving.{Leaves};
 ghost use Rattle.pos_counter.specs.Prefixes.{BeginsWith, IsFiles, IsPrefixAlong, StandsForSome, StartsWith};
-ghost use Rattle.pos_counter.specs.Prefixes.{LeavesPrefix, LeavesPrefixInside};
+ghost use Rattle.pos_counter.specs.Prefixes.{IsPrefix, IsPrefixOf, LeavesPrefix, LeavesPrefixInside, moved_with};
 ghost use Rattle.pos_counter.specs.Reopening.{FindsThem, enabling};
 ghost use Rattle.pos_counter.specs.Steps.{Request, CallOf, Response, Step, Run};
 ghost use Rattle.pos_counter.specs.Totals.{Recovers, TotalsPart, asks_recovery};
@@ -32,27 +35,32 @@ use pos_service::Peripheral;
 /// prefix of the history, each group whole or absent, which holds each group that was settled before.
 pub fn crash_prefix()
     // after a run
-    ensures after { (start : List File) (sequence : ℕ) (first last : Machine) (steps : List (Request × Response))
-        (run : Run first steps last) → StartsWith start sequence first.totals
-        → LeavesPrefix (history_of start first steps last run) last.totals }
+    ensures after { (layout : Layout) (start : List File) (sequence : ℕ) (first last : Machine)
+        (steps : List (Request × Response))
+        (run : Run first steps last) → StartsWith layout start sequence first.totals
+        → LeavesPrefix (history_of layout start first steps last run) last.totals }
     // inside a step after one
-    ensures inside { (start : List File) (sequence : ℕ) (first old : Machine) (steps : List (Request × Response))
+    ensures inside { (layout : Layout) (start : List File) (sequence : ℕ) (first old : Machine)
+        (steps : List (Request × Response))
         (run : Run first steps old) (request : Request) (response : Response) (new : Machine)
-        → Step old request response new → StartsWith start sequence first.totals
-        → LeavesPrefixInside (history_of start first steps old run) old.totals
-        (history_with (history_of start first steps old run) old request response new) new.totals }
+        → Step old request response new → StartsWith layout start sequence first.totals
+        → LeavesPrefixInside (history_of layout start first steps old run) old.totals
+        (history_with (history_of layout start first steps old run) old request response new) new.totals }
     // at each moment of one
-    ensures along { (start : List File) (sequence : ℕ) (first last : Machine) (steps : List (Request × Response))
-        (run : Run first steps last) → StartsWith start sequence first.totals
+    ensures along { (layout : Layout) (start : List File) (sequence : ℕ) (first last : Machine)
+        (steps : List (Request × Response))
+        (run : Run first steps last) → StartsWith layout start sequence first.totals
         → (bytes : List ℕ) → IsLeftDuring first steps last run bytes
-        → StandsForSome (IsPrefixAlong (begun start) first steps last run) bytes }
+        → StandsForSome (IsPrefixAlong (begun layout start) first steps last run) bytes }
     // and never damage, nor a disk without totals
-    ensures files { (start : List File) (sequence : ℕ) (first last : Machine) (steps : List (Request × Response))
-        → Run first steps last → StartsWith start sequence first.totals
+    ensures files { (layout : Layout) (start : List File) (sequence : ℕ) (first last : Machine)
+        (steps : List (Request × Response))
+        → Run first steps last → StartsWith layout start sequence first.totals
         → (left : Standing) → IsOneOf last.totals.left left → IsFiles left }
     // so a recovery that recovers nothing has met a fault of the disk, or more files than handles are left
-    ensures recovers { (start : List File) (sequence : ℕ) (first last : Machine) (steps : List (Request × Response))
-        → Run first steps last → StartsWith start sequence first.totals
+    ensures recovers { (layout : Layout) (start : List File) (sequence : ℕ) (first last : Machine)
+        (steps : List (Request × Response))
+        → Run first steps last → StartsWith layout start sequence first.totals
         → (result : Answer) (new : TotalsPart) → Recovers last.totals result new
         → (result ≡ Refused Failure 0)
         × (HasTooMany (IsOneOf last.totals.left) last.totals.totals.next ⊎ Rises last.totals.failures new.failures) }
@@ -61,26 +69,56 @@ pub fn crash_prefix()
         → BeginsWith (told history event).settled history.settled }
 {}
 
+/// Two counters, one after the other, on a disk that was moved to layout 2 between them: what the first one left are
+/// the files after a prefix of its history by layout 1, and the second one begins over the same files by layout 2. They
+/// are the files after the same groups; and whatever the second one's machine runs through, a crash leaves the files
+/// after a prefix of one history of both, each group whole or absent, which holds each group that was settled before.
+pub fn crash_prefix_across_a_move()
+    // the prefix is one by layout 2
+    ensures moved { (history : History) (held : List Group) (files : List File) (sequence : ℕ)
+        (is : IsPrefix history held (Stands Layout1 files sequence))
+        → IsPrefixOf (moved_with history is.prefix) (Stands Layout2 files 1) }
+    // after a run of the second
+    ensures after { (history : History) (held : List Group) (files : List File) (sequence : ℕ)
+        (is : IsPrefix history held (Stands Layout1 files sequence))
+        (first last : Machine) (steps : List (Request × Response))
+        (run : Run first steps last) → StartsWith Layout2 files 1 first.totals
+        → LeavesPrefix (history_along (moved_with history is.prefix) first steps last run) last.totals }
+    // at each moment of it
+    ensures along { (history : History) (held : List Group) (files : List File) (sequence : ℕ)
+        (is : IsPrefix history held (Stands Layout1 files sequence))
+        (first last : Machine) (steps : List (Request × Response))
+        (run : Run first steps last) → StartsWith Layout2 files 1 first.totals
+        → (bytes : List ℕ) → IsLeftDuring first steps last run bytes
+        → StandsForSome (IsPrefixAlong (moved_with history is.prefix) first steps last run) bytes }
+    // the groups that the prefix had to hold stay settled
+    ensures held { (history : History) (held : List Group) (files : List File) (sequence : ℕ)
+        (is : IsPrefix history held (Stands Layout1 files sequence))
+        (first last : Machine) (steps : List (Request × Response)) (run : Run first steps last)
+        → BeginsWith (history_along (moved_with history is.prefix) first steps last run).settled held }
+{}
+
 /// For a counter that began over an honest disk at rest that stands for some files: a crash at any moment of a call
 /// leaves bytes that stand for the files after a prefix of the history before or after the call, each group whole or
 /// absent, which holds each group that was settled before the call; and likewise of a list of requests and its steps.
 pub fn crash_leaves_a_prefix<D: Disk, P: Peripheral>(counter: &Counter<D, P>)
     // a counter that begins has run through nothing
-    ensures begins { (start : List File) (sequence : ℕ)
-        → BeginsOver D.Disk P.Peripheral start sequence counter.now
-        → HasBegun D.Disk P.Peripheral start sequence counter.now }
+    ensures begins { (layout : Layout) (start : List File) (sequence : ℕ)
+        → BeginsOver D.Disk P.Peripheral layout start sequence counter.now
+        → HasBegun D.Disk P.Peripheral layout start sequence counter.now }
     // a call, after others
-    ensures call { (start : List File) (sequence : ℕ) (steps : List (Request × Response)) (old : _)
-        (past : HasRun D.Disk P.Peripheral start sequence steps old)
+    ensures call { (layout : Layout) (start : List File) (sequence : ℕ) (steps : List (Request × Response)) (old : _)
+        (past : HasRun D.Disk P.Peripheral layout start sequence steps old)
         (request : Request) (response : Response)
         → IsStep D.Disk P.Peripheral old request response counter.now
-        → KeepsPrefix D.Disk P.Peripheral start sequence steps old past
+        → KeepsPrefix D.Disk P.Peripheral layout start sequence steps old past
         request response counter.now }
     // a list of requests
-    ensures list { (start : List File) (sequence : ℕ) (steps more : List (Request × Response)) (old : _)
-        (past : HasRun D.Disk P.Peripheral start sequence steps old)
+    ensures list { (layout : Layout) (start : List File) (sequence : ℕ)
+        (steps more : List (Request × Response)) (old : _)
+        (past : HasRun D.Disk P.Peripheral layout start sequence steps old)
         (run : IsRun D.Disk P.Peripheral old more counter.now)
-        → KeepsPrefixes D.Disk P.Peripheral start sequence steps old past more counter.now run }
+        → KeepsPrefixes D.Disk P.Peripheral layout start sequence steps old past more counter.now run }
     // each moment of a list lies in one of its requests
     ensures moments { (left : List Standing) (steps : List (Request × Response)) (old : _)
         → Leaves D.Disk old.totals left
@@ -96,21 +134,23 @@ pub fn crash_leaves_a_prefix<D: Disk, P: Peripheral>(counter: &Counter<D, P>)
 /// Hard Totals finds these very files, and else it was refused by its table, or the disk failed, or there were too few
 /// handles, or no memory.
 pub fn enabling_finds_the_files()
-    ensures finds { (start : List File) (sequence : ℕ) (old new : Machine) (number : ℕ) (control : Control)
+    ensures finds { (layout : Layout) (start : List File) (sequence : ℕ) (old new : Machine)
+        (number : ℕ) (control : Control)
         (response : Response)
-        → StartsWith start sequence old.totals → slice_get old.controls number ≡ Some control
+        → StartsWith layout start sequence old.totals → slice_get old.controls number ≡ Some control
         → asks_recovery control DeviceEnabled (Truth true) ≡ true
         → Step old (CallOf number enabling) response new
-        → FindsThem start sequence old number control response new }
+        → FindsThem layout start sequence old number control response new }
     // of a counter that has given no handle there are enough: so E_FAILURE of a recovery means that the disk failed
-    ensures failed { (start : List File) (sequence : ℕ) (first last : Machine) (steps : List (Request × Response))
-        → Run first steps last → StartsWith start sequence first.totals → length start ≤ LAYOUT_1.files
+    ensures failed { (layout : Layout) (start : List File) (sequence : ℕ) (first last : Machine)
+        (steps : List (Request × Response))
+        → Run first steps last → StartsWith layout start sequence first.totals → length start ≤ (limits_of layout).files
         → last.totals.totals.next ≡ 1
         → (result : Answer) (new : TotalsPart) → Recovers last.totals result new
         → (result ≡ Refused Failure 0) × Rises last.totals.failures new.failures }
     // a disk stands for so few files
-    ensures few { (files : List File) (sequence : ℕ) (bytes : List ℕ)
-        → StandsFor (Stands files sequence) bytes → length files ≤ LAYOUT_1.files }
+    ensures few { (layout : Layout) (files : List File) (sequence : ℕ) (bytes : List ℕ)
+        → StandsFor (Stands layout files sequence) bytes → length files ≤ (limits_of layout).files }
 {}
 
 /// A new counter over an honest disk at rest: whatever the disk's bytes are, they stand for one thing, and a crash
@@ -139,9 +179,9 @@ pub fn runs_go_on<D: Disk, P: Peripheral>(counter: &Counter<D, P>)
 /// An example. The disk fails in a group; the next recovery keeps it or drops it, by the files that it finds, and it is
 /// in doubt until then.
 pub fn one_group_in_doubt()
-    ensures doubt { MayHave new_machine [] steps_into_doubt
-        (record { start = []; settled = []; doubt = Some a_group }) }
-    ensures kept { MayHave new_machine [] steps_through_doubt
-        (record { start = []; settled = a_group ∷ []; doubt = None }) }
-    ensures dropped { MayHave new_machine [] steps_through_doubt (begun []) }
+    ensures doubt { MayHave new_machine Layout1 [] steps_into_doubt
+        (record { layout = Layout1; start = []; settled = []; doubt = Some a_group }) }
+    ensures kept { MayHave new_machine Layout1 [] steps_through_doubt
+        (record { layout = Layout1; start = []; settled = a_group ∷ []; doubt = None }) }
+    ensures dropped { MayHave new_machine Layout1 [] steps_through_doubt (begun Layout1 []) }
 {}

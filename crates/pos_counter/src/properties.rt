@@ -79,7 +79,7 @@ pub(crate) fn find_holder(control: &Control, claims: &Claims, area: Option<usize
 
 /// What is known of the files: nothing while the totals are off.
 fn find_file_facts<D: Disk>(totals: &Totals<D>) -> Option<FileFacts>
-    ensures { result ≡ file_facts totals.now.totals.mode }
+    ensures { result ≡ file_facts totals.now.totals.layout totals.now.totals.mode }
 {
     if !totals.is_ready() {
         return None;
@@ -90,7 +90,9 @@ fn find_file_facts<D: Disk>(totals: &Totals<D>) -> Option<FileFacts>
     })
 }
 
-/// Sets a property. Setting DeviceEnabled to true on a control of Hard Totals recovers totals that are off.
+/// Sets a property. Setting DeviceEnabled to true on a control of Hard Totals recovers totals that are off; on another
+/// that is to be notified of its device's power it enqueues the event of that. Both may find no memory, which changes
+/// nothing.
 ///
 /// Refused as the control says; and where the totals are to be recovered, with E_NOHARDWARE where the disk has none,
 /// with E_FAILURE where it is damaged or fails, or where the handles don't suffice.
@@ -115,7 +117,8 @@ pub(crate) fn set<D: Disk, P: Peripheral>(
     let holder = find_holder(control, claims, totals.area());
     let device = control.device();
     let kind = devices.kind_at(device);
-    Ok(control.set(number, holder, kind, property, value))
+    let signs = devices.signs_at(device);
+    control.set(number, holder, kind, signs, property, value)
 }
 
 /// Enables a control of Hard Totals that are off, once they are recovered.
@@ -134,10 +137,13 @@ fn set_recovered<D: Disk, P: Peripheral>(
         ArePartsSound controls.old devices → Serves D.Disk controls.old claims.now devices totals.old
         (CallOf number (call.Set property value.now)) (answered result) controls.new claims.now devices totals.new }
 {
-    let holder = find_holder(&controls[number], claims, totals.area());
-    let kind = devices.kind_at(controls[number].device());
+    let control = &controls[number];
+    let holder = find_holder(control, claims, totals.area());
+    let device = control.device();
+    let kind = devices.kind_at(device);
+    let signs = devices.signs_at(device);
     match totals.recover() {
-        Ok(()) => Ok(controls[number].set(number, holder, kind, property, value)),
+        Ok(()) => controls[number].set(number, holder, kind, signs, property, value),
         Err(fault) => match fault.code() {
             Ok(code) => Ok(Answer::Refused(code, 0)),
             Err(NoMemory) => Err(NoMemory),

@@ -42,7 +42,15 @@ fn enable<'a>(number: usize) -> Request<'a, (), usize, PlainDrawer>
     )
 }
 
-/// Two controls each of Hard Totals and of the drawer, which is attached, opened and detached.
+/// A call that sets PowerNotify to PN_ENABLED.
+fn notify<'a>(number: usize) -> Request<'a, (), usize, PlainDrawer>
+    ensures { OffersInService ⟦<PlainDrawer as Peripheral>⟧ result }
+{
+    Request::CallOf(number, Call::Set(Property::PowerNotify, Value::Number(1)))
+}
+
+/// Two controls each of Hard Totals and of the drawer, which is attached, opened and detached; its power is told as it
+/// is enabled.
 fn requests<'a>(alloc: Global) -> Result<Requests<'a>, NoMemory>
     ensures { IfOk result (λ requests. All (OffersInService ⟦<PlainDrawer as Peripheral>⟧) requests.items) }
 {
@@ -59,6 +67,8 @@ fn requests<'a>(alloc: Global) -> Result<Requests<'a>, NoMemory>
         enable(0),
         Request::Attach(Name::new(b"d1"), peripheral),
         Request::CallOf(2, Call::Open(drawer)),
+        notify(2),
+        enable(2),
         enable(2),
         Request::CallOf(2, Call::OpenDrawer),
         Request::CallOf(2, Call::OpenDrawer),
@@ -73,7 +83,7 @@ fn requests<'a>(alloc: Global) -> Result<Requests<'a>, NoMemory>
     }
 }
 
-const WANTED: [&str; 16] = [
+const WANTED: [&str; 18] = [
     "made",
     "made",
     "made",
@@ -82,6 +92,8 @@ const WANTED: [&str; 16] = [
     "done",
     "done",
     "attached",
+    "done",
+    "done",
     "done",
     "done",
     "done",

@@ -11,6 +11,8 @@ mod exchanges;
 #[cfg(test)]
 mod growths;
 #[cfg(test)]
+mod moves;
+#[cfg(test)]
 mod requests;
 #[cfg(test)]
 mod rows;

@@ -1,10 +1,18 @@
 use crate::steps::{Step, played};
 use pos_service::display_text::DisplayCell;
 use pos_service::receipt_text::{Alignment, Mark, PrintedCharacter};
-use pos_service::{Bytes, Call, Category, Code, Event, Input, Locus, NoMemory, Plant, Snapshot};
+use pos_service::{
+    Bytes, Call, Category, Code, Event, Form, Input, Locus, NoMemory, Plant, Property, Snapshot,
+    Value,
+};
 use pos_sims::{PlainDisplay, PlainDrawer, PlainScanner, RollPrinter};
 use std::alloc::Global;
 use std::test::Fail;
+
+/// Whether a peripheral is on.
+fn is_on(shown: &Snapshot) -> bool {
+    shown.0.powered
+}
 
 #[test]
 fn a_drawer_opens_and_is_shut(rt: HostRuntime) -> Result<(), Fail> {
@@ -23,7 +31,34 @@ fn a_drawer_opens_and_is_shut(rt: HostRuntime) -> Result<(), Fail> {
         &steps,
         &events,
     )?;
-    assert!(rt; matches!(shown, Snapshot(Plant::Drawer(true))));
+    assert!(rt; is_on(&shown) && matches!(shown.0.form, Form::Drawer(true)));
+    Ok(())
+}
+
+#[test]
+fn a_control_is_told_of_its_devices_power(rt: HostRuntime) -> Result<(), Fail> {
+    let mut drawer = PlainDrawer::new();
+    let steps = [
+        Step::Set(Property::DeviceEnabled, Value::Truth(false)),
+        Step::Set(Property::PowerNotify, Value::Number(1)),
+        Step::Set(Property::DeviceEnabled, Value::Truth(true)),
+        Step::Fed(Input::PowerMoved(false)),
+        Step::Fed(Input::DrawerMoved(true)),
+        Step::Set(Property::DeviceEnabled, Value::Truth(true)),
+        Step::Set(Property::PowerNotify, Value::Number(1)),
+        Step::Fed(Input::PowerMoved(true)),
+        Step::Asked(Call::OpenDrawer),
+    ];
+    let (on, off) = (Event::StatusUpdate(2001), Event::StatusUpdate(2004));
+    let events = [on, off, on, Event::StatusUpdate(1)];
+    let shown = played(
+        rt.alloc(),
+        Category::CashDrawer,
+        &mut drawer,
+        &steps,
+        &events,
+    )?;
+    assert!(rt; is_on(&shown) && matches!(shown.0.form, Form::Drawer(true)));
     Ok(())
 }
 
@@ -47,7 +82,7 @@ fn a_scan_and_a_fault_reach_the_control(rt: HostRuntime) -> Result<(), Fail> {
         Event::Data,
     ];
     let shown = played(rt.alloc(), Category::Scanner, &mut scanner, &steps, &events)?;
-    assert!(rt; matches!(shown, Snapshot(Plant::Scanner)));
+    assert!(rt; is_on(&shown) && matches!(shown.0.form, Form::Scanner));
     Ok(())
 }
 
@@ -66,7 +101,13 @@ fn display_steps(alloc: Global) -> Result<[Step; 4], NoMemory> {
 
 /// Whether a display shows these characters, row by row.
 fn has_characters(display: &Snapshot, characters: &[u8]) -> bool {
-    let Snapshot(Plant::Display(cells)) = display else {
+    let Snapshot(
+        Plant {
+            powered: true,
+            form: Form::Display(cells),
+        },
+    ) = display
+    else {
         return false;
     };
     let shown = cells.as_slice().iter();
@@ -102,7 +143,13 @@ fn printer_steps(alloc: Global) -> Result<[Step; 8], NoMemory> {
 
 /// Whether a printer has printed these lines, cuts and characters.
 fn has_printed(printer: &Snapshot, marks: &[Mark], bytes: &[u8]) -> bool {
-    let Snapshot(Plant::Printer(receipt)) = printer else {
+    let Snapshot(
+        Plant {
+            powered: true,
+            form: Form::Printer(receipt),
+        },
+    ) = printer
+    else {
         return false;
     };
     let (told, characters) = receipt.printed();

@@ -10,7 +10,7 @@ use pos_common::{Claims, Control, carry_out, take_input};
 use pos_service::display_text::Place;
 use pos_service::{
     Answer, Call, Category, Code, Deed, ErrorReply, Event, Finding, Input, Kind, NoMemory,
-    Peripheral, Property, Snapshot, Value, Worked, columns_of, rows_of,
+    PaperLevel, Peripheral, Property, Signs, Snapshot, Value, Worked, columns_of, rows_of,
 };
 use std::alloc::Global;
 use std::test::Fail;
@@ -20,11 +20,21 @@ use std::test::Fail;
 pub enum Step {
     /// A call on the control.
     Asked(Call),
+    /// A property of the control is set.
+    Set(Property, Value),
     /// An input of the device.
     Fed(Input),
     /// The control's first request is worked on.
     Worked,
 }
+
+/// What a new device shows.
+const NEW_SIGNS: Signs = Signs {
+    powered: true,
+    drawer_open: false,
+    cover_open: false,
+    paper: PaperLevel::Good,
+};
 
 /// A control that has the device at place 0 open and enabled, delivers data, and queues output.
 pub fn control(alloc: Global, category: Category) -> Control {
@@ -35,7 +45,7 @@ pub fn control(alloc: Global, category: Category) -> Control {
         Property::DataEventEnabled,
         Property::AsyncMode,
     ] {
-        control.set(0, Some(0), None, property, &Value::Truth(true));
+        let _ = control.set(0, Some(0), None, NEW_SIGNS, property, &Value::Truth(true));
     }
     control
 }
@@ -92,6 +102,7 @@ fn does<P: Peripheral>(
             let answer = answer(alloc, controls, device, asked);
             matches!(answer, Ok(Answer::Done(Value::Empty)))
         }
+        Step::Set(property, value) => is_set(controls, device, *property, value),
         Step::Fed(input) if input.fits(device.kind()) => {
             take_input(alloc, controls, 0, device, input).is_ok()
         }
@@ -102,6 +113,23 @@ fn does<P: Peripheral>(
             )
         }
         _ => false,
+    }
+}
+
+/// Whether a property is set.
+fn is_set<P: Peripheral>(
+    controls: &mut [Control],
+    device: &P,
+    property: Property,
+    value: &Value,
+) -> bool {
+    match controls.first_mut() {
+        Some(control) => {
+            let (kind, signs) = (Some(device.kind()), device.signs());
+            let answer = control.set(0, Some(0), kind, signs, property, value);
+            matches!(answer, Ok(Answer::Done(_)))
+        }
+        None => false,
     }
 }
 

@@ -1,7 +1,7 @@
 use crate::steps::{Step, played};
 use pos_service::display_text::{Attribute, Direction};
 use pos_service::{
-    Bytes, Call, Category, Event, Input, NoMemory, Order, Peripheral, Plant, Reply, Snapshot,
+    Bytes, Call, Category, Event, Form, Input, NoMemory, Order, Peripheral, Reply, Snapshot,
 };
 use pos_sims::{Flaky, PlainDisplay, PlainDrawer, Recorder, RingDisplay, RollPrinter};
 use std::alloc::Global;
@@ -43,9 +43,21 @@ fn a_failed_order_is_counted_and_done_when_it_comes_again(rt: HostRuntime) -> Re
         &steps,
         &events,
     )?;
-    assert!(rt; matches!(shown, Snapshot(Plant::Drawer(false))));
+    assert!(rt; matches!(shown.0.form, Form::Drawer(false)));
     assert_eq!(rt; drawer.asks(), 2);
     Ok(())
+}
+
+#[test]
+fn a_line_fails_before_its_device_is_off(rt: HostRuntime) {
+    let mut drawer = Recorder::new(Flaky::new(PlainDrawer::new(), 1, 1));
+    assert!(rt; drawer.feed(&Input::PowerMoved(false)).is_ok());
+    assert!(rt; !drawer.signs().powered);
+    assert!(rt; matches!(drawer.ask(&Order::OpenDrawer), Ok(Reply::LineFault)));
+    assert!(rt; matches!(drawer.ask(&Order::OpenDrawer), Ok(Reply::Offline)));
+    assert!(rt; drawer.feed(&Input::PowerMoved(true)).is_ok());
+    assert!(rt; opens(&mut drawer));
+    assert_eq!(rt; drawer.asks(), 3);
 }
 
 #[test]
@@ -102,9 +114,10 @@ fn shown_after<P: Peripheral>(display: &mut P, order: &Order) -> Option<Snapshot
 /// Whether two displays show the same.
 fn shows_same(one: Option<&Snapshot>, other: Option<&Snapshot>) -> bool {
     match (one, other) {
-        (Some(Snapshot(Plant::Display(one))), Some(Snapshot(Plant::Display(other)))) => {
-            one.as_slice() == other.as_slice()
-        }
+        (Some(Snapshot(one)), Some(Snapshot(other))) => match (&one.form, &other.form) {
+            (Form::Display(one), Form::Display(other)) => one.as_slice() == other.as_slice(),
+            _ => false,
+        },
         _ => false,
     }
 }

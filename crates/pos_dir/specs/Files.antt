@@ -52,6 +52,11 @@ pub record AreWritable (limits : Limits) : Type 0 where
   pub files : limits.files < 2 ^ 16
   pub bytes : limits.bytes < 2 ^ 32
 
+-- The second limits allow what the first allow, and maybe more.
+pub record AreWider (limits wider : Limits) : Type 0 where
+  pub files : limits.files ≤ wider.files
+  pub bytes : limits.bytes ≤ wider.bytes
+
 -- The limits allow no more files than those of layout 2, and the files are those of a directory within them.
 pub record IsHeld (limits : Limits) (files : List File) : Type 0 where
   pub few : limits.files ≤ LAYOUT_2.files

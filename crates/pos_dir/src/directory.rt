@@ -1,7 +1,7 @@
 ghost use Rattle.std.specs.Prelude.{◌≡◌, ◌≤◌, [], length, slice_get};
 ghost use Rattle.std.specs.Option.{option_copied, option_map};
 ghost use Rattle.pos_dir.specs.declared.limits.TheConstants.{LAYOUT_2};
-ghost use Rattle.pos_dir.specs.Files.{directory_of, index_of, total_size};
+ghost use Rattle.pos_dir.specs.Files.{AreWider, directory_of, index_of, total_size};
 
 use crate::file::{File, sum_sizes};
 use crate::limits::Limits;
@@ -37,6 +37,15 @@ impl Directory {
             limits,
             files: Vec::new(alloc),
         }
+    }
+
+    /// Gives the same files wider limits, of at most 250 files. It takes no memory.
+    pub fn widen(&mut self, limits: Limits)
+        requires few { limits.files ≤ LAYOUT_2.files }
+        requires wider { AreWider self.old.limits limits }
+        ensures { self.new ≡ directory_of limits self.old.files }
+    {
+        self.limits = limits;
     }
 
     /// The number of files.

@@ -3,7 +3,7 @@ ghost use Rattle.std.specs.Prelude.{◌≡◌, ◌≤◌, List, length};
 ghost use Rattle.pos_dir.specs.declared.file.File.{File};
 ghost use Rattle.pos_dir.specs.declared.limits.Limits.{Limits};
 ghost use Rattle.pos_dir.specs.declared.change.Change.{Change};
-ghost use Rattle.pos_dir.specs.Files.{IsDirectory, AreWritable};
+ghost use Rattle.pos_dir.specs.Files.{IsDirectory, AreWider, AreWritable};
 ghost use Rattle.pos_dir.specs.Changes.{IsGroup};
 ghost use Rattle.pos_dir.specs.Spelling.{spelling, group_spelling, body_limit};
 
@@ -14,6 +14,12 @@ use crate::group::Group;
 pub fn one_spelling()
     ensures { (limits : Limits) (files others : List File) → AreWritable limits → IsDirectory limits files
         → IsDirectory limits others → spelling files ≡ spelling others → files ≡ others }
+{}
+
+/// The files of a directory are those of one within wider limits.
+pub fn wider_directory()
+    ensures { (limits wider : Limits) (files : List File) → AreWider limits wider → IsDirectory limits files
+        → IsDirectory wider files }
 {}
 
 /// No two groups are spelled alike.

@@ -1,9 +1,9 @@
 //! A check of a group over the names and sizes of the files, which takes no memory.
-ghost use Rattle.std.specs.Prelude.{◌≡◌, ◌≤◌, ◌<◌, ◌^◌, ℕ, [], length, sum_by};
+ghost use Rattle.std.specs.Prelude.{◌≡◌, ◌≤◌, ◌<◌, ◌^◌, ℕ, [], IfSome, length, sum_by};
 ghost use Rattle.pos_dir.specs.declared.change.Change.TheVariants.{Create, Delete, Rename, Write, SetAll};
 ghost use Rattle.std.specs.Result.{result_err};
 ghost use Rattle.pos_dir.specs.Files.{IsDirectory};
-ghost use Rattle.pos_dir.specs.Changes.{fault_of};
+ghost use Rattle.pos_dir.specs.Changes.{fault_of, outcome};
 ghost use Rattle.pos_dir.specs.Outlines.{AreOutlines, is_named, Checks};
 
 use crate::bytes::Bytes;
@@ -196,9 +196,8 @@ fn check_within<'a, const N: usize>(
     Ok(())
 }
 
-/// Whether a group is applicable, or the fault of the first change that isn't: NoFile, Exists,
-/// Range or NoRoom. It takes no memory.
-pub fn check_group<'a>(directory: &'a Directory, group: &'a Group) -> Result<(), DirectoryFault>
+/// Checks a group over outlines of all files.
+fn check_outlined<'a>(directory: &'a Directory, group: &'a Group) -> Result<(), DirectoryFault>
     ensures { result_err result ≡ fault_of directory.now.limits directory.now.files group.now }
 {
     let files = directory.files.as_slice();
@@ -208,4 +207,65 @@ pub fn check_group<'a>(directory: &'a Directory, group: &'a Group) -> Result<(),
     }
     let mut outlines: ArrayVec<Outline<'a>, MOST_FILES> = ArrayVec::new();
     check_within(&mut outlines, directory.limits, files, group)
+}
+
+/// Checks a Write over the files themselves.
+fn check_write_alone(
+    files: &[File],
+    index: u16,
+    offset: u32,
+    bytes: &Bytes,
+) -> Result<(), DirectoryFault>
+    ensures { (limits : Limits)
+        → result_err result ≡ result_err (outcome limits files.now (Write index offset bytes.now)) }
+{
+    if index as usize >= files.len() {
+        return Err(DirectoryFault::NoFile);
+    }
+    let end = offset as usize + bytes.as_slice().len();
+    if end > files[index as usize].bytes.as_slice().len() {
+        return Err(DirectoryFault::Range);
+    }
+    Ok(())
+}
+
+/// Checks a SetAll over the files themselves, of whatever value.
+fn check_set_all_alone(files: &[File], index: u16) -> Result<(), DirectoryFault>
+    ensures { (limits : Limits) (value : ℕ)
+        → result_err result ≡ result_err (outcome limits files.now (SetAll index value)) }
+{
+    if index as usize >= files.len() {
+        return Err(DirectoryFault::NoFile);
+    }
+    Ok(())
+}
+
+/// Checks a change that goes by its own file alone, a Write or a SetAll; None for another one.
+fn check_alone(files: &[File], change: &Change) -> Option<Result<(), DirectoryFault>>
+    ensures { (limits : Limits)
+        → IfSome result (λ answer. result_err answer ≡ result_err (outcome limits files.now change.now)) }
+{
+    match change {
+        Change::Write {
+            index,
+            offset,
+            bytes,
+        } => Some(check_write_alone(files, *index, *offset, bytes)),
+        Change::SetAll { index, value: _ } => Some(check_set_all_alone(files, *index)),
+        _ => None,
+    }
+}
+
+/// Whether a group is applicable, or the fault of the first change that isn't: NoFile, Exists,
+/// Range or NoRoom. It takes no memory, and a single Write or SetAll takes no time for the other files.
+pub fn check_group<'a>(directory: &'a Directory, group: &'a Group) -> Result<(), DirectoryFault>
+    ensures { result_err result ≡ fault_of directory.now.limits directory.now.files group.now }
+{
+    if group.changes.len() != 1 {
+        return check_outlined(directory, group);
+    }
+    match check_alone(directory.files.as_slice(), &group.changes[0]) {
+        Some(answer) => answer,
+        None => check_outlined(directory, group),
+    }
 }

@@ -1,4 +1,4 @@
-//! The calls of a line display (chapter Line Display). A display has no inputs, and gives no status events.
+//! The calls of a line display (chapter Line Display).
 #![tactic(auto)]
 
 mod calls;

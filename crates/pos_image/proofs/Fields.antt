@@ -10,7 +10,7 @@ use Rattle.pos_image.specs.Slots.{HasFields, HasHead}
 use Rattle.pos_image.specs.declared.reading.Head.{Head}
 
 -- a head and a body behind the gate of a slot
-module _ (bytes body : List ℕ) (at sequence : ℕ) (fits : at + 13 ≤ length bytes) (short : length body ≤ 16371) (small : sequence < 2 ^ 64)
+module _ (bytes body : List ℕ) (at sequence : ℕ) (fits : at + 13 ≤ length bytes) (short : length body < 2 ^ 32) (small : sequence < 2 ^ 64)
     (head : part (at + 1) 12 bytes ≡ big_bytes 8 sequence ++ big_bytes 4 (length body)) (behind : part (at + 13) (length body) bytes ≡ body) where
   sequence_is : sequence_at bytes at ≡ sequence
   unfolding sequence_at

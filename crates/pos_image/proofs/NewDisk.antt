@@ -10,7 +10,7 @@ use Rattle.pos_image.specs.Slots.{IsCurrent, HasFields}
 use Rattle.pos_image.specs.Standing.{IsNewDisk}
 use Rattle.pos_image.specs.declared.slot.Slot.TheVariants.{First}
 use Rattle.pos_image.proofs.Changes.{opened_gate}
-use Rattle.pos_image.proofs.Current.{kept_sequence, kept_length, kept_body}
+use Rattle.pos_image.proofs.Current.{first_here, kept_sequence, kept_length, kept_body}
 use Rattle.pos_image.proofs.Fields.{fields}
 use Rattle.pos_image.proofs.Logs.{new_image}
 
@@ -69,12 +69,12 @@ module _ (closed mid new : List ℕ) (large : 327680 ≤ length closed) (gates :
       let small = holds.length_is in
       record {
         whole = omega (arith, opened.0.same_length, long);
-        first_layout = (shut_gate new 65536 still_closed.third, shut_gate new 196608 still_closed.fourth);
+        layout_is = first_here new (shut_gate new 65536 still_closed.third) (shut_gate new 196608 still_closed.fourth);
         gate = opened.1;
         sequence_is = kept_sequence mid new 0 1 opened.0 0 (omega (arith, long)) (λ i inside hit. absurd (omega (arith, inside.0, hit.1))) ∙ holds.sequence_is;
         fits = let kept = kept_length mid new 0 1 opened.0 0 (omega (arith, long)) (λ i inside hit. absurd (omega (arith, inside.0, hit.1))) in omega
             (arith, kept, small);
-        body_is = kept_body mid new 0 1 opened.0 0 (omega (arith, long)) (omega (arith, small))
+        body_is = kept_body mid new 0 1 opened.0 0 16371 (omega (arith, long)) (omega (arith, small))
             (λ i inside hit. absurd (omega (arith, inside.0, hit.1))) ∙ holds.body_is;
         greater = λ is. absurd (cc (is, shut_gate new 32768 still_closed.second));
       }

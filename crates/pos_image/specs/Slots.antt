@@ -1,8 +1,9 @@
 -- What slots and their gates hold.
-use Rattle.std.specs.Prelude.{◌≡◌, ◌≤◌, ◌<◌, ◌+◌, ℕ, List, length, get_or, Bool, true, false, ◌||◌}
-use Rattle.pos_image.specs.Layout.{disk_size, slot_size, later_first, later_second, longest, log_place, body_place}
+use Rattle.std.specs.Prelude.{◌≡◌, ◌≤◌, ◌<◌, ◌+◌, ℕ, List, length, get_or, true, false}
 use Rattle.pos_disk.specs.State.{DiskState, part}
-use Rattle.pos_image.specs.Layout.{start, other, is_open, sequence_at, length_at, body_at}
+use Rattle.pos_image.specs.Layout.{disk_size, longest, log_place, body_place, start, other, first_of, layout_of}
+use Rattle.pos_image.specs.Layout.{layout_on, is_open, sequence_at, length_at, body_at}
+use Rattle.pos_image.specs.declared.layout.Layout.{Layout}
 use Rattle.pos_image.specs.declared.slot.Slot.{Slot}
 use Rattle.pos_image.specs.declared.reading.Head.{Head}
 use Rattle.pos_image.specs.declared.reading.Heads.{Heads}
@@ -10,10 +11,10 @@ use Rattle.pos_image.specs.declared.reading.Heads.{Heads}
 -- The image in this slot is the current one.
 pub record IsCurrent (bytes : List ℕ) (slot : Slot) (body : List ℕ) (sequence : ℕ) : Type 0 where
   pub whole : disk_size ≤ length bytes
-  pub first_layout : (is_open bytes later_first ≡ false) × (is_open bytes later_second ≡ false)
+  pub layout_is : layout_on bytes ≡ layout_of slot
   pub gate : is_open bytes (start slot) ≡ true
   pub sequence_is : sequence_at bytes (start slot) ≡ sequence
-  pub fits : length_at bytes (start slot) ≤ longest
+  pub fits : length_at bytes (start slot) ≤ longest (layout_of slot)
   pub body_is : body_at bytes (start slot) ≡ body
   pub greater : is_open bytes (start (other slot)) ≡ true → sequence_at bytes (start (other slot)) < sequence
 
@@ -27,9 +28,9 @@ pub record HasFields (bytes : List ℕ) (at sequence : ℕ) (body : List ℕ) : 
 pub record IsPrepared (bytes : List ℕ) (slot : Slot) (body : List ℕ) (sequence : ℕ) : Type 0 where
   pub gate : is_open bytes (start slot) ≡ false
   pub sequence_is : sequence_at bytes (start slot) ≡ sequence
-  pub fits : length_at bytes (start slot) ≤ longest
+  pub fits : length_at bytes (start slot) ≤ longest (layout_of slot)
   pub body_is : body_at bytes (start slot) ≡ body
-  pub log : get_or bytes (start slot + log_place) 0 ≡ 0
+  pub log : get_or bytes (start slot + log_place (layout_of slot)) 0 ≡ 0
 
 -- What a slot's gate and first fields say.
 pub record HasHead (bytes : List ℕ) (at : ℕ) (head : Head) : Type 0 where
@@ -37,25 +38,25 @@ pub record HasHead (bytes : List ℕ) (at : ℕ) (head : Head) : Type 0 where
   pub sequence : sequence_at bytes at ≡ head.sequence
   pub length : length_at bytes at ≡ head.length
 
--- The bytes are long enough and have these heads, and a gate of the later layout is open or not.
-pub record HasHeads (bytes : List ℕ) (first second : Head) (later : Bool) : Type 0 where
+-- The bytes are long enough and of this layout, whose slots have these heads.
+pub record HasHeads (bytes : List ℕ) (layout : Layout) (first second : Head) : Type 0 where
   pub whole : disk_size ≤ length bytes
-  pub at_first : HasHead bytes 0 first
-  pub at_second : HasHead bytes slot_size second
-  pub at_later : (is_open bytes later_first || is_open bytes later_second) ≡ later
+  pub layout_is : layout_on bytes ≡ layout
+  pub at_first : HasHead bytes (start (first_of layout)) first
+  pub at_second : HasHead bytes (start (other (first_of layout))) second
 
 -- The image in this slot is the current one, whatever its body.
 pub record IsFound (bytes : List ℕ) (slot : Slot) (sequence size : ℕ) : Type 0 where
-  pub first_layout : (is_open bytes later_first ≡ false) × (is_open bytes later_second ≡ false)
+  pub layout_is : layout_on bytes ≡ layout_of slot
   pub gate : is_open bytes (start slot) ≡ true
   pub sequence_is : sequence_at bytes (start slot) ≡ sequence
   pub length_is : length_at bytes (start slot) ≡ size
-  pub fits : size ≤ longest
+  pub fits : size ≤ longest (layout_of slot)
   pub greater : is_open bytes (start (other slot)) ≡ true → sequence_at bytes (start (other slot)) < sequence
 
 -- What was read of both slots is so.
 abbrev pub HeadsAre : List ℕ → Heads → Type 0
-HeadsAre bytes heads = HasHeads bytes heads.first heads.second heads.later
+HeadsAre bytes heads = HasHeads bytes heads.layout heads.first heads.second
 
 -- the slot and the head that were found are those of the current image
 abbrev pub FindsSlot : List ℕ → Slot × Head → Type 0

@@ -21,7 +21,7 @@ pub enum ImageFault {
     #[error("the disk is damaged")]
     Damaged,
 
-    /// A body has more than 16,371 bytes.
+    /// A body has more than 16,371 bytes, by layout 2 more than 81,907.
     #[error("the body is too large")]
     TooLarge,
 

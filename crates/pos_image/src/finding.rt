@@ -3,49 +3,47 @@ ghost use Rattle.std.specs.Prelude.{◌≡◌, ◌≤◌, ◌⊎◌, ℕ, List, 
 ghost use Rattle.pos_disk.specs.State.{IsAtRest, Watches};
 ghost use Rattle.pos_disk.specs.Keeps.{KeepsDisk};
 ghost use Rattle.pos_image.specs.Images.{FailsWithCause, CountsFaults, FindsNone, FindsDamage, IsFindFault};
-ghost use Rattle.pos_image.specs.Layout.{disk_size, longest};
-ghost use Rattle.pos_image.specs.Slots.{HasHeads, FindsSlot};
+ghost use Rattle.pos_image.specs.Layout.{disk_size, longest, layout_of};
+ghost use Rattle.pos_image.specs.Slots.{HeadsAre, FindsSlot};
 ghost use Rattle.pos_image.specs.Found.{FindsCurrent};
 
 use crate::fault::ImageFault;
 use crate::image::Image;
-use crate::layout::LONGEST;
-use crate::reading::{Head, read_body, read_heads};
+use crate::reading::{Head, Heads, read_body, read_heads};
 use crate::slot::Slot;
 use pos_disk::Disk;
 use std::alloc::Global;
 
-/// The current image, and its slot.
-#[derive(Drop)]
-pub struct Found {
-    pub slot: Slot,
-    pub image: Image,
-}
-
-// The slot of the current image, by the heads of both and the gates of the later layout.
-fn choose(first: Head, second: Head, later: bool) -> Result<(Slot, Head), ImageFault>
-    ensures found { (bytes : List ℕ) → HasHeads bytes first second later → IfOk result (FindsSlot bytes) }
-    ensures unformatted { (bytes : List ℕ) → HasHeads bytes first second later → IfErr result (FindsNone bytes) }
-    ensures damaged { (bytes : List ℕ) → HasHeads bytes first second later → IfErr result (FindsDamage bytes) }
-    ensures fits { IfOk result (λ found. found.1.length ≤ longest) }
+// The slot of the current image, by the heads of both slots of the layout.
+fn choose(heads: Heads) -> Result<(Slot, Head), ImageFault>
+    ensures found { (bytes : List ℕ) → HeadsAre bytes heads → IfOk result (FindsSlot bytes) }
+    ensures unformatted { (bytes : List ℕ) → HeadsAre bytes heads → IfErr result (FindsNone bytes) }
+    ensures damaged { (bytes : List ℕ) → HeadsAre bytes heads → IfErr result (FindsDamage bytes) }
+    ensures fits { IfOk result (λ found. found.1.length ≤ longest (layout_of found.0)) }
     ensures faults { IfErr result (λ e. (e ≡ ImageFault.Unformatted) ⊎ (e ≡ ImageFault.Damaged)) }
 {
+    let Heads {
+        layout,
+        first,
+        second,
+    } = heads;
+    let slot = layout.first();
     let (slot, head) = match (first.gate, second.gate) {
         (false, false) => return Err(ImageFault::Unformatted),
-        (true, false) => (Slot::First, first),
-        (false, true) => (Slot::Second, second),
-        (true, true) if second.sequence < first.sequence => (Slot::First, first),
-        (true, true) if first.sequence < second.sequence => (Slot::Second, second),
+        (true, false) => (slot, first),
+        (false, true) => (slot.other(), second),
+        (true, true) if second.sequence < first.sequence => (slot, first),
+        (true, true) if first.sequence < second.sequence => (slot.other(), second),
         (true, true) => return Err(ImageFault::Damaged),
     };
-    if later || head.length > LONGEST {
+    if head.length > slot.layout().longest() {
         return Err(ImageFault::Damaged);
     }
     Ok((slot, head))
 }
 
 /// Finds the current image. It begins with a sync, so that what it found is what every crash from then on leaves.
-pub fn find<D: Disk>(alloc: Global, disk: &mut D) -> Result<Found, ImageFault>
+pub fn find<D: Disk>(alloc: Global, disk: &mut D) -> Result<Image, ImageFault>
     requires large { disk_size ≤ D.size disk.old }
     ensures keeps { KeepsDisk D.Disk disk.old disk.new }
     ensures watches { D.honest disk.old → Watches (D.state disk.old) (D.state disk.new) }
@@ -59,13 +57,11 @@ pub fn find<D: Disk>(alloc: Global, disk: &mut D) -> Result<Found, ImageFault>
 {
     disk.sync()?;
     let heads = read_heads(disk)?;
-    let (slot, head) = choose(heads.first, heads.second, heads.later)?;
+    let (slot, head) = choose(heads)?;
     let body = read_body(alloc, disk, slot, head.length)?;
-    Ok(Found {
+    Ok(Image {
         slot,
-        image: Image {
-            body,
-            sequence: head.sequence,
-        },
+        body,
+        sequence: head.sequence,
     })
 }

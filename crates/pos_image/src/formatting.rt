@@ -6,13 +6,13 @@ ghost use Rattle.pos_image.specs.Layout.{disk_size};
 ghost use Rattle.pos_image.specs.NewDisk.{AllAreZero, KeepsRest};
 ghost use Rattle.pos_image.specs.Standing.{IsNewDisk, is_marked};
 
-use crate::layout::{CLOSED, LATER_FIRST, LATER_SECOND, LOG, OPEN, SECOND, SEQUENCE};
+use crate::layout::{CLOSED, FOURTH, LOG, OPEN, SECOND, SEQUENCE, THIRD};
 use crate::reading::read_gate;
 use crate::steps::write_through;
 use pos_disk::{Disk, DiskFault};
 
-// The gates of both slots and of their logs, and those of the later layout.
-const GATES: [u64; 6] = [0, LOG, SECOND, SECOND + LOG, LATER_FIRST, LATER_SECOND];
+// The gates of both slots of layout 1 and of their logs, and those of the slots of layout 2.
+const GATES: [u64; 6] = [0, LOG, SECOND, SECOND + LOG, THIRD, FOURTH];
 
 // Sequence 1, length 2, and the body of no files.
 const FIRST_IMAGE: [u8; 14] = [0, 0, 0, 0, 0, 0, 0, 1, 0, 0, 0, 2, 0, 0];
@@ -27,8 +27,8 @@ pub fn is_marked<D: Disk>(disk: &mut D) -> Result<bool, DiskFault>
 {
     let first = read_gate(disk, 0)?;
     let second = read_gate(disk, SECOND)?;
-    let third = read_gate(disk, LATER_FIRST)?;
-    let fourth = read_gate(disk, LATER_SECOND)?;
+    let third = read_gate(disk, THIRD)?;
+    let fourth = read_gate(disk, FOURTH)?;
     Ok(first || second || third || fourth)
 }
 
@@ -47,8 +47,8 @@ fn close_gates<D: Disk>(disk: &mut D) -> Result<(), DiskFault>
     disk.sync()
 }
 
-/// Lays out a disk whose first slot has the body of no files and sequence 1. The other slot, both logs and the later
-/// layout are closed.
+/// Lays out a disk of layout 1 whose first slot has the body of no files and sequence 1. The other slots and both logs
+/// are closed.
 pub fn lay_out<D: Disk>(disk: &mut D) -> Result<(), DiskFault>
     requires large { disk_size ≤ D.size disk.old }
     ensures keeps { KeepsDisk D.Disk disk.old disk.new }

@@ -1,8 +1,10 @@
 // An image in memory.
+use crate::slot::Slot;
 
-/// A body and the number of its image.
+/// The slot that an image is in, its body and its number.
 #[derive(Drop)]
 pub struct Image {
+    pub slot: Slot,
     pub body: Vec<u8>,
     pub sequence: u64,
 }

@@ -2,16 +2,16 @@
 ghost use Rattle.std.specs.Prelude.{◌≡◌, ◌↔◌, ◌<◌, ◌≤◌, ◌+◌, ◌^◌, ◌⊎◌, length, IfOk, IfErr, OnOk, IsErr, IsErrOf, IsSome, Some, None, false};
 ghost use Rattle.pos_disk.specs.State.{IsAtRest, LeavesOnly, Watches};
 ghost use Rattle.pos_disk.specs.Keeps.{KeepsDisk};
-ghost use Rattle.pos_image.specs.Layout.{disk_size, longest};
+ghost use Rattle.pos_image.specs.Layout.{disk_size, longest, layout_of};
 ghost use Rattle.pos_image.specs.NewDisk.{KeepsRest, HasClosedGates, no_files};
-ghost use Rattle.pos_image.specs.Standing.{is_marked, log_of, HasEither, ShowsImage, HasNewImage};
+ghost use Rattle.pos_image.specs.Standing.{is_marked, log_of, ShowsImage, HasNewImage};
 ghost use Rattle.pos_image.specs.declared.fault.ImageFault.TheVariants.{NoMemory, Device, TooLarge, TooSmall, Exhausted};
 
 use crate::fault::ImageFault;
 use crate::finding::find;
 use crate::formatting::{is_marked, lay_out};
 use crate::image::Image;
-use crate::layout::{LONGEST, OPEN, SIZE};
+use crate::layout::{Layout, OPEN, SIZE};
 use crate::slot::Slot;
 use crate::steps::{place_image, write_through};
 use pos_disk::Disk;
@@ -19,36 +19,36 @@ use std::alloc::Global;
 use std::marker::Model;
 
 /// The images of a disk: the current one, and the one that is prepared, if there is one. A body has 0 to 16,371 bytes,
-/// a sequence is a u64. After a fault of the disk every call but `into_disk` has the condition
-/// that the disk was opened again. docs/DISK.md, "Layout 1".
+/// by layout 2 to 81,907; a sequence is a u64. After a fault of the disk every call but `into_disk` has the condition
+/// that the disk was opened again. docs/DISK.md, "The layouts".
 #[derive(Drop)]
 pub struct Images<D: Disk> {
     alloc: Global,
     pub(crate) disk: D,
-    pub(crate) slot: Slot,
-    current: Image,
+    pub(crate) current: Image,
     prepared: Option<Image>,
 }
 
 impl<D: Disk> Model for Images<D> {
-    ghost use Rattle.std.specs.Prelude.{◌≡◌, ◌+◌, ⊤, MatchOption};
     ghost use Rattle.pos_image.specs.Images.{View, images_of};
-    ghost use Rattle.pos_image.specs.Found.{prepared_body};
+    ghost use Rattle.pos_image.specs.Found.{prepared_image};
 
     ghost Value = { View D };
 
-    ghost view = { λ s. images_of s.disk s.slot s.current.body.items s.current.sequence (prepared_body s.prepared) };
-
-    ghost invariant = { λ s. MatchOption s.prepared ⊤ (λ next. next.sequence ≡ s.current.sequence + 1) };
+    ghost view = { λ s. images_of
+        s.disk s.current.slot s.current.body.items s.current.sequence (prepared_image s.prepared) };
 }
 
 impl<D: Disk> Images<D> {
     ghost use Rattle.pos_image.specs.Images.{IsReady, Prepares, IsPrepareFault, IsFormatFault, IsOpenFault, FindsNone, FindsDamage};
     ghost use Rattle.pos_image.specs.Images.{RefusesMarked, FailsWithCause, FailsFor, CountsFaults, KeepsButGate};
-    ghost use Rattle.pos_image.specs.Images.{disk_after, handed_back, without_disk, next_of, published};
+    ghost use Rattle.pos_image.specs.Images.{disk_after, handed_back, without_disk, next_of, published, HasEither};
+    ghost use Rattle.pos_image.specs.Images.{next_image, migrated_image};
+    ghost use Rattle.pos_image.specs.declared.layout.Layout.TheVariants.{Layout1};
 
-    /// Makes the current image of the disk that of no files, body `0000` and sequence 1, and gives it back at rest. It
-    /// takes no memory. Nothing is promised of a disk whose formatting was interrupted. docs/DISK.md, "Formatting".
+    /// Makes the current image of the disk that of no files, body `0000` and sequence 1 by layout 1, and gives it
+    /// back at rest. It takes no memory. Nothing is promised of a disk whose formatting was interrupted.
+    /// docs/DISK.md, "Formatting".
     ///
     /// # Errors
     ///
@@ -57,7 +57,8 @@ impl<D: Disk> Images<D> {
     /// disk back.
     pub fn format(mut disk: D) -> Result<D, (ImageFault, D)>
         ensures at_rest { D.honest disk → IfOk result (λ formatted. IsAtRest (D.state formatted)) }
-        ensures image { D.honest disk → IfOk result (λ formatted. HasNewImage no_files 1 (D.state formatted).reading) }
+        ensures image { D.honest disk
+            → IfOk result (λ formatted. HasNewImage Layout1 no_files 1 (D.state formatted).reading) }
         ensures gates { D.honest disk → IfOk result (λ formatted. HasClosedGates (D.state formatted).reading) }
         ensures large { IfOk result (λ formatted. disk_size ≤ D.size formatted) }
         ensures too_small { IfErr result (λ e. e.0 ≡ TooSmall ↔ (D.size disk < disk_size)) }
@@ -93,12 +94,14 @@ impl<D: Disk> Images<D> {
     ///
     /// # Errors
     ///
-    /// `TooSmall` where the disk has fewer than 327,680 bytes; `Unformatted` where the gates of both slots are closed;
-    /// `Damaged` where both are open with the same sequence, the current length is above 16,371, or a gate of the later
-    /// layout is open; `Device` where the disk failed; `NoMemory`. A refusal hands the disk back.
+    /// `TooSmall` where the disk has fewer than 327,680 bytes; `Unformatted` where the gates of all four slots are
+    /// closed; `Damaged` where both of the disk's layout are open with the same sequence, or the current length is
+    /// above 16,371, by layout 2 above 81,907; `Device` where the disk failed; `NoMemory`. A refusal hands the disk
+    /// back.
     pub fn open(alloc: Global, mut disk: D) -> Result<Images<D>, (ImageFault, D)>
         ensures ready { IfOk result (λ images. IsReady D.Disk images × (images.prepared ≡ None)) }
-        ensures found { D.honest disk → IfOk result (λ it. ShowsImage it.body it.sequence (D.state disk).reading) }
+        ensures found { D.honest disk → IfOk result
+            (λ it. ShowsImage (layout_of it.slot) it.body it.sequence (D.state disk).reading) }
         ensures too_small { IfErr result (λ e. e.0 ≡ TooSmall ↔ (D.size disk < disk_size)) }
         ensures unformatted { D.honest disk → IfErr result (λ e. FindsNone (D.state disk).reading e.0) }
         ensures damaged { D.honest disk → IfErr result (λ e. FindsDamage (D.state disk).reading e.0) }
@@ -116,11 +119,10 @@ impl<D: Disk> Images<D> {
             return Err((ImageFault::TooSmall, disk));
         }
         match find(alloc, &mut disk) {
-            Ok(found) => Ok(Images {
+            Ok(current) => Ok(Images {
                 alloc,
                 disk,
-                slot: found.slot,
-                current: found.image,
+                current,
                 prepared: None,
             }),
             Err(fault) => Err((fault, disk)),
@@ -135,7 +137,16 @@ impl<D: Disk> Images<D> {
         &self.current.body
     }
 
-    /// The number of the current image: 1 after formatting, and one more with each image that is published.
+    /// The layout of the current image: 1 after formatting, and 2 from the first image of layout 2 on that is
+    /// published.
+    pub fn layout(&self) -> Layout
+        ensures { result ≡ layout_of self.now.slot }
+    {
+        self.current.slot.layout()
+    }
+
+    /// The number of the current image: 1 after formatting, and one more with each image that is published; that of the
+    /// first image of layout 2 is 1 again.
     pub fn sequence(&self) -> u64
         requires { IsReady D.Disk self.now }
         ensures { result ≡ self.now.sequence }
@@ -155,35 +166,60 @@ impl<D: Disk> Images<D> {
     ///
     /// # Errors
     ///
-    /// `TooLarge` where the body has more than 16,371 bytes, else `Exhausted` where the current sequence is the last
-    /// one, else `NoMemory`: nothing has changed. `Device` where the disk failed: the images have to be opened again.
+    /// `TooLarge` where the body has more bytes than the layout lets it, else `Exhausted` where the current sequence
+    /// is the last one, else `NoMemory`: nothing has changed. `Device` where the disk failed: the images have to be
+    /// opened again.
     pub fn prepare(&mut self, body: &[u8]) -> Result<(), ImageFault>
         requires { IsReady D.Disk self.old }
-        ensures prepares { Prepares D.Disk self.old body.now result self.new }
+        ensures prepares { Prepares D.Disk self.old (next_image self.old body.now) result self.new }
         ensures faults { IfErr result (λ e. IsPrepareFault e ⊎ (e ≡ NoMemory)) }
     {
         self.check(body.len())?;
-        let copy = Vec::from_slice(self.alloc, body)?;
-        self.put_beside(copy)
+        let body = Vec::from_slice(self.alloc, body)?;
+        self.put_beside(self.next(body))
     }
 
     /// As `prepare`, but it takes the body over: it copies nothing and takes no memory.
     ///
     /// # Errors
     ///
-    /// `TooLarge` where the body has more than 16,371 bytes, else `Exhausted` where the current sequence is the last
-    /// one: nothing has changed. `Device` where the disk failed: the images have to be opened again.
+    /// `TooLarge` where the body has more bytes than the layout lets it, else `Exhausted` where the current sequence
+    /// is the last one: nothing has changed. `Device` where the disk failed: the images have to be opened again.
     pub fn prepare_owned(&mut self, body: Vec<u8>) -> Result<(), ImageFault>
         requires { IsReady D.Disk self.old }
-        ensures prepares { Prepares D.Disk self.old body.items result self.new }
+        ensures prepares { Prepares D.Disk self.old (next_image self.old body.items) result self.new }
         ensures faults { IfErr result IsPrepareFault }
     {
         self.check(body.len())?;
-        self.put_beside(body)
+        self.put_beside(self.next(body))
     }
 
-    /// Makes the prepared image the current one, with the next sequence. It takes no memory. docs/DISK.md, "A new
-    /// image".
+    /// Puts the first image of layout 2 beside the current one of layout 1, which stays the current one: it has
+    /// sequence 1, in the slot at 65,536. No slot of layout 1 is written. It takes the body over, and no memory.
+    /// docs/DISK.md, "The move to layout 2".
+    ///
+    /// # Errors
+    ///
+    /// `TooLarge` where the body has more than 81,907 bytes: nothing has changed. `Device` where the disk failed: the
+    /// images have to be opened again.
+    pub fn prepare_layout2(&mut self, body: Vec<u8>) -> Result<(), ImageFault>
+        requires ready { IsReady D.Disk self.old }
+        requires layout { layout_of self.old.slot ≡ Layout1 }
+        ensures prepares { Prepares D.Disk self.old (migrated_image body.items) result self.new }
+        ensures faults { IfErr result (λ e. (e ≡ TooLarge) ⊎ (e ≡ Device)) }
+    {
+        if body.len() > Layout::Layout2.longest() as usize {
+            return Err(ImageFault::TooLarge);
+        }
+        self.put_beside(Image {
+            slot: Layout::Layout2.first(),
+            body,
+            sequence: 1,
+        })
+    }
+
+    /// Makes the prepared image the current one: from then on the disk is of its layout. It takes no memory.
+    /// docs/DISK.md, "A new image" and "The move to layout 2".
     ///
     /// # Errors
     ///
@@ -194,14 +230,14 @@ impl<D: Disk> Images<D> {
         ensures ready { OnOk result (IsReady D.Disk self.new) }
         ensures published { OnOk result (self.new ≡ published self.old self.new.disk) }
         ensures log { D.honest self.old.disk → OnOk result
-            (HasNewImage self.new.body self.new.sequence (D.state self.new.disk).reading) }
+            (HasNewImage (layout_of self.new.slot) self.new.body self.new.sequence (D.state self.new.disk).reading) }
 
-        // Whatever it answers, nothing but the gate of the other slot was written.
+        // Whatever it answers, nothing but the gate of the prepared image was written.
         ensures rest { D.honest self.old.disk → KeepsButGate self.old (D.state self.old.disk) (D.state self.new.disk) }
 
         // A crash at any moment of the call leaves the current image and its log, or the new one with a closed log.
         ensures any_moment { D.honest self.old.disk → LeavesOnly (D.state self.old.disk) (D.state self.new.disk)
-            (HasEither self.old.body (next_of self.old) self.old.sequence (log_of (D.state self.old.disk).reading)) }
+            (HasEither self.old (log_of (D.state self.old.disk).reading) (next_of self.old)) }
 
         ensures faults { IsErr result → IsErrOf result Device }
         ensures failed { IsErr result → self.new ≡ record self.old { disk = self.new.disk; prepared = None } }
@@ -212,24 +248,23 @@ impl<D: Disk> Images<D> {
         let Some(next) = self.prepared.take() else {
             unreachable!();
         };
-        let slot = self.slot.other();
-        write_through(&mut self.disk, slot.start(), &[OPEN])?;
-        self.slot = slot;
+        write_through(&mut self.disk, next.slot.start(), &[OPEN])?;
         self.current = next;
         Ok(())
     }
 }
 
 impl<D: Disk> Images<D> {
-    ghost use Rattle.pos_image.specs.Images.{IsReady, Prepares};
+    ghost use Rattle.pos_image.specs.Images.{IsReady, Prepares, IsBeside, image_of, next_image};
 
     // Refuses a body that is too long, and any body after the last sequence.
     fn check(&self, length: usize) -> Result<(), ImageFault>
-        ensures too_large { IsErrOf result TooLarge ↔ (longest < length) }
-        ensures exhausted { IsErrOf result Exhausted ↔ (length ≤ longest) × (self.now.sequence + 1 ≡ 2 ^ 64) }
+        ensures too_large { IsErrOf result TooLarge ↔ (longest (layout_of self.now.slot) < length) }
+        ensures exhausted { IsErrOf result Exhausted
+            ↔ (length ≤ longest (layout_of self.now.slot)) × (self.now.sequence + 1 ≡ 2 ^ 64) }
         ensures faults { IfErr result (λ e. (e ≡ TooLarge) ⊎ (e ≡ Exhausted)) }
     {
-        if length > LONGEST as usize {
+        if length > self.layout().longest() as usize {
             return Err(ImageFault::TooLarge);
         }
         if self.current.sequence == u64::MAX {
@@ -238,17 +273,30 @@ impl<D: Disk> Images<D> {
         Ok(())
     }
 
-    // Puts an image with this body beside the current one.
-    fn put_beside(&mut self, body: Vec<u8>) -> Result<(), ImageFault>
+    // The next image, with this body.
+    fn next(&self, body: Vec<u8>) -> Image
+        requires { self.now.sequence + 1 < 2 ^ 64 }
+        ensures { image_of result.slot result.body.items result.sequence ≡ next_image self.now body.items }
+    {
+        Image {
+            slot: self.current.slot.other(),
+            body,
+            sequence: self.current.sequence + 1,
+        }
+    }
+
+    // Puts an image beside the current one.
+    fn put_beside(&mut self, image: Image) -> Result<(), ImageFault>
         requires ready { IsReady D.Disk self.old }
-        requires short { length body.items ≤ longest }
-        requires more { self.old.sequence + 1 < 2 ^ 64 }
-        ensures prepares { Prepares D.Disk self.old body.items result self.new }
+        requires short { length image.body.items ≤ longest (layout_of image.slot) }
+        requires beside { IsBeside
+            self.old.slot self.old.sequence (image_of image.slot image.body.items image.sequence) }
+        ensures prepares { Prepares
+            D.Disk self.old (image_of image.slot image.body.items image.sequence) result self.new }
         ensures faults { IsErr result → IsErrOf result Device }
     {
-        let sequence = self.current.sequence + 1;
-        place_image(&mut self.disk, self.slot.other().start(), sequence, &body)?;
-        self.prepared = Some(Image { body, sequence });
+        place_image(&mut self.disk, image.slot, image.sequence, &image.body)?;
+        self.prepared = Some(image);
         Ok(())
     }
 }

@@ -1,4 +1,4 @@
-//! Two images on a disk, of which one is the current one at every moment.
+//! Images on a disk, by one of two layouts, of which one is the current one at every moment.
 #![tactic(auto)]
 
 mod fault;
@@ -14,3 +14,4 @@ mod steps;
 
 pub use fault::ImageFault;
 pub use images::Images;
+pub use layout::Layout;

@@ -3,12 +3,12 @@ ghost use Rattle.std.specs.Prelude.{◌≡◌, ◌≤◌, ◌+◌, ◌⊎◌, le
 ghost use Rattle.pos_disk.specs.State.{HasCause, Watches, part};
 ghost use Rattle.pos_disk.specs.Keeps.{KeepsDisk};
 ghost use Rattle.pos_image.specs.Images.{FailsWithCause, CountsFaults};
-ghost use Rattle.pos_image.specs.Layout.{disk_size, longest, is_open, sequence_at, length_at};
+ghost use Rattle.pos_image.specs.Layout.{disk_size, longest, layout_of, is_open, sequence_at, length_at};
 ghost use Rattle.pos_image.specs.Slots.{HasHead, HeadsAre, body_in};
 ghost use Rattle.pos_image.specs.declared.fault.ImageFault.TheVariants.{Device, NoMemory};
 
 use crate::fault::ImageFault;
-use crate::layout::{BODY, LATER_FIRST, LATER_SECOND, LENGTH, OPEN, SECOND, SEQUENCE};
+use crate::layout::{BODY, FOURTH, LENGTH, Layout, OPEN, SECOND, SEQUENCE, THIRD};
 use crate::slot::Slot;
 use pos_disk::{Disk, DiskFault};
 use std::alloc::Global;
@@ -21,12 +21,12 @@ pub struct Head {
     pub length: u32,
 }
 
-/// The heads of both slots, and whether a gate of the later layout is open.
+/// The layout of a disk, and the heads of its two slots.
 #[derive(Clone, Copy)]
 pub struct Heads {
+    pub layout: Layout,
     pub first: Head,
     pub second: Head,
-    pub later: bool,
 }
 
 // Reads as many bytes as the array has.
@@ -89,7 +89,7 @@ fn read_head<D: Disk>(disk: &mut D, at: u64) -> Result<Head, DiskFault>
     Ok(head_in(&bytes))
 }
 
-/// Reads what tells the current slot.
+/// Reads what tells the current slot. Where a gate of layout 2 is open, the slots of layout 1 aren't read.
 pub fn read_heads<D: Disk>(disk: &mut D) -> Result<Heads, DiskFault>
     requires large { disk_size ≤ D.size disk.old }
     ensures keeps { KeepsDisk D.Disk disk.old disk.new }
@@ -97,14 +97,21 @@ pub fn read_heads<D: Disk>(disk: &mut D) -> Result<Heads, DiskFault>
     ensures watches { D.honest disk.old → Watches (D.state disk.old) (D.state disk.new) }
     ensures cause { D.honest disk.old → HasCause (D.state disk.old) (D.state disk.new) result }
 {
+    let third = read_head(disk, THIRD)?;
+    let fourth = read_head(disk, FOURTH)?;
+    if third.gate || fourth.gate {
+        return Ok(Heads {
+            layout: Layout::Layout2,
+            first: third,
+            second: fourth,
+        });
+    }
     let first = read_head(disk, 0)?;
     let second = read_head(disk, SECOND)?;
-    let third = read_gate(disk, LATER_FIRST)?;
-    let fourth = read_gate(disk, LATER_SECOND)?;
     Ok(Heads {
+        layout: Layout::Layout1,
         first,
         second,
-        later: third || fourth,
     })
 }
 
@@ -116,7 +123,7 @@ pub fn read_body<D: Disk>(
     length: u32,
 ) -> Result<Vec<u8>, ImageFault>
     requires large { disk_size ≤ D.size disk.old }
-    requires short { length ≤ longest }
+    requires short { length ≤ longest (layout_of slot) }
     ensures keeps { KeepsDisk D.Disk disk.old disk.new }
     ensures body { D.honest disk.old → IfOk result (λ it. it.items ≡ body_in slot length (D.state disk.old)) }
     ensures watches { D.honest disk.old → Watches (D.state disk.old) (D.state disk.new) }

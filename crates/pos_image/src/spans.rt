@@ -2,14 +2,13 @@
 ghost use Rattle.std.specs.Prelude.{◌≡◌, ◌-◌, length, IfErr, OnOk, IsErr, IsErrOf};
 ghost use Rattle.pos_disk.specs.State.{Watches, part};
 ghost use Rattle.pos_disk.specs.Keeps.{KeepsDisk};
-ghost use Rattle.pos_image.specs.Layout.{log_place, slot_size};
+ghost use Rattle.pos_image.specs.Layout.{log_place, slot_size, layout_of};
 ghost use Rattle.pos_image.specs.Spans.{IsInSpan};
 ghost use Rattle.pos_image.specs.Standing.{log_of};
 ghost use Rattle.pos_image.specs.declared.fault.ImageFault.TheVariants.{Device};
 
 use crate::fault::ImageFault;
 use crate::images::Images;
-use crate::layout::{LOG, SECOND};
 use pos_disk::Disk;
 
 /// The log of the current slot. Places are counted from the gate of the slot, each range lies within `log_span`, and
@@ -19,11 +18,13 @@ impl<D: Disk> Images<D> {
     ghost use Rattle.pos_image.specs.Images.{IsReady, FailsFor, CountsFaults};
     ghost use Rattle.pos_image.specs.Spans.{IsWritable, WritesSpan, CrashKeepsImage, span_of};
 
-    /// Where the log lies in a slot: its first place, 16,384, and the one behind its last, 32,768.
+    /// Where the log lies in a slot: its first place, and the one behind its last: 16,384 and 32,768, by layout 2
+    /// 81,920 and 131,072.
     pub fn log_span(&self) -> (u64, u64)
-        ensures { result ≡ (log_place, slot_size) }
+        ensures { result ≡ (log_place (layout_of self.now.slot), slot_size (layout_of self.now.slot)) }
     {
-        (LOG, SECOND)
+        let layout = self.current.slot.layout();
+        (layout.log(), layout.slot_size())
     }
 
     /// Reads bytes of the log, as many as `out` holds. It takes no memory.
@@ -33,19 +34,19 @@ impl<D: Disk> Images<D> {
     /// `Device` where the disk failed: the images have to be opened again.
     pub fn log_read(&mut self, at: u64, out: &mut [u8]) -> Result<(), ImageFault>
         requires writable { IsWritable D.Disk self.old }
-        requires inside { IsInSpan at (length out.old) }
+        requires inside { IsInSpan (layout_of self.old.slot) at (length out.old) }
         ensures writable { OnOk result (IsWritable D.Disk self.new) }
         ensures ready { IsReady D.Disk self.old → OnOk result (IsReady D.Disk self.new) }
         ensures same { self.new ≡ record self.old { disk = self.new.disk } }
-        ensures bytes { D.honest self.old.disk → OnOk result
-            (out.new ≡ part (at - log_place) (length out.new) (log_of (D.state self.old.disk).reading)) }
+        ensures bytes { D.honest self.old.disk → OnOk result (out.new ≡ part
+            (at - log_place (layout_of self.old.slot)) (length out.new) (log_of (D.state self.old.disk).reading)) }
         ensures any_moment { D.honest self.old.disk → Watches (D.state self.old.disk) (D.state self.new.disk) }
         ensures faults { IsErr result → IsErrOf result Device }
         ensures device { D.honest self.old.disk → IfErr result (FailsFor D.Disk self.old self.new) }
         ensures counts { D.honest self.old.disk → CountsFaults (D.state self.old.disk) (D.state self.new.disk) result }
         ensures keeps { KeepsDisk D.Disk self.old.disk self.new.disk }
     {
-        self.disk.read(self.slot.start() + at, out)?;
+        self.disk.read(self.current.slot.start() + at, out)?;
         Ok(())
     }
 
@@ -57,11 +58,11 @@ impl<D: Disk> Images<D> {
     /// `Device` where the disk failed: the images have to be opened again.
     pub fn log_write(&mut self, at: u64, bytes: &[u8]) -> Result<(), ImageFault>
         requires writable { IsWritable D.Disk self.old }
-        requires inside { IsInSpan at (length bytes.now) }
+        requires inside { IsInSpan (layout_of self.old.slot) at (length bytes.now) }
         ensures writable { OnOk result (IsWritable D.Disk self.new) }
         ensures same { self.new ≡ record self.old { disk = self.new.disk } }
         ensures span { D.honest self.old.disk → WritesSpan (span_of self.old (D.state self.old.disk))
-            (span_of self.old (D.state self.new.disk)) (at - log_place) bytes.now result }
+            (span_of self.old (D.state self.new.disk)) (at - log_place (layout_of self.old.slot)) bytes.now result }
 
         // A crash at any moment of the call leaves the current image, and of its log what a crash after it may leave.
         ensures any_moment { D.honest self.old.disk →
@@ -73,7 +74,7 @@ impl<D: Disk> Images<D> {
         ensures counts { D.honest self.old.disk → CountsFaults (D.state self.old.disk) (D.state self.new.disk) result }
         ensures keeps { KeepsDisk D.Disk self.old.disk self.new.disk }
     {
-        self.disk.write(self.slot.start() + at, bytes)?;
+        self.disk.write(self.current.slot.start() + at, bytes)?;
         Ok(())
     }
 

@@ -3,13 +3,14 @@ ghost use Rattle.std.specs.Prelude.{◌≡◌, ◌≤◌, ◌+◌, ◌++◌, len
 ghost use Rattle.byteorder.specs.Endian.{big_bytes};
 ghost use Rattle.pos_disk.specs.State.{IsAtRest, HasCause};
 ghost use Rattle.pos_disk.specs.Keeps.{KeepsDisk};
-ghost use Rattle.pos_image.specs.Layout.{slot_size, longest, is_open};
+ghost use Rattle.pos_image.specs.Layout.{disk_size, longest, is_open, start, layout_of};
 ghost use Rattle.pos_image.specs.Steps.{IsWritten, Keeps, CrashKeeps, ClosesGate, CrashClosing, KeepsGate, CrashKeepsGate};
 ghost use Rattle.pos_image.specs.Steps.{HasNoLog, KeepsBeside, Stages, CrashStages};
 ghost use Rattle.pos_image.specs.Slots.{HasFields};
 
-use crate::layout::{BODY, CLOSED, LOG, SEQUENCE};
+use crate::layout::{BODY, CLOSED, SEQUENCE};
 use crate::reading::read_gate;
+use crate::slot::Slot;
 use byteorder::{BigEndian, ByteOrder};
 use pos_disk::{Disk, DiskFault};
 
@@ -56,54 +57,55 @@ fn head_of(sequence: u64, length: u32) -> [u8; 12]
     head
 }
 
-/// Writes an image behind the gate of the slot that starts at this place, and an empty log, and syncs.
+/// Writes an image behind the gate of this slot, and an empty log, and syncs.
 pub fn write_image<D: Disk>(
     disk: &mut D,
-    at: u64,
+    slot: Slot,
     sequence: u64,
     body: &[u8],
 ) -> Result<(), DiskFault>
-    requires fits { at + slot_size ≤ D.size disk.old }
-    requires low { at ≤ slot_size }
-    requires short { length body.now ≤ longest }
+    requires large { disk_size ≤ D.size disk.old }
+    requires short { length body.now ≤ longest (layout_of slot) }
     requires at_rest { D.honest disk.old → IsAtRest (D.state disk.old) }
     ensures keeps { KeepsDisk D.Disk disk.old disk.new }
     ensures at_rest { D.honest disk.old → OnOk result (IsAtRest (D.state disk.new)) }
-    ensures written { D.honest disk.old → OnOk result (HasFields (D.state disk.new).reading at sequence body.now) }
-    ensures no_log { D.honest disk.old → OnOk result (HasNoLog at (D.state disk.new)) }
-    ensures rest { D.honest disk.old → KeepsBeside at (length body.now) (D.state disk.old) (D.state disk.new) }
-    ensures same { D.honest disk.old → OnOk result (KeepsGate at (D.state disk.old) (D.state disk.new)) }
-    ensures any_moment { D.honest disk.old → CrashKeepsGate at (D.state disk.old) (D.state disk.new) }
+    ensures written { D.honest disk.old
+        → OnOk result (HasFields (D.state disk.new).reading (start slot) sequence body.now) }
+    ensures no_log { D.honest disk.old → OnOk result (HasNoLog slot (D.state disk.new)) }
+    ensures rest { D.honest disk.old → KeepsBeside slot (length body.now) (D.state disk.old) (D.state disk.new) }
+    ensures same { D.honest disk.old → OnOk result (KeepsGate slot (D.state disk.old) (D.state disk.new)) }
+    ensures any_moment { D.honest disk.old → CrashKeepsGate slot (D.state disk.old) (D.state disk.new) }
     ensures cause { D.honest disk.old → HasCause (D.state disk.old) (D.state disk.new) result }
 {
+    let at = slot.start();
     disk.write(at + SEQUENCE, &head_of(sequence, body.len() as u32))?;
     disk.write(at + BODY, body)?;
-    disk.write(at + LOG, &[CLOSED])?;
+    disk.write(at + slot.layout().log(), &[CLOSED])?;
     disk.sync()
 }
 
 /// Puts an image into a slot, behind a closed gate.
 pub fn place_image<D: Disk>(
     disk: &mut D,
-    at: u64,
+    slot: Slot,
     sequence: u64,
     body: &[u8],
 ) -> Result<(), DiskFault>
-    requires fits { at + slot_size ≤ D.size disk.old }
-    requires low { at ≤ slot_size }
-    requires short { length body.now ≤ longest }
+    requires large { disk_size ≤ D.size disk.old }
+    requires short { length body.now ≤ longest (layout_of slot) }
     requires at_rest { D.honest disk.old → IsAtRest (D.state disk.old) }
     ensures keeps { KeepsDisk D.Disk disk.old disk.new }
     ensures at_rest { D.honest disk.old → OnOk result (IsAtRest (D.state disk.new)) }
-    ensures closed { D.honest disk.old → OnOk result (is_open (D.state disk.new).reading at ≡ false) }
-    ensures written { D.honest disk.old → OnOk result (HasFields (D.state disk.new).reading at sequence body.now) }
-    ensures no_log { D.honest disk.old → OnOk result (HasNoLog at (D.state disk.new)) }
-    ensures rest { D.honest disk.old → KeepsBeside at (length body.now) (D.state disk.old) (D.state disk.new) }
-    ensures gate { D.honest disk.old → OnOk result (ClosesGate at (D.state disk.old) (D.state disk.new)) }
-    ensures same { D.honest disk.old → OnOk result (Stages at (D.state disk.old).reading (D.state disk.new).reading) }
-    ensures any_moment { D.honest disk.old → CrashStages at (D.state disk.old) (D.state disk.new) }
+    ensures closed { D.honest disk.old → OnOk result (is_open (D.state disk.new).reading (start slot) ≡ false) }
+    ensures written { D.honest disk.old
+        → OnOk result (HasFields (D.state disk.new).reading (start slot) sequence body.now) }
+    ensures no_log { D.honest disk.old → OnOk result (HasNoLog slot (D.state disk.new)) }
+    ensures rest { D.honest disk.old → KeepsBeside slot (length body.now) (D.state disk.old) (D.state disk.new) }
+    ensures gate { D.honest disk.old → OnOk result (ClosesGate (start slot) (D.state disk.old) (D.state disk.new)) }
+    ensures same { D.honest disk.old → OnOk result (Stages slot (D.state disk.old).reading (D.state disk.new).reading) }
+    ensures any_moment { D.honest disk.old → CrashStages slot (D.state disk.old) (D.state disk.new) }
     ensures cause { D.honest disk.old → HasCause (D.state disk.old) (D.state disk.new) result }
 {
-    close_gate(disk, at)?;
-    write_image(disk, at, sequence, body)
+    close_gate(disk, slot.start())?;
+    write_image(disk, slot, sequence, body)
 }

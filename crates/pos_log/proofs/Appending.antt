@@ -7,7 +7,9 @@ use Rattle.pos_disk.specs.declared.device.Disk.{Ghosts}
 use Rattle.pos_disk.proofs.Bytes.{length-splice, splice_elsewhere, part-splice, get_or-part}
 use Rattle.pos_disk.proofs.Moments.{weaker, followed_by}
 use Rattle.pos_image.specs.Images.{View, IsReady, CountsFaults}
+use Rattle.pos_image.specs.Layout.{layout_of, slot_size, log_place, log_size}
 use Rattle.pos_image.specs.Standing.{log_of}
+use Rattle.pos_image.proofs.Places.{places}
 use Rattle.pos_log.specs.Records.{spelling, tail_of, text_behind_gate, HoldsRecords, HoldsMore}
 use Rattle.pos_log.specs.Writing.{KeepsSpan, PutsBytes}
 use Rattle.pos_log.specs.Logs.{log_over, IsLogReady, KeepsRecords, Appends}
@@ -20,7 +22,8 @@ use Rattle.pos_log.proofs.Unique.{one_log}
 -- What a write into the log span and its sync did to the disk, whatever they answered.
 pub record WritesThrough {D : Type 0} (bound : Ghosts D) (images : View D) (disk : D) (at : ℕ) (bytes : List ℕ) (end : D) : Type 0 where
   pub moments : bound.honest disk
-      → LeavesOnly (bound.state disk) (bound.state end) (KeepsSpan images.body images.sequence at (length bytes) (log_of (bound.state disk).reading))
+      → LeavesOnly (bound.state disk) (bound.state end)
+      (KeepsSpan (layout_of images.slot) images.body images.sequence at (length bytes) (log_of (bound.state disk).reading))
   pub keeps : KeepsDisk bound disk end
 
 -- the same for images that differ in their disk alone
@@ -47,25 +50,29 @@ pub never_failed : {T : Type 0} (old new : DiskState) (made : T) → CountsFault
 never_failed old new made counts = ⊎_elim (λ is. absurd cc) (λ same. same) counts
 
 module _ {D : Type 0} (bound : Ghosts D) (images : View D) (tail : ℕ) (group : List ℕ) (ready : IsLogReady bound (log_over images tail))
-    (low : 16384 ≤ tail) (fits : tail + 6 + length group ≤ 32768) where
+    (low : log_place (layout_of images.slot) ≤ tail) (fits : tail + 6 + length group ≤ slot_size (layout_of images.slot)) where
+  abbrev origin : ℕ
+  origin = log_place (layout_of images.slot)
+
   abbrev old : DiskState
   old = bound.state images.disk
 
   -- the tail lies behind whatever records the span holds
-  tail_is : bound.honest images.disk → (groups : List (List ℕ)) → HoldsRecords groups (log_of old.reading) → tail - 16384 ≡ length (spelling groups)
+  tail_is : bound.honest images.disk → (groups : List (List ℕ)) → HoldsRecords groups (log_of old.reading) → tail - origin ≡ length (spelling groups)
   tail_is honest groups holds =
       let found = ready.records honest in
       let same = one_log found.0 groups (log_of old.reading) found.1 holds in
-      let at : tail ≡ tail_of groups = found.2 ∙ ap tail_of same in
+      let at : tail ≡ tail_of (layout_of images.slot) groups = found.2 ∙ ap (tail_of (layout_of images.slot)) same in
       omega (arith, at)
 
-  long : bound.honest images.disk → length (log_of old.reading) ≡ 16384
+  long : bound.honest images.disk → length (log_of old.reading) ≡ log_size (layout_of images.slot)
   long honest = ready_length bound images ready.images honest
 
-  module _ (at : ℕ) (at_is : at ≡ tail - 16384 + 1) (text : List ℕ) (text_is : text ≡ text_behind_gate group) (disk : D)
+  module _ (at : ℕ) (at_is : at ≡ tail - origin + 1) (text : List ℕ) (text_is : text ≡ text_behind_gate group) (disk : D)
       (puts : WritesThrough bound images images.disk at text disk) where
     -- at any moment of the first step
-    first_moments : bound.honest images.disk → LeavesOnly old (bound.state disk) (KeepsRecords images.body images.sequence (log_of old.reading) group)
+    first_moments : bound.honest images.disk
+        → LeavesOnly old (bound.state disk) (KeepsRecords (layout_of images.slot) images.body images.sequence (log_of old.reading) group)
     first_moments honest = weaker old (bound.state disk) _ _ (λ c keeps. record {
       image = keeps.image;
       log = λ groups holds.
@@ -89,40 +96,41 @@ module _ {D : Type 0} (bound : Ghosts D) (images : View D) (tail : ℕ) (group :
     }
 
     module _ (put : bound.honest images.disk → PutsBytes at text old (bound.state disk)) (end : D)
-        (opens : WritesThrough bound images disk (tail - 16384) (165 ∷ []) end) where
+        (opens : WritesThrough bound images disk (tail - origin) (165 ∷ []) end) where
       few : length group < 2 ^ 32
-      few = omega (arith, fits)
+      few = let low = (places (layout_of images.slot)).low in omega (arith, fits, low)
 
       text_long : length text ≡ 5 + length group
       text_long = ap length text_is ∙ text_length group
 
       in_span : bound.honest images.disk → at + length text ≤ length (log_of old.reading)
-      in_span honest = let size = long honest in omega (arith, size, fits, low, at_is, text_long)
+      in_span honest = let size = long honest in let end = (places (layout_of images.slot)).end in omega (arith, size, fits, low, at_is, text_long, end)
 
-      beside : bound.honest images.disk → SameBut (tail - 16384 + 1) (5 + length group) (log_of old.reading) (log_of (bound.state disk).reading)
+      beside : bound.honest images.disk → SameBut (tail - origin + 1) (5 + length group) (log_of old.reading) (log_of (bound.state disk).reading)
       beside honest =
           let same : SameBut at (length text) (log_of old.reading) (log_of (bound.state disk).reading) =
           subst (SameBut at (length text) (log_of old.reading)) (sym (put honest)) (spliced_same (log_of old.reading) text at (in_span honest)) in
-          subst (λ (n : ℕ). SameBut (tail - 16384 + 1) n (log_of old.reading) (log_of (bound.state disk).reading)) text_long
+          subst (λ (n : ℕ). SameBut (tail - origin + 1) n (log_of old.reading) (log_of (bound.state disk).reading)) text_long
           (subst (λ (k : ℕ). SameBut k (length text) (log_of old.reading) (log_of (bound.state disk).reading)) at_is same)
 
-      there : bound.honest images.disk → part (tail - 16384 + 1) (5 + length group) (log_of (bound.state disk).reading) ≡ text_behind_gate group
+      there : bound.honest images.disk → part (tail - origin + 1) (5 + length group) (log_of (bound.state disk).reading) ≡ text_behind_gate group
       there honest =
           ap (λ (k : ℕ). part k (5 + length group) (log_of (bound.state disk).reading)) (sym at_is)
           ∙ ap (λ (n : ℕ). part at n (log_of (bound.state disk).reading)) (sym text_long)
           ∙ ap (part at (length text)) (put honest)
           ∙ part-splice (log_of old.reading) text at (in_span honest) ∙ text_is
 
-      place_fits : bound.honest images.disk → tail - 16384 + 6 + length group ≤ length (log_of old.reading)
-      place_fits honest = let size = long honest in omega (arith, size, fits, low)
+      place_fits : bound.honest images.disk → tail - origin + 6 + length group ≤ length (log_of old.reading)
+      place_fits honest = let size = long honest in let end = (places (layout_of images.slot)).end in omega (arith, size, fits, low, end)
 
       -- and of the second
-      all_moments : bound.honest images.disk → LeavesOnly old (bound.state end) (KeepsRecords images.body images.sequence (log_of old.reading) group)
+      all_moments : bound.honest images.disk
+          → LeavesOnly old (bound.state end) (KeepsRecords (layout_of images.slot) images.body images.sequence (log_of old.reading) group)
       all_moments honest = followed_by old (bound.state disk) (bound.state end) _ (first_moments honest)
           (weaker (bound.state disk) (bound.state end) _ _ (λ c keeps. record {
             image = keeps.image;
             log = λ groups holds.
-                either_more groups (log_of old.reading) (log_of (bound.state disk).reading) (log_of c) group holds (tail - 16384)
+                either_more groups (log_of old.reading) (log_of (bound.state disk).reading) (log_of c) group holds (tail - origin)
                 (tail_is honest groups holds) (place_fits honest) few (beside honest) (there honest) keeps.log;
           }) (opens.moments (puts.keeps.honest.0 honest)))
 
@@ -148,24 +156,24 @@ module _ {D : Type 0} (bound : Ghosts D) (images : View D) (tail : ℕ) (group :
         keeps = both_keep;
       }
 
-      module _ (opened : bound.honest disk → PutsBytes (tail - 16384) (165 ∷ []) (bound.state disk) (bound.state end)) where
-        mid_long : bound.honest images.disk → tail - 16384 + 1 ≤ length (log_of (bound.state disk).reading)
+      module _ (opened : bound.honest disk → PutsBytes (tail - origin) (165 ∷ []) (bound.state disk) (bound.state end)) where
+        mid_long : bound.honest images.disk → tail - origin + 1 ≤ length (log_of (bound.state disk).reading)
         mid_long honest = let size = (beside honest).same_length in let whole = place_fits honest in omega (arith, size, whole)
 
-        is_opened : bound.honest images.disk → get_or (log_of (bound.state end).reading) (tail - 16384) 0 ≡ 165
+        is_opened : bound.honest images.disk → get_or (log_of (bound.state end).reading) (tail - origin) 0 ≡ 165
         is_opened honest =
-            let here : tail - 16384 + 0 ≡ tail - 16384 = omega arith in
-            ap (λ (b : List ℕ). get_or b (tail - 16384) 0) (opened (puts.keeps.honest.0 honest))
-            ∙ ap (λ (k : ℕ). get_or (splice (log_of (bound.state disk).reading) (tail - 16384) (165 ∷ [])) k 0) (sym here)
-            ∙ sym (get_or-part (tail - 16384) 1 (splice (log_of (bound.state disk).reading) (tail - 16384) (165 ∷ [])) 0 (omega arith))
-            ∙ ap (λ (b : List ℕ). get_or b 0 0) (part-splice (log_of (bound.state disk).reading) (165 ∷ []) (tail - 16384) (mid_long honest))
+            let here : tail - origin + 0 ≡ tail - origin = omega arith in
+            ap (λ (b : List ℕ). get_or b (tail - origin) 0) (opened (puts.keeps.honest.0 honest))
+            ∙ ap (λ (k : ℕ). get_or (splice (log_of (bound.state disk).reading) (tail - origin) (165 ∷ [])) k 0) (sym here)
+            ∙ sym (get_or-part (tail - origin) 1 (splice (log_of (bound.state disk).reading) (tail - origin) (165 ∷ [])) 0 (omega arith))
+            ∙ ap (λ (b : List ℕ). get_or b 0 0) (part-splice (log_of (bound.state disk).reading) (165 ∷ []) (tail - origin) (mid_long honest))
 
         more : bound.honest images.disk → HoldsMore (log_of old.reading) group (log_of (bound.state end).reading)
         more honest groups holds =
-            opened_more groups (log_of old.reading) (log_of (bound.state disk).reading) (log_of (bound.state end).reading) group holds (tail - 16384)
+            opened_more groups (log_of old.reading) (log_of (bound.state disk).reading) (log_of (bound.state end).reading) group holds (tail - origin)
             (tail_is honest groups holds) (place_fits honest) few (beside honest) (there honest)
-            (subst (SameBut (tail - 16384) 1 (log_of (bound.state disk).reading)) (sym (opened (puts.keeps.honest.0 honest)))
-            (spliced_same (log_of (bound.state disk).reading) (165 ∷ []) (tail - 16384) (mid_long honest)))
+            (subst (SameBut (tail - origin) 1 (log_of (bound.state disk).reading)) (sym (opened (puts.keeps.honest.0 honest)))
+            (spliced_same (log_of (bound.state disk).reading) (165 ∷ []) (tail - origin) (mid_long honest)))
             (ap (λ (b : ℕ). nat_eq b 165) (is_opened honest))
 
         pub appended : (now : View D) (behind : ℕ) → now ≡ record images { disk = end } → behind ≡ tail + 5 + length group → IsReady bound now

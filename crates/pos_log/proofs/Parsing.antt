@@ -71,9 +71,9 @@ none_held groups at span begins byte none (all, holds) =
     refused follow.0 at span gate _ begins.inside follow.3 follow.2 holds.behind byte none
 
 -- a span that was read whole
-pub whole_read : (read out items span : List ℕ) (n : ℕ) → n ≡ 16384 → length out ≡ 16384 → length span ≡ 16384
+pub whole_read : (read out items span : List ℕ) (n size : ℕ) → n ≡ size → length out ≡ size → length span ≡ size
     → read ≡ take n (out ++ drop (length out) items) → out ≡ part 0 (length out) span → read ≡ span
-whole_read read out items span n n_is out_long span_long read_is out_is =
+whole_read read out items span n size n_is out_long span_long read_is out_is =
     let one : n ≡ length out = omega arith in
     let two : length out ≡ length span = omega arith in
     read_is ∙ ap (λ (k : ℕ). take k (out ++ drop (length out) items)) one ∙ take_at out (drop (length out) items) (length out) refl

@@ -4,7 +4,7 @@ use Rattle.pos_disk.specs.State.{DiskState, InRange, LeavesOnly}
 use Rattle.pos_disk.specs.Within.{SameBut}
 use Rattle.pos_disk.specs.declared.device.Disk.{Ghosts}
 use Rattle.pos_disk.proofs.Moments.{weaker, followed_by}
-use Rattle.pos_image.specs.Layout.{start}
+use Rattle.pos_image.specs.Layout.{start, layout_of, log_place, log_size}
 use Rattle.pos_image.specs.Standing.{log_of}
 use Rattle.pos_image.specs.Images.{View, IsSound, IsReady}
 use Rattle.pos_image.specs.Spans.{Span, span_of, MayHold, KeepsImage, WritesSpan}
@@ -29,11 +29,12 @@ module _ {D : Type 0} (images : View D) (at : ℕ) (bytes : List ℕ) {T E : Typ
   within : IsSpanWithin (log_of old.reading) at (length bytes) (span_of images mid)
   within = record {
     same = record { same_length = writes.same_length; elsewhere = writes.elsewhere };
-    loose = λ i loose. ⊎_elim (λ was. absurd (sound.at_rest (start images.slot + 16384 + i) was)) (λ inside. inside) (writes.loose i loose);
+    loose = λ i loose. ⊎_elim (λ was. absurd (sound.at_rest (start images.slot + log_place (layout_of images.slot) + i) was)) (λ inside. inside)
+        (writes.loose i loose);
   }
 
   -- at any moment of the write
-  pub write_moments : LeavesOnly old mid (KeepsSpan images.body images.sequence at (length bytes) (log_of old.reading))
+  pub write_moments : LeavesOnly old mid (KeepsSpan (layout_of images.slot) images.body images.sequence at (length bytes) (log_of old.reading))
   write_moments = weaker old mid _ _
       (λ c keeps. record {
         image = keeps.image;
@@ -43,10 +44,10 @@ module _ {D : Type 0} (images : View D) (at : ℕ) (bytes : List ℕ) {T E : Typ
 
   -- and of the sync after it
   pub sync_moments : (now : View D) (disk : D) → now ≡ record images { disk = disk } → (new : DiskState) → LeavesOnly mid new (KeepsImage now (span_of now mid))
-      → LeavesOnly old new (KeepsSpan images.body images.sequence at (length bytes) (log_of old.reading))
+      → LeavesOnly old new (KeepsSpan (layout_of images.slot) images.body images.sequence at (length bytes) (log_of old.reading))
   sync_moments now disk is new =
       subst (λ (im : View D). LeavesOnly mid new (KeepsImage im (span_of im mid))
-      → LeavesOnly old new (KeepsSpan images.body images.sequence at (length bytes) (log_of old.reading))) (sym is) (λ synced.
+      → LeavesOnly old new (KeepsSpan (layout_of images.slot) images.body images.sequence at (length bytes) (log_of old.reading))) (sym is) (λ synced.
       followed_by old mid new _ write_moments
       (weaker mid new _ _ (λ c keeps. record {
         image = keeps.image;
@@ -56,6 +57,6 @@ module _ {D : Type 0} (images : View D) (at : ℕ) (bytes : List ℕ) {T E : Typ
 
 -- the span of images that are ready is as long as ever
 pub ready_length : {D : Type 0} (bound : Ghosts D) (images : View D) → IsReady bound images → bound.honest images.disk
-    → length (log_of (bound.state images.disk).reading) ≡ 16384
+    → length (log_of (bound.state images.disk).reading) ≡ log_size (layout_of images.slot)
 ready_length bound images is honest =
     span_length images.slot (bound.state images.disk).reading images.body images.sequence (is.sound honest).current

@@ -4,6 +4,7 @@ use Rattle.std.specs.Int.{w32, to_be_bytes}
 use Rattle.std.specs.List.{AllByRecursion, flat_map}
 use Rattle.pos_disk.specs.State.{part}
 use Rattle.pos_image.specs.Layout.{is_open, open_gate, log_place}
+use Rattle.pos_image.specs.declared.layout.Layout.{Layout}
 
 -- a record: an open gate, the length of its group in four bytes, and the group
 abbrev pub record_spelling : List ℕ → List ℕ
@@ -42,9 +43,9 @@ HoldsOldOrMore old group new =
     (groups : List (List ℕ)) → HoldsRecords groups old
     → HoldsRecords groups new ⊎ HoldsRecords (groups ++ group ∷ []) new
 
--- where the gate behind these records stands in its slot
-abbrev pub tail_of : List (List ℕ) → ℕ
-tail_of groups = log_place + length (spelling groups)
+-- where the gate behind these records stands in its slot, by its layout
+abbrev pub tail_of : Layout → List (List ℕ) → ℕ
+tail_of layout groups = log_place layout + length (spelling groups)
 
 -- the first place behind a record with a group of n bytes at this place, and behind the gate that follows it
 abbrev pub end_of : ℕ → ℕ → ℕ

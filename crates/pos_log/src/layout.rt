@@ -1,13 +1,4 @@
-// Where the log of a slot lies, and what a record has beside its group. docs/DISK.md, "The log".
-
-/// Where the log begins in its slot: the gate of the first record.
-pub const FIRST: u64 = 16_384;
-
-/// The first place behind the log.
-pub const END: u64 = 32_768;
-
-/// How many bytes the log has.
-pub const SPAN: usize = 16_384;
+// What a record has beside its group. docs/DISK.md, "The log".
 
 /// The bytes of a record before its group: its gate, and its length in four bytes.
 pub const HEAD: usize = 5;

@@ -1,18 +1,18 @@
 // A log of records behind the current image of a disk.
-ghost use Rattle.std.specs.Prelude.{◌≢◌, map, ◌≡◌, ◌⊎◌, length, nat_le, IfErr, IfOk};
+ghost use Rattle.std.specs.Prelude.{◌≢◌, map, ◌≡◌, ◌⊎◌, ◌+◌, length, nat_le, IfErr, IfOk};
 ghost use Rattle.pos_disk.specs.State.{Rises, Watches};
 ghost use Rattle.pos_disk.specs.Keeps.{KeepsDisk};
-ghost use Rattle.pos_image.specs.Layout.{slot_size};
+ghost use Rattle.pos_image.specs.Layout.{slot_size, layout_of};
 ghost use Rattle.pos_image.specs.Standing.{log_of};
 ghost use Rattle.pos_log.specs.Records.{HoldsRecords, HoldsSome, end_of};
 
 use crate::fault::LogFault;
-use crate::layout::{END, FIRST, HEAD, OPEN, REST, SPAN};
+use crate::layout::{HEAD, OPEN, REST};
 use crate::reading::read_records;
-use crate::renewing::renew_images;
+use crate::renewing::{migrate_images, renew_images};
 use crate::writing::{lay_out_record, write_through};
 use pos_disk::Disk;
-use pos_image::{ImageFault, Images};
+use pos_image::{ImageFault, Images, Layout};
 use std::alloc::Global;
 use std::marker::Model;
 
@@ -20,6 +20,7 @@ use std::marker::Model;
 /// disk every call but `into_images` has the condition that the disk was opened again. docs/DISK.md, "The log".
 #[derive(Drop)]
 pub struct Log<D: Disk> {
+    alloc: Global,
     images: Images<D>,
     // As long as the log: what was read at first, then the record that was appended last.
     buffer: Vec<u8>,
@@ -28,18 +29,22 @@ pub struct Log<D: Disk> {
 
 impl<D: Disk> Model for Log<D> {
     ghost use Rattle.std.specs.Prelude.{◌≡◌, ◌≤◌, ◌<◌, length};
-    ghost use Rattle.pos_image.specs.Layout.{log_place, log_size, slot_size};
+    ghost use Rattle.pos_image.specs.Layout.{log_place, log_size, slot_size, layout_of};
     ghost use Rattle.pos_log.specs.Logs.{LogView, log_over};
 
     ghost Value = { LogView D };
 
     ghost view = { λ l. log_over l.images l.tail };
 
-    ghost invariant = { λ l. (log_place ≤ l.tail) × (l.tail < slot_size) × (length l.buffer.items ≡ log_size) };
+    ghost invariant = { λ l. (log_place (layout_of l.images.slot) ≤ l.tail)
+        × (l.tail < slot_size (layout_of l.images.slot))
+        × (length l.buffer.items ≡ log_size (layout_of l.images.slot)) };
 }
 
 impl<D: Disk> Log<D> {
     ghost use Rattle.pos_image.specs.Images.{IsReady, IsPrepareFault};
+    ghost use Rattle.pos_image.specs.declared.layout.Layout.TheVariants.{Layout1, Layout2};
+    ghost use Rattle.pos_image.specs.declared.fault.ImageFault.TheVariants.{TooLarge, Device, NoMemory};
     ghost use Rattle.pos_log.specs.Logs.{IsLogReady, Appends, Renews, CountsLogFaults, IsOpenFault};
     ghost use Rattle.pos_log.specs.Logs.{images_after, without_images, room_of};
 
@@ -70,18 +75,20 @@ impl<D: Disk> Log<D> {
         ensures handed { IfErr result (λ e. e.0 ≢ LogFault.Device → IsReady D.Disk e.1) }
         ensures keeps { KeepsDisk D.Disk images.disk (images_after result).disk }
     {
-        let Ok(mut buffer) = vec![in alloc; 0; SPAN] else {
+        let (first, end) = images.log_span();
+        let Ok(mut buffer) = vec![in alloc; 0; (end - first) as usize] else {
             return Err((LogFault::NoMemory, images));
         };
-        let Ok(()) = images.log_read(FIRST, buffer.as_mut_slice()) else {
+        let Ok(()) = images.log_read(first, buffer.as_mut_slice()) else {
             return Err((LogFault::Device, images));
         };
         match read_records(alloc, &buffer) {
-            Ok((groups, end)) => Ok((
+            Ok((groups, length)) => Ok((
                 Log {
+                    alloc,
                     images,
                     buffer,
-                    tail: FIRST + end as u64,
+                    tail: first + length as u64,
                 },
                 groups,
             )),
@@ -91,19 +98,21 @@ impl<D: Disk> Log<D> {
 
     /// How many bytes the longest group has that fits, or None where not even an empty one fits.
     pub fn room(&self) -> Option<u64>
-        ensures { result ≡ room_of self.now.tail }
+        ensures { result ≡ room_of (layout_of self.now.images.slot) self.now.tail }
     {
-        if self.tail > END - HEAD as u64 - 1 {
+        let (_, end) = self.images.log_span();
+        if self.tail > end - HEAD as u64 - 1 {
             return None;
         }
-        Some(END - HEAD as u64 - 1 - self.tail)
+        Some(end - HEAD as u64 - 1 - self.tail)
     }
 
     /// Whether a record with a group of so many bytes fits, with the gate behind it.
     pub fn fits(&self, length: usize) -> bool
-        ensures { result ≡ nat_le (end_of self.now.tail length) slot_size }
+        ensures { result ≡ nat_le (end_of self.now.tail length) (slot_size (layout_of self.now.images.slot)) }
     {
-        let left = (END - self.tail) as usize;
+        let (_, end) = self.images.log_span();
+        let left = (end - self.tail) as usize;
         if length >= left {
             return false;
         }
@@ -141,20 +150,56 @@ impl<D: Disk> Log<D> {
     ///
     /// # Errors
     ///
-    /// `TooLarge` where the body has more than 16,371 bytes, else `Exhausted` where the current sequence is the last
-    /// one: nothing has changed. `Device` where the disk failed: the log has to be opened again.
+    /// `TooLarge` where the body has more bytes than the layout lets it, else `Exhausted` where the current sequence
+    /// is the last one: nothing has changed. `Device` where the disk failed: the log has to be opened again.
     pub fn renew(&mut self, body: Vec<u8>) -> Result<(), ImageFault>
         requires { IsLogReady D.Disk self.old }
-        ensures renews { Renews D.Disk self.old body.items result self.new }
+        ensures renews { Renews D.Disk self.old (layout_of self.old.images.slot) body.items
+            (self.old.images.sequence + 1) result self.new }
         ensures faults { IfErr result IsPrepareFault }
     {
         match renew_images(&mut self.images, body) {
             Ok(()) => {
-                self.tail = FIRST;
+                self.tail = self.images.log_span().0;
                 Ok(())
             }
             Err(fault) => Err(fault),
         }
+    }
+
+    /// Makes an image of layout 2 with this body the current one, with sequence 1 and no records behind it. It takes
+    /// memory for a buffer as long as a log of layout 2, before anything is written. docs/DISK.md, "The move to
+    /// layout 2".
+    ///
+    /// # Errors
+    ///
+    /// `TooLarge` where the body has more than 81,907 bytes, `NoMemory`: nothing has changed. `Device` where the disk
+    /// failed: the log has to be opened again.
+    pub fn migrate(&mut self, body: Vec<u8>) -> Result<(), ImageFault>
+        requires ready { IsLogReady D.Disk self.old }
+        requires layout { layout_of self.old.images.slot ≡ Layout1 }
+        ensures migrates { Renews D.Disk self.old Layout2 body.items 1 result self.new }
+        ensures faults { IfErr result (λ e. (e ≡ TooLarge) ⊎ (e ≡ NoMemory) ⊎ (e ≡ Device)) }
+    {
+        if body.len() > Layout::Layout2.longest() as usize {
+            return Err(ImageFault::TooLarge);
+        }
+        let buffer = vec![in self.alloc; 0; Layout::Layout2.log_size()]?;
+        match migrate_images(&mut self.images, body) {
+            Ok(()) => {
+                self.buffer = buffer;
+                self.tail = self.images.log_span().0;
+                Ok(())
+            }
+            Err(fault) => Err(fault),
+        }
+    }
+
+    /// The layout of the current image.
+    pub fn layout(&self) -> Layout
+        ensures { result ≡ layout_of self.now.images.slot }
+    {
+        self.images.layout()
     }
 
     /// The number of the current image.

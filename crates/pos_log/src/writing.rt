@@ -1,7 +1,7 @@
 // How a record gets into the log.
 ghost use Rattle.std.specs.Prelude.{◌≡◌, ◌≤◌, ◌+◌, ◌-◌, ◌<◌, ◌^◌, take, length, OnOk, IsErr, IsErrOf, IfErr};
 ghost use Rattle.pos_disk.specs.Keeps.{KeepsDisk};
-ghost use Rattle.pos_image.specs.Layout.{log_place};
+ghost use Rattle.pos_image.specs.Layout.{log_place, layout_of};
 ghost use Rattle.pos_image.specs.Spans.{IsInSpan};
 ghost use Rattle.pos_image.specs.Images.{IsReady, FailsFor, CountsFaults};
 ghost use Rattle.pos_image.specs.declared.fault.ImageFault.TheVariants.{Device};
@@ -38,12 +38,14 @@ pub fn write_through<D: Disk>(
     bytes: &[u8],
 ) -> Result<(), ImageFault>
     requires ready { IsReady D.Disk images.old }
-    requires inside { IsInSpan at (length bytes.now) }
+    requires inside { IsInSpan (layout_of images.old.slot) at (length bytes.now) }
     ensures ready { OnOk result (IsReady D.Disk images.new) }
     ensures same { images.new ≡ record images.old { disk = images.new.disk } }
     ensures written { D.honest images.old.disk → OnOk result
-        (PutsBytes (at - log_place) bytes.now (D.state images.old.disk) (D.state images.new.disk)) }
-    ensures any_moment { D.honest images.old.disk → CrashKeepsSpan images.old (at - log_place) (length bytes.now)
+        (PutsBytes (at - log_place (layout_of images.old.slot)) bytes.now
+        (D.state images.old.disk) (D.state images.new.disk)) }
+    ensures any_moment { D.honest images.old.disk → CrashKeepsSpan
+        images.old (at - log_place (layout_of images.old.slot)) (length bytes.now)
         (D.state images.old.disk) (D.state images.new.disk) }
     ensures faults { IsErr result → IsErrOf result Device }
     ensures device { D.honest images.old.disk → IfErr result (FailsFor D.Disk images.old images.new) }

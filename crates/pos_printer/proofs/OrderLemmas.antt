@@ -5,26 +5,26 @@ use Rattle.pos_service.specs.declared.order.Order.{Order}
 use Rattle.pos_service.specs.declared.order.Reply.{Reply}
 use Rattle.pos_service.specs.declared.order.Reply.TheVariants as reply
 use Rattle.pos_service.specs.declared.signs.Signs.{Signs}
-use Rattle.pos_service.specs.Controls.{Control, heard, all_listening}
+use Rattle.pos_service.specs.Controls.{Control, all_listening}
 use Rattle.pos_service.specs.Deeds.{Ordered}
 use Rattle.pos_service.specs.Peripherals.{PeripheralState, Asked, signs_of}
 use Rattle.pos_service.specs.Stations.{SameStation, station_of}
-use Rattle.pos_service.specs.Statuses.{status_events}
+use Rattle.pos_service.specs.Statuses.{heard_signs}
 use Rattle.pos_printer.proofs.ReplyLemmas.{same_covered, same_ended}
 
 -- the controls once they have heard what has changed at a place
 abbrev pub heard_at : ℕ → PeripheralState → PeripheralState → List Control → List Control
 heard_at place s t controls =
-    all_listening place (heard (status_events (signs_of s.kind s.plant) (signs_of t.kind t.plant))) controls
+    all_listening place (heard_signs (signs_of s.kind s.plant) (signs_of t.kind t.plant)) controls
 
 -- they have heard of signs that are those of the printer
 pub heard_of : (place : ℕ) (s t : PeripheralState) (a b : Signs) (old mid new : List Control) → a ≡ signs_of s.kind s.plant
-    → b ≡ signs_of t.kind t.plant → mid ≡ old → new ≡ all_listening place (heard (status_events a b)) mid → new ≡ heard_at place s t old
+    → b ≡ signs_of t.kind t.plant → mid ≡ old → new ≡ all_listening place (heard_signs a b) mid → new ≡ heard_at place s t old
 heard_of place s t a b old mid new is_a is_b same h =
     h
-    ∙ ap (λ (m : List Control). all_listening place (heard (status_events a b)) m) same
-    ∙ ap (λ (u : Signs). all_listening place (heard (status_events u b)) old) is_a
-    ∙ ap (λ (u : Signs). all_listening place (heard (status_events (signs_of s.kind s.plant) u)) old) is_b
+    ∙ ap (λ (m : List Control). all_listening place (heard_signs a b) m) same
+    ∙ ap (λ (u : Signs). all_listening place (heard_signs u b) old) is_a
+    ∙ ap (λ (u : Signs). all_listening place (heard_signs (signs_of s.kind s.plant) u) old) is_b
 
 -- nothing has changed at a printer that does nothing
 same_station : (s t : PeripheralState) (old : List Control) → t.kind ≡ s.kind → t.plant ≡ s.plant → t.failures ≡ s.failures
@@ -45,7 +45,7 @@ ordered_covered : (given : Order) (place : ℕ) (s t : PeripheralState) (old : L
     → Ordered given place reply.CoverOpen old (station_of s) old (station_of t)
 ordered_covered given place s t old asked = record {
   plant = asked.answer.0;
-  same = same_station s t old asked.kind (same_covered s.kind given s.plant t.plant asked.answer.0) asked.answer.1;
+  same = same_station s t old asked.kind (same_covered given s.plant t.plant asked.answer.0) asked.answer.1;
 }
 
 -- its paper doesn't suffice
@@ -53,7 +53,7 @@ ordered_ended : (given : Order) (place : ℕ) (s t : PeripheralState) (old : Lis
     → Ordered given place reply.PaperEnd old (station_of s) old (station_of t)
 ordered_ended given place s t old asked = record {
   plant = asked.answer.0;
-  same = same_station s t old asked.kind (same_ended s.kind given s.plant t.plant asked.answer.0) asked.answer.1;
+  same = same_station s t old asked.kind (same_ended given s.plant t.plant asked.answer.0) asked.answer.1;
 }
 
 -- its line has failed
@@ -65,6 +65,14 @@ ordered_failed given place s t old asked = record {
   controls = refl;
 }
 
+-- it is off
+ordered_off : (given : Order) (place : ℕ) (s t : PeripheralState) (old : List Control) → Asked s given (Ok reply.Offline) t
+    → Ordered given place reply.Offline old (station_of s) old (station_of t)
+ordered_off given place s t old asked = record {
+  plant = asked.answer.0;
+  same = same_station s t old asked.kind asked.answer.0.1 asked.answer.1;
+}
+
 -- it has not done it
 pub ordered_undone : (said : Reply) → (said ≡ reply.Done → ⊥) → (given : Order) (place : ℕ) (s t : PeripheralState) (old : List Control)
     → Asked s given (Ok said) t → Ordered given place said old (station_of s) old (station_of t)
@@ -72,3 +80,4 @@ ordered_undone reply.Done undone given place s t old asked = absurd (undone refl
 ordered_undone reply.CoverOpen undone given place s t old asked = ordered_covered given place s t old asked
 ordered_undone reply.PaperEnd undone given place s t old asked = ordered_ended given place s t old asked
 ordered_undone reply.LineFault undone given place s t old asked = ordered_failed given place s t old asked
+ordered_undone reply.Offline undone given place s t old asked = ordered_off given place s t old asked

@@ -11,17 +11,16 @@ use Rattle.pos_service.specs.declared.signs.Signs.{Signs}
 use Rattle.pos_service.specs.declared.worked.Worked.{Worked}
 use Rattle.pos_service.specs.declared.worked.Worked.TheVariants as worked
 use Rattle.pos_service.specs.Codes.{code_by, extended_by}
-use Rattle.pos_service.specs.Controls.{Control, all_listening, completed, heard, if_listening, listens, output_failed}
+use Rattle.pos_service.specs.Controls.{Control, all_listening, completed, if_listening, listens, output_failed}
 use Rattle.pos_service.specs.declared.order.Reply.{Reply}
 use Rattle.pos_service.specs.declared.order.Reply.TheVariants as reply
 use Rattle.pos_service.specs.Deeds.{Ordered}
-use Rattle.pos_service.specs.Events.{Enqueued}
 use Rattle.pos_service.specs.Kinds.{is_printer}
 use Rattle.pos_service.specs.Output.{request_to_do}
 use Rattle.pos_service.specs.Peripherals.{Asked, PeripheralState, signs_of}
 use Rattle.pos_service.specs.PrinterCalls.{after_work, first_request, due_request, worked_by, WorksAt, WorksOn}
 use Rattle.pos_service.specs.Stations.{Station, SameStation, station_of}
-use Rattle.pos_service.specs.Statuses.{status_events}
+use Rattle.pos_service.specs.Statuses.{heard_signs}
 use Rattle.pos_common.specs.Held.{Held, HasRoom, controls_of, work_events}
 use Rattle.pos_common.proofs.HeldLemmas.{control_at}
 use Rattle.pos_printer.specs.Requests.{HasRequest}
@@ -97,18 +96,18 @@ first_of : (b : Bool) (o : Option (ℕ × Order)) (request : ℕ × Order) → c
 first_of true o request is = (is, refl)
 first_of false o request is = absurd cc
 
-same_first : (b : Bool) (place : ℕ) (events : List Enqueued) (x : Control) → first_request place (cond b (heard events x) x) ≡ first_request place x
-same_first true place events x = refl
-same_first false place events x = refl
+same_first : (b : Bool) (place : ℕ) (u v : Signs) (x : Control) → first_request place (cond b (heard_signs u v x) x) ≡ first_request place x
+same_first true place u v x = refl
+same_first false place u v x = refl
 
 -- it still is once the controls have heard
-pub first_heard : (place holder : ℕ) (request : ℕ × Order) (events : List Enqueued) (old new : List Control) → IsFirst place holder request old
-    → new ≡ all_listening place (heard events) old → IsFirst place holder request new
-first_heard place holder request events old new f is = record {
-  control = if_listening place (heard events) f.control;
-  there = ap (λ (cs : List Control). slice_get cs holder) is ∙ slice_get-map (if_listening place (heard events)) old holder
-      ∙ ap (option_map (if_listening place (heard events))) f.there;
-  first = same_first (listens place f.control) place events f.control ∙ f.first;
+pub first_heard : (place holder : ℕ) (request : ℕ × Order) (u v : Signs) (old new : List Control) → IsFirst place holder request old
+    → new ≡ all_listening place (heard_signs u v) old → IsFirst place holder request new
+first_heard place holder request u v old new f is = record {
+  control = if_listening place (heard_signs u v) f.control;
+  there = ap (λ (cs : List Control). slice_get cs holder) is ∙ slice_get-map (if_listening place (heard_signs u v)) old holder
+      ∙ ap (option_map (if_listening place (heard_signs u v))) f.there;
+  first = same_first (listens place f.control) place u v f.control ∙ f.first;
 }
 
 -- the control as it is held
@@ -181,7 +180,7 @@ room_for_first place holder old hs found same room =
 pub does : (at : Option ℕ) (holder place : ℕ) (result : Worked) (old mid new : List Control) (hs : List Held) (d : Held) (s t : PeripheralState)
     (a b : Signs) → at ≡ Some holder → is_printer s.kind ≡ true → is_some (option_and_then (first_request place) (slice_get old holder)) ≡ true
     → controls_of hs ≡ old → MatchOption (first_request place (get_or hs holder d).control) ⊥ (λ r. Asked s r.1 (Ok reply.Done) t)
-    → a ≡ signs_of s.kind s.plant → b ≡ signs_of t.kind t.plant → mid ≡ all_listening place (heard (status_events a b)) (controls_of hs)
+    → a ≡ signs_of s.kind s.plant → b ≡ signs_of t.kind t.plant → mid ≡ all_listening place (heard_signs a b) (controls_of hs)
     → MatchOption (slice_get mid holder) ⊥
     (λ control. MatchOption (request_to_do control.writer.output) ⊥
     (λ r. (result ≡ worked.Done r.0) × (new ≡ slice_set mid holder (completed r.0 control))))
@@ -190,8 +189,8 @@ does at holder place result old mid new hs d s t a b is printer found same asked
     let heard_all = heard_of place s t a b old (controls_of hs) mid was now same said in
     let f = first_found place holder old found in
     let given = first_asked place holder f.0 hs d (Ok reply.Done) s t (subst (IsFirst place holder f.0) (sym same) f.1) asked in
-    let events = status_events (signs_of s.kind s.plant) (signs_of t.kind t.plant) in
-    let worked = first_done place holder f.0 mid new result (first_heard place holder f.0 events old mid f.1 heard_all) done in
+    let still = first_heard place holder f.0 (signs_of s.kind s.plant) (signs_of t.kind t.plant) old mid f.1 heard_all in
+    let worked = first_done place holder f.0 mid new result still done in
     works at holder place (Ok result) old new (station_of s) (station_of t) f.0 is printer (first_is place holder f.0 old f.1)
     (works_on holder place reply.Done result old mid new (station_of s) (station_of t) f.0
     (ordered_done f.0.1 place s t old mid given heard_all) worked.1 worked.0)
@@ -205,6 +204,7 @@ undone_said reply.Done undone id holder result old new answer changed = absurd (
 undone_said reply.CoverOpen undone id holder result old new answer changed = (answer, changed)
 undone_said reply.PaperEnd undone id holder result old new answer changed = (answer, changed)
 undone_said reply.LineFault undone id holder result old new answer changed = (answer, changed)
+undone_said reply.Offline undone id holder result old new answer changed = (answer, changed)
 
 -- work on a request that the printer doesn't do
 pub fails : (at : Option ℕ) (holder place : ℕ) (said : Reply) (result : Worked) (old new : List Control) (hs : List Held) (d : Held)

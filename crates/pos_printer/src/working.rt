@@ -20,8 +20,9 @@ use pos_service::{Code, NoMemory, Peripheral, Reply, Worked};
 /// The room for all events is made before the order is given. Once it is done, each control that has the printer open
 /// and enabled hears the statuses that have changed; then the request is removed, and an OutputCompleteEvent enqueued.
 /// Where the printer doesn't do it, the request stays the first, the output error state stands, and an ErrorEvent with
-/// EL_OUTPUT is enqueued: with E_EXTENDED EPTR_COVER_OPEN where the cover is open, else EPTR_REC_EMPTY where the paper
-/// doesn't suffice; with E_FAILURE where the line fails. Want of memory changes nothing.
+/// EL_OUTPUT is enqueued: with E_FAILURE where the line fails, E_OFFLINE where the printer is off, E_EXTENDED
+/// EPTR_COVER_OPEN where the cover is open, else EPTR_REC_EMPTY where the paper doesn't suffice. Want of memory changes
+/// nothing.
 pub fn work<P: Peripheral>(
     controls: &mut [Control],
     place: usize,

@@ -1,2 +1,3 @@
+pub mod Migrated
 pub mod Options
 pub mod Parses

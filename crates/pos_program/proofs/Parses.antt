@@ -1,5 +1,5 @@
 -- What a parse of a command's words tells of them.
-use Rattle.std.proofs.Common.{◌≡◌, ◌∙◌, [], List, Some, Err, true, map, codes, refl, sym, ap, subst, inl, inr}
+use Rattle.std.proofs.Common.{◌≡◌, ◌∙◌, [], List, Some, Err, true, map, codes, refl, sym, ap, subst, inl, inr, ⊎_elim}
 use Rattle.std.specs.Prelude.{◌≢◌, ◌⊎◌, slice_get, option_map}
 use Rattle.std.proofs.lemmas.Option.{slice_get-map}
 use Rattle.clap.specs.Words.{App, HasKind, IsAmong, Kinds, Row, Text, fault_of, first_of, is_simple, is_simple_and_free, kind_of, matches_of}
@@ -8,7 +8,7 @@ use Rattle.clap.specs.declared.error.kind.ErrorKind.TheVariants.{DisplayHelp, Ou
 use Rattle.clap.proofs.OnLiterals.{clap_on_literals}
 use Rattle.pos_program.specs.declared.choice_fault.ChoiceFault.{ChoiceFault}
 use Rattle.pos_program.specs.declared.choice_fault.ChoiceFault.TheVariants.{Help, Unknown, Refused, NotUtf8, NoMemory}
-use Rattle.pos_program.specs.Choices.{Accepts, Chooses, HasFault, Names, TellsWhy, format_line, path_of, run_line}
+use Rattle.pos_program.specs.Choices.{Accepts, Chooses, HasFault, Names, NamesDisk, TellsWhy, disk_line, path_of, run_line}
 
 -- a command line of which `clap` says when it refuses words and what it finds in them
 abbrev pub IsKnown : App → Type 0
@@ -18,9 +18,18 @@ pub run_known : IsKnown run_line
 unfolding clap_on_literals
 run_known = (refl, refl)
 
-pub format_known : IsKnown format_line
+format_known : IsKnown (disk_line (codes "format"))
 unfolding clap_on_literals
 format_known = (refl, refl)
+
+migrate_known : IsKnown (disk_line (codes "migrate"))
+unfolding clap_on_literals
+migrate_known = (refl, refl)
+
+pub disk_known : (command : Text) → NamesDisk command → IsKnown (disk_line command)
+disk_known command is = ⊎_elim
+    (λ format. subst (λ (name : Text). IsKnown (disk_line name)) (sym format) format_known)
+    (λ migrate. subst (λ (name : Text). IsKnown (disk_line name)) (sym migrate) migrate_known) is
 
 kind_among : (kinds : Kinds) (error : Error) → HasKind kinds error → kind_of error ≢ OutOfMemory → IsAmong (kind_of error) kinds
 kind_among kinds error (inl memory) other = absurd (other memory)
@@ -54,8 +63,8 @@ help_not_memory : (error : Error) → kind_of error ≡ DisplayHelp → kind_of 
 help_not_memory error help = λ memory. let bad : DisplayHelp ≡ OutOfMemory = sym help ∙ memory in cc
 
 -- why the words of a command ask for nothing, where `clap` finds a fault in them
-failed : (words : List Text) (error : Error) (fault : ChoiceFault) → Names (codes "run") words ⊎ Names (codes "format") words
-    → TellsWhy error fault → (kind_of error ≢ OutOfMemory → HasFault words (kind_of error)) → Chooses words (Err fault)
+failed : (words : List Text) (error : Error) (fault : ChoiceFault)
+    → Names (codes "run") words ⊎ ((command : Text) × NamesDisk command × Names command words) → TellsWhy error fault → (kind_of error ≢ OutOfMemory → HasFault words (kind_of error)) → Chooses words (Err fault)
 failed words error Help names why has = inr (subst (HasFault words) why (has (help_not_memory error why)))
 failed words error (Unknown first) names why has = absurd why
 failed words error (Refused told) names why has = subst (λ (e : Error). HasFault words (kind_of e)) (sym why.0) (has why.1)
@@ -66,6 +75,7 @@ pub run_failed : (words : List Text) (error : Error) (fault : ChoiceFault) → N
     → (kind_of error ≢ OutOfMemory → IsAmong (kind_of error) (fault_of run_line words)) → Chooses words (Err fault)
 run_failed words error fault names why among = failed words error fault (inl names) why (λ other. inl (names, among other))
 
-pub format_failed : (words : List Text) (error : Error) (fault : ChoiceFault) → Names (codes "format") words → TellsWhy error fault
-    → (kind_of error ≢ OutOfMemory → IsAmong (kind_of error) (fault_of format_line words)) → Chooses words (Err fault)
-format_failed words error fault names why among = failed words error fault (inr names) why (λ other. inr (names, among other))
+pub disk_failed : (command : Text) (words : List Text) (error : Error) (fault : ChoiceFault) → NamesDisk command → Names command words
+    → TellsWhy error fault → (kind_of error ≢ OutOfMemory → IsAmong (kind_of error) (fault_of (disk_line command) words)) → Chooses words (Err fault)
+disk_failed command words error fault is names why among =
+    failed words error fault (inr (command, is, names)) why (λ other. inr (command, is, names, among other))

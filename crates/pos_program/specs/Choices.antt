@@ -10,7 +10,7 @@ use Rattle.clap.specs.declared.error.Error.{Error}
 use Rattle.clap.specs.declared.error.kind.ErrorKind.{ErrorKind}
 use Rattle.clap.specs.declared.error.kind.ErrorKind.TheVariants.{DisplayHelp, OutOfMemory}
 use Rattle.pos_program.specs.declared.words.Task.{Task}
-use Rattle.pos_program.specs.declared.words.Task.TheVariants.{Demo, Run, Format}
+use Rattle.pos_program.specs.declared.words.Task.TheVariants.{Demo, Run, Format, Migrate}
 use Rattle.pos_program.specs.declared.choice_fault.ChoiceFault.{ChoiceFault}
 use Rattle.pos_program.specs.declared.choice_fault.ChoiceFault.TheVariants.{Help, Unknown, Refused, NotUtf8, NoMemory}
 
@@ -26,9 +26,13 @@ FitsAlone option = IsPlainArg option × (option.global ≡ false)
 abbrev pub run_line : App
 run_line = with_rule (with_rule (new_app (codes "run")) (path_rule (codes "profile"))) (path_rule (codes "disk"))
 
--- format --disk FILE
-abbrev pub format_line : App
-format_line = with_rule (new_app (codes "format")) (path_rule (codes "disk"))
+-- COMMAND --disk FILE
+abbrev pub disk_line : Text → App
+disk_line command = with_rule (new_app command) (path_rule (codes "disk"))
+
+-- a command that has a disk alone
+abbrev pub NamesDisk : Text → Type 0
+NamesDisk command = (command ≡ codes "format") ⊎ (command ≡ codes "migrate")
 
 -- the first of the words is the name of this command
 abbrev pub Names : Text → List Text → Type 0
@@ -49,11 +53,11 @@ pub record AsksToRun (words : List Text) (profile disk : Text) : Type 0 where
   pub profile_path : path_of run_line (codes "profile") words ≡ Some profile
   pub disk_path : path_of run_line (codes "disk") words ≡ Some disk
 
--- The words are those of `format`, with this path.
-pub record AsksToFormat (words : List Text) (disk : Text) : Type 0 where
-  pub names : Names (codes "format") words
-  pub accepts : Accepts format_line words
-  pub disk_path : path_of format_line (codes "disk") words ≡ Some disk
+-- The words are those of a command that has a disk alone, with this path.
+pub record AsksAtDisk (command : Text) (words : List Text) (disk : Text) : Type 0 where
+  pub names : Names command words
+  pub accepts : Accepts (disk_line command) words
+  pub disk_path : path_of (disk_line command) (codes "disk") words ≡ Some disk
 
 -- a first word that asks for help
 abbrev pub is_help : Text → Bool
@@ -62,7 +66,7 @@ is_help word = bytes_eq word (codes "--help") || bytes_eq word (codes "-h") || b
 -- `clap` finds this kind of fault in the words of a command
 abbrev pub HasFault : List Text → ErrorKind → Type 0
 HasFault words kind = Names (codes "run") words × IsAmong kind (fault_of run_line words)
-    ⊎ Names (codes "format") words × IsAmong kind (fault_of format_line words)
+    ⊎ ((command : Text) × NamesDisk command × Names command words × IsAmong kind (fault_of (disk_line command) words))
 
 -- the first word asks for help, or one behind the name of a command does
 abbrev pub AsksForHelp : List Text → Type 0
@@ -73,18 +77,20 @@ pub record NamesNothing (words : List Text) (first : Text) : Type 0 where
   pub names : Names first words
   pub run : first ≢ codes "run"
   pub format : first ≢ codes "format"
+  pub migrate : first ≢ codes "migrate"
   pub help : is_help first ≡ false
 
 -- what the words ask for, or why they ask for nothing; memory can run out over a command alone
 abbrev pub Chooses : List Text → Result Task ChoiceFault → Type 0
 Chooses words (Ok Demo) = words ≡ []
 Chooses words (Ok (Run profile disk)) = AsksToRun words profile.now disk.now
-Chooses words (Ok (Format disk)) = AsksToFormat words disk.now
+Chooses words (Ok (Format disk)) = AsksAtDisk (codes "format") words disk.now
+Chooses words (Ok (Migrate disk)) = AsksAtDisk (codes "migrate") words disk.now
 Chooses words (Err Help) = AsksForHelp words
 Chooses words (Err (Unknown first)) = NamesNothing words first.now
 Chooses words (Err (Refused error)) = HasFault words (kind_of error)
 Chooses words (Err NotUtf8) = ⊥
-Chooses words (Err NoMemory) = Names (codes "run") words ⊎ Names (codes "format") words
+Chooses words (Err NoMemory) = Names (codes "run") words ⊎ ((command : Text) × NamesDisk command × Names command words)
 
 -- what an error of `clap` is told as: want of memory, a call for help, or itself
 abbrev pub TellsWhy : Error → ChoiceFault → Type 0

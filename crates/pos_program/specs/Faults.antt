@@ -25,6 +25,7 @@ profile_status other = 3
 -- the status of a fault of the disk's file
 abbrev pub disk_status : FileFault → ℕ
 disk_status file.NoMemory = 6
+disk_status file.NoMemoryToMove = 6
 disk_status other = 4
 
 -- the status of a fault

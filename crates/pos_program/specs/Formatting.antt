@@ -4,14 +4,15 @@ use Rattle.pos_disk.specs.State.{DiskState, IsAtRest, Watches}
 use Rattle.pos_image.specs.Images.{HasFailed}
 use Rattle.pos_image.specs.NewDisk.{HasClosedGates, no_files}
 use Rattle.pos_image.specs.Standing.{HasNewImage, is_marked}
+use Rattle.pos_image.specs.declared.layout.Layout.TheVariants.{Layout1}
 use Rattle.pos_program.specs.declared.file_fault.FileFault.{FileFault}
 use Rattle.pos_program.specs.declared.file_fault.FileFault.TheVariants.{Formatted, Device}
 
--- There were no totals on the disk. It is at rest, with no files and sequence 1.
+-- There were no totals on the disk. It is at rest, with no files by layout 1, and sequence 1.
 pub record IsFormatted (old new : DiskState) : Type 0 where
   pub unmarked : is_marked old.reading ≡ false
   pub at_rest : IsAtRest new
-  pub image : HasNewImage no_files 1 new.reading
+  pub image : HasNewImage Layout1 no_files 1 new.reading
   pub gates : HasClosedGates new.reading
 
 -- A disk that can't be formatted: totals are there, and it was only looked at; or it failed.

@@ -1,6 +1,6 @@
 pub mod Choices
 pub mod Faults
-pub mod Files
 pub mod Formatting
+pub mod Migrating
 pub mod Opening
 pub mod ProfileFiles

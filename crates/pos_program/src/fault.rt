@@ -22,7 +22,7 @@ pub enum Fault<'a> {
         /// Why.
         cause: ProfileFileFault,
     },
-    /// The disk's file can't serve, or not be formatted.
+    /// The disk's file can't serve, or not be formatted or moved to layout 2.
     Disk {
         /// Its path, as its word stood.
         path: &'a str,
@@ -62,7 +62,7 @@ fn disk_status(cause: &FileFault) -> u8
     ensures { result ≡ disk_status cause.now }
 {
     match cause {
-        FileFault::NoMemory => 6,
+        FileFault::NoMemory | FileFault::NoMemoryToMove => 6,
         _ => 4,
     }
 }

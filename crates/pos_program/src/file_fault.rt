@@ -3,7 +3,7 @@
 use std::io;
 use thiserror::Error;
 
-/// Why a file can't serve as a disk, or not be formatted, with what the system says of it.
+/// Why a file can't serve as a disk, or not be formatted or moved to layout 2, with what the system says of it.
 #[derive(Clone, Copy, Debug, Error)]
 pub enum FileFault {
     /// No memory was found to open it.
@@ -30,4 +30,20 @@ pub enum FileFault {
     /// A read, a write or a sync failed while it was formatted.
     #[error("a read, a write or a sync failed while it was formatted")]
     Device,
+    /// It has no totals that could be moved to layout 2. Nothing was written.
+    #[error("isn't formatted: format it first, which makes totals without files")]
+    Unformatted,
+    /// Its totals are damaged. Nothing was written.
+    #[error("its totals are damaged: keep it, and read a copy of it by hand")]
+    Damaged,
+    /// Its totals have layout 2 already. Nothing was written.
+    #[error("has layout 2 already: there is nothing to do")]
+    Moved,
+    /// No memory was found to move its totals to layout 2. Nothing was written.
+    #[error("no memory to move it to layout 2: free some and move it again")]
+    NoMemoryToMove,
+    /// A read, a write or a sync failed while its totals were moved to layout 2. They are there by one layout or the
+    /// other.
+    #[error("a read, a write or a sync failed while it was moved to layout 2: its files stay, so move it again")]
+    Move,
 }

@@ -1,5 +1,5 @@
 //! What the program `pos_console` needs of words, files and profiles: what its words ask for, a disk in a file, a
-//! file that is formatted, the profile in a file, and the faults that it ends with.
+//! file that is formatted or moved to layout 2, the profile in a file, and the faults that it ends with.
 #![tactic(auto)]
 
 mod choice_fault;
@@ -8,6 +8,7 @@ mod file_disk;
 mod file_fault;
 mod first_paragraph;
 mod formatting;
+mod migrating;
 mod named_files;
 mod one_line;
 mod opening;
@@ -21,6 +22,7 @@ pub use file_disk::FileDisk;
 pub use file_fault::FileFault;
 pub use first_paragraph::FirstParagraph;
 pub use formatting::{format_disk, format_file};
+pub use migrating::{migrate_disk, migrate_file};
 pub use named_files::{NamedFiles, SystemFiles};
 pub use one_line::OneLine;
 pub use opening::open_run;

@@ -7,6 +7,7 @@ ghost use Rattle.pos_program.specs.declared.profile_fault.ProfileFileFault.{Prof
 use crate::file_disk::FileDisk;
 use crate::file_fault::FileFault;
 use crate::formatting::format_file;
+use crate::migrating::migrate_file;
 use crate::profile_fault::ProfileFileFault;
 use crate::profile_file::read_profile;
 use pos_disk::Disk;
@@ -29,6 +30,9 @@ pub trait NamedFiles {
     /// What formatting the disk in a file may answer.
     ghost formats: { Self → List ℕ → Result (Unit {0}) FileFault → Type 0 } = { λ _ _ _. ⊤ };
 
+    /// What moving the totals on the disk in a file to layout 2 may answer.
+    ghost migrates: { Self → List ℕ → Result (Unit {0}) FileFault → Type 0 } = { λ _ _ _. ⊤ };
+
     /// The profile in a file.
     fn read_profile(&self, path: &str) -> Result<Profile, ProfileFileFault>
         ensures { gives_profile self.now path.now result };
@@ -40,6 +44,10 @@ pub trait NamedFiles {
     /// Formats the disk in a file, as `format_file` does.
     fn format_disk(&self, path: &str) -> Result<(), FileFault>
         ensures { formats self.now path.now result };
+
+    /// Moves the totals on the disk in a file to layout 2, as `migrate_file` does.
+    fn migrate_disk(&self, path: &str) -> Result<(), FileFault>
+        ensures { migrates self.now path.now result };
 }
 
 /// The files of the system. No clause can say what they hold.
@@ -68,5 +76,9 @@ impl<R: Files<File = File> + AllocGlobal> NamedFiles for SystemFiles<'_, R> {
 
     fn format_disk(&self, path: &str) -> Result<(), FileFault> {
         format_file(self.rt, path)
+    }
+
+    fn migrate_disk(&self, path: &str) -> Result<(), FileFault> {
+        migrate_file(self.rt, path)
     }
 }

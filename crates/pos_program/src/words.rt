@@ -1,9 +1,10 @@
 //! What the words of the command line ask for.
-ghost use Rattle.std.specs.Prelude.{◌≡◌, codes, map};
+ghost use Rattle.std.specs.Prelude.{◌≡◌, Err, IfErr, IfOk, codes, map};
 ghost use Rattle.std.specs.IoError.{error_kind};
 ghost use Rattle.clap.specs.Words.{rule_of};
 ghost use Rattle.clap.specs.Built.{TakesValue};
-ghost use Rattle.pos_program.specs.Choices.{Chooses, FitsAlone, Names, TellsUnread, TellsWhy, is_help, path_rule};
+ghost use Rattle.pos_program.specs.Choices.{AsksAtDisk, Chooses, FitsAlone, Names, NamesDisk, TellsUnread, TellsWhy};
+ghost use Rattle.pos_program.specs.Choices.{is_help, path_rule};
 
 use crate::choice_fault::ChoiceFault;
 use clap::error::ErrorKind;
@@ -22,6 +23,8 @@ pub enum Task<'a> {
     Run { profile: &'a str, disk: &'a str },
     /// `format --disk FILE`: to format the disk in a file.
     Format { disk: &'a str },
+    /// `migrate --disk FILE`: to move the totals on the disk in a file to layout 2.
+    Migrate { disk: &'a str },
 }
 
 // Why the words can't be read.
@@ -99,13 +102,19 @@ fn run_task<'a, S: AsStr>(alloc: Global, words: &'a [S]) -> Result<Task<'a>, Cho
     Ok(Task::Run { profile, disk })
 }
 
-// What the words of `format` ask for.
-fn format_task<'a, S: AsStr>(alloc: Global, words: &'a [S]) -> Result<Task<'a>, ChoiceFault<'a>>
-    requires { Names (codes "format") (map S.text words.now) }
-    ensures { Chooses (map S.text words.entry.now) result }
+// The path in the words of a command that has a disk alone, `format` or `migrate`.
+fn disk_path<'a, S: AsStr>(
+    alloc: Global,
+    command: &'a str,
+    words: &'a [S],
+) -> Result<&'a str, ChoiceFault<'a>>
+    requires command { NamesDisk command.now }
+    requires named { Names command.now (map S.text words.now) }
+    ensures disk { IfOk result (λ disk. AsksAtDisk command.entry.now (map S.text words.entry.now) disk.now) }
+    ensures fault { IfErr result (λ why. Chooses (map S.text words.entry.now) (Err why)) }
 {
     let disk = path_option(alloc, "disk");
-    let Ok(line) = Command::new(alloc, "format").arg(disk) else {
+    let Ok(line) = Command::new(alloc, command).arg(disk) else {
         return Err(ChoiceFault::NoMemory);
     };
     let matches = match line.try_get_matches_from(words) {
@@ -115,7 +124,29 @@ fn format_task<'a, S: AsStr>(alloc: Global, words: &'a [S]) -> Result<Task<'a>, 
     let Some(disk) = matches.get_str("disk") else {
         unreachable!()
     };
-    Ok(Task::Format { disk })
+    Ok(disk)
+}
+
+// What the words of `format` ask for.
+fn format_task<'a, S: AsStr>(alloc: Global, words: &'a [S]) -> Result<Task<'a>, ChoiceFault<'a>>
+    requires { Names (codes "format") (map S.text words.now) }
+    ensures { Chooses (map S.text words.entry.now) result }
+{
+    match disk_path(alloc, "format", words) {
+        Ok(disk) => Ok(Task::Format { disk }),
+        Err(fault) => Err(fault),
+    }
+}
+
+// What the words of `migrate` ask for.
+fn migrate_task<'a, S: AsStr>(alloc: Global, words: &'a [S]) -> Result<Task<'a>, ChoiceFault<'a>>
+    requires { Names (codes "migrate") (map S.text words.now) }
+    ensures { Chooses (map S.text words.entry.now) result }
+{
+    match disk_path(alloc, "migrate", words) {
+        Ok(disk) => Ok(Task::Migrate { disk }),
+        Err(fault) => Err(fault),
+    }
 }
 
 // Whether a first word asks for help.
@@ -141,6 +172,9 @@ pub fn choice<'a, S: AsStr>(alloc: Global, words: &'a [S]) -> Result<Task<'a>, C
     }
     if name == "format" {
         return format_task(alloc, words);
+    }
+    if name == "migrate" {
+        return migrate_task(alloc, words);
     }
     if is_help(name) {
         return Err(ChoiceFault::Help);

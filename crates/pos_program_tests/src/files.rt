@@ -1,6 +1,7 @@
 use pos_disk::Disk;
 use pos_program::{
-    Fault, FileFault, ProfileFileFault, SystemFiles, format_file, open_run, read_profile,
+    Fault, FileFault, ProfileFileFault, SystemFiles, format_file, migrate_file, open_run,
+    read_profile,
 };
 use std::fs;
 use std::test::Fail;
@@ -25,6 +26,27 @@ fn a_file_is_formatted_once(rt: HostRuntime) -> Result<(), Fail> {
     assert!(rt; bytes.starts_with(&FORMATTED) && bytes[15..].iter().all(|byte| *byte == 0));
     let (is_formatted, same) = formatted(&rt, path, bytes.as_slice())?;
     assert!(rt; !is_formatted && same == bytes);
+    Ok(())
+}
+
+#[test]
+fn a_file_is_moved_once(rt: HostRuntime) -> Result<(), Fail> {
+    let path = "a_file_is_moved_once";
+    assert!(rt; matches!(migrate_file(&rt, path), Err(FileFault::Open(_))));
+    fs::write(&rt, path, b"abc")?;
+    assert!(rt; matches!(migrate_file(&rt, path), Err(FileFault::Unformatted)));
+    assert!(rt; format_file(&rt, path).is_ok());
+    assert!(rt; migrate_file(&rt, path).is_ok());
+    let bytes = fs::read(&rt, path)?;
+    assert!(rt; bytes.len() == 327_680);
+    assert!(rt; bytes.starts_with(&FORMATTED) && bytes[65_536..].starts_with(&FORMATTED));
+    assert!(rt; matches!(migrate_file(&rt, path), Err(FileFault::Moved)));
+    assert!(rt; fs::read(&rt, path)? == bytes);
+    let mut damaged = bytes;
+    damaged[65_548] = 3;
+    fs::write(&rt, path, damaged.as_slice())?;
+    assert!(rt; matches!(migrate_file(&rt, path), Err(FileFault::Damaged)));
+    fs::remove_file(&rt, path)?;
     Ok(())
 }
 

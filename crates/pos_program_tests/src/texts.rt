@@ -26,7 +26,8 @@ fn a_text_on_one_line(rt: HostRuntime) -> Result<(), Fail> {
 
 #[test]
 fn faults_of_words_and_of_a_run(rt: HostRuntime) -> Result<(), Fail> {
-    let usage = "give no words, `run --profile FILE --disk FILE` or `format --disk FILE`";
+    let usage =
+        "give no words, `run --profile FILE --disk FILE`, `format --disk FILE` or `migrate --disk FILE`";
     let alloc = rt.alloc();
     let help = format!(in alloc; "usage: {usage}")?;
     assert!(rt; ends(alloc, Fault::Words(ChoiceFault::Help), 2, &help)?);
@@ -73,6 +74,41 @@ fn texts_of_files(rt: HostRuntime) -> Result<(), Fail> {
         is formatted already: remove it first if its totals may go\n\
         a read, a write or a sync failed while it was formatted";
     assert!(rt; told.as_str() == wanted);
+    Ok(())
+}
+
+#[test]
+fn texts_of_moves(rt: HostRuntime) -> Result<(), Fail> {
+    for (cause, status, told) in [
+        (
+            FileFault::Unformatted,
+            4,
+            "d: isn't formatted: format it first, which makes totals without files",
+        ),
+        (
+            FileFault::Damaged,
+            4,
+            "d: its totals are damaged: keep it, and read a copy of it by hand",
+        ),
+        (
+            FileFault::Moved,
+            4,
+            "d: has layout 2 already: there is nothing to do",
+        ),
+        (
+            FileFault::NoMemoryToMove,
+            6,
+            "d: no memory to move it to layout 2: free some and move it again",
+        ),
+        (
+            FileFault::Move,
+            4,
+            "d: a read, a write or a sync failed while it was moved to layout 2: its files stay, so move it again",
+        ),
+    ] {
+        let path = "d";
+        assert!(rt; ends(rt.alloc(), Fault::Disk { path, cause }, status, told)?);
+    }
     Ok(())
 }
 
@@ -160,6 +196,7 @@ fn words_of_each_command(rt: HostRuntime) -> Result<(), Fail> {
         ("run --profile p --disk -", Task::Run { profile, disk }),
         ("run --disk=- --profile=p", Task::Run { profile, disk }),
         ("format --disk=-", Task::Format { disk }),
+        ("migrate --disk -", Task::Migrate { disk }),
     ] {
         assert!(rt; asks(rt.alloc(), line, task)?, "{line}");
     }
@@ -176,6 +213,15 @@ fn words_of_no_command(rt: HostRuntime) -> Result<(), Fail> {
         ("-h", "usage: "),
         ("run --help", "usage: "),
         ("format -h", "usage: "),
+        ("migrate --help", "usage: "),
+        (
+            "migrate",
+            "error: the following required arguments were not provided: --disk",
+        ),
+        (
+            "migrate --disk d --profile p",
+            "error: unexpected argument '--profile' found: give",
+        ),
         (
             "run --disk d",
             "error: the following required arguments were not provided: --profile",

@@ -3,6 +3,7 @@ use Rattle.std.specs.Prelude.{◌≡◌, ◌++◌, ◌<◌, ◌∷◌, ◌⊎◌
 use Rattle.std.proofs.Common.{inl, inr}
 use Rattle.std.specs.Io.KnownBytes.{Appends, Consumes, IsAtEnd}
 use Rattle.pos_counter.specs.Machine.{Device, Machine}
+use Rattle.pos_image.specs.declared.layout.Layout.TheVariants.{Layout1}
 use Rattle.pos_service.specs.declared.kind.Kind.{Kind}
 use Rattle.pos_totals.specs.HardTotals.{Off}
 use Rattle.pos_service.specs.Peripherals.{PeripheralState}
@@ -112,14 +113,17 @@ device_with name kind state = record { name = name; kind = Some kind; station = 
 abbrev pub begun_with : List Device → TotalsPart → Machine
 begun_with devices part = machine_with [] (replicate (length devices) None) devices part
 
--- totals that are off, over a disk
+-- totals that are off, over a disk, with the layout of a new one
 abbrev pub off_over : {D : Type 0} → D → TotalsView D
-off_over disk = record { disk = disk; totals = record { mode = Off; next = 1; area = None; transactions = [] } }
+off_over disk = record {
+  disk = disk;
+  totals = record { layout = Layout1; mode = Off; next = 1; area = None; transactions = [] };
+}
 
 -- totals that are off, over a disk that may leave these and has failed so often
 abbrev pub new_totals : List Standing → ℕ → TotalsPart
 new_totals left failures = record {
-  totals = record { mode = Off; next = 1; area = None; transactions = [] };
+  totals = record { layout = Layout1; mode = Off; next = 1; area = None; transactions = [] };
   left = left;
   failures = failures;
 }

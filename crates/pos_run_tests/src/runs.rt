@@ -5,7 +5,7 @@ use pos_disk::MemDisk;
 use pos_image::Images;
 use pos_profile::Profile;
 use pos_run::{AnswerWriter, RunFault, ScriptReader, Spares, end_counter, run, run_over_profile};
-use pos_service::{Peripheral, PeripheralBox, Plant, Snapshot};
+use pos_service::{Form, Peripheral, PeripheralBox, Snapshot};
 use pos_sims::PlainDrawer;
 use std::alloc::{AllocError, Global};
 use std::io;
@@ -215,8 +215,8 @@ fn drawer_after(
     let mut spares = Spares::new(Vec::new(alloc));
     let result = run(alloc, &mut reader, &mut writer, &mut counter, &mut spares);
     let is_open = match counter.snapshot(b"d1") {
-        Ok(Snapshot(Plant::Drawer(is_open))) => is_open,
-        _ => false,
+        Ok(Snapshot(plant)) => matches!(plant.form, Form::Drawer(true)),
+        Err(_) => false,
     };
     end_counter(counter);
     spares.park_all();

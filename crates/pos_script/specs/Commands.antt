@@ -1,7 +1,5 @@
 -- What a line of a script asks (docs/CONSOLE.md, "Lines").
 use Rattle.std.specs.Prelude.{ℕ, true, false, List, [], ◌∷◌, bytes_eq, codes, if◌then◌else◌}
-use Rattle.pos_service.specs.declared.category.Category.{Category}
-use Rattle.pos_service.specs.declared.call.Call.{Call}
 use Rattle.pos_service.specs.declared.call.Call.TheVariants as call
 use Rattle.pos_service.specs.declared.input.Input.{Input}
 use Rattle.pos_service.specs.declared.input.Input.TheVariants as input
@@ -66,6 +64,13 @@ printer_input_of word words =
     if bytes_eq word (codes "cover") then cover_input_of words
     else (if bytes_eq word (codes "paper") then from_one count_shape input.PaperLoaded words else misshapen)
 
+-- how a device is switched, by the words behind that
+abbrev pub power_input_of : List (List ℕ) → Reading Input
+power_input_of [] = misshapen
+power_input_of (word ∷ words) =
+    if bytes_eq word (codes "on") then from_none (input.PowerMoved true) words
+    else (if bytes_eq word (codes "off") then from_none (input.PowerMoved false) words else misshapen)
+
 -- what happens at a device, by its word and the words behind it
 abbrev pub input_of : List ℕ → List (List ℕ) → Reading Input
 input_of word words =
@@ -73,7 +78,8 @@ input_of word words =
     else (if bytes_eq word (codes "closed") then from_none (input.DrawerMoved false) words
     else (if bytes_eq word (codes "scan") then from_three count_shape bytes_shape bytes_shape input.Scan words
     else (if bytes_eq word (codes "fault") then from_none input.ScanFault words
-    else printer_input_of word words)))
+    else (if bytes_eq word (codes "power") then power_input_of words
+    else printer_input_of word words))))
 
 -- input DEVICE, and what happens there
 abbrev pub input_line : List ℕ → List (List ℕ) → Reading LineRequest

@@ -15,7 +15,8 @@ use Rattle.pos_service.specs.declared.exchange_fault.AttachFault.TheVariants as 
 use Rattle.pos_service.specs.declared.exchange_fault.DetachFault.{DetachFault}
 use Rattle.pos_service.specs.declared.exchange_fault.DetachFault.TheVariants as detach
 use Rattle.pos_service.specs.declared.plant.Plant.{Plant}
-use Rattle.pos_service.specs.declared.plant.Plant.TheVariants as plant
+use Rattle.pos_service.specs.declared.plant.Form.{Form}
+use Rattle.pos_service.specs.declared.plant.Form.TheVariants as form
 use Rattle.pos_service.specs.declared.request.Response.{Response}
 use Rattle.pos_service.specs.declared.request.Response.TheVariants as response
 use Rattle.pos_service.specs.declared.worked.Worked.{Worked as WorkResult}
@@ -75,13 +76,17 @@ worked_text (worked.Done id) = codes "done " ++ decimal id
 worked_text (worked.Failed code extended) =
     codes "failed " ++ decimal (number_of code) ++ codes " " ++ decimal extended
 
--- what a device is physically
+-- what a device is physically by its kind
+abbrev pub form_text : Form → List ℕ
+form_text (form.Drawer true) = codes "ok open"
+form_text (form.Drawer false) = codes "ok closed"
+form_text form.Scanner = codes "ok"
+form_text (form.Display shown) = codes "ok " ++ cells_text shown.cells
+form_text (form.Printer printed) = codes "ok " ++ printer_text printed
+
+-- what a device is physically: its power isn't printed
 abbrev pub plant_text : Plant → List ℕ
-plant_text (plant.Drawer true) = codes "ok open"
-plant_text (plant.Drawer false) = codes "ok closed"
-plant_text plant.Scanner = codes "ok"
-plant_text (plant.Display shown) = codes "ok " ++ cells_text shown.cells
-plant_text (plant.Printer printed) = codes "ok " ++ printer_text printed
+plant_text plant = form_text plant.form
 
 -- why a peripheral was not attached
 abbrev pub attach_text : AttachFault → List ℕ

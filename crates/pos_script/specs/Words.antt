@@ -117,9 +117,12 @@ property_named word =
     else (if bytes_eq word (codes "Claimed") then Some property.Claimed
     else (if bytes_eq word (codes "DeviceEnabled") then Some property.DeviceEnabled
     else (if bytes_eq word (codes "FreezeEvents") then Some property.FreezeEvents
+    else (if bytes_eq word (codes "CapPowerReporting") then Some property.CapPowerReporting
+    else (if bytes_eq word (codes "PowerNotify") then Some property.PowerNotify
+    else (if bytes_eq word (codes "PowerState") then Some property.PowerState
     else (if bytes_eq word (codes "CapStatus") then Some property.CapStatus
     else (if bytes_eq word (codes "DrawerOpened") then Some property.DrawerOpened
-    else scanner_property_named word)))))
+    else scanner_property_named word))))))))
 
 -- the reply to an ErrorEvent of this name
 abbrev pub error_reply_named : List ℕ → Option ErrorReply

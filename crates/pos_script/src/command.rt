@@ -3,7 +3,7 @@ ghost use Rattle.pos_script.specs.Lines.{words_of};
 ghost use Rattle.pos_script.specs.Arguments.{Reads, from_three};
 ghost use Rattle.pos_script.specs.Words.{bytes_shape, count_shape};
 ghost use Rattle.pos_service.specs.declared.input.Input.TheVariants as input;
-ghost use Rattle.pos_script.specs.Commands.{request_of_words, verb_line, claims_line, device_line, new_line, open_line, close_line, claim_line, release_line, set_line, get_line, call_line, input_of, printer_input_of, cover_input_of, input_line, reply_of, deliver_line, show_line, work_line, attach_line, detach_line, exchange_line};
+ghost use Rattle.pos_script.specs.Commands.{request_of_words, verb_line, claims_line, device_line, new_line, open_line, close_line, claim_line, release_line, set_line, get_line, call_line, input_of, printer_input_of, cover_input_of, power_input_of, input_line, reply_of, deliver_line, show_line, work_line, attach_line, detach_line, exchange_line};
 
 use crate::arguments::{DeviceName, LineFault, read_none, read_one, read_three, read_two};
 use crate::lines::next_word;
@@ -122,7 +122,26 @@ fn read_event(alloc: Global, word: &[u8], words: &[u8]) -> Result<Input, LineFau
     if is(word, "fault") {
         return read_none(words).map(|_| Input::ScanFault);
     }
+    if is(word, "power") {
+        return read_power_event(words);
+    }
     read_printer_event(alloc, word, words)
+}
+
+/// How a device is switched.
+fn read_power_event(words: &[u8]) -> Result<Input, LineFault>
+    ensures { Reads (power_input_of (words_of words.now)) result }
+{
+    let Some((word, rest)) = next_word(words) else {
+        return Err(LineFault::WrongShape);
+    };
+    if is(word, "on") {
+        return read_none(rest).map(|_| Input::PowerMoved(true));
+    }
+    if is(word, "off") {
+        return read_none(rest).map(|_| Input::PowerMoved(false));
+    }
+    Err(LineFault::WrongShape)
 }
 
 /// What happens at a printer.

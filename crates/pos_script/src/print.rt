@@ -12,8 +12,8 @@ use crate::write::{WriteFault, write_hex, write_parts};
 use itoa::Buffer;
 use pos_service::display_text::DisplayCell;
 use pos_service::{
-    Answer, AttachFault, Code, DetachFault, Event, Locus, Plant, Receipt, Response, Snapshot,
-    Value, Worked,
+    Answer, AttachFault, Code, DetachFault, Event, Form, Locus, Receipt, Response, Snapshot, Value,
+    Worked,
 };
 use std::io::Write;
 
@@ -163,16 +163,16 @@ fn print_receipt<W: Write>(writer: &mut W, receipt: &Receipt) -> Result<(), Writ
     write_parts(writer, &["\n"])
 }
 
-/// Writes what a device is physically.
+/// Writes what a device is physically, but its power.
 fn print_plant<W: Write>(writer: &mut W, snapshot: Snapshot) -> Result<(), WriteFault>
     ensures { Writes (W.contents writer.old) (W.contents writer.new) (plant_text snapshot.0 ++ 10 ∷ []) result }
 {
-    match snapshot.0 {
-        Plant::Drawer(true) => write_parts(writer, &["ok open\n"]),
-        Plant::Drawer(false) => write_parts(writer, &["ok closed\n"]),
-        Plant::Scanner => write_parts(writer, &["ok\n"]),
-        Plant::Display(shown) => print_cells(writer, shown.as_slice()),
-        Plant::Printer(receipt) => print_receipt(writer, &receipt),
+    match snapshot.0.form {
+        Form::Drawer(true) => write_parts(writer, &["ok open\n"]),
+        Form::Drawer(false) => write_parts(writer, &["ok closed\n"]),
+        Form::Scanner => write_parts(writer, &["ok\n"]),
+        Form::Display(shown) => print_cells(writer, shown.as_slice()),
+        Form::Printer(receipt) => print_receipt(writer, &receipt),
     }
 }
 

@@ -168,6 +168,15 @@ pub fn property(word: &[u8]) -> Option<Property>
     if is(word, "FreezeEvents") {
         return Some(Property::FreezeEvents);
     }
+    if is(word, "CapPowerReporting") {
+        return Some(Property::CapPowerReporting);
+    }
+    if is(word, "PowerNotify") {
+        return Some(Property::PowerNotify);
+    }
+    if is(word, "PowerState") {
+        return Some(Property::PowerState);
+    }
     if is(word, "CapStatus") {
         return Some(Property::CapStatus);
     }

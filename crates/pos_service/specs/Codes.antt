@@ -17,6 +17,7 @@ number_of code.NoService = 104
 number_of code.Disabled = 105
 number_of code.Illegal = 106
 number_of code.NoHardware = 107
+number_of code.Offline = 108
 number_of code.NoExist = 109
 number_of code.Exists = 110
 number_of code.Failure = 111
@@ -42,6 +43,7 @@ code_by reply.Done = code.Success
 code_by reply.CoverOpen = code.Extended
 code_by reply.PaperEnd = code.Extended
 code_by reply.LineFault = code.Failure
+code_by reply.Offline = code.Offline
 
 -- the extended code with it: EPTR_COVER_OPEN and EPTR_REC_EMPTY with E_EXTENDED
 abbrev pub extended_by : Reply → ℕ
@@ -49,6 +51,7 @@ extended_by reply.Done = 0
 extended_by reply.CoverOpen = eptr_cover_open
 extended_by reply.PaperEnd = eptr_rec_empty
 extended_by reply.LineFault = 0
+extended_by reply.Offline = 0
 
 -- the number of an error's locus
 abbrev pub locus_number_of : Locus → ℕ

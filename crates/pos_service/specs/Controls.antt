@@ -1,7 +1,8 @@
 -- A control: its properties, its list of events, and its output (common chapter, for its reader chapter Scanner, for
 -- its cursor chapter Line Display, and for its writer chapter POS Printer).
-use Rattle.std.specs.Prelude.{ℕ, Bool, false, not, ◌&&◌, ◌||◌, List, [], Option, Some, None, is_none, option_map, map, nat_eq, if◌then◌else◌}
+use Rattle.std.specs.Prelude.{ℕ, Bool, true, false, not, ◌&&◌, ◌||◌, List, [], Option, Some, None, is_none, option_map, map, nat_eq, if◌then◌else◌}
 use Rattle.pos_service.specs.declared.category.Category.{Category}
+use Rattle.pos_service.specs.declared.category.Category.TheVariants as category
 use Rattle.pos_service.specs.declared.display_text.Cursor.{Cursor}
 use Rattle.pos_service.specs.declared.display_text.Place.{Place}
 use Rattle.pos_service.specs.declared.event.ErrorReply.{ErrorReply}
@@ -41,12 +42,14 @@ pub record Writer : Type 0 where
 abbrev pub default_writer : ℕ → Writer
 default_writer next = record { is_async = false; output_id = 0; output = no_output next }
 
--- a control: closed where it has no device, which is named by its place in the profile
+-- a control: closed where it has no device, which is named by its place in the profile; PowerNotify is true where it is
+-- PN_ENABLED
 pub record Control : Type 0 where
   pub category : Category
   pub device : Option ℕ
   pub enabled : Bool
   pub frozen : Bool
+  pub power_notify : Bool
   pub reader : Reader
   pub cursor : Cursor
   pub writer : Writer
@@ -59,6 +62,7 @@ new_control category = record {
   device = None;
   enabled = false;
   frozen = false;
+  power_notify = false;
   reader = default_reader;
   cursor = default_cursor;
   writer = default_writer 1;
@@ -88,6 +92,18 @@ stopped control = record control {
 -- a control that was closed
 abbrev pub closed : Control → Control
 closed control = record (stopped control) { device = None }
+
+-- a category's devices tell if they are on: CapPowerReporting is PR_STANDARD, else PR_NONE
+abbrev pub reports_power : Category → Bool
+reports_power category.CashDrawer = true
+reports_power category.Scanner = true
+reports_power category.LineDisplay = true
+reports_power category.PosPrinter = true
+reports_power category.HardTotals = false
+
+-- a control is to be notified of its device's power, as far as that is told at all
+abbrev pub is_notified : Control → Bool
+is_notified control = reports_power control.category && control.power_notify
 
 -- the cursor at another place
 abbrev pub moved_to : Place → Cursor → Cursor

@@ -18,12 +18,12 @@ use Rattle.pos_service.specs.declared.order.Reply.{Reply}
 use Rattle.pos_service.specs.declared.order.Reply.TheVariants as reply
 use Rattle.pos_service.specs.Calls.{takes_memory}
 use Rattle.pos_service.specs.Codes.{code_by, extended_by}
-use Rattle.pos_service.specs.Controls.{Control, all_listening, heard, queued, with_place, without_input, without_output, without_scan}
+use Rattle.pos_service.specs.Controls.{Control, all_listening, queued, with_place, without_input, without_output, without_scan}
 use Rattle.pos_service.specs.Output.{last_output_id}
 use Rattle.pos_service.specs.Peripherals.{Performs, PrintersTake, Rose, counted, order_fits, signs_of}
 use Rattle.pos_service.specs.Refusals.{Row, Decided, first_refusal, when}
 use Rattle.pos_service.specs.Stations.{Station, SameStation, Effect}
-use Rattle.pos_service.specs.Statuses.{status_events}
+use Rattle.pos_service.specs.Statuses.{heard_signs}
 
 -- One more order was given than before; or, where memory was wanted before there was room for what comes of it, none.
 abbrev pub GivesOne : {T : Type 0} → Result T NoMemory → ℕ → ℕ → Type 0
@@ -34,16 +34,15 @@ GivesOne outcome old new = MatchResult outcome
 -- The peripheral has carried out an order, and each control that listens hears the statuses that have changed.
 pub record CarriedOut (given : Order) (place : ℕ)
     (old : List Control) (before : Station) (new : List Control) (after : Station) : Type 0 where
-  pub plant : Performs before.kind given before.plant reply.Done after.plant
+  pub plant : Performs given before.plant reply.Done after.plant
   pub station : after ≡ record before { plant = after.plant }
-  pub controls : new ≡
-      (let statuses = status_events (signs_of before.kind before.plant) (signs_of after.kind after.plant) in
-      all_listening place (heard statuses) old)
+  pub controls : new ≡ all_listening place
+      (heard_signs (signs_of before.kind before.plant) (signs_of after.kind after.plant)) old
 
 -- The peripheral has said why it does nothing, and nothing has changed.
 pub record Hindered (given : Order) (said : Reply)
     (old : List Control) (before : Station) (new : List Control) (after : Station) : Type 0 where
-  pub plant : Performs before.kind given before.plant said after.plant
+  pub plant : Performs given before.plant said after.plant
   pub same : SameStation old before new after
 
 -- The line to the device fails, and nothing else changes.
@@ -58,6 +57,7 @@ Ordered given place reply.Done old before new after = CarriedOut given place old
 Ordered given place reply.CoverOpen old before new after = Hindered given reply.CoverOpen old before new after
 Ordered given place reply.PaperEnd old before new after = Hindered given reply.PaperEnd old before new after
 Ordered given place reply.LineFault old before new after = LineFailed old before new after
+Ordered given place reply.Offline old before new after = Hindered given reply.Offline old before new after
 
 -- what a call answers, once the peripheral has said this to its order
 abbrev pub answer_by : Reply → Answer
@@ -83,6 +83,7 @@ Follows reply.Done what number old new = ChangesOne (changed what) number old ne
 Follows reply.CoverOpen what number old new = new ≡ old
 Follows reply.PaperEnd what number old new = new ≡ old
 Follows reply.LineFault what number old new = new ≡ old
+Follows reply.Offline what number old new = new ≡ old
 
 -- The peripheral is given an order; it says something to it, and the controls that listen hear what has changed; then
 -- the control with the number changes, where the order was done.

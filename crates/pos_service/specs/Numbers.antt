@@ -1,10 +1,15 @@
 -- The numbers that are arguments of calls and values of properties.
-use Rattle.std.specs.Prelude.{ℕ, ℤ, pos, negsuc, Bool, true, false, nat_lt, nat_le}
+use Rattle.std.specs.Prelude.{ℕ, ℤ, pos, negsuc, Bool, true, false, ◌==◌, nat_lt, nat_le}
 
 -- at least 0
 abbrev pub is_natural : ℤ → Bool
 is_natural (pos n) = true
 is_natural (negsuc n) = false
+
+-- 1
+abbrev pub is_one : ℤ → Bool
+is_one (pos n) = n == 1
+is_one (negsuc n) = false
 
 -- 0 to a limit
 abbrev pub is_up_to : ℕ → ℤ → Bool

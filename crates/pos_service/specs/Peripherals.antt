@@ -5,8 +5,9 @@ use Rattle.pos_service.specs.declared.display_text.Direction.{Direction}
 use Rattle.pos_service.specs.declared.display_text.Place.{Place}
 use Rattle.pos_service.specs.declared.kind.Kind.{Kind}
 use Rattle.pos_service.specs.declared.kind.Kind.TheVariants as kind
+use Rattle.pos_service.specs.declared.plant.Form.{Form}
+use Rattle.pos_service.specs.declared.plant.Form.TheVariants as form
 use Rattle.pos_service.specs.declared.plant.Plant.{Plant}
-use Rattle.pos_service.specs.declared.plant.Plant.TheVariants as plant
 use Rattle.pos_service.specs.declared.order.Order.{Order}
 use Rattle.pos_service.specs.declared.order.Order.TheVariants as order
 use Rattle.pos_service.specs.declared.order.Reply.{Reply}
@@ -46,24 +47,36 @@ pub record HasCells (rows columns : ℕ) (display : Display) : Type 0 where
   pub width : display.columns ≡ columns
   pub count : length display.cells ≡ display.rows * display.columns
 
--- a kind's plant
-abbrev pub IsPlantOf : Kind → Plant → Type 0
-IsPlantOf kind.Drawer (plant.Drawer is_open) = ⊤
-IsPlantOf kind.Scanner plant.Scanner = ⊤
-IsPlantOf (kind.Display rows columns) (plant.Display shown) = HasCells rows columns shown
-IsPlantOf (kind.Printer chars near) (plant.Printer printed) = printed.chars ≡ chars
-IsPlantOf is of_another = ⊥
+-- a kind's form
+abbrev pub IsFormOf : Kind → Form → Type 0
+IsFormOf kind.Drawer (form.Drawer is_open) = ⊤
+IsFormOf kind.Scanner form.Scanner = ⊤
+IsFormOf (kind.Display rows columns) (form.Display shown) = HasCells rows columns shown
+IsFormOf (kind.Printer chars near) (form.Printer printed) = printed.chars ≡ chars
+IsFormOf is of_another = ⊥
 
--- what a peripheral of this kind shows of its plant
-abbrev pub signs_of : Kind → Plant → Signs
-signs_of is (plant.Drawer is_open) = record { drawer_open = is_open; cover_open = false; paper = paper.Good }
-signs_of is plant.Scanner = record { drawer_open = false; cover_open = false; paper = paper.Good }
-signs_of is (plant.Display shown) = record { drawer_open = false; cover_open = false; paper = paper.Good }
-signs_of is (plant.Printer printed) = record {
+-- a kind's plant, on or off
+abbrev pub IsPlantOf : Kind → Plant → Type 0
+IsPlantOf is plant = IsFormOf is plant.form
+
+-- what a peripheral of this kind and form shows, on or off
+abbrev pub signs_by : Bool → Kind → Form → Signs
+signs_by powered is (form.Drawer is_open) =
+    record { powered = powered; drawer_open = is_open; cover_open = false; paper = paper.Good }
+signs_by powered is form.Scanner =
+    record { powered = powered; drawer_open = false; cover_open = false; paper = paper.Good }
+signs_by powered is (form.Display shown) =
+    record { powered = powered; drawer_open = false; cover_open = false; paper = paper.Good }
+signs_by powered is (form.Printer printed) = record {
+  powered = powered;
   drawer_open = false;
   cover_open = printed.is_cover_open;
   paper = paper_level (near_of is) printed.left;
 }
+
+-- what a peripheral of this kind shows of its plant
+abbrev pub signs_of : Kind → Plant → Signs
+signs_of is plant = signs_by plant.powered is plant.form
 
 -- the place at a row and a column
 abbrev pub place_at : ℕ → ℕ → Place
@@ -87,9 +100,11 @@ order_fits is (order.Cut percentage) = is_printer is && nat_le percentage 100
 abbrev pub PrintersTake : Order → Type 0
 PrintersTake asked = (is : Kind) → is_printer is ≡ true → order_fits is asked ≡ true
 
--- the input can happen at a peripheral of this kind: a drawer is moved; a scanner reads a bar code of the types 0 to
--- 999, or fails to read; a printer's cover is moved, or it is loaded with paper of at most 100,000 lines
+-- the input can happen at a peripheral of this kind: each is switched on and off; a drawer is moved; a scanner reads a
+-- bar code of the types 0 to 999, or fails to read; a printer's cover is moved, or it is loaded with paper of at most
+-- 100,000 lines
 abbrev pub input_fits : Kind → Input → Bool
+input_fits is (input.PowerMoved is_on) = true
 input_fits kind.Drawer (input.DrawerMoved is_open) = true
 input_fits kind.Scanner (input.Scan number bytes label) = nat_le number 999
 input_fits kind.Scanner input.ScanFault = true
@@ -106,69 +121,90 @@ abbrev pub Rose : ℕ → ℕ → Type 0
 Rose old new = (old < new) ⊎ ((old ≡ 2 ^ 64 - 1) × (new ≡ 2 ^ 64 - 1))
 
 -- a drawer is open then
-abbrev pub Opens : Plant → Plant → Type 0
-Opens (plant.Drawer was_open) new = new ≡ plant.Drawer true
-Opens plant.Scanner new = ⊥
-Opens (plant.Display shown) new = ⊥
-Opens (plant.Printer printed) new = ⊥
+abbrev pub Opens : Form → Form → Type 0
+Opens (form.Drawer was_open) new = new ≡ form.Drawer true
+Opens form.Scanner new = ⊥
+Opens (form.Display shown) new = ⊥
+Opens (form.Printer printed) new = ⊥
 
 -- a display shows a text then, from a place on
-abbrev pub Shows : Place → Attribute → List ℕ → Plant → Plant → Type 0
-Shows start style bytes (plant.Display old) (plant.Display new) = ShowsText old start style bytes new
+abbrev pub Shows : Place → Attribute → List ℕ → Form → Form → Type 0
+Shows start style bytes (form.Display old) (form.Display new) = ShowsText old start style bytes new
 Shows start style bytes old new = ⊥
 
 -- a display is blank then
-abbrev pub Clears : Plant → Plant → Type 0
-Clears (plant.Display old) new = new ≡ plant.Display (blank_display old.rows old.columns)
+abbrev pub Clears : Form → Form → Type 0
+Clears (form.Display old) new = new ≡ form.Display (blank_display old.rows old.columns)
 Clears old new = ⊥
 
 -- what a display shows has moved then
-abbrev pub Moves : Direction → ℕ → Plant → Plant → Type 0
-Moves direction units (plant.Display old) (plant.Display new) = Scrolls old direction units new
+abbrev pub Moves : Direction → ℕ → Form → Form → Type 0
+Moves direction units (form.Display old) (form.Display new) = Scrolls old direction units new
 Moves direction units old new = ⊥
 
 -- a printer prints a request of these pieces then, or says why it prints nothing of it
-abbrev pub PrintsOut : List Piece → Plant → Reply → Plant → Type 0
-PrintsOut ps (plant.Printer old) reply.Done (plant.Printer new) = Prints old ps outcome.Done new
-PrintsOut ps (plant.Printer old) reply.CoverOpen (plant.Printer new) = Prints old ps outcome.CoverOpen new
-PrintsOut ps (plant.Printer old) reply.PaperEnd (plant.Printer new) = Prints old ps outcome.PaperEnd new
+abbrev pub PrintsOut : List Piece → Form → Reply → Form → Type 0
+PrintsOut ps (form.Printer old) reply.Done (form.Printer new) = Prints old ps outcome.Done new
+PrintsOut ps (form.Printer old) reply.CoverOpen (form.Printer new) = Prints old ps outcome.CoverOpen new
+PrintsOut ps (form.Printer old) reply.PaperEnd (form.Printer new) = Prints old ps outcome.PaperEnd new
 PrintsOut ps old said new = ⊥
 
--- Of a kind, from the old plant, an order that reaches the peripheral may get this reply and leave the new plant: a
--- drawer opens; a display shows a text, is blank, or scrolls; a printer prints, or its cover is open, or its paper
--- ends.
-abbrev pub Performs : Kind → Order → Plant → Reply → Plant → Type 0
-Performs is (order.Print bytes) old said new = PrintsOut (pieces bytes) old said new
-Performs is (order.Cut percentage) old said new = PrintsOut (cut_pieces percentage) old said new
-Performs is order.OpenDrawer old reply.Done new = Opens old new
-Performs is (order.ShowText row column style bytes) old reply.Done new = Shows (place_at row column) style bytes old new
-Performs is order.ClearText old reply.Done new = Clears old new
-Performs is (order.Scroll direction units) old reply.Done new = Moves direction units old new
-Performs is asked old said new = ⊥
+-- From the old form, an order that reaches a peripheral that is on may get this reply and leave the new form: a drawer
+-- opens; a display shows a text, is blank, or scrolls; a printer prints, or its cover is open, or its paper ends.
+abbrev pub Obeys : Order → Form → Reply → Form → Type 0
+Obeys (order.Print bytes) old said new = PrintsOut (pieces bytes) old said new
+Obeys (order.Cut percentage) old said new = PrintsOut (cut_pieces percentage) old said new
+Obeys order.OpenDrawer old reply.Done new = Opens old new
+Obeys (order.ShowText row column style bytes) old reply.Done new = Shows (place_at row column) style bytes old new
+Obeys order.ClearText old reply.Done new = Clears old new
+Obeys (order.Scroll direction units) old reply.Done new = Moves direction units old new
+Obeys asked old said new = ⊥
 
--- Of a kind, from the old plant, an input may be taken so and leave the new plant: a drawer is open or closed as it
--- was moved, so is a printer's cover, or it has so many lines of paper left, and nothing of a scanner or of a display
--- changes.
-abbrev pub Takes : Kind → Input → Plant → Taken → Plant → Type 0
-Takes is (input.DrawerMoved is_open) (plant.Drawer was_open) taken.Quiet new = new ≡ plant.Drawer is_open
-Takes is (input.Scan number bytes label) plant.Scanner taken.Scan new = new ≡ plant.Scanner
-Takes is input.ScanFault plant.Scanner taken.Fault new = new ≡ plant.Scanner
-Takes is other (plant.Display shown) taken.Quiet new = new ≡ plant.Display shown
-Takes is (input.CoverMoved is_open) (plant.Printer old) taken.Quiet new =
-    new ≡ plant.Printer (record old { is_cover_open = is_open })
-Takes is (input.PaperLoaded lines) (plant.Printer old) taken.Quiet new =
-    new ≡ plant.Printer (record old { left = lines })
-Takes is other old taken new = ⊥
+-- From the old plant, an order that reaches the peripheral may get this reply and leave the new plant: one that is off
+-- answers that, and is as it was; one that is on answers by its form, and stays on.
+abbrev pub Performs : Order → Plant → Reply → Plant → Type 0
+Performs asked old reply.Offline new = (old.powered ≡ false) × (new ≡ old)
+Performs asked old said new = (old.powered ≡ true) × (new.powered ≡ true) × Obeys asked old.form said new.form
 
--- A line fault changes nothing but the count of failures; with every other reply the line has not failed.
+-- From the old form, an input of a peripheral that is on may be taken so and leave the new form: a drawer is open or
+-- closed as it was moved, so is a printer's cover, or it has so many lines of paper left, and nothing of a scanner or
+-- of a display changes.
+abbrev pub Receives : Input → Form → Taken → Form → Type 0
+Receives (input.DrawerMoved is_open) (form.Drawer was_open) taken.Quiet new = new ≡ form.Drawer is_open
+Receives (input.Scan number bytes label) form.Scanner taken.Scan new = new ≡ form.Scanner
+Receives input.ScanFault form.Scanner taken.Fault new = new ≡ form.Scanner
+Receives other (form.Display shown) taken.Quiet new = new ≡ form.Display shown
+Receives (input.CoverMoved is_open) (form.Printer old) taken.Quiet new =
+    new ≡ form.Printer (record old { is_cover_open = is_open })
+Receives (input.PaperLoaded lines) (form.Printer old) taken.Quiet new =
+    new ≡ form.Printer (record old { left = lines })
+Receives other old taken new = ⊥
+
+-- The same of a peripheral that is on, which stays on, or off, which tells nothing and is as it was.
+abbrev pub TakesWhile : Bool → Input → Plant → Taken → Plant → Type 0
+TakesWhile true given old taken new = (new.powered ≡ true) × Receives given old.form taken new.form
+TakesWhile false given old taken.Quiet new = new ≡ old
+TakesWhile false given old taken new = ⊥
+
+-- From the old plant, an input may be taken so and leave the new plant: the peripheral is on or off as it was switched,
+-- or takes the input by whether it is on.
+abbrev pub Takes : Input → Plant → Taken → Plant → Type 0
+Takes (input.PowerMoved is_on) old taken.Quiet new = new ≡ record old { powered = is_on }
+Takes (input.PowerMoved is_on) old taken new = ⊥
+Takes given old taken new = TakesWhile old.powered given old taken new
+
+-- A line fault changes nothing but the count of failures, whether the peripheral is on or off; with every other reply
+-- the line has not failed.
 abbrev pub Replies : PeripheralState → Order → Reply → PeripheralState → Type 0
 Replies old order reply.LineFault new = (new.plant ≡ old.plant) × Rose old.failures new.failures
 Replies old order reply.Done new =
-    Performs old.kind order old.plant reply.Done new.plant × (new.failures ≡ old.failures)
+    Performs order old.plant reply.Done new.plant × (new.failures ≡ old.failures)
 Replies old order reply.CoverOpen new =
-    Performs old.kind order old.plant reply.CoverOpen new.plant × (new.failures ≡ old.failures)
+    Performs order old.plant reply.CoverOpen new.plant × (new.failures ≡ old.failures)
 Replies old order reply.PaperEnd new =
-    Performs old.kind order old.plant reply.PaperEnd new.plant × (new.failures ≡ old.failures)
+    Performs order old.plant reply.PaperEnd new.plant × (new.failures ≡ old.failures)
+Replies old order reply.Offline new =
+    Performs order old.plant reply.Offline new.plant × (new.failures ≡ old.failures)
 
 -- the plant and the count of failures are as they were
 abbrev pub IsUntouched : PeripheralState → PeripheralState → Type 0
@@ -190,7 +226,7 @@ pub record Fed (old : PeripheralState) (input : Input) (outcome : Result Taken N
   pub failures : new.failures ≡ old.failures
   pub orders : new.orders ≡ old.orders
   pub answer : MatchResult outcome
-      (λ taken. Takes old.kind input old.plant taken new.plant)
+      (λ taken. Takes input old.plant taken new.plant)
       (λ want. new.plant ≡ old.plant)
 
 -- A peripheral is out of service, and else as it was.

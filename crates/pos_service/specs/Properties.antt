@@ -7,6 +7,7 @@ use Rattle.pos_service.specs.declared.kind.Kind.{Kind}
 use Rattle.pos_service.specs.declared.property.Property.{Property}
 use Rattle.pos_service.specs.declared.property.Property.TheVariants as property
 use Rattle.pos_service.specs.declared.property.PropertyRow.{PropertyRow}
+use Rattle.pos_service.specs.declared.signs.Signs.{Signs}
 use Rattle.pos_service.specs.declared.needs.ClaimNeed.{ClaimNeed}
 use Rattle.pos_service.specs.declared.needs.ClaimNeed.TheVariants as claim_need
 use Rattle.pos_service.specs.declared.needs.Needs.{Needs}
@@ -17,13 +18,14 @@ use Rattle.pos_service.specs.declared.answer.Value.TheVariants as value
 use Rattle.pos_service.specs.declared.code.Code.TheVariants as code
 use Rattle.pos_service.specs.Calls.{is_category}
 use Rattle.pos_service.specs.Claims.{is_exclusive}
-use Rattle.pos_service.specs.Controls.{Control, Reader, Writer, state_of}
-use Rattle.pos_service.specs.Events.{data_count}
+use Rattle.pos_service.specs.Controls.{Control, Reader, Writer, is_notified, reports_power, state_of}
+use Rattle.pos_service.specs.Events.{EventList, Status, data_count, enqueued}
 use Rattle.pos_service.specs.Kinds.{rows_of, columns_of, chars_of}
-use Rattle.pos_service.specs.Numbers.{is_index, is_up_to}
+use Rattle.pos_service.specs.Numbers.{is_index, is_one, is_up_to}
 use Rattle.pos_service.specs.Receipts.{is_empty, is_near_end}
 use Rattle.pos_service.specs.Needs.{table}
 use Rattle.pos_service.specs.Refusals.{Row, when}
+use Rattle.pos_service.specs.Statuses.{power_status}
 
 -- the row of a property of an open control
 abbrev pub plain : Option Category → PropertyRow
@@ -61,6 +63,9 @@ row_of property.State = record (plain None) { is_open = false }
 row_of property.Claimed = plain None
 row_of property.DeviceEnabled = settable None
 row_of property.FreezeEvents = settable None
+row_of property.CapPowerReporting = plain None
+row_of property.PowerNotify = settable None
+row_of property.PowerState = plain None
 row_of property.DataEventEnabled = settable (Some category.Scanner)
 row_of property.AutoDisable = settable (Some category.Scanner)
 row_of property.DataCount = plain (Some category.Scanner)
@@ -93,11 +98,12 @@ row_of property.CapErrorDetection = plain (Some category.HardTotals)
 abbrev pub is_in : Option Category → Category → Bool
 is_in its c = is_none its || is_category its c
 
--- The property may be set to this value, by its type, and by its range at a device of this kind: CursorRow is one of
--- the display's rows, CursorColumn one of its columns or the place right of them.
+-- The property may be set to this value, by its type, and by its range at a device of this kind: PowerNotify is 0 or 1,
+-- CursorRow one of the display's rows, CursorColumn one of its columns or the place right of them.
 abbrev pub takes : Option Kind → Property → Value → Bool
 takes at property.DeviceEnabled (value.Truth is_true) = true
 takes at property.FreezeEvents (value.Truth is_true) = true
+takes at property.PowerNotify (value.Number n) = is_up_to 1 n
 takes at property.DataEventEnabled (value.Truth is_true) = true
 takes at property.AutoDisable (value.Truth is_true) = true
 takes at property.DecodeData (value.Truth is_true) = true
@@ -123,10 +129,28 @@ needs_to_set c p = record {
   is_enabled = false;
 }
 
+-- one of two truth values is the other
+abbrev pub is_same : Bool → Bool → Bool
+is_same a b = if a then b else not b
+
+-- PowerNotify can't be set so now: it would be another while the device is enabled, or PN_ENABLED where the device's
+-- power isn't told
+abbrev pub is_notify_refused : Control → Property → Value → Bool
+is_notify_refused control property.PowerNotify (value.Number n) =
+    control.enabled && not (is_same (is_one n) control.power_notify)
+    || is_one n && not (reports_power control.category)
+is_notify_refused control p v = false
+
+-- the values to which a control's property can't be set, by the kind of its device
+abbrev pub value_rows : Option Kind → Control → Property → Value → List Row
+value_rows at control p v =
+    when (not (takes at p v)) code.Illegal
+    ∷ when (is_notify_refused control p v) code.Illegal ∷ []
+
 -- A property is set by the control with a number, whose device has this holder and is of this kind.
 abbrev pub set_rows : ℕ → Option ℕ → Option Kind → Control → Property → Value → List Row
 set_rows number holder at control p v =
-    table number holder control (needs_to_set control.category p) (when (not (takes at p v)) code.Illegal ∷ [])
+    table number holder control (needs_to_set control.category p) (value_rows at control p v)
 
 -- DeviceEnabled, once the property is set
 abbrev pub enabled_after : Bool → Property → Value → Bool
@@ -137,6 +161,11 @@ enabled_after was p v = was
 abbrev pub frozen_after : Bool → Property → Value → Bool
 frozen_after was property.FreezeEvents (value.Truth is_frozen) = is_frozen
 frozen_after was p v = was
+
+-- whether PowerNotify is PN_ENABLED, once the property is set
+abbrev pub power_notify_after : Bool → Property → Value → Bool
+power_notify_after was property.PowerNotify (value.Number n) = is_one n
+power_notify_after was p v = was
 
 -- what is kept of input, once the property is set
 abbrev pub reader_after : Reader → Property → Value → Reader
@@ -157,14 +186,27 @@ abbrev pub writer_after : Writer → Property → Value → Writer
 writer_after was property.AsyncMode (value.Truth is_true) = record was { is_async = is_true }
 writer_after was p v = was
 
--- the control with the property set
-abbrev pub after_set : Control → Property → Value → Control
-after_set control p v = record control {
+-- setting the property tells the control its device's power: it enables a disabled control that is to be notified
+abbrev pub tells_power : Control → Property → Value → Bool
+tells_power control property.DeviceEnabled (value.Truth is_enabled) =
+    is_enabled && not control.enabled && is_notified control
+tells_power control p v = false
+
+-- the control's events, once the property is set, by whether its device is on
+abbrev pub list_after : Bool → Control → Property → Value → EventList
+list_after powered control p v =
+    if tells_power control p v then enqueued (Status (power_status powered)) control.list else control.list
+
+-- the control with the property set, by the signs of its device
+abbrev pub after_set : Signs → Control → Property → Value → Control
+after_set signs control p v = record control {
   enabled = enabled_after control.enabled p v;
   frozen = frozen_after control.frozen p v;
+  power_notify = power_notify_after control.power_notify p v;
   reader = reader_after control.reader p v;
   cursor = cursor_after control.cursor p v;
   writer = writer_after control.writer p v;
+  list = list_after signs.powered control p v;
 }
 
 -- the value of the property is a copy of bytes, for which memory may be wanted
@@ -186,6 +228,20 @@ get_rows number holder control facts p =
     table number holder control (needs_of control.category p)
     (when ((row_of p).is_of_files && is_none facts.files) code.Failure ∷ [])
 
+-- PR_STANDARD or PR_NONE
+abbrev pub power_reporting : Bool → ℕ
+power_reporting true = 1
+power_reporting false = 0
+
+-- PN_ENABLED or PN_DISABLED
+abbrev pub notify_number : Bool → ℕ
+notify_number true = 1
+notify_number false = 0
+
+-- PS_ONLINE or PS_OFF_OFFLINE while the device is enabled for a control that is to be notified, else PS_UNKNOWN
+abbrev pub power_state : Control → Signs → ℕ
+power_state control signs = if control.enabled && is_notified control then power_status signs.powered else 2000
+
 -- what is told of files that are known
 abbrev pub told_of_files : Option FileFacts → (FileFacts → ℕ) → Value
 told_of_files None tell = value.Empty
@@ -197,6 +253,10 @@ property_of control facts property.State = value.Number (pos (state_of control))
 property_of control facts property.Claimed = value.Truth facts.is_claimed
 property_of control facts property.DeviceEnabled = value.Truth control.enabled
 property_of control facts property.FreezeEvents = value.Truth control.frozen
+property_of control facts property.CapPowerReporting =
+    value.Number (pos (power_reporting (reports_power control.category)))
+property_of control facts property.PowerNotify = value.Number (pos (notify_number control.power_notify))
+property_of control facts property.PowerState = value.Number (pos (power_state control facts.signs))
 property_of control facts property.DataEventEnabled = value.Truth control.reader.data_enabled
 property_of control facts property.AutoDisable = value.Truth control.reader.auto_disable
 property_of control facts property.DataCount = value.Number (pos (data_count control.list))

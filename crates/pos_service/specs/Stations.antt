@@ -9,10 +9,9 @@ use Rattle.pos_service.specs.declared.memory.NoMemory.{NoMemory}
 use Rattle.pos_service.specs.declared.plant.Plant.{Plant}
 use Rattle.pos_service.specs.declared.signs.PaperLevel.TheVariants as paper
 use Rattle.pos_service.specs.declared.signs.Signs.{Signs}
-use Rattle.pos_service.specs.Controls.{Control, heard, read, failed, all_listening}
-use Rattle.pos_service.specs.Events.{Enqueued}
+use Rattle.pos_service.specs.Controls.{Control, read, failed, all_listening}
 use Rattle.pos_service.specs.Peripherals.{PeripheralState, Takes, input_fits, signs_of}
-use Rattle.pos_service.specs.Statuses.{status_events}
+use Rattle.pos_service.specs.Statuses.{heard_signs}
 
 -- what stands at a device: what it is, what it is physically, and how often its line has failed
 pub record Station : Type 0 where
@@ -24,9 +23,9 @@ pub record Station : Type 0 where
 abbrev pub station_of : PeripheralState → Station
 station_of state = record { kind = state.kind; plant = state.plant; failures = state.failures }
 
--- the signs at a device, each false or good where it has no peripheral
+-- the signs at a device: where it has no peripheral, that it is on, and else each false or good
 abbrev pub signs_in : Option Station → Signs
-signs_in None = record { drawer_open = false; cover_open = false; paper = paper.Good }
+signs_in None = record { powered = true; drawer_open = false; cover_open = false; paper = paper.Good }
 signs_in (Some station) = signs_of station.kind station.plant
 
 -- Controls and station are as they were.
@@ -43,25 +42,24 @@ pub record StaysInService (old new : PeripheralState) : Type 0 where
   pub unparked : new.is_parked ≡ false
   pub kind : new.kind ≡ old.kind
 
--- What each control that listens does, by how an input was taken: it hears the statuses that have changed, reads the
--- scan, or its input has failed.
-abbrev pub reaction : Input → Taken → List Enqueued → Control → Control
-reaction i taken.Quiet statuses control = heard statuses control
-reaction (input.Scan number bytes label) taken.Scan statuses control =
+-- What each control that listens does, by how an input was taken: it hears the signs that have changed, reads the scan,
+-- or its input has failed.
+abbrev pub reaction : Input → Taken → Signs → Signs → Control → Control
+reaction i taken.Quiet was is control = heard_signs was is control
+reaction (input.Scan number bytes label) taken.Scan was is control =
     read (record { kind = number; bytes = bytes; label = label }) control
-reaction i taken.Scan statuses control = control
-reaction i taken.Fault statuses control = failed control
+reaction i taken.Scan was is control = control
+reaction i taken.Fault was is control = failed control
 
 -- An input is taken in some way, which may change the plant, and each control that listens does what it does then.
 pub record TakesIn (input : Input) (place : ℕ)
     (old : List Control) (before : Station) (new : List Control) (after : Station) : Type 0 where
   pub taken : Taken
   pub fits : input_fits before.kind input ≡ true
-  pub plant : Takes before.kind input before.plant taken after.plant
+  pub plant : Takes input before.plant taken after.plant
   pub station : after ≡ record before { plant = after.plant }
-  pub controls : new ≡
-      (let statuses = status_events (signs_of before.kind before.plant) (signs_of after.kind after.plant) in
-      all_listening place (reaction input taken statuses) old)
+  pub controls : new ≡ all_listening place
+      (reaction input taken (signs_of before.kind before.plant) (signs_of after.kind after.plant)) old
 
 -- An input is taken in, or finds no memory and changes nothing.
 abbrev pub TakenAt : Input → ℕ → Result (Unit {0}) NoMemory → Effect

@@ -1,6 +1,7 @@
 ghost use Rattle.std.specs.Prelude.{◌≡◌};
 ghost use Rattle.pos_service.specs.Calls.{serves};
 ghost use Rattle.pos_service.specs.Claims.{is_exclusive};
+ghost use Rattle.pos_service.specs.Controls.{reports_power};
 ghost use Rattle.pos_service.specs.Names.{category_named};
 
 use crate::kind::Kind;
@@ -74,5 +75,13 @@ impl Category {
             Category::PosPrinter => true,
             Category::HardTotals => false,
         }
+    }
+
+    /// Whether its devices tell if they are on: CapPowerReporting is PR_STANDARD (common chapter, device power
+    /// reporting).
+    pub fn reports_power(self) -> bool
+        ensures { result ≡ reports_power self }
+    {
+        self != Category::HardTotals
     }
 }

@@ -29,6 +29,8 @@ pub enum Code {
     Illegal,
     /// E_NOHARDWARE: the device can't be used as it is.
     NoHardware,
+    /// E_OFFLINE: the device is off.
+    Offline,
     /// E_NOEXIST: what is named isn't there.
     NoExist,
     /// E_EXISTS: what is to be made is there already.
@@ -57,6 +59,7 @@ impl Code {
             Code::Disabled => 105,
             Code::Illegal => 106,
             Code::NoHardware => 107,
+            Code::Offline => 108,
             Code::NoExist => 109,
             Code::Exists => 110,
             Code::Failure => 111,

@@ -10,7 +10,7 @@ pub struct Facts {
     pub in_transaction: bool,
     /// What the device's peripheral is, where it has one.
     pub kind: Option<Kind>,
-    /// What the device's peripheral shows of itself, each false or good where it has none.
+    /// What the device's peripheral shows of itself: where it has none, that it is on, and else each false or good.
     pub signs: Signs,
     /// TotalsSize.
     pub totals_size: usize,

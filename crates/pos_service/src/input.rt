@@ -21,6 +21,8 @@ pub enum Input {
     CoverMoved(bool),
     /// A printer has so many lines of paper left from now on, at most 100,000.
     PaperLoaded(u32),
+    /// A peripheral of any kind is on from now on, or off.
+    PowerMoved(bool),
 }
 
 impl Input {
@@ -29,6 +31,7 @@ impl Input {
         ensures { result ≡ input_fits kind self.now }
     {
         match (self, kind) {
+            (Input::PowerMoved(_), _) => true,
             (Input::DrawerMoved(_), Kind::Drawer) => true,
             (
                 Input::Scan {

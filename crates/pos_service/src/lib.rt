@@ -51,7 +51,7 @@ pub use needs::{ClaimNeed, Needs};
 pub use order::{Order, Reply};
 pub use peripheral::Peripheral;
 pub use peripheral_box::PeripheralBox;
-pub use plant::{DisplayCells, Plant, Receipt, Snapshot};
+pub use plant::{DisplayCells, Form, Plant, Receipt, Snapshot};
 pub use property::{Property, PropertyRow};
 pub use request::{Request, Response};
 pub use scan::Scan;

@@ -89,11 +89,13 @@ pub enum Reply {
     PaperEnd,
     /// The line to the peripheral failed, and nothing was done.
     LineFault,
+    /// The peripheral is off, and nothing was done.
+    Offline,
 }
 
 impl Reply {
     /// The result code that it means: E_EXTENDED for an open cover and too little paper, E_FAILURE for a line that
-    /// failed.
+    /// failed, E_OFFLINE for a peripheral that is off.
     pub fn code(self) -> Code
         ensures { result ≡ code_by self }
     {
@@ -101,6 +103,7 @@ impl Reply {
             Reply::Done => Code::Success,
             Reply::CoverOpen | Reply::PaperEnd => Code::Extended,
             Reply::LineFault => Code::Failure,
+            Reply::Offline => Code::Offline,
         }
     }
 
@@ -109,7 +112,7 @@ impl Reply {
         ensures { result ≡ extended_by self }
     {
         match self {
-            Reply::Done | Reply::LineFault => 0,
+            Reply::Done | Reply::LineFault | Reply::Offline => 0,
             Reply::CoverOpen => EPTR_COVER_OPEN,
             Reply::PaperEnd => EPTR_REC_EMPTY,
         }

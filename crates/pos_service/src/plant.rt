@@ -5,9 +5,18 @@ use crate::display_text::DisplayCell;
 use crate::receipt_text::{Mark, PrintedCharacter};
 use std::marker::Model;
 
-/// What a peripheral is physically.
+/// What a peripheral is physically: whether it is on, and what is of its kind, which stays while it is off.
 #[derive(Drop)]
-pub enum Plant {
+pub struct Plant {
+    /// Whether it is on.
+    pub powered: bool,
+    /// What is of its kind.
+    pub form: Form,
+}
+
+/// What a peripheral is physically by its kind.
+#[derive(Drop)]
+pub enum Form {
     /// A drawer, open or not.
     Drawer(bool),
     /// A scanner, of which nothing changes.

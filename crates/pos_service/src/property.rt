@@ -16,6 +16,13 @@ pub enum Property {
     DeviceEnabled,
     /// Whether no event is delivered.
     FreezeEvents,
+    /// How the device tells its power: not at all (PR_NONE) 0, or whether it is on (PR_STANDARD) 1.
+    CapPowerReporting,
+    /// Whether the control is notified of the device's power: not (PN_DISABLED) 0, or else (PN_ENABLED) 1.
+    PowerNotify,
+    /// The device's power, as far as the control is notified of it: unknown (PS_UNKNOWN) 2000, on (PS_ONLINE) 2001, off
+    /// (PS_OFF_OFFLINE) 2004.
+    PowerState,
     /// Whether DataEvents and errors of input are delivered.
     DataEventEnabled,
     /// Whether the control is disabled by the next input that comes.
@@ -137,8 +144,10 @@ impl Property {
                 is_open: false,
                 ..plain(None)
             },
-            Property::Claimed => plain(None),
-            Property::DeviceEnabled | Property::FreezeEvents => settable(None),
+            Property::Claimed | Property::CapPowerReporting | Property::PowerState => plain(None),
+            Property::DeviceEnabled | Property::FreezeEvents | Property::PowerNotify => {
+                settable(None)
+            }
             Property::DataEventEnabled | Property::AutoDisable | Property::DecodeData => {
                 settable(Some(Category::Scanner))
             }

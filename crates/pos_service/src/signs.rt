@@ -47,9 +47,11 @@ impl PaperLevel {
     }
 }
 
-/// What a peripheral shows of itself. A part that its kind lacks is false, or good.
+/// What a peripheral shows of itself, on or off. A part that its kind lacks is false, or good.
 #[derive(Clone, Copy, PartialEq, Eq)]
 pub struct Signs {
+    /// Whether the peripheral is on.
+    pub powered: bool,
     /// Whether the drawer is open.
     pub drawer_open: bool,
     /// Whether the printer's cover is open.

@@ -1,3 +1,4 @@
+pub mod Powers
 pub mod Drawers
 pub mod Scanners
 pub mod LineDisplays

@@ -1,16 +1,17 @@
 -- What contracts see of a simulated line display.
-use Rattle.std.specs.Prelude.{Bool}
+use Rattle.std.specs.Prelude.{Bool, true}
 use Rattle.pos_service.specs.declared.kind.Kind.TheVariants as kind
-use Rattle.pos_service.specs.declared.plant.Plant.TheVariants as plant
+use Rattle.pos_service.specs.declared.plant.Form.TheVariants as form
 use Rattle.pos_service.specs.Displays.{Display}
 use Rattle.pos_service.specs.Peripherals.{PeripheralState}
+use Rattle.pos_sims.specs.Powers.{switched}
 use Rattle.pos_sims.specs.declared.plain_display.PlainDisplay.{PlainDisplay}
 
--- a display that shows this, out of service or not, whose line never fails, and that was given no order
+-- a display that is on and shows this, out of service or not, whose line never fails, and that was given no order
 abbrev pub display_state : Display → Bool → PeripheralState
 display_state shown is_parked = record {
   kind = kind.Display shown.rows shown.columns;
-  plant = plant.Display shown;
+  plant = record { powered = true; form = form.Display shown };
   is_parked = is_parked;
   failures = 0;
   orders = 0;
@@ -18,4 +19,5 @@ display_state shown is_parked = record {
 
 -- what contracts see of a plain display
 abbrev pub state_of : PlainDisplay → PeripheralState
-state_of display = record (display_state display.window display.is_parked) { orders = display.orders }
+state_of display =
+    switched display.powered (record (display_state display.window display.is_parked) { orders = display.orders })

@@ -1,21 +1,22 @@
 -- What contracts see of a simulated receipt printer.
-use Rattle.std.specs.Prelude.{ℕ, Bool}
+use Rattle.std.specs.Prelude.{ℕ, Bool, true}
 use Rattle.pos_service.specs.declared.kind.Kind.TheVariants as kind
-use Rattle.pos_service.specs.declared.plant.Plant.TheVariants as plant
+use Rattle.pos_service.specs.declared.plant.Form.TheVariants as form
 use Rattle.pos_service.specs.declared.order.Reply.{Reply}
 use Rattle.pos_service.specs.declared.order.Reply.TheVariants as reply
 use Rattle.pos_service.specs.declared.receipt_text.Outcome.{Outcome}
 use Rattle.pos_service.specs.declared.receipt_text.Outcome.TheVariants as outcome
 use Rattle.pos_service.specs.Receipts.{Printer}
 use Rattle.pos_service.specs.Peripherals.{PeripheralState}
+use Rattle.pos_sims.specs.Powers.{switched}
 use Rattle.pos_sims.specs.declared.roll_printer.RollPrinter.{RollPrinter}
 
--- a printer with this paper, which is near its end at so many lines, out of service or not, whose line never fails, and
--- that was given no order
+-- a printer that is on, with this paper, which is near its end at so many lines, out of service or not, whose line
+-- never fails, and that was given no order
 abbrev pub printer_state : Printer → ℕ → Bool → PeripheralState
 printer_state printed near is_parked = record {
   kind = kind.Printer printed.chars near;
-  plant = plant.Printer printed;
+  plant = record { powered = true; form = form.Printer printed };
   is_parked = is_parked;
   failures = 0;
   orders = 0;
@@ -23,7 +24,8 @@ printer_state printed near is_parked = record {
 
 -- what contracts see of a roll printer
 abbrev pub state_of : RollPrinter → PeripheralState
-state_of printer = record (printer_state printer.roll printer.near printer.is_parked) { orders = printer.orders }
+state_of printer = switched printer.powered
+    (record (printer_state printer.roll printer.near printer.is_parked) { orders = printer.orders })
 
 -- what a printer replies, once this has come of a request
 abbrev pub reply_of : Outcome → Reply

@@ -6,7 +6,7 @@ ghost use Rattle.pos_sims.specs.LineDisplays.{display_state, state_of};
 use crate::window::Window;
 use pos_service::display_text::Place;
 use pos_service::{
-    DisplayCells, Input, Kind, NoMemory, Order, PaperLevel, Peripheral, Plant, Reply, Signs,
+    DisplayCells, Form, Input, Kind, NoMemory, Order, PaperLevel, Peripheral, Plant, Reply, Signs,
     Snapshot, Taken,
 };
 use std::alloc::Global;
@@ -17,12 +17,13 @@ use std::alloc::Global;
 pub struct PlainDisplay {
     alloc: Global,
     window: Window,
+    powered: bool,
     is_parked: bool,
     orders: u64,
 }
 
 impl PlainDisplay {
-    /// A blank display of 1 to 8 rows of 1 to 80 columns that is in service.
+    /// A blank display of 1 to 8 rows of 1 to 80 columns that is on and in service.
     pub fn new(alloc: Global, rows: u32, columns: u32) -> Result<Self, NoMemory>
         requires rows { (1 ≤ rows) × (rows ≤ 8) }
         requires columns { (1 ≤ columns) × (columns ≤ 80) }
@@ -32,6 +33,7 @@ impl PlainDisplay {
         Ok(PlainDisplay {
             alloc,
             window,
+            powered: true,
             is_parked: false,
             orders: 0,
         })
@@ -47,6 +49,7 @@ impl Peripheral for PlainDisplay {
 
     fn signs(&self) -> Signs {
         Signs {
+            powered: self.powered,
             drawer_open: false,
             cover_open: false,
             paper: PaperLevel::Good,
@@ -59,6 +62,9 @@ impl Peripheral for PlainDisplay {
         ensures takes_no_memory { IsOk result }
     {
         self.orders = self.orders.saturating_add(1);
+        if !self.powered {
+            return Ok(Reply::Offline);
+        }
         if !order.fits(self.kind()) {
             return Ok(Reply::LineFault);
         }
@@ -93,6 +99,13 @@ impl Peripheral for PlainDisplay {
             Fed (state_of self.old) input.now result (state_of self.new) }
         ensures takes_no_memory { IsOk result }
     {
+        if let Input::PowerMoved(is_on) = input {
+            self.powered = *is_on;
+            return Ok(Taken::Quiet);
+        }
+        if !self.powered {
+            return Ok(Taken::Quiet);
+        }
         match input {
             Input::DrawerMoved(_)
             | Input::Scan {
@@ -102,14 +115,18 @@ impl Peripheral for PlainDisplay {
             }
             | Input::ScanFault
             | Input::CoverMoved(_)
-            | Input::PaperLoaded(_) => Ok(Taken::Quiet),
+            | Input::PaperLoaded(_)
+            | Input::PowerMoved(_) => Ok(Taken::Quiet),
         }
     }
 
     fn snapshot(&self) -> Result<Snapshot, NoMemory> {
         let cells = Vec::from_slice(self.alloc, self.window.cells())?;
         let shown = DisplayCells::new(self.window.rows(), self.window.columns(), cells);
-        Ok(Snapshot(Plant::Display(shown)))
+        Ok(Snapshot(Plant {
+            powered: self.powered,
+            form: Form::Display(shown),
+        }))
     }
 
     fn park(&mut self) {

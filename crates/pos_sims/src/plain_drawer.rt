@@ -3,24 +3,27 @@ ghost use Rattle.pos_service.specs.Peripherals.{Asked, Fed, input_fits, order_fi
 ghost use Rattle.pos_sims.specs.Drawers.{drawer_state, state_of};
 
 use pos_service::{
-    Input, Kind, NoMemory, Order, PaperLevel, Peripheral, Plant, Reply, Signs, Snapshot, Taken,
+    Form, Input, Kind, NoMemory, Order, PaperLevel, Peripheral, Plant, Reply, Signs, Snapshot,
+    Taken,
 };
 
 /// A cash drawer whose line never fails and which takes no memory (chapter Cash Drawer).
 #[derive(Drop)]
 pub struct PlainDrawer {
     is_open: bool,
+    powered: bool,
     is_parked: bool,
     orders: u64,
 }
 
 impl PlainDrawer {
-    /// A closed drawer that is in service.
+    /// A closed drawer that is on and in service.
     pub fn new() -> Self
         ensures { state_of result ≡ drawer_state false false }
     {
         PlainDrawer {
             is_open: false,
+            powered: true,
             is_parked: false,
             orders: 0,
         }
@@ -36,6 +39,7 @@ impl Peripheral for PlainDrawer {
 
     fn signs(&self) -> Signs {
         Signs {
+            powered: self.powered,
             drawer_open: self.is_open,
             cover_open: false,
             paper: PaperLevel::Good,
@@ -48,6 +52,9 @@ impl Peripheral for PlainDrawer {
         ensures takes_no_memory { IsOk result }
     {
         self.orders = self.orders.saturating_add(1);
+        if !self.powered {
+            return Ok(Reply::Offline);
+        }
         match order {
             Order::OpenDrawer => {
                 self.is_open = true;
@@ -62,6 +69,13 @@ impl Peripheral for PlainDrawer {
             Fed (state_of self.old) input.now result (state_of self.new) }
         ensures takes_no_memory { IsOk result }
     {
+        if let Input::PowerMoved(is_on) = input {
+            self.powered = *is_on;
+            return Ok(Taken::Quiet);
+        }
+        if !self.powered {
+            return Ok(Taken::Quiet);
+        }
         match input {
             Input::DrawerMoved(is_open) => {
                 self.is_open = *is_open;
@@ -75,7 +89,10 @@ impl Peripheral for PlainDrawer {
         ensures shown { IfOk result (λ shown. shown.0 ≡ (state_of self.now).plant) }
         ensures takes_no_memory { IsOk result }
     {
-        Ok(Snapshot(Plant::Drawer(self.is_open)))
+        Ok(Snapshot(Plant {
+            powered: self.powered,
+            form: Form::Drawer(self.is_open),
+        }))
     }
 
     fn park(&mut self) {

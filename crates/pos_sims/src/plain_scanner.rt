@@ -3,22 +3,25 @@ ghost use Rattle.pos_service.specs.Peripherals.{Asked, Fed, input_fits};
 ghost use Rattle.pos_sims.specs.Scanners.{scanner_state, state_of};
 
 use pos_service::{
-    Input, Kind, NoMemory, Order, PaperLevel, Peripheral, Plant, Reply, Signs, Snapshot, Taken,
+    Form, Input, Kind, NoMemory, Order, PaperLevel, Peripheral, Plant, Reply, Signs, Snapshot,
+    Taken,
 };
 
 /// A scanner that takes no memory (chapter Scanner). Its line fails with orders alone, none of which a scanner takes.
 #[derive(Drop)]
 pub struct PlainScanner {
+    powered: bool,
     is_parked: bool,
     orders: u64,
 }
 
 impl PlainScanner {
-    /// A scanner that is in service.
+    /// A scanner that is on and in service.
     pub fn new() -> Self
         ensures { state_of result ≡ scanner_state false 0 }
     {
         PlainScanner {
+            powered: true,
             is_parked: false,
             orders: 0,
         }
@@ -34,6 +37,7 @@ impl Peripheral for PlainScanner {
 
     fn signs(&self) -> Signs {
         Signs {
+            powered: self.powered,
             drawer_open: false,
             cover_open: false,
             paper: PaperLevel::Good,
@@ -55,6 +59,13 @@ impl Peripheral for PlainScanner {
             Fed (state_of self.old) input.now result (state_of self.new) }
         ensures takes_no_memory { IsOk result }
     {
+        if let Input::PowerMoved(is_on) = input {
+            self.powered = *is_on;
+            return Ok(Taken::Quiet);
+        }
+        if !self.powered {
+            return Ok(Taken::Quiet);
+        }
         match input {
             Input::Scan {
                 kind: _,
@@ -69,7 +80,10 @@ impl Peripheral for PlainScanner {
         ensures shown { IfOk result (λ shown. shown.0 ≡ (state_of self.now).plant) }
         ensures takes_no_memory { IsOk result }
     {
-        Ok(Snapshot(Plant::Scanner))
+        Ok(Snapshot(Plant {
+            powered: self.powered,
+            form: Form::Scanner,
+        }))
     }
 
     fn park(&mut self) {

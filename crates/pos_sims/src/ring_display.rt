@@ -7,7 +7,7 @@ ghost use Rattle.pos_sims.specs.RingDisplays.{state_of};
 use crate::ring::Ring;
 use pos_service::display_text::Place;
 use pos_service::{
-    DisplayCells, Input, Kind, NoMemory, Order, PaperLevel, Peripheral, Plant, Reply, Signs,
+    DisplayCells, Form, Input, Kind, NoMemory, Order, PaperLevel, Peripheral, Plant, Reply, Signs,
     Snapshot, Taken,
 };
 use std::alloc::Global;
@@ -18,12 +18,13 @@ use std::alloc::Global;
 pub struct RingDisplay {
     alloc: Global,
     ring: Ring,
+    powered: bool,
     is_parked: bool,
     orders: u64,
 }
 
 impl RingDisplay {
-    /// A blank display of 1 to 8 rows of 1 to 80 columns that is in service.
+    /// A blank display of 1 to 8 rows of 1 to 80 columns that is on and in service.
     pub fn new(alloc: Global, rows: u32, columns: u32) -> Result<Self, NoMemory>
         requires rows { (1 ≤ rows) × (rows ≤ 8) }
         requires columns { (1 ≤ columns) × (columns ≤ 80) }
@@ -33,6 +34,7 @@ impl RingDisplay {
         Ok(RingDisplay {
             alloc,
             ring,
+            powered: true,
             is_parked: false,
             orders: 0,
         })
@@ -48,6 +50,7 @@ impl Peripheral for RingDisplay {
 
     fn signs(&self) -> Signs {
         Signs {
+            powered: self.powered,
             drawer_open: false,
             cover_open: false,
             paper: PaperLevel::Good,
@@ -60,6 +63,9 @@ impl Peripheral for RingDisplay {
         ensures takes_no_memory { IsOk result }
     {
         self.orders = self.orders.saturating_add(1);
+        if !self.powered {
+            return Ok(Reply::Offline);
+        }
         if !order.fits(self.kind()) {
             return Ok(Reply::LineFault);
         }
@@ -94,6 +100,13 @@ impl Peripheral for RingDisplay {
             Fed (state_of self.old) input.now result (state_of self.new) }
         ensures takes_no_memory { IsOk result }
     {
+        if let Input::PowerMoved(is_on) = input {
+            self.powered = *is_on;
+            return Ok(Taken::Quiet);
+        }
+        if !self.powered {
+            return Ok(Taken::Quiet);
+        }
         match input {
             Input::DrawerMoved(_)
             | Input::Scan {
@@ -103,14 +116,18 @@ impl Peripheral for RingDisplay {
             }
             | Input::ScanFault
             | Input::CoverMoved(_)
-            | Input::PaperLoaded(_) => Ok(Taken::Quiet),
+            | Input::PaperLoaded(_)
+            | Input::PowerMoved(_) => Ok(Taken::Quiet),
         }
     }
 
     fn snapshot(&self) -> Result<Snapshot, NoMemory> {
         let cells = self.ring.copy(self.alloc)?;
         let shown = DisplayCells::new(self.ring.rows(), self.ring.columns(), cells);
-        Ok(Snapshot(Plant::Display(shown)))
+        Ok(Snapshot(Plant {
+            powered: self.powered,
+            form: Form::Display(shown),
+        }))
     }
 
     fn park(&mut self) {

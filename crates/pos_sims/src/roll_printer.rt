@@ -12,6 +12,7 @@ pub struct RollPrinter {
     alloc: Global,
     roll: Roll,
     near: u32,
+    powered: bool,
     is_parked: bool,
     orders: u64,
     ghost near_in_range: { near ≤ 100000 },

@@ -1,8 +1,8 @@
 ghost use Rattle.std.specs.Prelude.{◌≡◌, ◌+◌, ◌*◌, ◌<◌, ◌≤◌, true, vec_len, IfOk};
 ghost use Rattle.pos_service.specs.Displays.{ShowsText, Scrolls, blank_display, is_cursor_place, most_units};
 ghost use Rattle.pos_service.specs.declared.kind.Kind.TheVariants as kind;
-ghost use Rattle.pos_service.specs.declared.plant.Plant.TheVariants as plant;
-ghost use Rattle.pos_service.specs.Peripherals.{IsInRange, IsPlantOf};
+ghost use Rattle.pos_service.specs.declared.plant.Form.TheVariants as form;
+ghost use Rattle.pos_service.specs.Peripherals.{IsInRange, IsFormOf};
 ghost use Rattle.pos_sims.specs.Rings.{IsAbove, IsBelow, StandsAt, blanked, shown_on};
 ghost use Rattle.pos_sims.specs.Windows.{SameSize, ShiftsToEnd, ShiftsToFront};
 
@@ -77,7 +77,7 @@ impl Ring {
     pub fn kind(&self) -> Kind
         ensures kind { result ≡ kind.Display (shown_on self.now).rows (shown_on self.now).columns }
         ensures in_range { IsInRange result }
-        ensures plant { IsPlantOf result (plant.Display (shown_on self.now)) }
+        ensures form { IsFormOf result (form.Display (shown_on self.now)) }
     {
         let (rows, columns) = (self.rows, self.columns);
         Kind::Display { rows, columns }

@@ -1,8 +1,8 @@
 ghost use Rattle.std.specs.Prelude.{◌≡◌, ◌*◌, ◌≤◌, true, length, IfOk};
 ghost use Rattle.pos_service.specs.declared.kind.Kind.TheVariants as kind;
-ghost use Rattle.pos_service.specs.declared.plant.Plant.TheVariants as plant;
+ghost use Rattle.pos_service.specs.declared.plant.Form.TheVariants as form;
 ghost use Rattle.pos_service.specs.Displays.{ShowsText, Scrolls, blank_display, is_cursor_place, most_units};
-ghost use Rattle.pos_service.specs.Peripherals.{IsInRange, IsPlantOf};
+ghost use Rattle.pos_service.specs.Peripherals.{IsInRange, IsFormOf};
 
 use crate::grid::Grid;
 use crate::laying::{Manner, lay_text};
@@ -68,7 +68,7 @@ impl Window {
     pub fn kind(&self) -> Kind
         ensures kind { result ≡ kind.Display self.now.rows self.now.columns }
         ensures in_range { IsInRange result }
-        ensures plant { IsPlantOf result (plant.Display self.now) }
+        ensures form { IsFormOf result (form.Display self.now) }
     {
         let (rows, columns) = (self.rows, self.columns);
         Kind::Display { rows, columns }

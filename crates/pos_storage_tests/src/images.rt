@@ -1,10 +1,10 @@
-// Bytes of layout 1, and disks that aren't of it.
+// Bytes of each layout, and disks that aren't of them.
 ghost use Rattle.std.specs.Prelude.{IfOk};
 ghost use Rattle.pos_image.specs.Images.{IsReady};
 
-use crate::support::{FORMATTED, SECOND, bytes_of, disk_of, has};
+use crate::support::{FORMATTED, FOURTH, SECOND, THIRD, bytes_of, disk_of, has};
 use pos_disk::{Disk, Fill, FuseDisk, MemDisk};
-use pos_image::{ImageFault, Images};
+use pos_image::{ImageFault, Images, Layout};
 use std::alloc::Global;
 use std::test::Fail;
 
@@ -41,7 +41,7 @@ fn bytes_of_the_layout(rt: HostRuntime) -> Result<(), Fail> {
     let mut disk = format(disk_of(alloc, 0x5A, &[])?)?;
     let bytes = bytes_of(alloc, &mut disk)?;
     assert!(rt; has(&bytes, 0, &FORMATTED) && has(&bytes, 15, &[0x5A]));
-    for gate in [16_384, SECOND, 49_152, 65_536, 196_608] {
+    for gate in [16_384, SECOND, 49_152, THIRD, FOURTH] {
         assert!(rt; has(&bytes, gate - 1, &[0x5A, 0, 0x5A]), "{gate}");
     }
     let mut disk = replace_body(alloc, disk, &[1, 2, 3])?;
@@ -52,6 +52,35 @@ fn bytes_of_the_layout(rt: HostRuntime) -> Result<(), Fail> {
     let third = [0xA5, 0, 0, 0, 0, 0, 0, 0, 3, 0, 0, 0x3F, 0xF3, 7];
     assert!(rt; has(&bytes, 0, &third) && has(&bytes, 16_383, &[7, 0, 0x5A]));
     assert!(rt; has(&bytes, SECOND, &OTHER));
+    Ok(())
+}
+
+// Opens a disk of layout 1, moves it to layout 2 with this body, and gives it back.
+fn move_to_layout_2(alloc: Global, disk: MemDisk, body: &[u8]) -> Result<MemDisk, ImageFault> {
+    let mut images = open(alloc, disk)?;
+    if images.layout() == Layout::Layout2 {
+        return Err(ImageFault::AlreadyFormatted);
+    }
+    images.prepare_layout2(Vec::from_slice(alloc, body)?)?;
+    images.publish()?;
+    Ok(images.into_disk())
+}
+
+#[test]
+fn bytes_of_layout_2(rt: HostRuntime) -> Result<(), Fail> {
+    let alloc = rt.alloc();
+    let disk = format(disk_of(alloc, 0x5A, &[])?)?;
+    let mut disk = move_to_layout_2(alloc, disk, &[1, 2, 3])?;
+    let bytes = bytes_of(alloc, &mut disk)?;
+    let first = [0xA5, 0, 0, 0, 0, 0, 0, 0, 1, 0, 0, 0, 3, 1, 2, 3, 0x5A];
+    assert!(rt; has(&bytes, THIRD, &first) && has(&bytes, 147_455, &[0x5A, 0, 0x5A]));
+    assert!(rt; has(&bytes, 0, &FORMATTED) && has(&bytes, SECOND - 1, &[0x5A, 0, 0x5A]));
+    let longest = vec![in alloc; 7u8; 81_907]?;
+    let mut disk = replace_body(alloc, disk, &longest)?;
+    let bytes = bytes_of(alloc, &mut disk)?;
+    let second = [0xA5, 0, 0, 0, 0, 0, 0, 0, 2, 0, 1, 0x3F, 0xF3, 7];
+    assert!(rt; has(&bytes, FOURTH, &second) && has(&bytes, 278_527, &[7, 0, 0x5A]));
+    assert!(rt; has(&bytes, THIRD, &first) && has(&bytes, 0, &FORMATTED));
     Ok(())
 }
 
@@ -114,7 +143,8 @@ fn a_log_that_is_stopped(rt: HostRuntime) -> Result<(), Fail> {
     Ok(())
 }
 
-// What opening a disk of zero bytes but for these runs answers: the sequence of its image, or the fault.
+// What opening a disk of zero bytes but for these runs answers: the sequence of its image, or the fault. A disk of
+// which a gate of layout 2 is open is of layout 2, whatever stands in the slots of layout 1.
 fn opened(alloc: Global, runs: &[(usize, &[u8])]) -> Result<u64, ImageFault> {
     let images = open(alloc, disk_of(alloc, 0, runs)?)?;
     Ok(images.sequence())
@@ -124,6 +154,7 @@ fn opened(alloc: Global, runs: &[(usize, &[u8])]) -> Result<u64, ImageFault> {
 fn disks_that_are_opened(rt: HostRuntime) -> Result<(), Fail> {
     let [open, shut] = [[0xA5], [0xA4]];
     let too_long = [0xA5, 0, 0, 0, 0, 0, 0, 0, 1, 0, 0, 0x3F, 0xF4];
+    let longer = [0xA5, 0, 0, 0, 0, 0, 0, 0, 3, 0, 1, 0x3F, 0xF4];
     let later = [0xA5, 0, 0, 0, 0, 0, 0, 1, 0, 0, 0, 0, 1, 5];
     let first = (0, FORMATTED.as_slice());
     let second = (SECOND, OTHER.as_slice());
@@ -134,9 +165,26 @@ fn disks_that_are_opened(rt: HostRuntime) -> Result<(), Fail> {
         ((0, later.as_slice()), second, Ok(256)),
         ((0, shut.as_slice()), second, Ok(2)),
         (first, (SECOND, FORMATTED.as_slice()), damaged),
-        (first, (65_536, open.as_slice()), damaged),
-        (first, (196_608, open.as_slice()), damaged),
         ((0, too_long.as_slice()), (SECOND, shut.as_slice()), damaged),
+        (first, (THIRD, open.as_slice()), Ok(0)),
+        (first, (FOURTH, OTHER.as_slice()), Ok(2)),
+        (first, (FOURTH, shut.as_slice()), Ok(1)),
+        (
+            (THIRD, too_long.as_slice()),
+            (SECOND, later.as_slice()),
+            Ok(1),
+        ),
+        (
+            (THIRD, later.as_slice()),
+            (FOURTH, OTHER.as_slice()),
+            Ok(256),
+        ),
+        (
+            (THIRD, OTHER.as_slice()),
+            (FOURTH, OTHER.as_slice()),
+            damaged,
+        ),
+        (first, (FOURTH, longer.as_slice()), damaged),
     ] {
         assert_eq!(rt; opened(rt.alloc(), &[one, other]), wanted);
     }
@@ -145,7 +193,7 @@ fn disks_that_are_opened(rt: HostRuntime) -> Result<(), Fail> {
 
 #[test]
 fn disks_that_are_not_formatted(rt: HostRuntime) -> Result<(), Fail> {
-    for gate in [0, SECOND, 65_536, 196_608] {
+    for gate in [0, SECOND, THIRD, FOURTH] {
         let disk = disk_of(rt.alloc(), 0, &[(gate, [0xA5].as_slice())])?;
         let fault = format(disk).err();
         assert_eq!(rt; fault, Some(ImageFault::AlreadyFormatted), "{gate}");

@@ -1,8 +1,8 @@
 // The files of a store: on the disk, after a stop at each call of it, and after refused growths.
-use crate::support::{BODY, FORMATTED, GROUP, SECOND, bytes_of, disk_of, has};
+use crate::support::{BODY, FORMATTED, GROUP, SECOND, THIRD, bytes_of, disk_of, has};
 use pos_dir::{DirectoryFault, Group, decode_group};
 use pos_disk::{Disk, DiskFault, Fill, FuseDisk, MemDisk};
-use pos_image::ImageFault;
+use pos_image::{ImageFault, Layout};
 use pos_store::{Mode, Store, StoreFault};
 use std::alloc::{AllocError, Global};
 use std::test::Fail;
@@ -94,6 +94,34 @@ fn a_group_that_does_not_fit(rt: HostRuntime) -> Result<(), Fail> {
     let bytes = bytes_of(alloc, &mut store.into_disk())?;
     assert!(rt; has(&bytes, SECOND, &head) && has(&bytes, SECOND + 13, &BODY));
     assert!(rt; has(&bytes, SECOND + LOG, &[0]) && has(&bytes, LOG, &MADE));
+    Ok(())
+}
+
+// A migration behind a recovery, each once more where a growth was refused, if nothing had changed then.
+fn move_files<D: Disk>(store: &mut Store<D>) -> Result<(), StoreFault> {
+    if store.recover() == Err(StoreFault::NoMemory) && store.mode() == Mode::Off {
+        store.recover()?;
+    }
+    match store.migrate() {
+        Err(StoreFault::NoMemory) if is_after(store) == Ok(true) => store.migrate(),
+        answer => answer,
+    }
+}
+
+#[test]
+fn files_that_are_moved(rt: HostRuntime) -> Result<(), Fail> {
+    let alloc = rt.alloc();
+    let mut store = Store::new(alloc, fresh(alloc, &[])?);
+    assert!(rt; store.migrate() == Err(StoreFault::Off));
+    carry_out(&mut store, &decode_group(alloc, &GROUP)?)?;
+    move_files(&mut store)?;
+    assert!(rt; is_after(&store) == Ok(true) && store.layout() == Layout::Layout2);
+    assert!(rt; store.migrate() == Err(StoreFault::AlreadyLayout2));
+    let head = [0xA5, 0, 0, 0, 0, 0, 0, 0, 1, 0, 0, 0, 12];
+    let bytes = bytes_of(alloc, &mut store.into_disk())?;
+    assert!(rt; has(&bytes, THIRD, &head) && has(&bytes, THIRD + 13, &BODY));
+    assert!(rt; has(&bytes, THIRD + 81_920, &[0]) && has(&bytes, 0, &FORMATTED));
+    assert!(rt; has(&bytes, LOG, &[0xA5, 0, 0, 0, 24]) && has(&bytes, SECOND, &[0]));
     Ok(())
 }
 
@@ -210,6 +238,52 @@ fn each_stop_of_a_later_image(rt: HostRuntime) -> Result<(), Fail> {
         let counts = crash_by_fill(rt.alloc(), &stops)?;
         let wanted = [[0, 7, 9, 0], [0, 7, 8, 1], [0, 7, 7, 2], [0, 7, 9, 0]];
         assert_eq!(rt; counts, wanted, "{fail}");
+    }
+    Ok(())
+}
+
+// Moves the file of a record over a disk that fails once after `pass` calls, behind a recovery: whether the move was
+// acknowledged, and the disk within.
+fn stop_move(alloc: Global, pass: u64) -> Result<(bool, MemDisk), Fail> {
+    let mut log = Vec::from_slice(alloc, &[0xA5, 0, 0, 0, 24])?;
+    log.extend_from_slice(&GROUP)?;
+    let mut store = Store::new(alloc, FuseDisk::new(fresh(alloc, &log)?, pass, 1));
+    let _ = store.recover();
+    let is_done = move_files(&mut store).is_ok();
+    Ok((is_done, store.into_disk().into_inner()))
+}
+
+// How often a crash leaves the file by layout 1 and by layout 2 after a move that was acknowledged, and after one that
+// wasn't.
+fn crash_moves(alloc: Global, stops: &[(bool, MemDisk)], fill: Fill) -> Result<[u32; 4], Fail> {
+    let mut counts = [0u32; 4];
+    for (is_done, disk) in stops {
+        let mut store = Store::new(alloc, disk.crash(fill)?);
+        store.recover()?;
+        let is_moved = store.layout() == Layout::Layout2;
+        let place = 2 * (!*is_done as usize) + is_moved as usize;
+        counts[place] = counts[place].saturating_add(is_after(&store)? as u32);
+    }
+    Ok(counts)
+}
+
+// A recovery is seven calls, and is tried again. A migration is seven, the last two of which open the gate of the new
+// image: they alone may leave layout 2 where it wasn't acknowledged.
+#[test]
+fn each_stop_of_a_migration(rt: HostRuntime) -> Result<(), Fail> {
+    let alloc = rt.alloc();
+    let mut stops = Vec::new(alloc);
+    for pass in 0..14 {
+        stops.push(stop_move(alloc, pass)?)?;
+    }
+    for (fill, moved) in [
+        (Fill::Old, 0),
+        (Fill::New, 1),
+        (Fill::Byte(0xA5), 2),
+        (Fill::Byte(0), 0),
+    ] {
+        let counts = crash_moves(alloc, &stops, fill)?;
+        assert_eq!(rt; counts, [0, 7, 7 - moved, moved]);
     }
     Ok(())
 }

@@ -3,10 +3,14 @@ use pos_disk::{Disk, MemDisk};
 use std::alloc::{AllocError, Global};
 use std::test::Fail;
 
-/// The bytes of a disk, and the place of its second slot.
+/// The bytes of a disk, and the places of the second slot of layout 1 and of both slots of layout 2.
 pub const SIZE: usize = 327_680;
 
 pub const SECOND: usize = 32_768;
+
+pub const THIRD: usize = 65_536;
+
+pub const FOURTH: usize = 196_608;
 
 /// How a formatted disk begins: an open gate, sequence 1, length 2 and the body of no files.
 pub const FORMATTED: [u8; 15] = [0xA5, 0, 0, 0, 0, 0, 0, 0, 1, 0, 0, 0, 2, 0, 0];

@@ -1,92 +1,111 @@
 -- What an append or a renewal of the log means for the files.
-use Rattle.std.proofs.Common.{◌≡◌, ◌≢◌, true, false, cond, ◌+◌, length, inl, inr, ⊎_elim, ℕ, List, [], ◌∷◌, Ok, Err, refl, sym, ap, subst, ◌∙◌}
+use Rattle.std.proofs.Common.{◌≡◌, ◌≢◌, true, false, cond, ◌+◌, ◌≤◌, length, inl, inr, ⊎_elim, ℕ, List, [], ◌∷◌, Ok, Err, refl, sym, ap, subst, ◌∙◌, arith}
 use Rattle.pos_dir.specs.Changes.{outcome_of_all, IsGroup}
-use Rattle.pos_dir.specs.Files.{IsDirectory, directory_of}
-use Rattle.pos_dir.specs.Spelling.{spelling, group_spelling}
+use Rattle.pos_dir.specs.Files.{IsDirectory}
+use Rattle.pos_dir.specs.Spelling.{spelling, group_spelling, body_limit}
 use Rattle.pos_dir.specs.declared.change.Change.{Change}
 use Rattle.pos_dir.specs.declared.file.File.{File}
-use Rattle.pos_dir.specs.declared.limits.TheConstants.{LAYOUT_1}
 use Rattle.pos_disk.proofs.Moments.{weaker}
 use Rattle.pos_disk.specs.State.{LeavesOnly, CountsNow, HasNotFailed, Rises}
 use Rattle.pos_disk.specs.Keeps.{KeepsDisk}
 use Rattle.pos_disk.specs.declared.device.Disk.{Ghosts}
 use Rattle.pos_image.specs.Images.{IsReady}
+use Rattle.pos_image.specs.Layout.{layout_of, log_place, longest}
+use Rattle.pos_image.specs.declared.layout.Layout.{Layout}
+use Rattle.pos_image.specs.declared.layout.Layout.TheVariants.{Layout1, Layout2}
 use Rattle.pos_image.specs.Standing as image
-use Rattle.pos_log.specs.Logs.{LogView, IsLogReady, KeepsRecords, HasOldOrNew, Appends, Renews}
-use Rattle.pos_store.proofs.FilesOnDisk.{shows_now, still_holds, has_image_holds, holds_more, holds_new, leaves_files}
+use Rattle.pos_log.specs.Logs.{LogView, log_over, IsLogReady, KeepsRecords, HasOldOrNew, Appends, Renews}
+use Rattle.pos_store.proofs.FilesOnDisk.{shows_now, still_holds, holds_more, holds_new, old_or_new_holds, leaves_files, ready_with}
 use Rattle.pos_store.specs.Commits.{Commits, IsExhausted, IsLast, left_by, fits_behind, sequence_after, tail_after}
+use Rattle.pos_store.specs.Layouts.{limits_of}
 use Rattle.pos_store.specs.Modes.{Ready, view_of}
-use Rattle.pos_store.specs.Standing.{Stands, HoldsFiles, IsStep, StandsForEither, StandsForOneOf}
+use Rattle.pos_store.specs.Standing.{Stands, LeavesOneOf, HoldsFiles, IsStep, StandsForEither, StandsForOneOf}
 use Rattle.pos_store.specs.declared.fault.StoreFault.TheVariants as fault
 use Rattle.pos_store.specs.declared.parts.Parts.TheVariants as parts
+
+-- the same images over another disk are of the same layout
+pub same_layout : {D : Type 0} (log new : LogView D) (disk : D) (tail : ℕ) → new ≡ log_over (record log.images { disk = disk }) tail
+    → layout_of new.images.slot ≡ layout_of log.images.slot
+same_layout {D = D} log new disk tail same = ap (λ (l : LogView D). layout_of l.images.slot) same
 
 -- A group that is applicable, over a log that is ready with the files before it.
 pub record IsGiven {D : Type 0} (bound : Ghosts D) (log : LogView D) (files after : List File) (changes : List Change) : Type 0 where
   pub ready : IsLogReady bound log
-  pub holds : bound.honest log.images.disk → HoldsFiles files log.images.sequence (bound.state log.images.disk).reading
+  pub holds : bound.honest log.images.disk → HoldsFiles (layout_of log.images.slot) files log.images.sequence (bound.state log.images.disk).reading
   pub group : IsGroup changes
   pub some : changes ≢ []
-  pub outcome : outcome_of_all LAYOUT_1 files changes ≡ Ok after
+  pub outcome : outcome_of_all (limits_of (layout_of log.images.slot)) files changes ≡ Ok after
 
-pub fits_not : (tail : ℕ) (changes : List Change) (sequence : ℕ) → fits_behind tail changes ≡ true → IsExhausted tail changes sequence → ⊥
-fits_not tail changes sequence fits exhausted = absurd (let over = exhausted.0 in cc)
+-- the spelling of a directory is no longer than the longest body of the layout
+pub short : (layout : Layout) (body : List ℕ) → length body ≤ body_limit (limits_of layout) → length body ≤ longest layout
+short Layout1 body fits = omega (arith, fits)
+short Layout2 body fits = omega (arith, fits)
+
+pub fits_not : (layout : Layout) (tail : ℕ) (changes : List Change) (sequence : ℕ) → fits_behind layout tail changes ≡ true
+    → IsExhausted layout tail changes sequence → ⊥
+fits_not layout tail changes sequence fits exhausted = absurd (let over = exhausted.0 in cc)
 
 module _ {D : Type 0} (bound : Ghosts D) (log : LogView D) (files after : List File) (changes : List Change)
     (given : IsGiven bound log files after changes) where
-  step : IsStep files (group_spelling changes) after
+  -- the layout of the disk before it
+  abbrev layout : Layout
+  layout = layout_of log.images.slot
+
+  step : IsStep (limits_of layout) files (group_spelling changes) after
   step = record { changes = changes; group = given.group; some = given.some; spelled = refl; outcome = given.outcome }
 
-  shows : bound.honest log.images.disk → image.ShowsImage log.images.body log.images.sequence (bound.state log.images.disk).reading
+  shows : bound.honest log.images.disk → image.ShowsImage layout log.images.body log.images.sequence (bound.state log.images.disk).reading
   shows honest = shows_now bound log.images given.ready.images honest
 
   -- which sequence the files have after the group
-  pub stays : fits_behind log.tail changes ≡ true → sequence_after log.tail changes log.images.sequence ≡ log.images.sequence
+  pub stays : fits_behind layout log.tail changes ≡ true → sequence_after layout log.tail changes log.images.sequence ≡ log.images.sequence
   stays fits = ap (λ b. cond b log.images.sequence (log.images.sequence + 1)) fits
 
-  pub rises : fits_behind log.tail changes ≡ false → sequence_after log.tail changes log.images.sequence ≡ log.images.sequence + 1
+  pub rises : fits_behind layout log.tail changes ≡ false → sequence_after layout log.tail changes log.images.sequence ≡ log.images.sequence + 1
   rises over = ap (λ b. cond b log.images.sequence (log.images.sequence + 1)) over
 
   -- bytes that stand for the files before it, or for those after it
   abbrev Around : ℕ → List ℕ → Type 0
-  Around then_sequence = StandsForEither (Stands files log.images.sequence ∷ []) (Stands after then_sequence ∷ [])
+  Around then_sequence = StandsForEither (Stands layout files log.images.sequence ∷ []) (Stands layout after then_sequence ∷ [])
 
   -- they are among what a commit in which the disk fails may leave
-  among : (then_sequence : ℕ) → sequence_after log.tail changes log.images.sequence ≡ then_sequence → (c : List ℕ) → Around then_sequence c
-      → StandsForOneOf (left_by files log.images.sequence log.tail changes) c
+  among : (then_sequence : ℕ) → sequence_after layout log.tail changes log.images.sequence ≡ then_sequence → (c : List ℕ) → Around then_sequence c
+      → StandsForOneOf (left_by layout files log.images.sequence log.tail changes) c
   among then_sequence is c either = rw (is, given.outcome) (⊎_elim (λ old. ⊎_elim (λ this. inl this) (λ none. absurd none) old) (λ new. inr new) either)
 
   -- the old records, with the new one or without
   pub appending_stands : bound.honest log.images.disk → (c : List ℕ)
-      → KeepsRecords log.images.body log.images.sequence (image.log_of (bound.state log.images.disk).reading) (group_spelling changes) c
+      → KeepsRecords layout log.images.body log.images.sequence (image.log_of (bound.state log.images.disk).reading) (group_spelling changes) c
       → Around log.images.sequence c
   appending_stands honest c keeps =
       let holds = given.holds honest in
       ⊎_elim
-      (λ old. inl (inl (still_holds files log.images.sequence (bound.state log.images.disk).reading log.images.body c holds (shows honest) keeps.image old)))
-      (λ more. inr (inl (holds_more files log.images.sequence (bound.state log.images.disk).reading log.images.body c holds (shows honest) after
+      (λ old. inl (inl (still_holds layout files log.images.sequence (bound.state log.images.disk).reading log.images.body c holds (shows honest)
+      keeps.image old)))
+      (λ more. inr (inl (holds_more layout files log.images.sequence (bound.state log.images.disk).reading log.images.body c holds (shows honest) after
       (group_spelling changes) step keeps.image more)))
       (keeps.log holds.texts holds.log)
 
   -- the old image with its records, or the new one with none
-  pub renewing_stands : (body : List ℕ) → IsDirectory LAYOUT_1 after → body ≡ spelling after → bound.honest log.images.disk → (c : List ℕ)
-      → HasOldOrNew log.images.body body log.images.sequence (image.log_of (bound.state log.images.disk).reading) c → Around (log.images.sequence + 1) c
+  pub renewing_stands : (body : List ℕ) → IsDirectory (limits_of layout) after → body ≡ spelling after → bound.honest log.images.disk → (c : List ℕ)
+      → HasOldOrNew log.images (image.log_of (bound.state log.images.disk).reading) layout body (log.images.sequence + 1) c → Around (log.images.sequence + 1) c
   renewing_stands body sound spelled honest c either =
-      ⊎_elim
-      (λ old. inl (inl (has_image_holds files log.images.sequence (bound.state log.images.disk).reading log.images.body c (given.holds honest)
-      (shows honest) old)))
-      (λ new. inr (inl (holds_new after (log.images.sequence + 1) body c sound spelled new)))
-      either
+      ⊎_elim (λ old. inl (inl old)) (λ new. inr (inl new))
+      (old_or_new_holds log.images files after (bound.state log.images.disk).reading layout body (log.images.sequence + 1) c (given.holds honest)
+      (shows honest) sound spelled either)
 
   -- a commit that met a fault of the disk
-  pub failed_commits : (failed : D) (then_sequence : ℕ) → sequence_after log.tail changes log.images.sequence ≡ then_sequence
-      → (IsExhausted log.tail changes log.images.sequence → ⊥)
+  pub failed_commits : (failed : D) (now : Layout) (then_sequence : ℕ) → now ≡ layout
+      → sequence_after layout log.tail changes log.images.sequence ≡ then_sequence
+      → (IsExhausted layout log.tail changes log.images.sequence → ⊥)
       → (bound.honest log.images.disk → LeavesOnly (bound.state log.images.disk) (bound.state failed) (Around then_sequence))
       → (bound.honest log.images.disk → (bytes : List ℕ) → CountsNow (bound.state failed) (bound.state log.images.disk).moment bytes)
       → (bound.honest log.images.disk → Rises (bound.state log.images.disk).failures (bound.state failed).failures)
       → KeepsDisk bound log.images.disk failed
-      → Commits bound (view_of (parts.Ready log (directory_of LAYOUT_1 files))) changes (Err fault.Device) (view_of (parts.Off failed))
-  failed_commits failed then_sequence is more any_moment counts device keeps = record {
+      → Commits bound (ready_with log files) changes (Err fault.Device) (view_of (parts.Off failed now))
+  failed_commits failed now then_sequence kept is more any_moment counts device keeps = record {
     answer = rw given.outcome (more, refl);
+    layout = kept;
     unchanged = λ err. inl refl;
     crash = λ h. record {
       any_moment = weaker (bound.state log.images.disk) (bound.state failed) _ _ (λ c either. inr (among then_sequence is c either)) (any_moment h);
@@ -100,31 +119,37 @@ module _ {D : Type 0} (bound : Ghosts D) (log : LogView D) (files after : List F
   module _ (new : LogView D) where
     -- the disk of the log holds the files after the group
     abbrev HasAfter : Type 0
-    HasAfter = bound.honest new.images.disk → HoldsFiles after new.images.sequence (bound.state new.images.disk).reading
+    HasAfter = bound.honest new.images.disk → HoldsFiles (layout_of new.images.slot) after new.images.sequence (bound.state new.images.disk).reading
 
     -- a commit that put the group down
-    put_commits : (then_sequence : ℕ) → sequence_after log.tail changes log.images.sequence ≡ then_sequence → new.images.sequence ≡ then_sequence
-        → new.tail ≡ tail_after log.tail changes → (IsExhausted log.tail changes log.images.sequence → ⊥)
+    put_commits : (then_sequence : ℕ) → layout_of new.images.slot ≡ layout
+        → sequence_after layout log.tail changes log.images.sequence ≡ then_sequence → new.images.sequence ≡ then_sequence
+        → new.tail ≡ tail_after layout log.tail changes → (IsExhausted layout log.tail changes log.images.sequence → ⊥)
         → IsReady bound new.images → HasAfter
         → (bound.honest log.images.disk → LeavesOnly (bound.state log.images.disk) (bound.state new.images.disk) (Around then_sequence))
         → (bound.honest log.images.disk → HasNotFailed (bound.state log.images.disk) (bound.state new.images.disk))
         → KeepsDisk bound log.images.disk new.images.disk
-        → Commits bound (view_of (parts.Ready log (directory_of LAYOUT_1 files))) changes (Ok tt) (view_of (parts.Ready new (directory_of LAYOUT_1 after)))
-    put_commits then_sequence is same tail more ready holds any_moment counts keeps = record {
+        → Commits bound (ready_with log files) changes (Ok tt) (ready_with new after)
+    put_commits then_sequence kept is same tail more ready holds any_moment counts keeps = record {
       answer = rw given.outcome (more, ap (λ (n : ℕ). Ready after n) (same ∙ sym is), tail);
+      layout = kept;
       unchanged = λ err. absurd cc;
       crash = λ h. record {
         any_moment = subst (λ (n : ℕ). LeavesOnly (bound.state log.images.disk) (bound.state new.images.disk) (Around n)) (sym same) (any_moment h);
-        now = leaves_files bound new.images after ready holds (keeps.honest.0 h);
+        now = subst (λ (l : Layout). LeavesOneOf (Stands l after new.images.sequence ∷ []) (bound.state new.images.disk)) kept
+            (leaves_files bound new.images after ready holds (keeps.honest.0 h));
       };
       device = λ h is. absurd cc;
       counts = λ h. inr (counts h);
       keeps = keeps;
     }
 
-    module _ (fits : fits_behind log.tail changes ≡ true) (appends : Appends bound log (group_spelling changes) (Ok tt) new) where
+    module _ (fits : fits_behind layout log.tail changes ≡ true) (appends : Appends bound log (group_spelling changes) (Ok tt) new) where
       same_sequence : new.images.sequence ≡ log.images.sequence
       same_sequence = ap (λ (l : LogView D). l.images.sequence) appends.appended
+
+      kept : layout_of new.images.slot ≡ layout
+      kept = same_layout log new new.images.disk (log.tail + 5 + length (group_spelling changes)) appends.appended
 
       -- a group that was appended
       pub appended_holds : HasAfter
@@ -132,33 +157,32 @@ module _ {D : Type 0} (bound : Ghosts D) (log : LogView D) (files after : List F
           let was = appends.keeps.honest.1 honest in
           let holds = given.holds was in
           let body_is = ap (λ (l : LogView D). l.images.body) appends.appended in
-          subst (λ (n : ℕ). HoldsFiles after n (bound.state new.images.disk).reading) (sym same_sequence)
-          (holds_more files log.images.sequence (bound.state log.images.disk).reading log.images.body (bound.state new.images.disk).reading holds
+          rw (kept, same_sequence)
+          (holds_more layout files log.images.sequence (bound.state log.images.disk).reading log.images.body (bound.state new.images.disk).reading holds
           (shows was) after (group_spelling changes) step
-          (shows_now bound new.images appends.ready.images honest ∙ (λ i. image.OneImage (body_is i) (same_sequence i)))
+          (shows_now bound new.images appends.ready.images honest ∙ (λ i. image.OneImage (kept i) (body_is i) (same_sequence i)))
           (appends.records was holds.texts holds.log))
 
-      pub appended_commits : Commits bound (view_of (parts.Ready log (directory_of LAYOUT_1 files))) changes (Ok tt)
-          (view_of (parts.Ready new (directory_of LAYOUT_1 after)))
-      appended_commits = put_commits log.images.sequence (stays fits) same_sequence
-          (ap (λ (l : LogView D). l.tail) appends.appended ∙ sym (ap (λ b. cond b (log.tail + 5 + length (group_spelling changes)) 16384) fits))
-          (fits_not log.tail changes log.images.sequence fits) appends.ready.images appended_holds
+      pub appended_commits : Commits bound (ready_with log files) changes (Ok tt) (ready_with new after)
+      appended_commits = put_commits log.images.sequence kept (stays fits) same_sequence
+          (ap (λ (l : LogView D). l.tail) appends.appended ∙ sym (ap (λ b. cond b (log.tail + 5 + length (group_spelling changes)) (log_place layout)) fits))
+          (fits_not layout log.tail changes log.images.sequence fits) appends.ready.images appended_holds
           (λ h. weaker (bound.state log.images.disk) (bound.state new.images.disk) _ _ (appending_stands h) (appends.any_moment h))
           (λ h. ⊎_elim (λ is. absurd cc) (λ same. same) (appends.counts h))
           appends.keeps
 
-    module _ (over : fits_behind log.tail changes ≡ false) (body : List ℕ) (sound : IsDirectory LAYOUT_1 after) (spelled : body ≡ spelling after)
-        (renews : Renews bound log body (Ok tt) new) where
+    module _ (over : fits_behind layout log.tail changes ≡ false) (body : List ℕ) (sound : IsDirectory (limits_of layout) after)
+        (spelled : body ≡ spelling after) (renews : Renews bound log layout body (log.images.sequence + 1) (Ok tt) new) where
       -- a group for which the image was renewed
       pub renewed_holds : HasAfter
       renewed_holds honest =
-          subst (λ (n : ℕ). HoldsFiles after n (bound.state new.images.disk).reading) (sym renews.sequence_is)
-          (holds_new after (log.images.sequence + 1) body (bound.state new.images.disk).reading sound spelled (renews.image (renews.keeps.honest.1 honest)))
+          rw (renews.layout_is, renews.sequence_is) (holds_new layout after (log.images.sequence + 1) body (bound.state new.images.disk).reading sound spelled
+          (renews.image (renews.keeps.honest.1 honest)))
 
       pub renewed_commits : ¬ (IsLast log.images.sequence)
-          → Commits bound (view_of (parts.Ready log (directory_of LAYOUT_1 files))) changes (Ok tt) (view_of (parts.Ready new (directory_of LAYOUT_1 after)))
-      renewed_commits more = put_commits (log.images.sequence + 1) (rises over) renews.sequence_is
-          (renews.tail_is ∙ sym (ap (λ b. cond b (log.tail + 5 + length (group_spelling changes)) 16384) over))
+          → Commits bound (ready_with log files) changes (Ok tt) (ready_with new after)
+      renewed_commits more = put_commits (log.images.sequence + 1) renews.layout_is (rises over) renews.sequence_is
+          (renews.tail_is ∙ sym (ap (λ b. cond b (log.tail + 5 + length (group_spelling changes)) (log_place layout)) over))
           (λ exhausted. more exhausted.1) renews.ready.images renewed_holds
           (λ h. weaker (bound.state log.images.disk) (bound.state new.images.disk) _ _ (renewing_stands body sound spelled h) (renews.any_moment h))
           (λ h. ⊎_elim (λ is. absurd cc) (λ same. same) (renews.counts h))

@@ -1,8 +1,8 @@
 -- Bytes always stand for something: what it is is found by reading them.
-use Rattle.std.proofs.Common.{◌≡◌, ◌⊎◌, inl, inr, ⊎_elim, ℕ, ◌+◌, Bool, true, false, cond, List, [], ◌∷◌, ◌++◌, length, drop, refl, sym, ap, subst, ◌∙◌, arith, Option, Some, None, Result, Ok, Err}
+use Rattle.std.proofs.Common.{◌≡◌, ◌⊎◌, inl, inr, ⊎_elim, ℕ, ◌+◌, ◌<◌, Bool, true, false, cond, List, [], ◌∷◌, ◌++◌, length, drop, refl, sym, ap, subst, ◌∙◌, arith, Option, Some, None, Result, Ok, Err}
 use Rattle.std.specs.List.{AllByRecursion}
 use Rattle.std.proofs.lemmas.List.{take_at, drop_at}
-use Rattle.pos_dir.proofs.Directories.{layout_1_writable, directory_takes, no_body}
+use Rattle.pos_dir.proofs.Directories.{directory_takes, no_body}
 use Rattle.pos_dir.proofs.Groups.{group_takes, no_group, one_group_spelling}
 use Rattle.pos_dir.proofs.Readers.{IsBytes, IsBytes-drop, IsBytes-take}
 use Rattle.pos_dir.specs.Changes.{outcome_of_all, IsGroup}
@@ -11,36 +11,49 @@ use Rattle.pos_dir.specs.Spelling.{group_spelling}
 use Rattle.pos_dir.specs.declared.change.Change.{Change}
 use Rattle.pos_dir.specs.declared.fault.DirectoryFault.{DirectoryFault}
 use Rattle.pos_dir.specs.declared.file.File.{File}
-use Rattle.pos_dir.specs.declared.limits.TheConstants.{LAYOUT_1}
+use Rattle.pos_dir.specs.declared.limits.Limits.{Limits}
 use Rattle.pos_image.proofs.Spanned.{image_length}
-use Rattle.pos_image.specs.Layout.{body_at, sequence_at}
+use Rattle.pos_image.specs.Layout.{body_at, sequence_at, log_place, log_size, start, layout_of}
+use Rattle.pos_image.specs.declared.layout.Layout.{Layout}
+use Rattle.pos_image.specs.declared.layout.Layout.TheVariants.{Layout1, Layout2}
 use Rattle.pos_image.specs.Standing as image
 use Rattle.pos_log.proofs.Deciding.{records_or_none}
 use Rattle.pos_log.specs.Records as log
-use Rattle.pos_store.proofs.Found.{one_step}
+use Rattle.pos_store.proofs.Found.{one_step, writable}
 use Rattle.pos_store.proofs.Recovered.{damaged_stands, no_body_stands, no_log_stands, no_groups_stand}
 use Rattle.pos_store.proofs.Stepped.{empty_step}
+use Rattle.pos_store.specs.Layouts.{limits_of}
 use Rattle.pos_store.specs.Standing.{Standing, Unformatted, Damaged, Stands, StandsFor, IsStep, Applies}
 
 -- what is shown is the body in the current slot
-shown : (none damaged fits : Bool) (there body : List ℕ) (number sequence : ℕ)
+shown : (none damaged fits : Bool) (by layout : Layout) (there body : List ℕ) (number sequence : ℕ)
     → cond none image.NoImage (cond damaged image.DamagedImage
-    (cond fits (image.OneImage there number) image.DamagedImage)) ≡ image.OneImage body sequence → there ≡ body
-shown true damaged fits there body number sequence is = absurd cc
-shown false true fits there body number sequence is = absurd cc
-shown false false false there body number sequence is = absurd cc
-shown false false true there body number sequence is = cc
+    (cond fits (image.OneImage by there number) image.DamagedImage)) ≡ image.OneImage layout body sequence → there ≡ body
+shown true damaged fits by layout there body number sequence is = absurd cc
+shown false true fits by layout there body number sequence is = absurd cc
+shown false false false by layout there body number sequence is = absurd cc
+shown false false true by layout there body number sequence is = cc
 
-body_bytes : (bytes body : List ℕ) (sequence : ℕ) → IsBytes bytes → image.image_on bytes ≡ image.OneImage body sequence → IsBytes body
+body_bytes : (bytes : List ℕ) (layout : Layout) (body : List ℕ) (sequence : ℕ) → IsBytes bytes → image.image_on bytes ≡ image.OneImage layout body sequence
+    → IsBytes body
 unfolding image.image_on body_at
-body_bytes bytes body sequence each is =
-    subst IsBytes (shown _ _ _ (body_at bytes (image.current_at bytes)) body (sequence_at bytes (image.current_at bytes)) sequence is)
+body_bytes bytes layout body sequence each is =
+    let slot = image.current_on bytes in
+    subst IsBytes (shown _ _ _ (layout_of slot) layout (body_at bytes (start slot)) body (sequence_at bytes (start slot)) sequence is)
     (IsBytes-take _ _ (IsBytes-drop _ bytes each))
 
 -- the bytes of the log, and of each group in it
 log_bytes : (bytes : List ℕ) → IsBytes bytes → IsBytes (image.log_of bytes)
 unfolding image.log_of
-log_bytes bytes each = IsBytes-take 16384 (drop (image.current_at bytes + 16384) bytes) (IsBytes-drop (image.current_at bytes + 16384) bytes each)
+log_bytes bytes each =
+    let slot = image.current_on bytes in
+    let at = start slot + log_place (layout_of slot) in
+    IsBytes-take (log_size (layout_of slot)) (drop at bytes) (IsBytes-drop at bytes each)
+
+-- a log has room for a gate
+log_room : (layout : Layout) → 0 < log_size layout
+log_room Layout1 = omega arith
+log_room Layout2 = omega arith
 
 spelled_bytes : (groups : List (List ℕ)) → IsBytes (log.spelling groups) → AllByRecursion IsBytes groups
 spelled_bytes [] each = tt
@@ -55,75 +68,78 @@ text_bytes : (groups : List (List ℕ)) (span : List ℕ) → IsBytes span → l
 text_bytes groups span each holds = spelled_bytes groups (subst IsBytes holds.front (IsBytes-take _ span each))
 
 -- some files are the ones after a text, or none are
-abbrev StepOrNone : List File → List ℕ → Type 0
-StepOrNone files text = ((next : List File) × IsStep files text next) ⊎ ((next : List File) → IsStep files text next → ⊥)
+abbrev StepOrNone : Limits → List File → List ℕ → Type 0
+StepOrNone limits files text = ((next : List File) × IsStep limits files text next) ⊎ ((next : List File) → IsStep limits files text next → ⊥)
 
 never_ok : (cause : DirectoryFault) (next : List File) → ◌≡◌ {A = Result (List File) DirectoryFault} (Err cause) (Ok next) → ⊥
 never_ok cause next is = absurd cc
 
-carried_out : (files : List File) (text : List ℕ) (first : Change) (changes : List Change) → IsGroup (first ∷ changes) → text ≡ group_spelling (first ∷ changes)
-    → (outcome : Result (List File) DirectoryFault) → outcome_of_all LAYOUT_1 files (first ∷ changes) ≡ outcome → StepOrNone files text
-carried_out files text first changes group spelled (Ok next) is =
+carried_out : (limits : Limits) (files : List File) (text : List ℕ) (first : Change) (changes : List Change) → IsGroup (first ∷ changes)
+    → text ≡ group_spelling (first ∷ changes) → (outcome : Result (List File) DirectoryFault) → outcome_of_all limits files (first ∷ changes) ≡ outcome
+    → StepOrNone limits files text
+carried_out limits files text first changes group spelled (Ok next) is =
     inl (next, record { changes = first ∷ changes; group = group; some = (λ none. absurd cc); spelled = spelled; outcome = is })
-carried_out files text first changes group spelled (Err cause) is = inr (λ next step.
+carried_out limits files text first changes group spelled (Err cause) is = inr (λ next step.
     let same = one_group_spelling step.changes (first ∷ changes) step.group group (sym step.spelled ∙ spelled) in
-    never_ok cause next (sym is ∙ ap (outcome_of_all LAYOUT_1 files) (sym same) ∙ step.outcome))
+    never_ok cause next (sym is ∙ ap (outcome_of_all limits files) (sym same) ∙ step.outcome))
 
-step_or_none : (files : List File) (text : List ℕ) → IsBytes text → (read : Option (List Change)) → group_at text ≡ read → StepOrNone files text
-step_or_none files text each None is = inr (λ next step. no_group text step.changes is step.group step.spelled)
-step_or_none files text each (Some []) is = let takes = group_takes text [] each is in inr (empty_step files text [] takes.0 takes.1 refl)
-step_or_none files text each (Some (first ∷ changes)) is =
+step_or_none : (limits : Limits) (files : List File) (text : List ℕ) → IsBytes text → (read : Option (List Change)) → group_at text ≡ read
+    → StepOrNone limits files text
+step_or_none limits files text each None is = inr (λ next step. no_group text step.changes is step.group step.spelled)
+step_or_none limits files text each (Some []) is = let takes = group_takes text [] each is in inr (empty_step limits files text [] takes.0 takes.1 refl)
+step_or_none limits files text each (Some (first ∷ changes)) is =
     let takes = group_takes text (first ∷ changes) each is in
-    carried_out files text first changes takes.0 takes.1 (outcome_of_all LAYOUT_1 files (first ∷ changes)) refl
+    carried_out limits files text first changes takes.0 takes.1 (outcome_of_all limits files (first ∷ changes)) refl
 
 -- texts lead to some files, or to none
-texts_or_none : (texts : List (List ℕ)) (files : List File) → AllByRecursion IsBytes texts
-    → ((last : List File) × Applies files texts last) ⊎ ((last : List File) → Applies files texts last → ⊥)
-texts_or_none [] files each = inl (files, refl)
-texts_or_none (text ∷ texts) files each =
+texts_or_none : (limits : Limits) (texts : List (List ℕ)) (files : List File) → AllByRecursion IsBytes texts
+    → ((last : List File) × Applies limits files texts last) ⊎ ((last : List File) → Applies limits files texts last → ⊥)
+texts_or_none limits [] files each = inl (files, refl)
+texts_or_none limits (text ∷ texts) files each =
     ⊎_elim
     (λ step. ⊎_elim
     (λ more. inl (more.0, (step.0, step.1, more.1)))
     (λ none. inr (λ last applies. none last
-    (subst (λ (next : List File). Applies next texts last) (one_step files text applies.0 step.0 applies.1 step.1) applies.2)))
-    (texts_or_none texts step.0 each.1))
+    (subst (λ (next : List File). Applies limits next texts last) (one_step limits files text applies.0 step.0 applies.1 step.1) applies.2)))
+    (texts_or_none limits texts step.0 each.1))
     (λ none. inr (λ last applies. none applies.0 applies.1))
-    (step_or_none files text each.0 (group_at text) refl)
+    (step_or_none limits files text each.0 (group_at text) refl)
 
-module _ (bytes : List ℕ) (each : IsBytes bytes) where
+module _ (bytes : List ℕ) (each : IsBytes bytes) (layout : Layout) where
   -- an image whose body spells files
-  with_base : (base : List File) (body : List ℕ) (sequence : ℕ) → image.image_on bytes ≡ image.OneImage body sequence
-      → directory_at LAYOUT_1 body ≡ Some base → (standing : Standing) × StandsFor standing bytes
+  with_base : (base : List File) (body : List ℕ) (sequence : ℕ) → image.image_on bytes ≡ image.OneImage layout body sequence
+      → directory_at (limits_of layout) body ≡ Some base → (standing : Standing) × StandsFor standing bytes
   with_base base body sequence is read =
-      let takes = directory_takes LAYOUT_1 body base (body_bytes bytes body sequence each is) read in
+      let takes = directory_takes (limits_of layout) body base (body_bytes bytes layout body sequence each is) read in
       ⊎_elim
       (λ held. ⊎_elim
       (λ last. (
-        Stands last.0 sequence,
+        Stands layout last.0 sequence,
         record {
           base = base;
           texts = held.0;
           directory = takes.0;
-          shows = is ∙ ap (λ (b : List ℕ). image.OneImage b sequence) takes.1;
+          shows = is ∙ ap (λ (b : List ℕ). image.OneImage layout b sequence) takes.1;
           log = held.1;
           applies = last.1;
         },
       ))
-      (λ none. (Damaged, no_groups_stand bytes body sequence base held.0 is takes.0 takes.1 held.1 none))
-      (texts_or_none held.0 base (text_bytes held.0 (image.log_of bytes) (log_bytes bytes each) held.1)))
-      (λ none. (Damaged, no_log_stands bytes body sequence is none))
-      (records_or_none (image.log_of bytes) (let long = image_length body sequence bytes is in omega arith))
+      (λ none. (Damaged, no_groups_stand bytes layout body sequence base held.0 is takes.0 takes.1 held.1 none))
+      (texts_or_none (limits_of layout) held.0 base (text_bytes held.0 (image.log_of bytes) (log_bytes bytes each) held.1)))
+      (λ none. (Damaged, no_log_stands bytes layout body sequence is none))
+      (records_or_none (image.log_of bytes) (let long = image_length layout body sequence bytes is in let some = log_room layout in omega (arith, long, some)))
 
-  with_body : (body : List ℕ) (sequence : ℕ) → image.image_on bytes ≡ image.OneImage body sequence → (read : Option (List File))
-      → directory_at LAYOUT_1 body ≡ read → (standing : Standing) × StandsFor standing bytes
+  with_body : (body : List ℕ) (sequence : ℕ) → image.image_on bytes ≡ image.OneImage layout body sequence → (read : Option (List File))
+      → directory_at (limits_of layout) body ≡ read → (standing : Standing) × StandsFor standing bytes
   with_body body sequence is None read =
-      (Damaged, no_body_stands bytes body sequence is (λ spelled. no_body LAYOUT_1 body spelled.0 layout_1_writable read spelled.1 spelled.2))
+      (Damaged, no_body_stands bytes layout body sequence is (λ spelled. no_body (limits_of layout) body spelled.0 (writable layout) read spelled.1 spelled.2))
   with_body body sequence is (Some base) read = with_base base body sequence is read
 
+module _ (bytes : List ℕ) (each : IsBytes bytes) where
   with_image : (standing : image.ImageStanding) → image.image_on bytes ≡ standing → (standing : Standing) × StandsFor standing bytes
   with_image image.NoImage is = (Unformatted, is)
   with_image image.DamagedImage is = (Damaged, damaged_stands bytes is)
-  with_image (image.OneImage body sequence) is = with_body body sequence is (directory_at LAYOUT_1 body) refl
+  with_image (image.OneImage layout body sequence) is = with_body bytes each layout body sequence is (directory_at (limits_of layout) body) refl
 
   -- bytes always stand for something
   pub some_standing : (standing : Standing) × StandsFor standing bytes

@@ -9,20 +9,20 @@ use Rattle.pos_dir.specs.declared.fault.DirectoryFault.{DirectoryFault}
 use Rattle.pos_dir.specs.declared.fault.DirectoryFault.TheVariants as directory
 use Rattle.pos_dir.specs.declared.file.File.{File}
 use Rattle.pos_dir.specs.declared.limits.Limits.{Limits}
-use Rattle.pos_dir.specs.declared.limits.TheConstants.{LAYOUT_1}
-use Rattle.pos_dir.specs.Files.{directory_of}
 use Rattle.pos_disk.proofs.Moments.{started}
 use Rattle.pos_disk.specs.State.{MayLeave}
 use Rattle.pos_disk.specs.declared.device.Disk.{Ghosts}
+use Rattle.pos_image.specs.Layout.{layout_of}
+use Rattle.pos_image.specs.declared.layout.Layout.{Layout}
 use Rattle.pos_log.specs.Logs.{LogView, IsLogReady}
-use Rattle.pos_store.proofs.FilesOnDisk.{leaves_files}
+use Rattle.pos_store.proofs.FilesOnDisk.{leaves_files, ready_with}
 use Rattle.pos_store.specs.Commits.{Commits, PutsDown, IsUnmade}
 use Rattle.pos_store.specs.Faults.{refusal}
-use Rattle.pos_store.specs.Modes.{StoreView, view_of}
+use Rattle.pos_store.specs.Layouts.{limits_of}
+use Rattle.pos_store.specs.Modes.{StoreView}
 use Rattle.pos_store.specs.Standing.{HoldsFiles}
 use Rattle.pos_store.specs.declared.fault.StoreFault.{StoreFault}
 use Rattle.pos_store.specs.declared.fault.StoreFault.TheVariants as fault
-use Rattle.pos_store.specs.declared.parts.Parts.TheVariants as parts
 
 told_so : (X : Type 0) (P : List File → Type 0) (outcome : Result (List File) DirectoryFault) (cause : DirectoryFault)
     → refusal cause ≡ fault.Refused cause → Some cause ≡ result_err outcome
@@ -59,39 +59,43 @@ is_made made (Ok after) directory P is = (ap (λ (fs : List File). Ok fs) (sym i
 is_made made (Err refusal) directory P is = absurd cc
 
 -- why nothing was made of a group with this outcome
-abbrev Unmade : Type 0 → ℕ → List Change → ℕ → StoreFault → Result (List File) DirectoryFault → Type 0
-Unmade X tail changes sequence cause outcome =
-    MatchResult outcome (λ after. IsUnmade tail changes sequence cause) (λ refusal. ◌≡◌ {A = Result X StoreFault} (Err cause) (Err (fault.Refused refusal)))
+abbrev Unmade : Type 0 → Layout → ℕ → List Change → ℕ → StoreFault → Result (List File) DirectoryFault → Type 0
+Unmade X layout tail changes sequence cause outcome =
+    MatchResult outcome (λ after. IsUnmade layout tail changes sequence cause)
+    (λ refusal. ◌≡◌ {A = Result X StoreFault} (Err cause) (Err (fault.Refused refusal)))
 
 err_is : (X : Type 0) (cause other : StoreFault) → ◌≡◌ {A = Result X StoreFault} (Err cause) (Err other) → cause ≡ other
 err_is X cause other same = cc
 
 -- a refusal, or want of memory or of a sequence
 unmade_answer : {D : Type 0} (X : Type 0) (view : StoreView D) (changes : List Change) (sequence : ℕ) (cause : StoreFault)
-    (outcome : Result (List File) DirectoryFault) → Unmade X view.tail changes sequence cause outcome
+    (outcome : Result (List File) DirectoryFault) → Unmade X view.layout view.tail changes sequence cause outcome
     → MatchResult outcome (λ after. PutsDown sequence after view changes (Err cause) view)
     (λ refusal. (◌≡◌ {A = Result (Unit {0}) StoreFault} (Err cause) (Err (fault.Refused refusal))) × (view ≡ view))
 unmade_answer X view changes sequence cause (Ok after) unmade = ⊎_elim (λ memory. rw memory refl) (λ last. rw last.0 (last.1, refl)) unmade
 unmade_answer X view changes sequence cause (Err refusal) unmade = (ap (λ (f : StoreFault). Err f) (err_is X cause (fault.Refused refusal) unmade), refl)
 
-not_device : (X : Type 0) (tail : ℕ) (changes : List Change) (sequence : ℕ) (cause : StoreFault) (outcome : Result (List File) DirectoryFault)
-    → Unmade X tail changes sequence cause outcome → IsErrOf {T = Unit {0}} (Err cause) fault.Device → ⊥
-not_device X tail changes sequence cause (Ok after) unmade is = ⊎_elim (λ memory. cc (is, memory)) (λ last. let exhausted = last.0 in cc (is, exhausted)) unmade
-not_device X tail changes sequence cause (Err refusal) unmade is = let same = err_is X cause (fault.Refused refusal) unmade in cc
+not_device : (X : Type 0) (layout : Layout) (tail : ℕ) (changes : List Change) (sequence : ℕ) (cause : StoreFault) (outcome : Result (List File) DirectoryFault)
+    → Unmade X layout tail changes sequence cause outcome → IsErrOf {T = Unit {0}} (Err cause) fault.Device → ⊥
+not_device X layout tail changes sequence cause (Ok after) unmade is =
+    ⊎_elim (λ memory. cc (is, memory)) (λ last. let exhausted = last.0 in cc (is, exhausted)) unmade
+not_device X layout tail changes sequence cause (Err refusal) unmade is = let same = err_is X cause (fault.Refused refusal) unmade in cc
 
 -- a commit that made nothing
 pub unmade_commits : {D : Type 0} (bound : Ghosts D) (log : LogView D) (files : List File) (changes : List Change) (cause : StoreFault)
-    → IsLogReady bound log → (bound.honest log.images.disk → HoldsFiles files log.images.sequence (bound.state log.images.disk).reading)
+    → IsLogReady bound log
+    → (bound.honest log.images.disk → HoldsFiles (layout_of log.images.slot) files log.images.sequence (bound.state log.images.disk).reading)
     → (bound.honest log.images.disk → (c : List ℕ) → (bound.state log.images.disk).left_since (bound.state log.images.disk).moment c
     → MayLeave (bound.state log.images.disk) c)
-    → (X : Type 0) → Unmade X log.tail changes log.images.sequence cause (outcome_of_all LAYOUT_1 files changes)
-    → Commits bound (view_of (parts.Ready log (directory_of LAYOUT_1 files))) changes (Err cause) (view_of (parts.Ready log (directory_of LAYOUT_1 files)))
+    → (X : Type 0) → Unmade X (layout_of log.images.slot) log.tail changes log.images.sequence cause
+    (outcome_of_all (limits_of (layout_of log.images.slot)) files changes) → Commits bound (ready_with log files) changes (Err cause) (ready_with log files)
 unmade_commits bound log files changes cause ready holds only X unmade =
-    let outcome = outcome_of_all LAYOUT_1 files changes in
+    let outcome = outcome_of_all (limits_of (layout_of log.images.slot)) files changes in
     let leaves = leaves_files bound log.images files ready.images holds in
-    let none = not_device X log.tail changes log.images.sequence cause outcome unmade in
+    let none = not_device X (layout_of log.images.slot) log.tail changes log.images.sequence cause outcome unmade in
     record {
-      answer = unmade_answer X (view_of (parts.Ready log (directory_of LAYOUT_1 files))) changes log.images.sequence cause outcome unmade;
+      answer = unmade_answer X (ready_with log files) changes log.images.sequence cause outcome unmade;
+      layout = refl;
       unchanged = λ err. inr refl;
       crash = λ h. record { any_moment = started (bound.state log.images.disk) _ (λ c left. inl (leaves h c (only h c left))); now = leaves h };
       device = λ h is. absurd (none is);

@@ -3,6 +3,7 @@ pub mod Deciding
 mod Drafted
 pub mod FilesOnDisk
 pub mod Found
+mod Migrated
 pub mod Passing
 mod Recovered
 mod Stepped

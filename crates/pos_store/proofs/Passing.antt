@@ -2,6 +2,7 @@
 use Rattle.std.proofs.Common.{inl, inr, ⊎_elim, ℕ, List, [], ◌∷◌}
 use Rattle.pos_disk.proofs.Moments.{started, weaker}
 use Rattle.pos_disk.specs.State.{DiskState, MayLeave}
+use Rattle.pos_image.specs.declared.layout.Layout.{Layout}
 use Rattle.pos_store.specs.Modes.{StoreState, Off, Ready, LeavesItsFiles, settled}
 use Rattle.pos_store.specs.Standing.{Standing, Stands, StandsForOneOf, StandsForEither, LeavesOneOf, Passes}
 
@@ -20,11 +21,11 @@ wider old new before after other to passes = record {
 }
 
 -- what a crash leaves is settled, where the files of a store are left alone
-pub settles : (state : StoreState) (old new : DiskState) (candidates : List Standing) → Passes old new candidates candidates
-    → LeavesItsFiles state new → Passes old new candidates (settled state candidates)
-settles Off old new candidates passes now = passes
-settles (Ready files sequence) old new candidates passes now = record {
-  any_moment = weaker old new (StandsForEither candidates candidates) (StandsForEither candidates (Stands files sequence ∷ []))
+pub settles : (layout : Layout) (state : StoreState) (old new : DiskState) (candidates : List Standing) → Passes old new candidates candidates
+    → LeavesItsFiles layout state new → Passes old new candidates (settled layout state candidates)
+settles layout Off old new candidates passes now = passes
+settles layout (Ready files sequence) old new candidates passes now = record {
+  any_moment = weaker old new (StandsForEither candidates candidates) (StandsForEither candidates (Stands layout files sequence ∷ []))
       (λ c either. inl (⊎_elim (λ was. was) (λ is. is) either)) passes.any_moment;
   now = now;
 }

@@ -1,15 +1,15 @@
 -- What a recovery of a store that is off did, by what it found and that it only looked at the disk.
-use Rattle.std.proofs.Common.{◌≡◌, ◌⊎◌, inl, inr, ⊎_elim, ℕ, List, Result, Ok, Err, OnOk, IsErrOf, refl, sym, ap, ◌∙◌, subst, arith}
+use Rattle.std.proofs.Common.{◌≡◌, ◌⊎◌, inl, inr, ⊎_elim, ℕ, List, Result, Ok, Err, OnOk, IsErr, IsErrOf, refl, sym, ap, ◌∙◌, subst, arith}
 use Rattle.pos_dir.specs.Calls.{IsBody, Decodes}
 use Rattle.pos_dir.specs.declared.fault.DirectoryFault.{DirectoryFault}
 use Rattle.pos_dir.specs.declared.fault.DirectoryFault.TheVariants as directory
 use Rattle.pos_dir.specs.Files.{IsDirectory}
 use Rattle.pos_dir.specs.Spelling.{spelling}
 use Rattle.pos_dir.specs.declared.file.File.{File}
-use Rattle.pos_dir.proofs.Directories.{one_spelling, layout_1_writable}
+use Rattle.pos_dir.proofs.Directories.{one_spelling}
 use Rattle.pos_log.specs.Records.{HoldsRecords, HoldsSome}
 use Rattle.pos_log.proofs.Unique.{one_log}
-use Rattle.pos_dir.specs.declared.limits.TheConstants.{LAYOUT_1}
+use Rattle.pos_dir.specs.declared.limits.Limits.{Limits}
 use Rattle.pos_disk.specs.State.{Watches, Rises, HasNotFailed}
 use Rattle.pos_disk.specs.Keeps.{KeepsDisk}
 use Rattle.pos_disk.specs.declared.device.Disk.{Ghosts}
@@ -17,7 +17,9 @@ use Rattle.pos_image.specs.Standing as image
 use Rattle.pos_image.specs.Standing.{image_on}
 use Rattle.pos_image.specs.declared.fault.ImageFault.{ImageFault}
 use Rattle.pos_image.specs.declared.fault.ImageFault.TheVariants as images
-use Rattle.pos_store.proofs.Found.{finds_so, recovers_one}
+use Rattle.pos_image.specs.declared.layout.Layout.{Layout}
+use Rattle.pos_store.proofs.Found.{finds_so, recovers_one, writable}
+use Rattle.pos_store.specs.Layouts.{limits_of}
 use Rattle.pos_store.specs.Modes.{StoreView, Off, LeavesItsFiles}
 use Rattle.pos_store.specs.Recoveries.{FindsStanding, DiskStandsFor, EndsAt, Recovers}
 use Rattle.pos_store.specs.Standing.{Standing, Unformatted, Damaged, StandsFor, Applies}
@@ -28,21 +30,24 @@ use Rattle.pos_store.specs.declared.fault.StoreFault.{StoreFault}
 use Rattle.pos_store.specs.declared.fault.StoreFault.TheVariants as fault
 
 -- a recovery that only looked at the disk of a store that was off
-pub off_recovers : {D : Type 0} (bound : Ghosts D) (disk : D) (result : Result (Unit {0}) StoreFault) (new : StoreView D)
-    → FindsStanding (DiskStandsFor bound disk) result new.state
+pub off_recovers : {D : Type 0} (bound : Ghosts D) (disk : D) (layout : Layout) (result : Result (Unit {0}) StoreFault) (new : StoreView D)
+    → FindsStanding (DiskStandsFor bound disk) result new.layout new.state
+    → (IsErr result → new.layout ≡ layout)
     → (bound.honest disk → Watches (bound.state disk) (bound.state new.disk))
-    → (bound.honest disk → LeavesItsFiles new.state (bound.state new.disk))
-    → (bound.honest disk → OnOk result (EndsAt new.tail (bound.state disk).reading))
+    → (bound.honest disk → LeavesItsFiles new.layout new.state (bound.state new.disk))
+    → (bound.honest disk → OnOk result (EndsAt new.layout new.tail (bound.state disk).reading))
     → (bound.honest disk → IsErrOf result fault.Device → Rises (bound.state disk).failures (bound.state new.disk).failures)
     → (bound.honest disk → IsErrOf result fault.Device ⊎ HasNotFailed (bound.state disk) (bound.state new.disk))
     → KeepsDisk bound disk new.disk
-    → Recovers bound (record { disk = disk; state = Off; tail = 0 }) result new
-off_recovers bound disk result new finds watches now ends device counts keeps = record {
+    → Recovers bound (record { disk = disk; layout = layout; state = Off; tail = 0 }) result new
+off_recovers bound disk layout result new finds kept watches now ends device counts keeps = record {
   ready = tt;
   answer = finds;
-  one_of = λ h candidates leaves. recovers_one candidates (bound.state disk) (bound.state new.disk) result new.state
-      (finds_so (DiskStandsFor bound disk) (λ standing. StandsFor standing (bound.state disk).reading) (λ standing stands. stands h) result new.state finds)
+  one_of = λ h candidates leaves. recovers_one candidates (bound.state disk) (bound.state new.disk) result new.layout new.state
+      (finds_so (DiskStandsFor bound disk) (λ standing. StandsFor standing (bound.state disk).reading) (λ standing stands. stands h) result new.layout
+      new.state finds)
       (watches h) leaves;
+  layout = kept;
   tail = ends;
   reading = λ h. (watches h).reading;
   now = now;
@@ -58,19 +63,19 @@ never_exhausted : (images.Exhausted ≡ images.TooSmall) ⊎
 never_exhausted known = ⊎_elim (λ e. cc) (⊎_elim (λ e. cc) (⊎_elim (λ e. cc) (⊎_elim (λ e. cc) (λ e. cc)))) known
 
 -- what is found where the images weren't opened
-pub told_finds : (P : Standing → Type 0) (cause : ImageFault) (told : StoreFault) → Tells cause told
+pub told_finds : (P : Standing → Type 0) (layout : Layout) (cause : ImageFault) (told : StoreFault) → Tells cause told
     → ((cause ≡ images.Unformatted) ⊎ (cause ≡ images.TooSmall) → P Unformatted)
     → (cause ≡ images.Damaged → P Damaged)
     → (cause ≡ images.TooSmall) ⊎ ((cause ≡ images.Unformatted) ⊎ ((cause ≡ images.Damaged) ⊎ ((cause ≡ images.Device) ⊎ (cause ≡ images.NoMemory))))
-    → FindsStanding P (Err told) Off
-told_finds P images.Unformatted told tells unformatted damaged known = rw tells (unformatted (inl refl), refl)
-told_finds P images.AlreadyFormatted told tells unformatted damaged known = absurd tells
-told_finds P images.Damaged told tells unformatted damaged known = rw tells (damaged refl, refl)
-told_finds P images.TooLarge told tells unformatted damaged known = absurd tells
-told_finds P images.Exhausted told tells unformatted damaged known = absurd (never_exhausted known)
-told_finds P images.Device told tells unformatted damaged known = rw tells refl
-told_finds P images.NoMemory told tells unformatted damaged known = rw tells refl
-told_finds P images.TooSmall told tells unformatted damaged known = rw tells (unformatted (inr refl), refl)
+    → FindsStanding P (Err told) layout Off
+told_finds P layout images.Unformatted told tells unformatted damaged known = rw tells (unformatted (inl refl), refl)
+told_finds P layout images.AlreadyFormatted told tells unformatted damaged known = absurd tells
+told_finds P layout images.Damaged told tells unformatted damaged known = rw tells (damaged refl, refl)
+told_finds P layout images.TooLarge told tells unformatted damaged known = absurd tells
+told_finds P layout images.Exhausted told tells unformatted damaged known = absurd (never_exhausted known)
+told_finds P layout images.Device told tells unformatted damaged known = rw tells refl
+told_finds P layout images.NoMemory told tells unformatted damaged known = rw tells refl
+told_finds P layout images.TooSmall told tells unformatted damaged known = rw tells (unformatted (inr refl), refl)
 
 -- the disk's fault is told alone
 pub told_device : (cause : ImageFault) (told : StoreFault) → Tells cause told → IsErrOf {T = Unit {0}} (Err told) fault.Device → cause ≡ images.Device
@@ -87,14 +92,15 @@ told_device images.TooSmall told tells is = cc
 damaged_differs : image.DamagedImage ≡ image.NoImage → ⊥
 damaged_differs same = cc
 
-damaged_alone : {body : List ℕ} {sequence : ℕ} → image.DamagedImage ≡ image.OneImage body sequence → ⊥
+damaged_alone : {layout : Layout} {body : List ℕ} {sequence : ℕ} → image.DamagedImage ≡ image.OneImage layout body sequence → ⊥
 damaged_alone same = cc
 
-one_differs : {body : List ℕ} {sequence : ℕ} → image.OneImage body sequence ≡ image.NoImage → ⊥
+one_differs : {layout : Layout} {body : List ℕ} {sequence : ℕ} → image.OneImage layout body sequence ≡ image.NoImage → ⊥
 one_differs same = cc
 
-one_body : (body other : List ℕ) (sequence after : ℕ) → image.OneImage body sequence ≡ image.OneImage other after → body ≡ other
-one_body body other sequence after same = cc
+one_body : (layout by : Layout) (body other : List ℕ) (sequence after : ℕ) → image.OneImage layout body sequence ≡ image.OneImage by other after
+    → (by ≡ layout) × (body ≡ other)
+one_body layout by body other sequence after same = (cc, cc)
 
 -- and it is told wherever it is answered
 pub told_counts : {T : Type 0} (before now : ℕ) (cause : ImageFault) (told : StoreFault) → Tells cause told
@@ -107,49 +113,55 @@ told_counts before now cause told tells counts =
 pub damaged_stands : (bytes : List ℕ) → image_on bytes ≡ image.DamagedImage → StandsFor Damaged bytes
 damaged_stands bytes same = (
   (λ none. damaged_differs (sym same ∙ none)),
-  (λ files sequence holds. damaged_alone (sym same ∙ holds.shows)),
+  (λ layout files sequence holds. damaged_alone (sym same ∙ holds.shows)),
 )
 
 -- and so is one whose body spells no directory
-pub no_body_stands : (bytes body : List ℕ) (sequence : ℕ) → image_on bytes ≡ image.OneImage body sequence → ¬ (IsBody LAYOUT_1 body) → StandsFor Damaged bytes
-no_body_stands bytes body sequence same none = (
+pub no_body_stands : (bytes : List ℕ) (layout : Layout) (body : List ℕ) (sequence : ℕ) → image_on bytes ≡ image.OneImage layout body sequence
+    → ¬ (IsBody (limits_of layout) body) → StandsFor Damaged bytes
+no_body_stands bytes layout body sequence same none = (
   (λ empty. one_differs (sym same ∙ empty)),
-  (λ files after holds. none (holds.base, holds.directory, one_body body (spelling holds.base) sequence after (sym same ∙ holds.shows))),
+  (λ by files after holds.
+      let shown = one_body layout by body (spelling holds.base) sequence after (sym same ∙ holds.shows) in
+      none (holds.base, subst (λ (l : Layout). IsDirectory (limits_of l) holds.base) shown.0 holds.directory, shown.1)),
 )
 
 -- one behind which no records stand
-pub no_log_stands : (bytes body : List ℕ) (sequence : ℕ) → image_on bytes ≡ image.OneImage body sequence → ¬ (HoldsSome (image.log_of bytes))
-    → StandsFor Damaged bytes
-no_log_stands bytes body sequence same none = (
+pub no_log_stands : (bytes : List ℕ) (layout : Layout) (body : List ℕ) (sequence : ℕ) → image_on bytes ≡ image.OneImage layout body sequence
+    → ¬ (HoldsSome (image.log_of bytes)) → StandsFor Damaged bytes
+no_log_stands bytes layout body sequence same none = (
   (λ empty. one_differs (sym same ∙ empty)),
-  (λ files after holds. none (holds.texts, holds.log)),
+  (λ by files after holds. none (holds.texts, holds.log)),
 )
 
 -- and one whose records spell no applicable groups
-pub no_groups_stand : (bytes body : List ℕ) (sequence : ℕ) (base : List File) (texts : List (List ℕ)) → image_on bytes ≡ image.OneImage body sequence
-    → IsDirectory LAYOUT_1 base → body ≡ spelling base → HoldsRecords texts (image.log_of bytes)
-    → ((last : List File) → ¬ (Applies base texts last)) → StandsFor Damaged bytes
-no_groups_stand bytes body sequence base texts same sound spelled held none = (
+pub no_groups_stand : (bytes : List ℕ) (layout : Layout) (body : List ℕ) (sequence : ℕ) (base : List File) (texts : List (List ℕ))
+    → image_on bytes ≡ image.OneImage layout body sequence → IsDirectory (limits_of layout) base → body ≡ spelling base
+    → HoldsRecords texts (image.log_of bytes) → ((last : List File) → ¬ (Applies (limits_of layout) base texts last)) → StandsFor Damaged bytes
+no_groups_stand bytes layout body sequence base texts same sound spelled held none = (
   (λ empty. one_differs (sym same ∙ empty)),
-  (λ files after holds.
-      let text = one_body body (spelling holds.base) sequence after (sym same ∙ holds.shows) in
-      let is_base = one_spelling LAYOUT_1 holds.base base layout_1_writable holds.directory sound (sym text ∙ spelled) in
+  (λ by files after holds.
+      let shown = one_body layout by body (spelling holds.base) sequence after (sym same ∙ holds.shows) in
+      let is_base = one_spelling (limits_of layout) holds.base base (writable layout)
+      (subst (λ (l : Layout). IsDirectory (limits_of l) holds.base) shown.0 holds.directory) sound (sym shown.1 ∙ spelled) in
       let is_texts = one_log holds.texts texts (image.log_of bytes) holds.log held in
-      none files (subst (λ (ts : List (List ℕ)). Applies base ts files) is_texts
-      (subst (λ (b : List File). Applies b holds.texts files) is_base holds.applies))),
+      none files (subst (λ (ts : List (List ℕ)). Applies (limits_of layout) base ts files) is_texts
+      (subst (λ (b : List File). Applies (limits_of layout) b holds.texts files) is_base
+      (subst (λ (l : Layout). Applies (limits_of l) holds.base holds.texts files) shown.0 holds.applies)))),
 )
 
 -- malformed bytes spell no directory
-pub malformed_none : (bytes : List ℕ) (cause : DirectoryFault) → cause ≡ directory.Malformed → Decodes LAYOUT_1 bytes (Err cause) → ¬ (IsBody LAYOUT_1 bytes)
-malformed_none bytes cause same decodes = subst (λ (f : DirectoryFault). Decodes LAYOUT_1 bytes (Err f)) same decodes
+pub malformed_none : (limits : Limits) (bytes : List ℕ) (cause : DirectoryFault) → cause ≡ directory.Malformed → Decodes limits bytes (Err cause)
+    → ¬ (IsBody limits bytes)
+malformed_none limits bytes cause same decodes = subst (λ (f : DirectoryFault). Decodes limits bytes (Err f)) same decodes
 
 -- what is found where the log wasn't opened
-pub told_log_finds : (P : Standing → Type 0) (cause : LogFault) (told : StoreFault) → TellsLog cause told → (cause ≡ logs.Damaged → P Damaged)
-    → FindsStanding P (Err told) Off
-told_log_finds P logs.Full told tells damaged = absurd tells
-told_log_finds P logs.Damaged told tells damaged = rw tells (damaged refl, refl)
-told_log_finds P logs.Device told tells damaged = rw tells refl
-told_log_finds P logs.NoMemory told tells damaged = rw tells refl
+pub told_log_finds : (P : Standing → Type 0) (layout : Layout) (cause : LogFault) (told : StoreFault) → TellsLog cause told → (cause ≡ logs.Damaged → P Damaged)
+    → FindsStanding P (Err told) layout Off
+told_log_finds P layout logs.Full told tells damaged = absurd tells
+told_log_finds P layout logs.Damaged told tells damaged = rw tells (damaged refl, refl)
+told_log_finds P layout logs.Device told tells damaged = rw tells refl
+told_log_finds P layout logs.NoMemory told tells damaged = rw tells refl
 
 -- the disk's fault is told alone
 pub told_log_device : (cause : LogFault) (told : StoreFault) → TellsLog cause told → IsErrOf {T = Unit {0}} (Err told) fault.Device → cause ≡ logs.Device
@@ -173,9 +185,9 @@ pub never_failed_log : {T : Type 0} (before now : ℕ) (made : T) → IsErrOf {E
 never_failed_log before now made counts = ⊎_elim (λ is. absurd cc) (λ same. same) counts
 
 -- what is found where the records weren't applied
-pub told_text_finds : (P : Standing → Type 0) (cause : StoreFault) → (cause ≡ fault.Damaged) ⊎ (cause ≡ fault.NoMemory)
-    → (cause ≡ fault.Damaged → P Damaged) → FindsStanding P (Err cause) Off
-told_text_finds P cause known damaged = ⊎_elim (λ is. rw is (damaged is, refl)) (λ is. rw is refl) known
+pub told_text_finds : (P : Standing → Type 0) (layout : Layout) (cause : StoreFault) → (cause ≡ fault.Damaged) ⊎ (cause ≡ fault.NoMemory)
+    → (cause ≡ fault.Damaged → P Damaged) → FindsStanding P (Err cause) layout Off
+told_text_finds P layout cause known damaged = ⊎_elim (λ is. rw is (damaged is, refl)) (λ is. rw is refl) known
 
 -- two runs of calls keep the disk
 pub both_keep : {D : Type 0} (bound : Ghosts D) (old mid new : D) → KeepsDisk bound old mid → KeepsDisk bound mid new → KeepsDisk bound old new

@@ -9,10 +9,10 @@ use Rattle.pos_dir.specs.Spelling.{spelling, group_spelling, body_limit}
 use Rattle.pos_dir.specs.declared.change.Change.{Change}
 use Rattle.pos_dir.specs.declared.fault.DirectoryFault.{DirectoryFault}
 use Rattle.pos_dir.specs.declared.file.File.{File}
-use Rattle.pos_dir.specs.declared.limits.Limits.{Limits}
-use Rattle.pos_dir.specs.declared.limits.TheConstants.{LAYOUT_1}
+use Rattle.pos_image.specs.declared.layout.Layout.{Layout}
 use Rattle.pos_image.specs.Layout.{log_place, slot_size}
 use Rattle.pos_log.specs.Records.{end_of}
+use Rattle.pos_store.specs.Layouts.{limits_of}
 use Rattle.pos_store.specs.Modes.{StoreState, StoreView, Off, Ready, settled}
 use Rattle.pos_store.specs.Standing.{Standing, Stands, Passes}
 use Rattle.pos_store.specs.declared.draft.Draft.{Draft}
@@ -26,34 +26,34 @@ IsLast sequence = sequence + 1 ≡ 2 ^ 64
 
 -- a group of these changes fits behind records that end at this place: its record, and the gate behind it, end in the
 -- slot
-abbrev pub fits_behind : ℕ → List Change → Bool
-fits_behind tail changes = nat_le (end_of tail (length (group_spelling changes))) slot_size
+abbrev pub fits_behind : Layout → ℕ → List Change → Bool
+fits_behind layout tail changes = nat_le (end_of tail (length (group_spelling changes))) (slot_size layout)
 
 -- the sequence after a group: the same where it fits behind the records, else the next one, of a new image
-abbrev pub sequence_after : ℕ → List Change → ℕ → ℕ
-sequence_after tail changes sequence = if fits_behind tail changes then sequence else sequence + 1
+abbrev pub sequence_after : Layout → ℕ → List Change → ℕ → ℕ
+sequence_after layout tail changes sequence = if fits_behind layout tail changes then sequence else sequence + 1
 
 -- where the records end then
-abbrev pub tail_after : ℕ → List Change → ℕ
-tail_after tail changes =
-    if fits_behind tail changes then tail + 5 + length (group_spelling changes) else log_place
+abbrev pub tail_after : Layout → ℕ → List Change → ℕ
+tail_after layout tail changes =
+    if fits_behind layout tail changes then tail + 5 + length (group_spelling changes) else log_place layout
 
 -- the group wants a new image, and there is no sequence for it
-abbrev pub IsExhausted : ℕ → List Change → ℕ → Type 0
-IsExhausted tail changes sequence = (fits_behind tail changes ≡ false) × IsLast sequence
+abbrev pub IsExhausted : Layout → ℕ → List Change → ℕ → Type 0
+IsExhausted layout tail changes sequence = (fits_behind layout tail changes ≡ false) × IsLast sequence
 
 -- what goes to the disk for a group: its record where it fits, else the body that spells the files after it
-abbrev pub IsDraft : Limits → ℕ → List Change → ℕ → List File → Draft → Type 0
-IsDraft limits tail changes sequence after (draft.Record text) =
-    (fits_behind tail changes ≡ true) × (text.items ≡ group_spelling changes)
-IsDraft limits tail changes sequence after (draft.Image body) =
-    (fits_behind tail changes ≡ false) × ¬ (IsLast sequence) × IsDirectory limits after
-    × (body.items ≡ spelling after) × (length body.items ≤ body_limit limits)
+abbrev pub IsDraft : Layout → ℕ → List Change → ℕ → List File → Draft → Type 0
+IsDraft layout tail changes sequence after (draft.Record text) =
+    (fits_behind layout tail changes ≡ true) × (text.items ≡ group_spelling changes)
+IsDraft layout tail changes sequence after (draft.Image body) =
+    (fits_behind layout tail changes ≡ false) × ¬ (IsLast sequence) × IsDirectory (limits_of layout) after
+    × (body.items ≡ spelling after) × (length body.items ≤ body_limit (limits_of layout))
 
 -- why none is made of an applicable group: memory, or it wants a new image, for which there is no sequence
-abbrev pub IsUnmade : ℕ → List Change → ℕ → StoreFault → Type 0
-IsUnmade tail changes sequence cause =
-    (cause ≡ fault.NoMemory) ⊎ ((cause ≡ fault.Exhausted) × IsExhausted tail changes sequence)
+abbrev pub IsUnmade : Layout → ℕ → List Change → ℕ → StoreFault → Type 0
+IsUnmade layout tail changes sequence cause =
+    (cause ≡ fault.NoMemory) ⊎ ((cause ≡ fault.Exhausted) × IsExhausted layout tail changes sequence)
 
 -- what a commit of an applicable group answers: at Ok the files after it, behind the records or in a new image, and
 -- want of memory changes nothing; else it is Exhausted exactly where a new image has no sequence, and only a fault of
@@ -61,13 +61,14 @@ IsUnmade tail changes sequence cause =
 abbrev pub PutsDown : {D : Type 0} → ℕ → List File → StoreView D → List Change → Result (Unit {0}) StoreFault
     → StoreView D → Type 0
 PutsDown sequence after old changes (Ok _) new =
-    ¬ (IsExhausted old.tail changes sequence)
-    × (new.state ≡ Ready after (sequence_after old.tail changes sequence))
-    × (new.tail ≡ tail_after old.tail changes)
+    ¬ (IsExhausted old.layout old.tail changes sequence)
+    × (new.state ≡ Ready after (sequence_after old.layout old.tail changes sequence))
+    × (new.tail ≡ tail_after old.layout old.tail changes)
 PutsDown sequence after old changes (Err fault.NoMemory) new = new ≡ old
-PutsDown sequence after old changes (Err fault.Exhausted) new = IsExhausted old.tail changes sequence × (new ≡ old)
+PutsDown sequence after old changes (Err fault.Exhausted) new =
+    IsExhausted old.layout old.tail changes sequence × (new ≡ old)
 PutsDown sequence after old changes (Err fault.Device) new =
-    ¬ (IsExhausted old.tail changes sequence) × (new.state ≡ Off)
+    ¬ (IsExhausted old.layout old.tail changes sequence) × (new.state ≡ Off)
 PutsDown sequence after old changes (Err other) new = ⊥
 
 -- what a commit answers, and the store after it, by the state before it: a store that is off says so, and a group is
@@ -76,37 +77,42 @@ abbrev pub Answers : {D : Type 0} → StoreState → StoreView D → List Change
     → StoreView D → Type 0
 Answers Off old changes result new = (result ≡ Err fault.Off) × (new ≡ old)
 Answers (Ready files sequence) old changes result new =
-    MatchResult (outcome_of_all LAYOUT_1 files changes)
+    MatchResult (outcome_of_all (limits_of old.layout) files changes)
     (λ after. PutsDown sequence after old changes result new)
     (λ refusal. (result ≡ Err (fault.Refused refusal)) × (new ≡ old))
 
 -- the files before a group, and those after the whole of it, with the sequence that they have then
-abbrev pub before_or_after : List File → ℕ → ℕ → Result (List File) DirectoryFault → List Standing
-before_or_after files sequence then_sequence (Ok after) = Stands files sequence ∷ Stands after then_sequence ∷ []
-before_or_after files sequence then_sequence (Err refusal) = Stands files sequence ∷ []
+abbrev pub before_or_after : Layout → List File → ℕ → ℕ → Result (List File) DirectoryFault → List Standing
+before_or_after layout files sequence then_sequence (Ok after) =
+    Stands layout files sequence ∷ Stands layout after then_sequence ∷ []
+before_or_after layout files sequence then_sequence (Err refusal) = Stands layout files sequence ∷ []
 
 -- the same of a group behind records that end at this place
-abbrev pub left_by : List File → ℕ → ℕ → List Change → List Standing
-left_by files sequence tail changes =
-    before_or_after files sequence (sequence_after tail changes sequence) (outcome_of_all LAYOUT_1 files changes)
+abbrev pub left_by : Layout → List File → ℕ → ℕ → List Change → List Standing
+left_by layout files sequence tail changes = before_or_after layout files sequence
+    (sequence_after layout tail changes sequence) (outcome_of_all (limits_of layout) files changes)
 
 -- what a crash leaves around a group that a store is to put down, by its states before and after: its files before
 -- it, and then the files that it has; where it is off then, those before the group or those after the whole of it
-abbrev pub LeavesBeforeOrAfter : StoreState → ℕ → List Change → StoreState → DiskState → DiskState → Type 0
-LeavesBeforeOrAfter Off tail changes now old new = ⊤
-LeavesBeforeOrAfter (Ready files sequence) tail changes now old new =
-    Passes old new (Stands files sequence ∷ []) (settled now (left_by files sequence tail changes))
+abbrev pub LeavesBeforeOrAfter : Layout → StoreState → ℕ → List Change → StoreState → DiskState → DiskState → Type 0
+LeavesBeforeOrAfter layout Off tail changes now old new = ⊤
+LeavesBeforeOrAfter layout (Ready files sequence) tail changes now old new =
+    Passes old new (Stands layout files sequence ∷ [])
+    (settled layout now (left_by layout files sequence tail changes))
 
 -- What a commit does. Of the disk itself, and of what a crash may leave, it speaks where the disk is honest.
 pub record Commits {D : Type 0} (bound : Ghosts D) (old : StoreView D) (changes : List Change)
     (result : Result (Unit {0}) StoreFault) (new : StoreView D) : Type 0 where
   pub answer : Answers old.state old changes result new
+  -- the layout stays
+  pub layout : new.layout ≡ old.layout
   -- but after a fault of the disk, a refusal changes nothing and hasn't touched the disk
   pub unchanged : IsErr result → IsErrOf result fault.Device ⊎ (new ≡ old)
   -- a crash at any moment of the call leaves the files before the group or those after the whole of it, and a crash
   -- now the files that the store has alone; after a fault of the disk the group is in doubt
   pub crash : bound.honest old.disk
-      → LeavesBeforeOrAfter old.state old.tail changes new.state (bound.state old.disk) (bound.state new.disk)
+      → LeavesBeforeOrAfter old.layout old.state old.tail changes new.state
+      (bound.state old.disk) (bound.state new.disk)
   -- the disk failed where its fault is answered
   pub device : bound.honest old.disk → IsErrOf result fault.Device
       → Rises (bound.state old.disk).failures (bound.state new.disk).failures

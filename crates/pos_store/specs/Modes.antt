@@ -3,8 +3,10 @@ use Rattle.std.specs.Prelude.{◌≡◌, ℕ, List, [], ◌∷◌, Option, Some,
 use Rattle.pos_disk.specs.State.{DiskState}
 use Rattle.pos_disk.specs.declared.device.Disk.{Ghosts}
 use Rattle.pos_dir.specs.declared.file.File.{File}
-use Rattle.pos_dir.specs.declared.limits.TheConstants.{LAYOUT_1}
+use Rattle.pos_image.specs.declared.layout.Layout.{Layout}
+use Rattle.pos_image.specs.Layout.{layout_of}
 use Rattle.pos_log.specs.Logs.{IsLogReady}
+use Rattle.pos_store.specs.Layouts.{limits_of}
 use Rattle.pos_store.specs.Standing.{Standing, Stands, HoldsFiles, LeavesOneOf}
 use Rattle.pos_store.specs.declared.parts.Parts.{Parts}
 use Rattle.pos_store.specs.declared.parts.Parts.TheVariants as parts
@@ -16,10 +18,12 @@ pub data StoreState : Type 0 where
   Off : StoreState
   Ready : (files : List File) (sequence : ℕ) → StoreState
 
--- The disk, what the store has of it, and, where it is ready, the place in the current slot behind its records, at
--- which the gate of the next one stands; else 0.
+-- The disk, the layout that was found or made last, that of a new disk before the first recovery, what the store has
+-- of the disk, and, where it is ready, the place in the current slot behind its records, at which the gate of the next
+-- one stands; else 0.
 pub record StoreView (D : Type 0) : Type 0 where
   pub disk : D
+  pub layout : Layout
   pub state : StoreState
   pub tail : ℕ
 
@@ -44,26 +48,31 @@ WhenReady Off P = ⊤
 WhenReady (Ready files sequence) P = P
 
 -- for what the bytes stand that a crash leaves: where it is ready, for its files alone, and else for one of others
-abbrev pub settled : StoreState → List Standing → List Standing
-settled Off otherwise = otherwise
-settled (Ready files sequence) otherwise = Stands files sequence ∷ []
+abbrev pub settled : Layout → StoreState → List Standing → List Standing
+settled layout Off otherwise = otherwise
+settled layout (Ready files sequence) otherwise = Stands layout files sequence ∷ []
 
 -- where it is ready, a crash at this moment leaves its files and their sequence alone
-abbrev pub LeavesItsFiles : StoreState → DiskState → Type 0
-LeavesItsFiles Off disk = ⊤
-LeavesItsFiles (Ready files sequence) disk = LeavesOneOf (Stands files sequence ∷ []) disk
+abbrev pub LeavesItsFiles : Layout → StoreState → DiskState → Type 0
+LeavesItsFiles layout Off disk = ⊤
+LeavesItsFiles layout (Ready files sequence) disk = LeavesOneOf (Stands layout files sequence ∷ []) disk
 
 -- what the parts of a store mean
 abbrev pub view_of : {D : Type 0} → Parts D → StoreView D
-view_of (parts.Off disk) = record { disk = disk; state = Off; tail = 0 }
-view_of (parts.Ready log directory) =
-    record { disk = log.images.disk; state = Ready directory.files log.images.sequence; tail = log.tail }
+view_of (parts.Off disk layout) = record { disk = disk; layout = layout; state = Off; tail = 0 }
+view_of (parts.Ready log directory) = record {
+  disk = log.images.disk;
+  layout = layout_of log.images.slot;
+  state = Ready directory.files log.images.sequence;
+  tail = log.tail;
+}
 
--- where it is ready, so is its log, the disk holds the files, and the directory has the limits of layout 1
+-- where it is ready, so is its log, the disk holds the files, and the directory has the limits of its layout
 abbrev pub HasItsFiles : {D : Type 0} → Ghosts D → Parts D → Type 0
-HasItsFiles bound (parts.Off disk) = ⊤
+HasItsFiles bound (parts.Off disk layout) = ⊤
 HasItsFiles bound (parts.Ready log directory) =
     IsLogReady bound log
     × (bound.honest log.images.disk
-    → HoldsFiles directory.files log.images.sequence (bound.state log.images.disk).reading)
-    × (directory.limits ≡ LAYOUT_1)
+    → HoldsFiles (layout_of log.images.slot) directory.files log.images.sequence
+    (bound.state log.images.disk).reading)
+    × (directory.limits ≡ limits_of (layout_of log.images.slot))

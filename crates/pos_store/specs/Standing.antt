@@ -8,43 +8,47 @@ use Rattle.pos_dir.specs.Files.{IsDirectory}
 use Rattle.pos_dir.specs.Spelling.{spelling, group_spelling}
 use Rattle.pos_dir.specs.declared.change.Change.{Change}
 use Rattle.pos_dir.specs.declared.file.File.{File}
-use Rattle.pos_dir.specs.declared.limits.TheConstants.{LAYOUT_1}
+use Rattle.pos_dir.specs.declared.limits.Limits.{Limits}
+use Rattle.pos_image.specs.declared.layout.Layout.{Layout}
+use Rattle.pos_store.specs.Layouts.{limits_of}
 
--- no totals, totals that were damaged, or files and the sequence of their image
+-- no totals, totals that were damaged, or files with the layout and the sequence of their image
 pub data Standing : Type 0 where
   Unformatted : Standing
   Damaged : Standing
-  Stands : (files : List File) (sequence : ℕ) → Standing
+  Stands : (layout : Layout) (files : List File) (sequence : ℕ) → Standing
 
--- The text spells a group, which isn't empty, and these are the files after it.
-pub record IsStep (files : List File) (text : List ℕ) (next : List File) : Type 0 where
+-- The text spells a group, which isn't empty, and these are the files after it within the limits.
+pub record IsStep (limits : Limits) (files : List File) (text : List ℕ) (next : List File) : Type 0 where
   pub changes : List Change
   pub group : IsGroup changes
   pub some : changes ≢ []
   pub spelled : text ≡ group_spelling changes
-  pub outcome : outcome_of_all LAYOUT_1 files changes ≡ Ok next
+  pub outcome : outcome_of_all limits files changes ≡ Ok next
 
 -- the files after the groups that the texts spell, in order
-abbrev pub Applies : List File → List (List ℕ) → List File → Type 0
-Applies files [] last = files ≡ last
-Applies files (text ∷ texts) last = (next : List File) × IsStep files text next × Applies next texts last
+abbrev pub Applies : Limits → List File → List (List ℕ) → List File → Type 0
+Applies limits files [] last = files ≡ last
+Applies limits files (text ∷ texts) last =
+    (next : List File) × IsStep limits files text next × Applies limits next texts last
 
--- The bytes hold these files: those that the body of the current image spells, after the groups of the records behind
--- it.
-pub record HoldsFiles (files : List File) (sequence : ℕ) (bytes : List ℕ) : Type 0 where
+-- The bytes hold these files by this layout: those that the body of the current image spells, after the groups of the
+-- records behind it, within the limits of the layout.
+pub record HoldsFiles (layout : Layout) (files : List File) (sequence : ℕ) (bytes : List ℕ) : Type 0 where
   pub base : List File
   pub texts : List (List ℕ)
-  pub directory : IsDirectory LAYOUT_1 base
-  pub shows : image.ShowsImage (spelling base) sequence bytes
+  pub directory : IsDirectory (limits_of layout) base
+  pub shows : image.ShowsImage layout (spelling base) sequence bytes
   pub log : HoldsRecords texts (image.log_of bytes)
-  pub applies : Applies base texts files
+  pub applies : Applies (limits_of layout) base texts files
 
 -- the bytes stand for this; they are damaged where they have a formatted slot and hold no files
 abbrev pub StandsFor : Standing → List ℕ → Type 0
 StandsFor Unformatted bytes = image.image_on bytes ≡ image.NoImage
 StandsFor Damaged bytes =
-    (image.image_on bytes ≢ image.NoImage) × ((files : List File) (sequence : ℕ) → ¬ (HoldsFiles files sequence bytes))
-StandsFor (Stands files sequence) bytes = HoldsFiles files sequence bytes
+    (image.image_on bytes ≢ image.NoImage)
+    × ((layout : Layout) (files : List File) (sequence : ℕ) → ¬ (HoldsFiles layout files sequence bytes))
+StandsFor (Stands layout files sequence) bytes = HoldsFiles layout files sequence bytes
 
 -- each is a byte
 abbrev pub IsBytes : List ℕ → Type 0

@@ -1,13 +1,15 @@
 // A change of the files, from one whole store to the next.
 ghost use Rattle.std.specs.Prelude.{◌≡◌, ◌<◌, Err, OnErr, MatchResult, length};
 ghost use Rattle.pos_dir.specs.Changes.{outcome_of_all};
+ghost use Rattle.pos_image.specs.Layout.{layout_of};
 ghost use Rattle.pos_log.specs.Logs.{IsLogReady};
 ghost use Rattle.pos_store.specs.Commits.{Commits, IsDraft, IsUnmade};
+ghost use Rattle.pos_store.specs.Layouts.{limits_of};
 ghost use Rattle.pos_store.specs.Modes.{HasItsFiles, view_of};
 
 use crate::draft::Draft;
 use crate::fault::{StoreFault, tell_directory};
-use crate::parts::Parts;
+use crate::parts::{Parts, turn_off};
 use pos_dir::laws::is_group;
 use pos_dir::{
     Directory, Group, apply_and_encode, apply_applicable, check_group, encode_group, measure_group,
@@ -24,12 +26,13 @@ fn make_draft<D: Disk>(
     directory: &mut Directory,
     group: &Group,
 ) -> Result<Draft, StoreFault>
-    requires { IsLogReady D.Disk log.now }
+    requires ready { IsLogReady D.Disk log.now }
+    requires limits { directory.old.limits ≡ limits_of (layout_of log.now.images.slot) }
     ensures made { MatchResult (outcome_of_all directory.old.limits directory.old.files group.now)
         (λ after. MatchResult result
         (λ draft. (directory.new.files ≡ after)
-        × IsDraft directory.new.limits log.now.tail group.now log.now.images.sequence after draft)
-        (λ fault. IsUnmade log.now.tail group.now log.now.images.sequence fault))
+        × IsDraft (layout_of log.now.images.slot) log.now.tail group.now log.now.images.sequence after draft)
+        (λ fault. IsUnmade (layout_of log.now.images.slot) log.now.tail group.now log.now.images.sequence fault))
         (λ refusal. result ≡ Err (StoreFault.Refused refusal)) }
     ensures limits { directory.new.limits ≡ directory.old.limits }
     ensures unchanged { OnErr result (directory.new ≡ directory.old) }
@@ -68,23 +71,17 @@ pub fn commit_group<D: Disk>(
     let (alloc, group) = call;
     is_group(group);
     let (mut log, mut directory) = match parts {
-        Parts::Off(disk) => return (Parts::Off(disk), Err(StoreFault::Off)),
+        Parts::Off(disk, layout) => return (Parts::Off(disk, layout), Err(StoreFault::Off)),
         Parts::Ready(log, directory) => (log, directory),
     };
     match make_draft(alloc, &log, &mut directory, group) {
         Ok(Draft::Record(text)) => match log.append(&text) {
             Ok(()) => (Parts::Ready(log, directory), Ok(())),
-            Err(_) => (
-                Parts::Off(log.into_images().into_disk()),
-                Err(StoreFault::Device),
-            ),
+            Err(_) => (turn_off(log), Err(StoreFault::Device)),
         },
         Ok(Draft::Image(body)) => match log.renew(body) {
             Ok(()) => (Parts::Ready(log, directory), Ok(())),
-            Err(_) => (
-                Parts::Off(log.into_images().into_disk()),
-                Err(StoreFault::Device),
-            ),
+            Err(_) => (turn_off(log), Err(StoreFault::Device)),
         },
         Err(fault) => (Parts::Ready(log, directory), Err(fault)),
     }

@@ -6,8 +6,8 @@ use pos_image::ImageFault;
 use pos_log::LogFault;
 use thiserror::Error;
 
-/// Why a store refuses a call. Nothing has changed then, but that after `Device` in a commit the
-/// store is off.
+/// Why a store refuses a call. Nothing has changed then, but that after `Device` in a commit or a
+/// migration the store is off.
 #[derive(Clone, Copy, Debug, PartialEq, Eq, Error)]
 pub enum StoreFault {
     /// The store is off: its files are not known.
@@ -32,6 +32,9 @@ pub enum StoreFault {
     /// The disk failed.
     #[error("the disk failed")]
     Device,
+    /// A disk that is to be moved to layout 2 has it.
+    #[error("the disk has layout 2 already")]
+    AlreadyLayout2,
 }
 
 /// Why a directory refuses a call, in a store's words.

@@ -6,11 +6,14 @@ mod committing;
 mod draft;
 mod fault;
 pub mod laws;
+mod layouts;
+mod migrating;
 mod mode;
 mod parts;
 mod recovering;
 mod store;
 
 pub use fault::StoreFault;
+pub use layouts::limits_of;
 pub use mode::Mode;
 pub use store::Store;

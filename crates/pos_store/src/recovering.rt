@@ -1,14 +1,14 @@
 // A recovery of the files, from one whole store to the next.
 ghost use Rattle.std.specs.Prelude.{◌≡◌, ◌⊎◌, List, length, map, OnOk, OnErr, IfErr, IsErrOf};
 ghost use Rattle.pos_dir.specs.declared.file.File.{File};
-ghost use Rattle.pos_dir.specs.declared.limits.TheConstants.{LAYOUT_1};
 ghost use Rattle.pos_store.specs.Modes.{HasItsFiles, view_of};
 ghost use Rattle.pos_store.specs.Recoveries.{Recovers};
 ghost use Rattle.pos_store.specs.Standing.{Applies, IsStep};
 
 use crate::fault::{StoreFault, tell_broken, tell_images, tell_log};
+use crate::layouts::limits_of;
 use crate::parts::Parts;
-use pos_dir::{Directory, DirectoryFault, LAYOUT_1, apply_group, decode, decode_group};
+use pos_dir::{Directory, DirectoryFault, apply_group, decode, decode_group};
 use pos_disk::Disk;
 use pos_image::Images;
 use pos_log::Log;
@@ -16,11 +16,10 @@ use std::alloc::Global;
 
 // Applies the group that a text spells.
 fn apply_text(alloc: Global, directory: &mut Directory, text: &[u8]) -> Result<(), StoreFault>
-    requires { directory.old.limits ≡ LAYOUT_1 }
-    ensures ok { OnOk result (IsStep directory.old.files text.now directory.new.files) }
-    ensures limits { directory.new.limits ≡ LAYOUT_1 }
+    ensures ok { OnOk result (IsStep directory.old.limits directory.old.files text.now directory.new.files) }
+    ensures limits { directory.new.limits ≡ directory.old.limits }
     ensures damaged { IfErr result (λ e. e ≡ StoreFault.Damaged
-        → (next : List File) → ¬ (IsStep directory.old.files text.now next)) }
+        → (next : List File) → ¬ (IsStep directory.old.limits directory.old.files text.now next)) }
     ensures faults { IfErr result (λ e. (e ≡ StoreFault.Damaged) ⊎ (e ≡ StoreFault.NoMemory)) }
 {
     let group = match decode_group(alloc, text) {
@@ -43,11 +42,12 @@ fn apply_texts(
     directory: &mut Directory,
     texts: &[Vec<u8>],
 ) -> Result<(), StoreFault>
-    requires { directory.old.limits ≡ LAYOUT_1 }
-    ensures ok { OnOk result (Applies directory.old.files (map (λ t. t.items) texts.now) directory.new.files) }
-    ensures limits { directory.new.limits ≡ LAYOUT_1 }
+    ensures ok { OnOk result
+        (Applies directory.old.limits directory.old.files (map (λ t. t.items) texts.now) directory.new.files) }
+    ensures limits { directory.new.limits ≡ directory.old.limits }
     ensures damaged { IfErr result (λ e. e ≡ StoreFault.Damaged
-        → (last : List File) → ¬ (Applies directory.old.files (map (λ t. t.items) texts.now) last)) }
+        → (last : List File)
+        → ¬ (Applies directory.old.limits directory.old.files (map (λ t. t.items) texts.now) last)) }
     ensures faults { IfErr result (λ e. (e ≡ StoreFault.Damaged) ⊎ (e ≡ StoreFault.NoMemory)) }
 {
     for text in texts {
@@ -65,26 +65,36 @@ pub fn recover_files<D: Disk>(parts: Parts<D>, alloc: Global) -> (Parts<D>, Resu
     ensures sound { HasItsFiles D.Disk result.0 }
     ensures recovers { Recovers D.Disk (view_of parts) result.1 (view_of result.0) }
 {
-    let disk = match parts {
-        Parts::Off(disk) => disk,
+    let (disk, layout) = match parts {
+        Parts::Off(disk, layout) => (disk, layout),
         Parts::Ready(log, directory) => return (Parts::Ready(log, directory), Ok(())),
     };
     let images = match Images::open(alloc, disk) {
         Ok(images) => images,
-        Err((fault, disk)) => return (Parts::Off(disk), Err(tell_images(fault))),
+        Err((fault, disk)) => return (Parts::Off(disk, layout), Err(tell_images(fault))),
     };
-    let mut directory = match decode(alloc, images.body(), LAYOUT_1) {
+    let limits = limits_of(images.layout());
+    let mut directory = match decode(alloc, images.body(), limits) {
         Ok(directory) => directory,
         Err(DirectoryFault::Malformed) => {
-            return (Parts::Off(images.into_disk()), Err(StoreFault::Damaged));
+            return (
+                Parts::Off(images.into_disk(), layout),
+                Err(StoreFault::Damaged),
+            );
         }
-        Err(_) => return (Parts::Off(images.into_disk()), Err(StoreFault::NoMemory)),
+        Err(_) => return (
+            Parts::Off(images.into_disk(), layout),
+            Err(StoreFault::NoMemory),
+        ),
     };
     match Log::open(alloc, images) {
         Ok((log, texts)) => match apply_texts(alloc, &mut directory, &texts) {
             Ok(()) => (Parts::Ready(log, directory), Ok(())),
-            Err(fault) => (Parts::Off(log.into_images().into_disk()), Err(fault)),
+            Err(fault) => (
+                Parts::Off(log.into_images().into_disk(), layout),
+                Err(fault),
+            ),
         },
-        Err((fault, images)) => (Parts::Off(images.into_disk()), Err(tell_log(fault))),
+        Err((fault, images)) => (Parts::Off(images.into_disk(), layout), Err(tell_log(fault))),
     }
 }

@@ -2,17 +2,19 @@ ghost use Rattle.std.specs.Prelude.{◌≡◌, ◌<◌, length, IfSome};
 
 use crate::committing::commit_group;
 use crate::fault::StoreFault;
+use crate::migrating::migrate_files;
 use crate::mode::Mode;
 use crate::parts::Parts;
 use crate::recovering::recover_files;
 use core::mem::replace_with;
 use pos_dir::{Directory, Group};
 use pos_disk::Disk;
+use pos_image::Layout;
 use std::alloc::Global;
 use std::marker::Model;
 
-/// The files of a totals disk, changed by whole groups. Contracts see the disk, the files with their
-/// sequence, or Off, and the place behind its records. docs/DISK.md, "The log".
+/// The files of a totals disk, changed by whole groups. Contracts see the disk and its layout, the files with
+/// their sequence, or Off, and the place behind its records. docs/DISK.md, "The log" and "The layouts".
 #[derive(Drop)]
 pub struct Store<D: Disk> {
     alloc: Global,
@@ -31,19 +33,21 @@ impl<D: Disk> Model for Store<D> {
 
 impl<D: Disk> Store<D> {
     ghost use Rattle.std.specs.Option.{option_map};
-    ghost use Rattle.pos_dir.specs.declared.limits.TheConstants.{LAYOUT_1};
     ghost use Rattle.pos_disk.specs.State.{IsAtRest};
+    ghost use Rattle.pos_image.specs.declared.layout.Layout.TheVariants.{Layout1};
     ghost use Rattle.pos_store.specs.Modes.{Off, WhenReady, files_of, mode_of};
     ghost use Rattle.pos_store.specs.Commits.{Commits};
+    ghost use Rattle.pos_store.specs.Layouts.{limits_of};
+    ghost use Rattle.pos_store.specs.Migrations.{Migrates};
     ghost use Rattle.pos_store.specs.Recoveries.{Recovers};
 
     /// A store that is off, over a disk. Nothing is read yet.
     pub fn new(alloc: Global, disk: D) -> Store<D>
-        ensures { result ≡ record { disk = disk; state = Off; tail = 0 } }
+        ensures { result ≡ record { disk = disk; layout = Layout1; state = Off; tail = 0 } }
     {
         Store {
             alloc,
-            parts: Parts::Off(disk),
+            parts: Parts::Off(disk, Layout::Layout1),
         }
     }
 
@@ -79,14 +83,39 @@ impl<D: Disk> Store<D> {
         replace_with(&mut self.parts, (self.alloc, group), commit_group)
     }
 
-    /// The files, within the limits of layout 1, or None while the store is off.
+    /// Moves a disk of layout 1 to layout 2, in place: the files stay, and are in the first image of layout 2
+    /// then, with sequence 1. The slots of layout 1 are not written, and a crash at any moment leaves the
+    /// files by one layout or the other. There is no way back to layout 1.
+    ///
+    /// # Errors
+    ///
+    /// `Off` where the store is off, else `AlreadyLayout2` where the disk has it; `NoMemory`: nothing has
+    /// changed, and the disk has not been called. `Device` where the disk failed: the store is off, and the
+    /// next recovery finds the files by layout 1 or by layout 2.
+    pub fn migrate(&mut self) -> Result<(), StoreFault>
+        ensures { Migrates D.Disk self.old result self.new }
+    {
+        replace_with(&mut self.parts, self.alloc, migrate_files)
+    }
+
+    /// The files, within the limits of its layout, or None while the store is off.
     pub fn files(&self) -> Option<&Directory>
         ensures files { option_map (λ directory. directory.now.files) result ≡ files_of self.now.state }
-        ensures limits { IfSome result (λ directory. directory.now.limits ≡ LAYOUT_1) }
+        ensures limits { IfSome result (λ directory. directory.now.limits ≡ limits_of self.now.layout) }
     {
         match &self.parts {
-            Parts::Off(_) => None,
+            Parts::Off(_, _) => None,
             Parts::Ready(_, directory) => Some(directory),
+        }
+    }
+
+    /// The layout of the disk, as it was found or made last: layout 1 before the first recovery.
+    pub fn layout(&self) -> Layout
+        ensures { result ≡ self.now.layout }
+    {
+        match &self.parts {
+            Parts::Off(_, layout) => *layout,
+            Parts::Ready(log, _) => log.layout(),
         }
     }
 
@@ -95,7 +124,7 @@ impl<D: Disk> Store<D> {
         ensures { result ≡ mode_of self.now.state }
     {
         match &self.parts {
-            Parts::Off(_) => Mode::Off,
+            Parts::Off(_, _) => Mode::Off,
             Parts::Ready(log, _) => Mode::Ready {
                 sequence: log.sequence(),
             },
@@ -108,7 +137,7 @@ impl<D: Disk> Store<D> {
         ensures at_rest { D.honest self.disk → WhenReady self.state (IsAtRest (D.state self.disk)) }
     {
         match self.parts {
-            Parts::Off(disk) => disk,
+            Parts::Off(disk, _) => disk,
             Parts::Ready(log, _) => log.into_images().into_disk(),
         }
     }

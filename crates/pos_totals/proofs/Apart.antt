@@ -6,6 +6,7 @@ use Rattle.std.proofs.lemmas.Bool.{eqb-true, eq-eqb, not-false}
 use Rattle.pos_dir.specs.declared.change.Change.{Change as FileChange}
 use Rattle.pos_dir.specs.declared.change.Change.TheVariants as file
 use Rattle.pos_dir.specs.declared.file.File.{File as PlainFile}
+use Rattle.pos_image.specs.declared.layout.Layout.{Layout}
 use Rattle.pos_service.specs.Claims.{is_foreign, is_own}
 use Rattle.pos_totals.specs.TotalsClaims.{is_foreign_claim, foreign_area, is_area_taken}
 use Rattle.pos_store.specs.Modes.{StoreState as State}
@@ -95,10 +96,11 @@ no_other_left control (tag ∷ tags) (file ∷ files) same none =
     let both = neither (is_foreign control tag.claim) (list_any (is_foreign_claim control) (with_tags tags files)) none in
     (both.0, no_other_left control tags files (omega (arith, same)) both.1)
 
-pub sound_claimed : (state : State) (holdings : Holdings) (control : ℕ) → is_area_taken (totals_of state holdings) control ≡ false
-    → IsSound state holdings → IsSound state (record holdings { area = Some control })
-sound_claimed StoreOff holdings control free sound = record { handles = tt; buffers = sound.buffers; apart = tt }
+pub sound_claimed : {layout : Layout} (state : State) (holdings : Holdings) (control : ℕ) → is_area_taken (totals_of state holdings) control ≡ false
+    → IsSound layout state holdings → IsSound layout state (record holdings { area = Some control })
+sound_claimed StoreOff holdings control free sound = record { found = tt; handles = tt; buffers = sound.buffers; apart = tt }
 sound_claimed (StoreReady files sequence) holdings control free sound = record {
+  found = sound.found;
   handles = sound.handles;
   buffers = sound.buffers;
   apart = no_other_left control holdings.handles.given files sound.handles.count (neither (is_foreign control holdings.area) _ free).1;

@@ -6,12 +6,13 @@ use Rattle.std.proofs.lemmas.Bool.{eqb-true}
 use Rattle.std.proofs.Math.ListN.{length-replicate}
 use Rattle.pos_dir.specs.Changes.{outcome_of_all, and_then}
 use Rattle.pos_dir.specs.declared.change.Change.{Change as FileChange}
-use Rattle.pos_dir.specs.declared.limits.TheConstants.{LAYOUT_1}
-use Rattle.pos_totals.specs.HardTotals.{File, Mode, Off, Ready, Change, Create, Delete, Rename, Write, SetAll, layout_1, transaction_at, without_transactions}
+use Rattle.pos_image.specs.declared.layout.Layout.{Layout}
+use Rattle.pos_totals.specs.HardTotals.{File, Mode, Off, Ready, Change, Create, Delete, Rename, Write, SetAll, totals_limits, transaction_at, without_transactions}
 use Rattle.pos_totals.specs.TotalsFiles.{is_called, is_named, is_range, is_range_of, with_each, overwritten}
 use Rattle.pos_totals.specs.TotalsChanges.{change_rows, files_after, files_after_all, next_after, next_after_all}
 use Rattle.pos_totals.specs.TotalsCommits.{is_of_none}
 use Rattle.pos_service.specs.Refusals.{first_refusal}
+use Rattle.pos_store.specs.Layouts.{limits_of}
 use Rattle.pos_totals.proofs.Grouped.{Makes, made_write, made_set_all, neither, some_file, ranged, range_fits, only_called}
 use Rattle.pos_totals.proofs.Handled.{all_so, same_tags}
 use Rattle.pos_totals.proofs.Outlined.{outline, outlines, same_buffered, same_group, same_gone, same_distinct, outlines_kept, all_files, write_keeps, one_meets, found_has, all_left, all_more}
@@ -62,26 +63,27 @@ sets_keep files handle n =
     (all_files _ files (λ file called. set_keeps file (nat_abs n)))
 
 -- what is buffered stays so after a change that nothing refuses
-pub buffered_after : (files : List File) (control : ℕ) (spent : Option ℕ) (change : Change) (next : ℕ) (buffered : Change)
-    → AreDistinct (handles_of files) → first_refusal (change_rows layout_1 files control spent change) ≡ None
+pub buffered_after : (layout : Layout) (files : List File) (control : ℕ) (spent : Option ℕ) (change : Change) (next : ℕ) (buffered : Change)
+    → AreDistinct (handles_of files) → first_refusal (change_rows (totals_limits layout) files control spent change) ≡ None
     → IsBuffered files next buffered → IsBuffered (files_after next files change) (next_after next change) buffered
-buffered_after files control spent change next (SetAll handle n) distinct unrefused is = is
-buffered_after files control spent (Create name size) next (Write handle offset bytes) distinct unrefused is = (
+buffered_after layout files control spent change next (SetAll handle n) distinct unrefused is = is
+buffered_after layout files control spent (Create name size) next (Write handle offset bytes) distinct unrefused is = (
   given_more next (next + 1) handle (omega arith) is.0,
   all_more (λ file. is_called handle file ≡ true → is_range (length file.bytes) offset (pos (length bytes)) ≡ true) files _ is.1
       (λ called. absurd (new_handle next handle name (replicate (nat_abs size) 0) is.0 called)),
 )
-buffered_after files control spent (Delete name) next (Write handle offset bytes) distinct unrefused is =
+buffered_after layout files control spent (Delete name) next (Write handle offset bytes) distinct unrefused is =
     (is.0, all_left _ (λ file. not (is_named name file)) files is.1)
-buffered_after files control spent (Rename other name) next (Write handle offset bytes) distinct unrefused is =
+buffered_after layout files control spent (Rename other name) next (Write handle offset bytes) distinct unrefused is =
     same_buffered files (files_after next files (Rename other name)) next (Write handle offset bytes)
     (sym (outlines_kept (is_called other) (λ file. record file { name = name }) files (all_files _ files (λ file called. refl)))) is
-buffered_after files control spent (Write other place text) next (Write handle offset bytes) distinct unrefused is =
+buffered_after layout files control spent (Write other place text) next (Write handle offset bytes) distinct unrefused is =
     same_buffered files (files_after next files (Write other place text)) next (Write handle offset bytes)
-    (sym (writes_keep files other place text (all_fit files other place (length text) distinct (range_fits files control spent other place text unrefused)))) is
-buffered_after files control spent (SetAll other n) next (Write handle offset bytes) distinct unrefused is =
+    (sym (writes_keep files other place text (all_fit files other place (length text) distinct
+    (range_fits layout files control spent other place text unrefused)))) is
+buffered_after layout files control spent (SetAll other n) next (Write handle offset bytes) distinct unrefused is =
     same_buffered files (files_after next files (SetAll other n)) next (Write handle offset bytes) (sym (sets_keep files other n)) is
-buffered_after files control spent change next other distinct unrefused is = absurd is
+buffered_after layout files control spent change next other distinct unrefused is = absurd is
 
 -- ---- one group of all that is buffered
 
@@ -126,21 +128,22 @@ is_there None none = absurd cc
 is_there (Some file) none = refl
 
 -- the first change is made, and then the others
-first_made : (files : List File) (next : ℕ) (change : Change) (changes : List Change) → Makes files change next
+first_made : (layout : Layout) (files : List File) (next : ℕ) (change : Change) (changes : List Change) → Makes layout files change next
     → group_of files changes ≡ group_of (files_after next files change) changes
-    → outcome_of_all LAYOUT_1 (plain (files_after next files change)) (group_of (files_after next files change) changes) ≡ Ok
+    → outcome_of_all (limits_of layout) (plain (files_after next files change)) (group_of (files_after next files change) changes) ≡ Ok
     (plain (files_after_all next (files_after next files change) changes))
-    → outcome_of_all LAYOUT_1 (plain files) (group_of files (change ∷ changes)) ≡ Ok (plain (files_after_all next (files_after next files change) changes))
-first_made files next change changes one same others =
-    ap (λ r. and_then r (λ fs. outcome_of_all LAYOUT_1 fs (group_of files changes))) one
-    ∙ ap (λ (g : List FileChange). outcome_of_all LAYOUT_1 (plain (files_after next files change)) g) same ∙ others
+    → outcome_of_all (limits_of layout) (plain files) (group_of files (change ∷ changes)) ≡ Ok
+    (plain (files_after_all next (files_after next files change) changes))
+first_made layout files next change changes one same others =
+    ap (λ r. and_then r (λ fs. outcome_of_all (limits_of layout) fs (group_of files changes))) one
+    ∙ ap (λ (g : List FileChange). outcome_of_all (limits_of layout) (plain (files_after next files change)) g) same ∙ others
 
 -- where no file is gone, the group of all that is buffered makes of the plain files those after it
-pub makes_all : (files : List File) (next : ℕ) (changes : List Change) → AreDistinct (handles_of files)
+pub makes_all : (layout : Layout) (files : List File) (next : ℕ) (changes : List Change) → AreDistinct (handles_of files)
     → AllByRecursion (IsBuffered files next) changes → list_any (is_of_none files) changes ≡ false
-    → outcome_of_all LAYOUT_1 (plain files) (group_of files changes) ≡ Ok (plain (files_after_all next files changes))
-makes_all files next [] distinct all there = refl
-makes_all files next (Write handle offset bytes ∷ changes) distinct all there =
+    → outcome_of_all (limits_of layout) (plain files) (group_of files changes) ≡ Ok (plain (files_after_all next files changes))
+makes_all layout files next [] distinct all there = refl
+makes_all layout files next (Write handle offset bytes ∷ changes) distinct all there =
     let after = files_after next files (Write handle offset bytes) in
     let both = neither (is_none (find (is_called handle) files)) (list_any (is_of_none files) changes) there in
     let found = some_file (find (is_called handle) files) (is_there (find (is_called handle) files) both.0) in
@@ -148,19 +151,19 @@ makes_all files next (Write handle offset bytes ∷ changes) distinct all there 
     ap (λ (o : Option File). is_range_of o offset (pos (length bytes))) found.1
     ∙ found_has (is_called handle) (λ file. is_range (length file.bytes) offset (pos (length bytes)) ≡ true) files found.0 all.0.1 found.1 in
     let same = writes_keep files handle offset bytes all.0.1 in
-    first_made files next (Write handle offset bytes) changes (made_write files handle offset bytes next distinct fits)
+    first_made layout files next (Write handle offset bytes) changes (made_write layout files handle offset bytes next distinct fits)
     (same_group files after next changes (sym same) all.1)
-    (makes_all after next changes (same_distinct files after (sym same) distinct) (others_buffered files after next changes same all.1)
+    (makes_all layout after next changes (same_distinct files after (sym same) distinct) (others_buffered files after next changes same all.1)
     (sym (same_gone files after next changes (sym same) all.1) ∙ both.1))
-makes_all files next (SetAll handle n ∷ changes) distinct all there =
+makes_all layout files next (SetAll handle n ∷ changes) distinct all there =
     let after = files_after next files (SetAll handle n) in
     let both = neither (is_none (find (is_called handle) files)) (list_any (is_of_none files) changes) there in
     let same = sets_keep files handle n in
-    first_made files next (SetAll handle n) changes (made_set_all files handle n next distinct (is_there (find (is_called handle) files) both.0))
+    first_made layout files next (SetAll handle n) changes (made_set_all layout files handle n next distinct (is_there (find (is_called handle) files) both.0))
     (same_group files after next changes (sym same) all.1)
-    (makes_all after next changes (same_distinct files after (sym same) distinct) (others_buffered files after next changes same all.1)
+    (makes_all layout after next changes (same_distinct files after (sym same) distinct) (others_buffered files after next changes same all.1)
     (sym (same_gone files after next changes (sym same) all.1) ∙ both.1))
-makes_all files next (other ∷ changes) distinct all there = absurd all.0
+makes_all layout files next (other ∷ changes) distinct all there = absurd all.0
 
 -- ---- what all controls hold
 

@@ -10,20 +10,22 @@ use Rattle.pos_disk.specs.State.{MayLeave}
 use Rattle.pos_disk.specs.declared.device.Disk.{Ghosts}
 use Rattle.pos_dir.specs.Files.{IsDirectory}
 use Rattle.pos_dir.specs.declared.file.File.{File as PlainFile}
-use Rattle.pos_dir.specs.declared.limits.TheConstants.{LAYOUT_1}
+use Rattle.pos_dir.specs.declared.limits.TheConstants.{LAYOUT_2}
+use Rattle.pos_image.specs.declared.layout.Layout.{Layout}
 use Rattle.pos_service.specs.declared.answer.Answer.{Answer}
 use Rattle.pos_service.specs.declared.answer.Answer.TheVariants as answer
 use Rattle.pos_service.specs.declared.answer.Value.TheVariants as value
 use Rattle.pos_service.specs.declared.code.Code.TheVariants as code
 use Rattle.pos_service.specs.declared.memory.NoMemory.{NoMemory}
 use Rattle.pos_service.specs.Claims.{is_foreign}
-use Rattle.pos_totals.specs.HardTotals.{File, Off, Ready, Totals, Change, Create, Delete, Write, SetAll, last_number, layout_1, after_disk_fault, transaction_at, with_transaction}
+use Rattle.pos_totals.specs.HardTotals.{File, Off, Ready, Totals, Change, Create, Delete, Write, SetAll, last_number, totals_limits, after_disk_fault, transaction_at, with_transaction}
 use Rattle.pos_totals.specs.TotalsFiles.{is_name, is_named, is_called, has_file, has_room, free_data, is_foreign_file, is_range_of}
 use Rattle.pos_service.specs.Numbers.{is_natural, is_up_to}
 use Rattle.pos_totals.specs.TotalsChanges.{is_create, change_rows, refusals_of_change, group_by_change, number_rows, files_after, next_after, after_changes, given_by, spent_by, cost_of, cost_of_all, is_over, Changed, DoesChange, Done, RunsOut}
 use Rattle.pos_totals.specs.TotalsClaims.{is_foreign_claim}
 use Rattle.pos_service.specs.Refusals.{first_refusal, Decided}
 use Rattle.pos_store.specs.Commits.{Commits, sequence_after}
+use Rattle.pos_store.specs.Layouts.{limits_of}
 use Rattle.pos_store.specs.Modes.{StoreState as State, LeavesItsFiles}
 use Rattle.pos_store.specs.Modes.{Off as StoreOff, Ready as StoreReady, StoreView}
 use Rattle.pos_store.specs.declared.fault.StoreFault.{StoreFault}
@@ -32,10 +34,11 @@ use Rattle.pos_totals.proofs.Apart.{apart_after, files_apart}
 use Rattle.pos_totals.proofs.Buffered.{all_fit, buffered_after, holds_so, held_with, held_at, none_hold}
 use Rattle.pos_totals.proofs.Grouped.{not_refused, deleted, makes_group, range_fits, value_fits, ranged}
 use Rattle.pos_totals.proofs.Handled.{all_with, given_is, next_is, value_is, are_after}
+use Rattle.pos_totals.proofs.Largest.{most_bytes, most_files}
 use Rattle.pos_totals.proofs.Pairs.{plain_of, tags_in, numbers_in, called_again}
 use Rattle.pos_totals.proofs.Outlined.{found_has}
 use Rattle.pos_totals.proofs.Places.{found_inside}
-use Rattle.pos_totals.proofs.Putting.{open_table, closed_table, follows, their_files, view_at, sound_files, idles, rests, put_down, put_group, doubt_group}
+use Rattle.pos_totals.proofs.Putting.{open_table, closed_table, follows, their_files, leaves_found, sound_as, view_at, sound_files, idles, rests, put_down, put_group, doubt_group}
 use Rattle.pos_totals.specs.Buffers.{IsGiven, IsBuffered, IsAsked, is_bufferable, cost_of_checked, HasLeft, MayBuffer, Buffers, HaveBuffers, transactions_after, with_buffered}
 use Rattle.pos_totals.specs.Changes.{Changes, HasFailed, IsOneGroup}
 use Rattle.pos_totals.specs.Checks.{ChecksAt, Passes, file_change_of, answer_of}
@@ -52,11 +55,11 @@ use Rattle.pos_totals.specs.declared.request.Checked.TheVariants as checked
 -- a change that is let through
 pub passed : (state : State) (holdings : Holdings) (control : ℕ) (change : Change) (made : Checked)
     → ChecksAt (totals_of state holdings) control change (Ok made)
-    → first_refusal (refusals_of_change layout_1 (totals_of state holdings) control change) ≡ None
+    → first_refusal (refusals_of_change (totals_of state holdings) control change) ≡ None
 passed StoreOff holdings control change made checks = absurd checks.1
 passed (StoreReady files sequence) holdings control change made checks =
     ap (λ b. cond b (Some (answer.Refused code.Claimed 0))
-    (first_refusal (change_rows layout_1 (with_tags holdings.handles.given files) control
+    (first_refusal (change_rows (totals_limits holdings.layout) (with_tags holdings.handles.given files) control
     (spent_by (totals_of (StoreReady files sequence) holdings) control) change))) checks.0
     ∙ checks.1.unrefused
 
@@ -67,14 +70,14 @@ outside (Some buffer) none = absurd cc
 
 -- the group of a change that its table lets through: none where it is buffered; and of one that is refused
 grouped : (totals : Totals) (control : ℕ) (change : Change) (is_buffered : Bool)
-    → first_refusal (refusals_of_change layout_1 totals control change) ≡ None → is_some (transaction_at totals.transactions control) ≡ is_buffered
-    → group_by_change layout_1 totals control change ≡ cond (not is_buffered) (change ∷ []) []
+    → first_refusal (refusals_of_change totals control change) ≡ None → is_some (transaction_at totals.transactions control) ≡ is_buffered
+    → group_by_change totals control change ≡ cond (not is_buffered) (change ∷ []) []
 grouped totals control change is_buffered unrefused is =
     ap (λ (o : Option Answer). cond (is_none o && not (is_some (transaction_at totals.transactions control))) (change ∷ []) []) unrefused
     ∙ ap (λ b. cond (not b) (change ∷ []) []) is
 
 no_group : (totals : Totals) (control : ℕ) (change : Change) (refusal : Answer)
-    → first_refusal (refusals_of_change layout_1 totals control change) ≡ Some refusal → group_by_change layout_1 totals control change ≡ []
+    → first_refusal (refusals_of_change totals control change) ≡ Some refusal → group_by_change totals control change ≡ []
 no_group totals control change refusal refused =
     ap (λ (o : Option Answer). cond (is_none o && not (is_some (transaction_at totals.transactions control))) (change ∷ []) []) refused
 
@@ -104,8 +107,9 @@ does_inside DiskFailed old control change buffer some =
 module _ {D : Type 0} (bound : Ghosts D) (disk : D)
     (only : bound.honest disk → (bytes : List ℕ) → (bound.state disk).left_since (bound.state disk).moment bytes → MayLeave (bound.state disk) bytes) where
   -- the group of a change of files that are sound is one
-  pub is_group : (state : State) (holdings : Holdings) (control : ℕ) (change : Change) → HasDirectory state → IsSound state holdings
-      → IsOneGroup (totals_of state holdings) (group_by_change layout_1 (totals_of state holdings) control change)
+  pub is_group : {layout : Layout} (state : State) (holdings : Holdings) (control : ℕ) (change : Change) → HasDirectory holdings.layout state
+      → IsSound layout state holdings
+      → IsOneGroup (totals_of state holdings) (group_by_change (totals_of state holdings) control change)
   is_group StoreOff holdings control change directory sound = rw (no_groups (is_foreign control holdings.area)) refl
     where
       no_groups : (b : Bool) → cond (is_none (cond b (Some (answer.Refused code.Claimed 0)) (Some (answer.Refused code.Failure 0))) && not
@@ -114,11 +118,11 @@ module _ {D : Type 0} (bound : Ghosts D) (disk : D)
       no_groups false = refl
   is_group (StoreReady files sequence) holdings control change directory sound =
       let xs = with_tags holdings.handles.given files in
-      let both = sound_files holdings.handles.given files holdings.handles.next directory sound.handles in
+      let both = sound_files holdings.layout holdings.handles.given files holdings.handles.next directory sound.handles in
       let spent = spent_by (totals_of (StoreReady files sequence) holdings) control in
-      by (is_foreign control holdings.area) (first_refusal (change_rows layout_1 xs control spent change))
+      by (is_foreign control holdings.area) (first_refusal (change_rows (totals_limits holdings.layout) xs control spent change))
       (is_some (transaction_at holdings.transactions control))
-      (λ unrefused. makes_group xs control spent change holdings.handles.next both.0 both.1 unrefused)
+      (λ unrefused. makes_group holdings.layout xs control spent change holdings.handles.next both.0 both.1 unrefused)
     where
       by : (b : Bool) (o : Option Answer) (inside : Bool) → (o ≡ None → IsOneGroup (totals_of (StoreReady files sequence) holdings) (change ∷ []))
           → IsOneGroup (totals_of (StoreReady files sequence) holdings)
@@ -129,39 +133,41 @@ module _ {D : Type 0} (bound : Ghosts D) (disk : D)
       by false None false made = made refl
 
   -- a change that changes nothing
-  pub stays : (state : State) (holdings : Holdings) (control : ℕ) (change : Change) (outcome : Result Answer NoMemory) → HasDirectory state
-      → IsSound state holdings → (bound.honest disk → LeavesItsFiles state (bound.state disk))
-      → ((DiskFailed : Type 0) → Changed layout_1 DiskFailed (totals_of state holdings) control change outcome (totals_of state holdings))
+  pub stays : {layout : Layout} (state : State) (holdings : Holdings) (control : ℕ) (change : Change) (outcome : Result Answer NoMemory)
+      → HasDirectory holdings.layout state → IsSound layout state holdings → (bound.honest disk → LeavesItsFiles layout state (bound.state disk))
+      → ((DiskFailed : Type 0) → Changed DiskFailed (totals_of state holdings) control change outcome (totals_of state holdings))
       → Changes bound (view_at disk state holdings) control change outcome (view_at disk state holdings)
-  stays state holdings control change outcome directory sound leaves changed = record {
+  stays {layout = layout} state holdings control change outcome directory sound leaves changed = record {
     answer = changed (HasFailed bound disk disk);
-    disk = rests bound disk only (totals_of state holdings) (group_by_change layout_1 (totals_of state holdings) control change) outcome
+    disk = rests bound disk only (totals_of state holdings) (group_by_change (totals_of state holdings) control change) outcome
         (is_group state holdings control change directory sound)
-        (λ h. their_files holdings.handles.given state holdings.handles.next (bound.state disk) sound.handles (leaves h));
+        (λ h. their_files holdings.layout holdings.handles.given state holdings.handles.next (bound.state disk) sound.handles
+        (leaves_found layout holdings.layout state (bound.state disk) sound.found (leaves h)));
   }
 
 -- the answer of a change that its table refuses
 pub refused : (old : Totals) (control : ℕ) (change : Change) (refusal : Answer) → ChecksAt old control change (Err refusal)
-    → (DiskFailed : Type 0) → Changed layout_1 DiskFailed old control change (Ok refusal) old
+    → (DiskFailed : Type 0) → Changed DiskFailed old control change (Ok refusal) old
 refused old control change refusal checks DiskFailed =
-    closed_table (refusals_of_change layout_1 old control change) refusal refusal (old ≡ old) _ checks refl refl
+    closed_table (refusals_of_change old control change) refusal refusal (old ≡ old) _ checks refl refl
 
 -- the answer of a change that finds no memory
 pub wants : (state : State) (holdings : Holdings) (control : ℕ) (change : Change) (made : Checked)
     → ChecksAt (totals_of state holdings) control change (Ok made) → (want : NoMemory)
-    → (DiskFailed : Type 0) → Changed layout_1 DiskFailed (totals_of state holdings) control change (Err want) (totals_of state holdings)
+    → (DiskFailed : Type 0) → Changed DiskFailed (totals_of state holdings) control change (Err want) (totals_of state holdings)
 wants state holdings control change made checks want DiskFailed = (passed state holdings control change made checks, refl)
 
 -- ---- a change that is buffered
 
 -- in a transaction nothing but a Write or a SetAll is let through
-may_be_buffered : (files : List File) (control spent : ℕ) (change : Change) (made : Checked) → Passes files control (Some spent) change made
+may_be_buffered : (layout : Layout) (files : List File) (control spent : ℕ) (change : Change) (made : Checked)
+    → Passes (totals_limits layout) files control (Some spent) change made
     → is_bufferable made ≡ true
-may_be_buffered files control spent change (checked.Write index number place text) passes = refl
-may_be_buffered files control spent change (checked.SetAll index number n) passes = refl
-may_be_buffered files control spent (Write handle offset bytes) other passes = absurd (let m = passes.made in cc)
-may_be_buffered files control spent (SetAll handle n) other passes = absurd (let m = passes.made in cc)
-may_be_buffered files control spent other made passes = absurd (let r = passes.unrefused in cc)
+may_be_buffered layout files control spent change (checked.Write index number place text) passes = refl
+may_be_buffered layout files control spent change (checked.SetAll index number n) passes = refl
+may_be_buffered layout files control spent (Write handle offset bytes) other passes = absurd (let m = passes.made in cc)
+may_be_buffered layout files control spent (SetAll handle n) other passes = absurd (let m = passes.made in cc)
+may_be_buffered layout files control spent other made passes = absurd (let r = passes.unrefused in cc)
 
 -- it costs what was asked for
 cost_is : (change : Change) (made : Checked) → is_bufferable made ≡ true → IsAsked change made → cost_of change ≡ cost_of_checked made
@@ -170,19 +176,22 @@ cost_is change (checked.SetAll index handle n) may asked = ap cost_of asked
 cost_is change other may asked = absurd cc
 
 -- and that is left
-is_left : (files : List File) (control spent : ℕ) (change : Change) → first_refusal (change_rows layout_1 files control (Some spent) change) ≡ None
-    → spent + cost_of change ≤ 8192
-is_left files control spent (Write handle offset bytes) unrefused =
+is_left : (layout : Layout) (files : List File) (control spent : ℕ) (change : Change)
+    → first_refusal (change_rows (totals_limits layout) files control (Some spent) change) ≡ None
+    → spent + cost_of change ≤ LAYOUT_2.bytes
+is_left layout files control spent (Write handle offset bytes) unrefused =
     let fits = not_refused (not (is_range_of (find (is_called handle) files) offset (pos (length bytes)))) _ _ unrefused in
     let own = not_refused (is_foreign_file control (find (is_called handle) files)) _ _ fits.1 in
-    let left = not_refused (is_over layout_1 (Some spent) (cost_of (Write handle offset bytes))) _ _ own.1 in
-    leb-true _ _ (not-false (nat_le (spent + cost_of (Write handle offset bytes)) 8192) left.0)
-is_left files control spent (SetAll handle n) unrefused =
+    let left = not_refused (is_over (totals_limits layout) (Some spent) (cost_of (Write handle offset bytes))) _ _ own.1 in
+    let within = leb-true _ _ (not-false (nat_le (spent + cost_of (Write handle offset bytes)) (limits_of layout).bytes) left.0) in
+    omega (arith, within, most_bytes layout)
+is_left layout files control spent (SetAll handle n) unrefused =
     let good = not_refused (not (has_file (is_called handle) files && is_up_to 255 n)) _ _ unrefused in
     let own = not_refused (is_foreign_file control (find (is_called handle) files)) _ _ good.1 in
-    let left = not_refused (is_over layout_1 (Some spent) (cost_of (SetAll handle n))) _ _ own.1 in
-    leb-true _ _ (not-false (nat_le (spent + cost_of (SetAll handle n)) 8192) left.0)
-is_left files control spent other unrefused = absurd cc
+    let left = not_refused (is_over (totals_limits layout) (Some spent) (cost_of (SetAll handle n))) _ _ own.1 in
+    let within = leb-true _ _ (not-false (nat_le (spent + cost_of (SetAll handle n)) (limits_of layout).bytes) left.0) in
+    omega (arith, within, most_bytes layout)
+is_left layout files control spent other unrefused = absurd cc
 
 -- the change may be buffered
 pub may_buffer : (state : State) (holdings : Holdings) (control : ℕ) (change : Change) (made : Checked)
@@ -193,13 +202,13 @@ may_buffer (StoreReady files sequence) holdings control change made checks insid
     let both = by (transaction_at holdings.transactions control) inside checks.1 in record { bufferable = both.0; left = both.1 }
   where
     by : (o : Option (List Change)) → is_some o ≡ true
-        → Passes (with_tags holdings.handles.given files) control (option_map cost_of_all o) change made
+        → Passes (totals_limits holdings.layout) (with_tags holdings.handles.given files) control (option_map cost_of_all o) change made
         → (is_bufferable made ≡ true) × HasLeft o (cost_of_checked made)
     by None some passes = absurd cc
     by (Some buffer) some passes =
-        let may = may_be_buffered (with_tags holdings.handles.given files) control (cost_of_all buffer) change made passes in (
+        let may = may_be_buffered holdings.layout (with_tags holdings.handles.given files) control (cost_of_all buffer) change made passes in (
           may,
-          let left = is_left (with_tags holdings.handles.given files) control (cost_of_all buffer) change passes.unrefused in omega
+          let left = is_left holdings.layout (with_tags holdings.handles.given files) control (cost_of_all buffer) change passes.unrefused in omega
               (arith, left, cost_is change made may passes.asked),
         )
 
@@ -222,25 +231,27 @@ given_below (pos h) (first ∷ files) next below =
 given_below (negsuc n) (first ∷ files) next below = (λ called. absurd cc, given_below (negsuc n) files next below.1)
 
 -- a change that is let through and bufferable is what may be buffered
-is_buffered : (files : List File) (control : ℕ) (spent : Option ℕ) (change : Change) (next : ℕ) → AreDistinct (handles_of files)
-    → AllByRecursion (λ h. h < next) (handles_of files) → first_refusal (change_rows layout_1 files control spent change) ≡ None → is_some spent ≡ true
+is_buffered : (layout : Layout) (files : List File) (control : ℕ) (spent : Option ℕ) (change : Change) (next : ℕ) → AreDistinct (handles_of files)
+    → AllByRecursion (λ h. h < next) (handles_of files) → first_refusal (change_rows (totals_limits layout) files control spent change) ≡ None
+    → is_some spent ≡ true
     → IsBuffered files next change
-is_buffered files control None change next distinct below unrefused inside = absurd cc
-is_buffered files control (Some spent) (Write handle offset bytes) next distinct below unrefused inside =
-    let fits = range_fits files control (Some spent) handle offset bytes unrefused in
+is_buffered layout files control None change next distinct below unrefused inside = absurd cc
+is_buffered layout files control (Some spent) (Write handle offset bytes) next distinct below unrefused inside =
+    let fits = range_fits layout files control (Some spent) handle offset bytes unrefused in
     let found = ranged (find (is_called handle) files) offset (pos (length bytes)) fits in (
       found_has (is_called handle) (λ file. IsGiven next handle) files found.0 (given_below handle files next below) found.1,
       all_fit files handle offset (length bytes) distinct fits,
     )
-is_buffered files control (Some spent) (SetAll handle n) next distinct below unrefused inside = (value_fits files control (Some spent) handle n unrefused).1
-is_buffered files control (Some spent) other next distinct below unrefused inside = absurd cc
+is_buffered layout files control (Some spent) (SetAll handle n) next distinct below unrefused inside =
+    (value_fits layout files control (Some spent) handle n unrefused).1
+is_buffered layout files control (Some spent) other next distinct below unrefused inside = absurd cc
 
 module _ {D : Type 0} (bound : Ghosts D) (disk : D)
     (only : bound.honest disk → (bytes : List ℕ) → (bound.state disk).left_since (bound.state disk).moment bytes → MayLeave (bound.state disk) bytes)
     (files : List PlainFile) (sequence : ℕ) (holdings : Holdings) (control : ℕ) (change : Change) (made : Checked)
-    (checks : ChecksAt (totals_of (StoreReady files sequence) holdings) control change (Ok made)) (directory : IsDirectory LAYOUT_1 files)
-    (sound : IsSound (StoreReady files sequence) holdings)
-    (leaves : bound.honest disk → LeavesItsFiles (StoreReady files sequence) (bound.state disk)) where
+    (checks : ChecksAt (totals_of (StoreReady files sequence) holdings) control change (Ok made)) (directory : IsDirectory (limits_of holdings.layout) files)
+    (sound : IsSound holdings.layout (StoreReady files sequence) holdings)
+    (leaves : bound.honest disk → LeavesItsFiles holdings.layout (StoreReady files sequence) (bound.state disk)) where
   abbrev before : Totals
   before = totals_of (StoreReady files sequence) holdings
 
@@ -253,25 +264,27 @@ module _ {D : Type 0} (bound : Ghosts D) (disk : D)
   -- the change is buffered
   pub is_added : (buffer : List Change) → transaction_at holdings.transactions control ≡ Some buffer
       → Changes bound old_view control change (Ok (answer.Done value.Empty)) (view_at disk (StoreReady files sequence) (with_change buffer))
-      × IsSound (StoreReady files sequence) (with_change buffer)
+      × IsSound holdings.layout (StoreReady files sequence) (with_change buffer)
   is_added buffer some =
       let xs = with_tags holdings.handles.given files in
       let unrefused = passed (StoreReady files sequence) holdings control change made checks in
-      let none : group_by_change layout_1 before control change ≡ [] = grouped before control change true unrefused (ap is_some some) in
-      let both = sound_files holdings.handles.given files holdings.handles.next directory sound.handles in (
+      let none : group_by_change before control change ≡ [] = grouped before control change true unrefused (ap is_some some) in
+      let both = sound_files holdings.layout holdings.handles.given files holdings.handles.next directory sound.handles in (
         record {
-          answer = open_table (refusals_of_change layout_1 before control change) _ _ _ unrefused (does_inside _ before control change buffer some);
+          answer = open_table (refusals_of_change before control change) _ _ _ unrefused (does_inside _ before control change buffer some);
           disk = rw none (idles bound disk only before (totals_of (StoreReady files sequence) (with_change buffer)) [] _ refl refl
               (λ refused. absurd (refused tt))
-              (λ h. their_files holdings.handles.given (StoreReady files sequence) holdings.handles.next (bound.state disk) sound.handles (leaves h)));
+              (λ h. their_files holdings.layout holdings.handles.given (StoreReady files sequence) holdings.handles.next (bound.state disk) sound.handles
+              (leaves h)));
         },
         record {
+          found = refl;
           handles = sound.handles;
           apart = sound.apart;
           buffers = held_with (Ready xs sequence) holdings.handles.next holdings.transactions control (Some (buffer ++ change ∷ [])) sound.buffers
               (all_with (IsBuffered xs holdings.handles.next) buffer change
               (held_at (Ready xs sequence) holdings.handles.next holdings.transactions control buffer sound.buffers some)
-              (is_buffered xs control (spent_by before control) change holdings.handles.next both.1
+              (is_buffered holdings.layout xs control (spent_by before control) change holdings.handles.next both.1
               (subst (AllByRecursion (λ h. h < holdings.handles.next))
               (sym (numbers_in holdings.handles.given files sound.handles.count)) sound.handles.below) checks.1.unrefused
               (ap (λ (t : Option (List Change)). is_some (option_map cost_of_all t)) some)));
@@ -281,7 +294,7 @@ module _ {D : Type 0} (bound : Ghosts D) (disk : D)
   pub buffers : (outcome : Result Answer NoMemory) (new : List (Option (List Change)))
       → is_some (transaction_at holdings.transactions control) ≡ true → Buffers holdings.transactions control made outcome new
       → Changes bound old_view control change outcome (view_at disk (StoreReady files sequence) (record holdings { transactions = new })) × IsSound
-      (StoreReady files sequence) (record holdings { transactions = new })
+      holdings.layout (StoreReady files sequence) (record holdings { transactions = new })
   buffers (Err want) new inside same = rw same (
     stays bound disk only (StoreReady files sequence) holdings control change (Err want) directory sound leaves
         (wants (StoreReady files sequence) holdings control change made checks want),
@@ -309,36 +322,38 @@ lacks_so files change next made b same lacking = sym (lacks_is files change next
 pub lacking : (state : State) (holdings : Holdings) (control : ℕ) (change : Change) (made : Checked)
     → ChecksAt (totals_of state holdings) control change (Ok made) → is_some (transaction_at holdings.transactions control) ≡ false
     → lacks holdings.handles.next (file_change_of made) ≡ true
-    → (DiskFailed : Type 0) → Changed layout_1 DiskFailed (totals_of state holdings) control change (Ok (answer.Refused code.Failure 0))
+    → (DiskFailed : Type 0) → Changed DiskFailed (totals_of state holdings) control change (Ok (answer.Refused code.Failure 0))
     (totals_of state holdings)
 lacking StoreOff holdings control change made checks free out DiskFailed = absurd checks.1
 lacking (StoreReady files sequence) holdings control change made checks free out DiskFailed =
     let before = totals_of (StoreReady files sequence) holdings in
     let lacking = lacks_so (with_tags holdings.handles.given files) change holdings.handles.next made true checks.1.made out in
-    open_table (refusals_of_change layout_1 before control change) _ _ _ (passed (StoreReady files sequence) holdings control change made checks)
+    open_table (refusals_of_change before control change) _ _ _ (passed (StoreReady files sequence) holdings control change made checks)
     (does_outside DiskFailed before control change _ before (outside (transaction_at holdings.transactions control) free)
     (closed_table (number_rows before change) _ (answer.Refused code.Failure 0) _ _
     (ap (λ b. cond b (Some (answer.Refused code.Failure 0)) None) lacking) refl refl))
 
 -- the tags have a place for what the change does to them
-has_place : (files : List File) (control : ℕ) (spent : Option ℕ) (change : Change) (next : ℕ)
-    → first_refusal (change_rows layout_1 files control spent change) ≡ None → (is_create change && nat_eq next last_number) ≡ false → next < 2 ^ 64
+has_place : (layout : Layout) (files : List File) (control : ℕ) (spent : Option ℕ) (change : Change) (next : ℕ)
+    → first_refusal (change_rows (totals_limits layout) files control spent change) ≡ None → (is_create change && nat_eq next last_number) ≡ false
+    → next < 2 ^ 64
     → HasPlace (tags_of files) next (file_change files change)
-has_place files control spent (Create name size) next unrefused left small =
+has_place layout files control spent (Create name size) next unrefused left small =
     let good = not_refused (is_some spent || not (is_name name && is_natural size)) _ _ unrefused in
     let free = not_refused (has_file (is_named name) files) _ _ good.1 in
-    let room = not_refused (not (has_room layout_1 files size)) _ _ free.1 in
-    let few = ltb-true (length files) 64
-    (and_parts (is_up_to (free_data layout_1 files) size) (nat_lt (length files) 64) (not-false (has_room layout_1 files size) room.0)).1 in
+    let room = not_refused (not (has_room (totals_limits layout) files size)) _ _ free.1 in
+    let few = ltb-true (length files) (limits_of layout).files
+    (and_parts (is_up_to (free_data (totals_limits layout) files) size) (nat_lt (length files) (limits_of layout).files)
+    (not-false (has_room (totals_limits layout) files size) room.0)).1 in
     let other = eqb-false next last_number left in
-    (omega (arith, length-map files tag_of, few), omega (arith, other, small))
-has_place files control spent (Delete name) next unrefused left small =
-    let found = deleted files control spent name unrefused in
+    (omega (arith, length-map files tag_of, few, most_files layout), omega (arith, other, small))
+has_place layout files control spent (Delete name) next unrefused left small =
+    let found = deleted layout files control spent name unrefused in
     let inside = found_inside (is_named name) files found.0 found.1 in
     omega (arith, length-map files tag_of, inside)
-has_place files control spent other next unrefused left small = tt
+has_place layout files control spent other next unrefused left small = tt
 
-pub place : (state : State) (holdings : Holdings) (control : ℕ) (change : Change) (made : Checked) → IsSound state holdings
+pub place : {layout : Layout} (state : State) (holdings : Holdings) (control : ℕ) (change : Change) (made : Checked) → IsSound layout state holdings
     → ChecksAt (totals_of state holdings) control change (Ok made) → lacks holdings.handles.next (file_change_of made) ≡ false → holdings.handles.next < 2 ^ 64
     → HasPlace holdings.handles.given holdings.handles.next (file_change_of made)
 place StoreOff holdings control change made sound checks left small = absurd checks.1
@@ -346,7 +361,7 @@ place (StoreReady files sequence) holdings control change made sound checks left
     let xs = with_tags holdings.handles.given files in
     subst (λ (tags : List Tag). HasPlace tags holdings.handles.next (file_change_of made)) (tags_in holdings.handles.given files sound.handles.count)
     (subst (λ (file : FileChange). HasPlace (tags_of xs) holdings.handles.next file) checks.1.made
-    (has_place xs control (spent_by (totals_of (StoreReady files sequence) holdings) control) change holdings.handles.next checks.1.unrefused
+    (has_place holdings.layout xs control (spent_by (totals_of (StoreReady files sequence) holdings) control) change holdings.handles.next checks.1.unrefused
     (lacks_so xs change holdings.handles.next made false checks.1.made left) small))
 
 -- the holdings after a change that was done
@@ -363,13 +378,13 @@ module _ {D : Type 0} (bound : Ghosts D) (disk : D)
     (files : List PlainFile) (sequence tail : ℕ) (holdings : Holdings) (control : ℕ) (change : Change) (made : Checked)
     (checks : ChecksAt (totals_of (StoreReady files sequence) holdings) control change (Ok made))
     (free : is_some (transaction_at holdings.transactions control) ≡ false)
-    (directory : IsDirectory LAYOUT_1 files) (sound : IsSound (StoreReady files sequence) holdings)
-    (leaves : bound.honest disk → LeavesItsFiles (StoreReady files sequence) (bound.state disk)) where
+    (directory : IsDirectory (limits_of holdings.layout) files) (sound : IsSound holdings.layout (StoreReady files sequence) holdings)
+    (leaves : bound.honest disk → LeavesItsFiles holdings.layout (StoreReady files sequence) (bound.state disk)) where
   abbrev ready : Totals
   ready = totals_of (StoreReady files sequence) holdings
 
   abbrev ready_store : StoreView D
-  ready_store = record { disk = disk; state = StoreReady files sequence; tail = tail }
+  ready_store = record { disk = disk; layout = holdings.layout; state = StoreReady files sequence; tail = tail }
 
   abbrev there : List File
   there = with_tags holdings.handles.given files
@@ -380,28 +395,28 @@ module _ {D : Type 0} (bound : Ghosts D) (disk : D)
   abbrev next : ℕ
   next = holdings.handles.next
 
-  let_through : first_refusal (refusals_of_change layout_1 ready control change) ≡ None
+  let_through : first_refusal (refusals_of_change ready control change) ≡ None
   let_through = passed (StoreReady files sequence) holdings control change made checks
 
-  both : IsDirectory LAYOUT_1 (plain there) × AreDistinct (handles_of there)
-  both = sound_files holdings.handles.given files next directory sound.handles
+  both : IsDirectory (limits_of holdings.layout) (plain there) × AreDistinct (handles_of there)
+  both = sound_files holdings.layout holdings.handles.given files next directory sound.handles
 
   one : IsOneGroup ready (change ∷ [])
-  one = makes_group there control (spent_by ready control) change next both.0 both.1 checks.1.unrefused
+  one = makes_group holdings.layout there control (spent_by ready control) change next both.0 both.1 checks.1.unrefused
 
-  is_ungrouped : group_by_change layout_1 ready control change ≡ change ∷ []
+  is_ungrouped : group_by_change ready control change ≡ change ∷ []
   is_ungrouped = grouped ready control change false let_through free
 
   -- the sequence after it
   abbrev then_sequence : ℕ
-  then_sequence = sequence_after tail group sequence
+  then_sequence = sequence_after holdings.layout tail group sequence
 
   -- what the change is answered, the handle being there
   answered : (DiskFailed : Type 0) (result : Answer) (new : Totals) → (is_create change && nat_eq next last_number) ≡ false
       → RunsOut ready result new ⊎ Done DiskFailed ready (change ∷ []) (given_by next change) result new
-      → Changed layout_1 DiskFailed ready control change (Ok result) new
+      → Changed DiskFailed ready control change (Ok result) new
   answered DiskFailed result new left does =
-      open_table (refusals_of_change layout_1 ready control change) _ _ _ let_through
+      open_table (refusals_of_change ready control change) _ _ _ let_through
       (does_outside DiskFailed ready control change result new (outside (transaction_at holdings.transactions control) free)
       (open_table (number_rows ready change) _ _ _ (ap (λ b. cond b (Some (answer.Refused code.Failure 0)) None) left) does))
 
@@ -413,7 +428,7 @@ module _ {D : Type 0} (bound : Ghosts D) (disk : D)
       let down = put_down bound disk files sequence tail holdings change [] sound.handles one (Ok tt) new commits.answer in
       record {
         answer = answered (HasFailed bound disk new.disk) _ _ left
-            (inr (inl (refl, record { sequence = then_sequence; follows = follows tail group sequence down.0; totals = refl })));
+            (inr (inl (refl, record { sequence = then_sequence; follows = follows holdings.layout tail group sequence down.0; totals = refl })));
         disk = rw is_ungrouped (put_group bound disk files sequence tail holdings change [] sound.handles one new
             (after_changes ready (change ∷ []) then_sequence) (given_by next change) commits refl);
       }
@@ -428,10 +443,10 @@ module _ {D : Type 0} (bound : Ghosts D) (disk : D)
       let down = put_down bound disk files sequence tail holdings change [] sound.handles one (Ok tt) new commits.answer in
       let given : given_after holdings.handles.given next as_made ≡ tags_of (files_after next there change) =
       ap (λ (tags : List Tag). given_after tags next as_made) (sym (tags_in holdings.handles.given files sound.handles.count))
-      ∙ given_is there control (spent_by ready control) change next both.0.distinct checks.1.unrefused in
+      ∙ given_is holdings.layout there control (spent_by ready control) change next both.0.distinct checks.1.unrefused in
       rw (down.1, given, value_is there change next, next_is there change next, called_again (files_after next there change)) (done new commits left)
 
-  sound_after : (new : StoreView D) → Commits bound ready_store group (Ok tt) new → IsSound new.state (kept_holdings holdings as_made)
+  sound_after : (new : StoreView D) → Commits bound ready_store group (Ok tt) new → IsSound new.layout new.state (kept_holdings holdings as_made)
   sound_after new commits =
       let down = put_down bound disk files sequence tail holdings change [] sound.handles one (Ok tt) new commits.answer in
       let spent = spent_by ready control in
@@ -440,14 +455,15 @@ module _ {D : Type 0} (bound : Ghosts D) (disk : D)
       rw (tags_in holdings.handles.given files sound.handles.count, plain_of holdings.handles.given files sound.handles.count) sound.handles in
       let given : given_after holdings.handles.given next as_made ≡ tags_of after =
       ap (λ (tags : List Tag). given_after tags next as_made) (sym (tags_in holdings.handles.given files sound.handles.count))
-      ∙ given_is there control spent change next both.0.distinct checks.1.unrefused in
+      ∙ given_is holdings.layout there control spent change next both.0.distinct checks.1.unrefused in
       let buffers : HaveBuffers (Ready after then_sequence) (next_after next change) holdings.transactions =
       holds_so there after sequence then_sequence next (next_after next change) holdings.transactions
-      (λ other is. buffered_after there control spent change next other both.1 checks.1.unrefused is) sound.buffers in
+      (λ other is. buffered_after holdings.layout there control spent change next other both.1 checks.1.unrefused is) sound.buffers in
       rw down.1 (record {
+        found = commits.layout;
         handles = subst (λ (tags : List Tag). AreHandles (given_after tags next as_made) (plain after) (following next as_made))
             (tags_in holdings.handles.given files sound.handles.count)
-            (are_after there control spent change next both.0.distinct old checks.1.unrefused);
+            (are_after holdings.layout there control spent change next both.0.distinct old checks.1.unrefused);
         buffers = rw (given, called_again after, next_is there change next) buffers;
         apart = apart_after holdings.area holdings.handles.given next as_made sound.apart;
       })
@@ -455,10 +471,12 @@ module _ {D : Type 0} (bound : Ghosts D) (disk : D)
   -- a change in which the store met a fault
   failed : (new : StoreView D) (cause : StoreFault) → (is_create change && nat_eq next last_number) ≡ false → Commits bound ready_store group (Err cause) new
       → Changes bound (view_of ready_store holdings) control change (answer_of cause)
-      (view_of new (refused_holdings holdings cause)) × IsSound new.state (refused_holdings holdings cause)
+      (view_of new (refused_holdings holdings cause)) × IsSound new.layout new.state (refused_holdings holdings cause)
   failed new fault.Off left commits = absurd (put_down bound disk files sequence tail holdings change [] sound.handles one (Err fault.Off) new commits.answer)
   failed new (fault.Refused refusal) left commits =
       absurd (put_down bound disk files sequence tail holdings change [] sound.handles one (Err (fault.Refused refusal)) new commits.answer)
+  failed new fault.AlreadyLayout2 left commits =
+      absurd (put_down bound disk files sequence tail holdings change [] sound.handles one (Err fault.AlreadyLayout2) new commits.answer)
   failed new fault.Unformatted left commits =
       absurd (put_down bound disk files sequence tail holdings change [] sound.handles one (Err fault.Unformatted) new commits.answer)
   failed new fault.Damaged left commits =
@@ -485,67 +503,88 @@ module _ {D : Type 0} (bound : Ghosts D) (disk : D)
           answer = answered (HasFailed bound disk new.disk) _ _ left (inr (inr (refl, λ h. commits.device h refl, refl)));
           disk = rw is_ungrouped (doubt_group bound disk files sequence tail holdings change [] sound.handles one new (after_disk_fault ready) _ commits refl);
         },
-        record { handles = tt; buffers = none_hold Off next holdings.transactions; apart = tt },
+        record { found = tt; handles = tt; buffers = none_hold Off next holdings.transactions; apart = tt },
       )
 
 -- ---- the same for a store in any state, by what the checks found
 
+-- what a store of the layout that was found did
+pub committed_found : {D : Type 0} (bound : Ghosts D) (disk : D) (layout found : Layout) (files : List PlainFile) (sequence tail : ℕ) → layout ≡ found
+    → {group : List FileChange} {result : Result (Unit {0}) StoreFault} {new : StoreView D}
+    → Commits bound (record { disk = disk; layout = layout; state = StoreReady files sequence; tail = tail }) group result new
+    → Commits bound (record { disk = disk; layout = found; state = StoreReady files sequence; tail = tail }) group result new
+committed_found bound disk layout found files sequence tail same {group = group} {result = result} {new = new} commits =
+    subst (λ (l : Layout). Commits bound (record { disk = disk; layout = l; state = StoreReady files sequence; tail = tail }) group result new) same commits
+
 module _ {D : Type 0} (bound : Ghosts D) (disk : D)
     (only : bound.honest disk → (bytes : List ℕ) → (bound.state disk).left_since (bound.state disk).moment bytes → MayLeave (bound.state disk) bytes)
     (holdings : Holdings) (control : ℕ) (change : Change) (made : Checked) where
-  pub store_buffers : (state : State) → HasDirectory state → IsSound state holdings → (bound.honest disk → LeavesItsFiles state (bound.state disk))
+  pub store_buffers : (layout : Layout) (state : State) → HasDirectory holdings.layout state → IsSound layout state holdings
+      → (bound.honest disk → LeavesItsFiles layout state (bound.state disk))
       → ChecksAt (totals_of state holdings) control change (Ok made)
       → is_some (transaction_at holdings.transactions control) ≡ true → (outcome : Result Answer NoMemory) (new : List (Option (List Change)))
       → Buffers holdings.transactions control made outcome new
       → Changes bound (view_at disk state holdings) control change outcome
-      (view_at disk state (record holdings { transactions = new })) × IsSound state (record holdings { transactions = new })
-  store_buffers StoreOff directory sound leaves checks inside outcome new did = absurd checks.1
-  store_buffers (StoreReady files sequence) directory sound leaves checks inside outcome new did =
-      buffers bound disk only files sequence holdings control change made checks directory sound leaves outcome new inside did
+      (view_at disk state (record holdings { transactions = new })) × IsSound layout state (record holdings { transactions = new })
+  store_buffers layout StoreOff directory sound leaves checks inside outcome new did = absurd checks.1
+  store_buffers layout (StoreReady files sequence) directory sound leaves checks inside outcome new did =
+      let both = buffers bound disk only files sequence holdings control change made checks directory
+      (sound_as layout holdings.layout (StoreReady files sequence) holdings refl sound)
+      (λ h. leaves_found layout holdings.layout (StoreReady files sequence) (bound.state disk) sound.found (leaves h)) outcome new inside did in
+      (both.0, sound_as holdings.layout layout (StoreReady files sequence) (record holdings { transactions = new }) sound.found both.1)
 
-  pub store_done : (state : State) (tail : ℕ) (new : StoreView D) → HasDirectory state → IsSound state holdings
-      → (bound.honest disk → LeavesItsFiles state (bound.state disk)) → ChecksAt (totals_of state holdings) control change (Ok made)
+  pub store_done : (layout : Layout) (state : State) (tail : ℕ) (new : StoreView D) → HasDirectory holdings.layout state
+      → IsSound layout state holdings → (bound.honest disk → LeavesItsFiles layout state (bound.state disk))
+      → ChecksAt (totals_of state holdings) control change (Ok made)
       → is_some (transaction_at holdings.transactions control) ≡ false → lacks holdings.handles.next (file_change_of made) ≡ false
-      → Commits bound (record { disk = disk; state = state; tail = tail }) (file_change_of made ∷ []) (Ok tt) new
+      → Commits bound (record { disk = disk; layout = layout; state = state; tail = tail }) (file_change_of made ∷ []) (Ok tt) new
       → Changes bound (view_at disk state holdings) control change (Ok (answer.Done (value_after holdings.handles.next (file_change_of made))))
       (view_of new (kept_holdings holdings (file_change_of made)))
-      × IsSound new.state (kept_holdings holdings (file_change_of made))
-  store_done StoreOff tail new directory sound leaves checks free left commits = absurd checks.1
-  store_done (StoreReady files sequence) tail new directory sound leaves checks free left commits =
+      × IsSound new.layout new.state (kept_holdings holdings (file_change_of made))
+  store_done layout StoreOff tail new directory sound leaves checks free left commits = absurd checks.1
+  store_done layout (StoreReady files sequence) tail new directory sound leaves checks free there commits =
       let xs = with_tags holdings.handles.given files in
-      let before = subst (λ (file : FileChange). Commits bound (record { disk = disk; state = StoreReady files sequence; tail = tail }) (file ∷ [])
-      (Ok tt) new) (sym checks.1.made) commits in
-      let numbers = lacks_so xs change holdings.handles.next made false checks.1.made left in
+      let same = sound_as layout holdings.layout (StoreReady files sequence) holdings refl sound in
+      let left : bound.honest disk → LeavesItsFiles holdings.layout (StoreReady files sequence) (bound.state disk) = λ h. leaves_found layout holdings.layout
+      (StoreReady files sequence) (bound.state disk) sound.found (leaves h) in
+      let before = subst (λ (file : FileChange). Commits bound
+      (record { disk = disk; layout = holdings.layout; state = StoreReady files sequence; tail = tail })
+      (file ∷ []) (Ok tt) new) (sym checks.1.made) (committed_found bound disk layout holdings.layout files sequence tail sound.found commits) in
+      let numbers = lacks_so xs change holdings.handles.next made false checks.1.made there in
       subst (λ (file : FileChange). Changes bound (view_at disk (StoreReady files sequence) holdings) control change
       (Ok (answer.Done (value_after holdings.handles.next file))) (view_of new (kept_holdings holdings file))
-      × IsSound new.state (kept_holdings holdings file)) checks.1.made (
-        after_done bound disk only files sequence tail holdings control change made checks free directory sound leaves new before numbers,
-        sound_after bound disk only files sequence tail holdings control change made checks free directory sound leaves new before,
+      × IsSound new.layout new.state (kept_holdings holdings file)) checks.1.made (
+        after_done bound disk only files sequence tail holdings control change made checks free directory same left new before numbers,
+        sound_after bound disk only files sequence tail holdings control change made checks free directory same left new before,
       )
 
   -- whatever fault the store has
-  pub store_refused : (state : State) (tail : ℕ) (new : StoreView D) (cause : StoreFault) → HasDirectory state → IsSound state holdings
-      → (bound.honest disk → LeavesItsFiles state (bound.state disk)) → ChecksAt (totals_of state holdings) control change (Ok made)
+  pub store_refused : (layout : Layout) (state : State) (tail : ℕ) (new : StoreView D) (cause : StoreFault) → HasDirectory holdings.layout state
+      → IsSound layout state holdings → (bound.honest disk → LeavesItsFiles layout state (bound.state disk))
+      → ChecksAt (totals_of state holdings) control change (Ok made)
       → is_some (transaction_at holdings.transactions control) ≡ false → lacks holdings.handles.next (file_change_of made) ≡ false
-      → Commits bound (record { disk = disk; state = state; tail = tail }) (file_change_of made ∷ []) (Err cause) new
+      → Commits bound (record { disk = disk; layout = layout; state = state; tail = tail }) (file_change_of made ∷ []) (Err cause) new
       → Changes bound (view_at disk state holdings) control change (answer_of cause)
-      (view_of new (refused_holdings holdings cause)) × IsSound new.state (refused_holdings holdings cause)
-  store_refused StoreOff tail new cause directory sound leaves checks free left commits = absurd checks.1
-  store_refused (StoreReady files sequence) tail new cause directory sound leaves checks free left commits =
-      failed bound disk only files sequence tail holdings control change made checks free directory sound leaves new cause
+      (view_of new (refused_holdings holdings cause)) × IsSound new.layout new.state (refused_holdings holdings cause)
+  store_refused layout StoreOff tail new cause directory sound leaves checks free left commits = absurd checks.1
+  store_refused layout (StoreReady files sequence) tail new cause directory sound leaves checks free left commits =
+      failed bound disk only files sequence tail holdings control change made checks free directory
+      (sound_as layout holdings.layout (StoreReady files sequence) holdings refl sound)
+      (λ h. leaves_found layout holdings.layout (StoreReady files sequence) (bound.state disk) sound.found (leaves h)) new cause
       (lacks_so (with_tags holdings.handles.given files) change holdings.handles.next made false checks.1.made left)
-      (subst (λ (file : FileChange). Commits bound (record { disk = disk; state = StoreReady files sequence; tail = tail }) (file ∷ [])
-      (Err cause) new) (sym checks.1.made) commits)
+      (subst (λ (file : FileChange). Commits bound (record { disk = disk; layout = holdings.layout; state = StoreReady files sequence; tail = tail })
+      (file ∷ []) (Err cause) new) (sym checks.1.made) (committed_found bound disk layout holdings.layout files sequence tail sound.found commits))
 
 -- the files of a store that is ready have handles of their own, what is buffered fits them, and claims are apart
-pub theirs : (state : State) (holdings : Holdings) → HasDirectory state → IsSound state holdings → HasItsFiles (totals_of state holdings)
+pub theirs : {layout : Layout} (state : State) (holdings : Holdings) → HasDirectory holdings.layout state → IsSound layout state holdings
+    → HasItsFiles (totals_of state holdings)
 theirs StoreOff holdings directory sound = record { files = tt; buffers = sound.buffers; apart = none_apart holdings.area }
   where
     none_apart : (area : Option ℕ) → IfSome area (λ holder. AllByRecursion (λ file. is_foreign_claim holder file ≡ false) [])
     none_apart None = tt
     none_apart (Some holder) = tt
 theirs (StoreReady files sequence) holdings directory sound =
-    let both = sound_files holdings.handles.given files holdings.handles.next directory sound.handles in record {
+    let both = sound_files holdings.layout holdings.handles.given files holdings.handles.next directory sound.handles in record {
       files = record {
         distinct = both.1;
         below = subst (AllByRecursion (λ handle. handle < holdings.handles.next))

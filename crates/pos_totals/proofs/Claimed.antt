@@ -4,6 +4,7 @@ use Rattle.std.specs.Prelude.{nat_eq, slice_set}
 use Rattle.std.specs.List.{find, list_any, AllByRecursion}
 use Rattle.std.proofs.lemmas.List.{length-map}
 use Rattle.pos_dir.specs.declared.file.File.{File as PlainFile}
+use Rattle.pos_image.specs.declared.layout.Layout.{Layout}
 use Rattle.pos_service.specs.declared.answer.Answer.TheVariants as answer
 use Rattle.pos_service.specs.declared.answer.Value.TheVariants as value
 use Rattle.pos_service.specs.Claims.{is_foreign, is_own, is_timeout}
@@ -95,7 +96,8 @@ same_outlines (x ∷ xs) (y ∷ ys) (file ∷ files) same =
     ap (λ n. (n, length file.bytes) ∷ outlines (with_tags xs files)) first ∙ ap (λ os. (y.handle, length file.bytes) ∷ os) (same_outlines xs ys files others)
 
 -- tags of the same handles are as sound
-pub sound_retagged : (state : State) (holdings : Holdings) (tags : List Tag) → numbers_of tags ≡ numbers_of holdings.handles.given → IsSound state holdings
+pub sound_retagged : {layout : Layout} (state : State) (holdings : Holdings) (tags : List Tag) → numbers_of tags ≡ numbers_of holdings.handles.given
+    → IsSound layout state holdings
     → HasHandles state tags holdings.handles.next × HaveBuffers (mode_of tags state) holdings.handles.next holdings.transactions
 sound_retagged StoreOff holdings tags same sound = (tt, sound.buffers)
 sound_retagged (StoreReady files sequence) holdings tags same sound = (
@@ -112,19 +114,19 @@ sound_retagged (StoreReady files sequence) holdings tags same sound = (
 -- ---- claims of a file
 
 -- the file is claimed, or no longer
-with_claim : (state : State) (holdings : Holdings) (table : HandleTable) (number : ℕ) (claim : Option ℕ)
-    → table.given ≡ map (tag_claimed number claim) holdings.handles.given → table.next ≡ holdings.handles.next → IsSound state holdings
+with_claim : {layout : Layout} (state : State) (holdings : Holdings) (table : HandleTable) (number : ℕ) (claim : Option ℕ)
+    → table.given ≡ map (tag_claimed number claim) holdings.handles.given → table.next ≡ holdings.handles.next → IsSound layout state holdings
     → AreApart state holdings.area (map (tag_claimed number claim) holdings.handles.given)
     → (totals_of state (record holdings { handles = table }) ≡ record
     (totals_of state holdings) {
       mode = with_files (with_each (is_called (pos number)) (claimed claim))
           (mode_of holdings.handles.given state);
-    }) × IsSound state (record holdings { handles = table })
+    }) × IsSound layout state (record holdings { handles = table })
 with_claim state holdings table number claim given next sound apart = rw (given, next) (
   ap (λ (m : Mode). record (totals_of state holdings) { mode = m }) (claimed_mode number claim holdings.handles.given state),
   let still = sound_retagged state holdings (map (tag_claimed number claim) holdings.handles.given)
       (claimed_numbers number claim holdings.handles.given) sound in
-      record { handles = still.0; buffers = still.1; apart = apart },
+      record { found = sound.found; handles = still.0; buffers = still.1; apart = apart },
 )
 
 -- who claims a file doesn't find the area claimed by another
@@ -139,11 +141,11 @@ still_apart (StoreReady files sequence) holdings control handle timeout number p
     let own = not_refused (is_foreign control holdings.area || is_foreign_file control (find (is_called handle) xs)) _ _ good.1 in
     apart_claimed holdings.area control number holdings.handles.given (neither (is_foreign control holdings.area) _ own.0).0 apart
 
-pub file_claimed : (state : State) (holdings : Holdings) (control : ℕ) (handle timeout : ℤ) (number : ℕ) (table : HandleTable)
+pub file_claimed : {layout : Layout} (state : State) (holdings : Holdings) (control : ℕ) (handle timeout : ℤ) (number : ℕ) (table : HandleTable)
     → LetsThroughAt (totals_of state holdings) control (ClaimFile handle timeout) handle (Ok number)
-    → table.given ≡ map (tag_claimed number (Some control)) holdings.handles.given → table.next ≡ holdings.handles.next → IsSound state holdings
+    → table.given ≡ map (tag_claimed number (Some control)) holdings.handles.given → table.next ≡ holdings.handles.next → IsSound layout state holdings
     → Arranges (totals_of state holdings) control (ClaimFile handle timeout) (answer.Done value.Empty)
-    (totals_of state (record holdings { handles = table })) × IsSound state (record holdings { handles = table })
+    (totals_of state (record holdings { handles = table })) × IsSound layout state (record holdings { handles = table })
 file_claimed state holdings control handle timeout number table through given next sound =
     let both = with_claim state holdings table number (Some control) given next sound
     (still_apart state holdings control handle timeout number through.0 sound.apart) in
@@ -153,11 +155,11 @@ file_claimed state holdings control handle timeout number table through given ne
       both.1,
     )
 
-pub file_released : (state : State) (holdings : Holdings) (control : ℕ) (handle : ℤ) (number : ℕ) (table : HandleTable)
+pub file_released : {layout : Layout} (state : State) (holdings : Holdings) (control : ℕ) (handle : ℤ) (number : ℕ) (table : HandleTable)
     → LetsThroughAt (totals_of state holdings) control (ReleaseFile handle) handle (Ok number)
-    → table.given ≡ map (tag_claimed number None) holdings.handles.given → table.next ≡ holdings.handles.next → IsSound state holdings
+    → table.given ≡ map (tag_claimed number None) holdings.handles.given → table.next ≡ holdings.handles.next → IsSound layout state holdings
     → Arranges (totals_of state holdings) control (ReleaseFile handle) (answer.Done value.Empty)
-    (totals_of state (record holdings { handles = table })) × IsSound state (record holdings { handles = table })
+    (totals_of state (record holdings { handles = table })) × IsSound layout state (record holdings { handles = table })
 file_released state holdings control handle number table through given next sound =
     let both = with_claim state holdings table number None given next sound
     (apart_so state holdings.area holdings.area holdings.handles.given _ (apart_released holdings.area number holdings.handles.given) sound.apart) in
@@ -191,21 +193,29 @@ pub held_more : (mode : Mode) (next : ℕ) (transactions : List (Option (List Ch
 held_more mode next [] all = (none_held mode next, tt)
 held_more mode next (first ∷ others) all = (all.0, held_more mode next others all.1)
 
-pub control_dropped : (state : State) (holdings : Holdings) (control : ℕ) (table : HandleTable)
-    → table.given ≡ map (tag_released control) holdings.handles.given → table.next ≡ holdings.handles.next → IsSound state holdings
+pub control_dropped : {layout : Layout} (state : State) (holdings : Holdings) (control : ℕ) (table : HandleTable)
+    → table.given ≡ map (tag_released control) holdings.handles.given → table.next ≡ holdings.handles.next → IsSound layout state holdings
     → (totals_of state (record {
+      layout = holdings.layout;
       handles = table;
       area = foreign_area control holdings.area;
       transactions = slice_set holdings.transactions control
           None;
     }) ≡ without_control (totals_of state holdings) control)
-    × IsSound state (record { handles = table; area = foreign_area control holdings.area; transactions = slice_set holdings.transactions control None })
+    × IsSound layout state (record {
+      layout = holdings.layout;
+      handles = table;
+      area = foreign_area control holdings.area;
+      transactions = slice_set
+          holdings.transactions control None;
+    })
 control_dropped state holdings control table given next sound =
     let tags = map (tag_released control) holdings.handles.given in
     let still = sound_retagged state holdings tags (released_numbers control holdings.handles.given) sound in
     rw (given, next) (
       ap (λ (m : Mode). record (without_control (totals_of state holdings) control) { mode = m }) (released_mode control holdings.handles.given state),
       record {
+        found = sound.found;
         handles = still.0;
         buffers = held_with (mode_of tags state) holdings.handles.next holdings.transactions control None still.1
             (none_held (mode_of tags state) holdings.handles.next);

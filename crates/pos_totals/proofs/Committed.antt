@@ -7,7 +7,7 @@ use Rattle.std.proofs.lemmas.List.{length-map}
 use Rattle.pos_dir.specs.declared.change.Change.{Change as FileChange}
 use Rattle.pos_dir.specs.declared.file.File.{File as PlainFile}
 use Rattle.pos_dir.specs.Files.{IsDirectory}
-use Rattle.pos_dir.specs.declared.limits.TheConstants.{LAYOUT_1}
+use Rattle.pos_image.specs.declared.layout.Layout.{Layout}
 use Rattle.pos_disk.specs.State.{MayLeave}
 use Rattle.pos_disk.specs.declared.device.Disk.{Ghosts}
 use Rattle.pos_service.specs.declared.answer.Answer.{Answer}
@@ -22,16 +22,17 @@ use Rattle.pos_totals.specs.TotalsCommits.{is_of_none, is_of_foreign, commit_row
 use Rattle.pos_totals.specs.TotalsChanges.{after_changes, files_after_all, Done, RunsOut}
 use Rattle.pos_service.specs.Refusals.{first_refusal}
 use Rattle.pos_store.specs.Commits.{Commits, sequence_after}
+use Rattle.pos_store.specs.Layouts.{limits_of}
 use Rattle.pos_store.specs.Modes.{StoreState as State, LeavesItsFiles}
 use Rattle.pos_store.specs.Modes.{Off as StoreOff, Ready as StoreReady, StoreView}
 use Rattle.pos_store.specs.declared.fault.StoreFault.{StoreFault}
 use Rattle.pos_store.specs.declared.fault.StoreFault.TheVariants as fault
 use Rattle.pos_totals.proofs.Buffered.{makes_all, outlines_after, tags_after, next_stays, held_at, held_with, holds_so, none_held, none_hold}
-use Rattle.pos_totals.proofs.Changed.{refused_holdings}
+use Rattle.pos_totals.proofs.Changed.{committed_found, refused_holdings}
 use Rattle.pos_totals.proofs.Grouped.{not_refused}
 use Rattle.pos_totals.proofs.Outlined.{same_buffered}
 use Rattle.pos_totals.proofs.Pairs.{tags_in, called_again}
-use Rattle.pos_totals.proofs.Putting.{open_table, closed_table, follows, their_files, view_at, sound_files, idles, rests, put_down, put_group, doubt_group}
+use Rattle.pos_totals.proofs.Putting.{open_table, closed_table, follows, their_files, leaves_found, sound_as, view_at, sound_files, idles, rests, put_down, put_group, doubt_group}
 use Rattle.pos_totals.specs.Buffers.{IsBuffered}
 use Rattle.pos_totals.specs.Changes.{CommitsBuffer, HasFailed, IsOneGroup}
 use Rattle.pos_totals.specs.Checks.{answer_of, Gathers}
@@ -85,13 +86,14 @@ off_refused : (holdings : Holdings) (control : ℕ) → first_refusal (refusals_
 off_refused holdings control passes = absurd (let rest = (not_refused (is_foreign control holdings.area) _ _ passes).1 in cc)
 
 -- all that is buffered for files is one group
-one_group : (files : List PlainFile) (sequence : ℕ) (holdings : Holdings) (control : ℕ) (buffer : List Change) → IsDirectory LAYOUT_1 files
-    → IsSound (StoreReady files sequence) holdings
+one_group : (files : List PlainFile) (sequence : ℕ) (holdings : Holdings) (control : ℕ) (buffer : List Change) → IsDirectory (limits_of holdings.layout) files
+    → IsSound holdings.layout (StoreReady files sequence) holdings
     → first_refusal (refusals_of_commit (totals_of (StoreReady files sequence) holdings) control) ≡ None
     → transaction_at holdings.transactions control ≡ Some buffer → IsOneGroup (totals_of (StoreReady files sequence) holdings) buffer
 one_group files sequence holdings control buffer directory sound passes some =
     let xs = with_tags holdings.handles.given files in
-    makes_all xs holdings.handles.next buffer (sound_files holdings.handles.given files holdings.handles.next directory sound.handles).1
+    makes_all holdings.layout xs holdings.handles.next buffer
+    (sound_files holdings.layout holdings.handles.given files holdings.handles.next directory sound.handles).1
     (held_at (Ready xs sequence) holdings.handles.next holdings.transactions control buffer sound.buffers some)
     (all_there files sequence holdings control buffer passes some)
 
@@ -113,16 +115,17 @@ in_some totals control passes (Ready files sequence) is (Some buffer) some = (bu
 
 module _ {D : Type 0} (bound : Ghosts D) (disk : D)
     (only : bound.honest disk → (bytes : List ℕ) → (bound.state disk).left_since (bound.state disk).moment bytes → MayLeave (bound.state disk) bytes)
-    (state : State) (holdings : Holdings) (control : ℕ) (directory : HasDirectory state) (sound : IsSound state holdings)
-    (leaves : bound.honest disk → LeavesItsFiles state (bound.state disk)) where
+    (layout : Layout) (state : State) (holdings : Holdings) (control : ℕ) (directory : HasDirectory holdings.layout state)
+    (sound : IsSound layout state holdings) (leaves : bound.honest disk → LeavesItsFiles layout state (bound.state disk)) where
   abbrev totals : Totals
   totals = totals_of state holdings
 
   abbrev view : TotalsView D
   view = view_at disk state holdings
 
-  their : bound.honest disk → LeavesTheirFiles totals.mode (bound.state disk)
-  their h = their_files holdings.handles.given state holdings.handles.next (bound.state disk) sound.handles (leaves h)
+  their : bound.honest disk → LeavesTheirFiles totals.layout totals.mode (bound.state disk)
+  their h = their_files holdings.layout holdings.handles.given state holdings.handles.next (bound.state disk) sound.handles
+      (leaves_found layout holdings.layout state (bound.state disk) sound.found (leaves h))
 
   -- a commit that is refused
   pub refuses : (refusal : Answer) → first_refusal (refusals_of_commit totals control) ≡ Some refusal → CommitsBuffer bound view control (Ok refusal) view
@@ -135,7 +138,7 @@ module _ {D : Type 0} (bound : Ghosts D) (disk : D)
   pub ends : first_refusal (refusals_of_commit totals control) ≡ None → transaction_at holdings.transactions control ≡ Some []
       → (new : List (Option (List Change))) → new ≡ slice_set holdings.transactions control None
       → CommitsBuffer bound view control (Ok (answer.Done value.Empty)) (view_at disk state (record holdings { transactions = new }))
-      × IsSound state (record holdings { transactions = new })
+      × IsSound layout state (record holdings { transactions = new })
   ends passes none new is = rw is (
     record {
       answer = open_table (refusals_of_commit totals control) _ _ _ passes
@@ -145,6 +148,7 @@ module _ {D : Type 0} (bound : Ghosts D) (disk : D)
           (idles bound disk only totals (with_transaction totals control None) [] _ refl refl (λ refused. absurd (refused tt)) their);
     },
     record {
+      found = sound.found;
       handles = sound.handles;
       buffers = held_with
           (mode_of holdings.handles.given state) holdings.handles.next holdings.transactions control None sound.buffers
@@ -154,27 +158,30 @@ module _ {D : Type 0} (bound : Ghosts D) (disk : D)
   )
 
 -- the group of a commit that is let through is one
-let_through : (state : State) (holdings : Holdings) (control : ℕ) → HasDirectory state → IsSound state holdings
+let_through : (layout : Layout) (state : State) (holdings : Holdings) (control : ℕ) → HasDirectory holdings.layout state
+    → IsSound layout state holdings
     → first_refusal (refusals_of_commit (totals_of state holdings) control) ≡ None
     → IsOneGroup (totals_of state holdings) (group_by_commit (totals_of state holdings) control)
-let_through StoreOff holdings control directory sound passes = absurd (off_refused holdings control passes)
-let_through (StoreReady files sequence) holdings control directory sound passes =
+let_through layout StoreOff holdings control directory sound passes = absurd (off_refused holdings control passes)
+let_through layout (StoreReady files sequence) holdings control directory sound passes =
     let totals = totals_of (StoreReady files sequence) holdings in
     let some = in_some totals control passes totals.mode refl (transaction_at holdings.transactions control) refl in
-    rw (whole_group totals control some.0 passes some.1) (one_group files sequence holdings control some.0 directory sound passes some.1)
+    rw (whole_group totals control some.0 passes some.1) (one_group files sequence holdings control some.0 directory
+    (sound_as layout holdings.layout (StoreReady files sequence) holdings refl sound) passes some.1)
 
 -- a commit that finds no memory
 pub finds_none : {D : Type 0} (bound : Ghosts D) (disk : D)
     (only : bound.honest disk → (bytes : List ℕ) → (bound.state disk).left_since (bound.state disk).moment bytes → MayLeave (bound.state disk) bytes)
-    (state : State) (holdings : Holdings) (control : ℕ) → HasDirectory state → IsSound state holdings
-    → (bound.honest disk → LeavesItsFiles state (bound.state disk))
+    (layout : Layout) (state : State) (holdings : Holdings) (control : ℕ) → HasDirectory holdings.layout state → IsSound layout state holdings
+    → (bound.honest disk → LeavesItsFiles layout state (bound.state disk))
     → first_refusal (refusals_of_commit (totals_of state holdings) control) ≡ None → (want : NoMemory)
     → CommitsBuffer bound (view_at disk state holdings) control (Err want) (view_at disk state holdings)
-finds_none bound disk only state holdings control directory sound leaves passes want = record {
+finds_none bound disk only layout state holdings control directory sound leaves passes want = record {
   answer = (passes, refl);
   disk = rests bound disk only (totals_of state holdings) (group_by_commit (totals_of state holdings) control) (Err want)
-      (let_through state holdings control directory sound passes)
-      (λ h. their_files holdings.handles.given state holdings.handles.next (bound.state disk) sound.handles (leaves h));
+      (let_through layout state holdings control directory sound passes)
+      (λ h. their_files holdings.layout holdings.handles.given state holdings.handles.next (bound.state disk) sound.handles
+      (leaves_found layout holdings.layout state (bound.state disk) sound.found (leaves h)));
 }
 
 -- ---- a group on the disk
@@ -191,8 +198,8 @@ module _ {D : Type 0} (bound : Ghosts D) (disk : D)
     (files : List PlainFile) (sequence tail : ℕ) (holdings : Holdings) (control : ℕ) (first : Change) (others : List Change)
     (passes : first_refusal (refusals_of_commit (totals_of (StoreReady files sequence) holdings) control) ≡ None)
     (some : transaction_at holdings.transactions control ≡ Some (first ∷ others))
-    (directory : IsDirectory LAYOUT_1 files) (sound : IsSound (StoreReady files sequence) holdings)
-    (leaves : bound.honest disk → LeavesItsFiles (StoreReady files sequence) (bound.state disk)) where
+    (directory : IsDirectory (limits_of holdings.layout) files) (sound : IsSound holdings.layout (StoreReady files sequence) holdings)
+    (leaves : bound.honest disk → LeavesItsFiles holdings.layout (StoreReady files sequence) (bound.state disk)) where
   abbrev ready : Totals
   ready = totals_of (StoreReady files sequence) holdings
 
@@ -200,7 +207,7 @@ module _ {D : Type 0} (bound : Ghosts D) (disk : D)
   ended = with_transaction ready control None
 
   abbrev ready_store : StoreView D
-  ready_store = record { disk = disk; state = StoreReady files sequence; tail = tail }
+  ready_store = record { disk = disk; layout = holdings.layout; state = StoreReady files sequence; tail = tail }
 
   abbrev there : List File
   there = with_tags holdings.handles.given files
@@ -229,7 +236,7 @@ module _ {D : Type 0} (bound : Ghosts D) (disk : D)
 
   -- the sequence after it
   abbrev then_sequence : ℕ
-  then_sequence = sequence_after tail (group_of there (first ∷ others)) sequence
+  then_sequence = sequence_after holdings.layout tail (group_of there (first ∷ others)) sequence
 
   -- the tags are those of the files after it
   given : holdings.handles.given ≡ tags_of after
@@ -238,7 +245,7 @@ module _ {D : Type 0} (bound : Ghosts D) (disk : D)
   -- a group that the store has put down
   pub done : (new : StoreView D) → Commits bound ready_store (group_of there (first ∷ others)) (Ok tt) new
       → CommitsBuffer bound (view_of ready_store holdings) control (Ok (answer.Done value.Empty))
-      (view_of new ended_holdings) × IsSound new.state ended_holdings
+      (view_of new ended_holdings) × IsSound new.layout new.state ended_holdings
   done new commits =
       let down = put_down bound disk files sequence tail holdings first others sound.handles one (Ok tt) new commits.answer in
       let mode : with_tags holdings.handles.given (plain after) ≡ after = ap (λ (tags : List Tag). with_tags tags (plain after)) given ∙ called_again after in
@@ -253,7 +260,7 @@ module _ {D : Type 0} (bound : Ghosts D) (disk : D)
                 refl,
                 record {
                   sequence = then_sequence;
-                  follows = follows tail
+                  follows = follows holdings.layout tail
                       (group_of there (first ∷ others)) sequence down.0;
                   totals = totals;
                 },
@@ -264,6 +271,7 @@ module _ {D : Type 0} (bound : Ghosts D) (disk : D)
               (ap (λ (fs : List File). Ready fs then_sequence) mode));
         },
         record {
+          found = commits.layout;
           handles = record {
             count = ap length given ∙ length-map after tag_of ∙ sym (length-map after plain_file);
             distinct = sound.handles.distinct;
@@ -281,17 +289,19 @@ module _ {D : Type 0} (bound : Ghosts D) (disk : D)
   -- a group in which the store met a fault
   pub failed : (new : StoreView D) (cause : StoreFault) → Commits bound ready_store (group_of there (first ∷ others)) (Err cause) new
       → CommitsBuffer bound (view_of ready_store holdings) control (answer_of cause)
-      (view_of new (refused_holdings holdings cause)) × IsSound new.state (refused_holdings holdings cause)
+      (view_of new (refused_holdings holdings cause)) × IsSound new.layout new.state (refused_holdings holdings cause)
   failed new fault.Off commits = absurd (put_down bound disk files sequence tail holdings first others sound.handles one (Err fault.Off) new commits.answer)
   failed new (fault.Refused refusal) commits =
       absurd (put_down bound disk files sequence tail holdings first others sound.handles one (Err (fault.Refused refusal)) new commits.answer)
+  failed new fault.AlreadyLayout2 commits =
+      absurd (put_down bound disk files sequence tail holdings first others sound.handles one (Err fault.AlreadyLayout2) new commits.answer)
   failed new fault.Unformatted commits =
       absurd (put_down bound disk files sequence tail holdings first others sound.handles one (Err fault.Unformatted) new commits.answer)
   failed new fault.Damaged commits =
       absurd (put_down bound disk files sequence tail holdings first others sound.handles one (Err fault.Damaged) new commits.answer)
   failed new fault.NoMemory commits =
       let same : new ≡ ready_store = ⊎_elim (λ is. absurd cc) (λ e. e) (commits.unchanged refl) in
-      rw same (finds_none bound disk only (StoreReady files sequence) holdings control directory sound leaves passes (record {}), sound)
+      rw same (finds_none bound disk only holdings.layout (StoreReady files sequence) holdings control directory sound leaves passes (record {}), sound)
   failed new fault.Exhausted commits =
       let down = put_down bound disk files sequence tail holdings first others sound.handles one (Err fault.Exhausted) new commits.answer in
       let last : nat_eq sequence last_number ≡ true = eq-eqb sequence last_number (let l = down.0.1 in omega (arith, l)) in
@@ -300,7 +310,7 @@ module _ {D : Type 0} (bound : Ghosts D) (disk : D)
           answer = answered (HasFailed bound disk disk) _ _ (inl (last, refl, refl));
           disk = rw (whole_group ready control (first ∷ others) passes some)
               (rests bound disk only ready (first ∷ others) _ one
-              (λ h. their_files holdings.handles.given (StoreReady files sequence) next (bound.state disk) sound.handles (leaves h)));
+              (λ h. their_files holdings.layout holdings.handles.given (StoreReady files sequence) next (bound.state disk) sound.handles (leaves h)));
         },
         sound,
       )
@@ -314,7 +324,7 @@ module _ {D : Type 0} (bound : Ghosts D) (disk : D)
           disk = rw (whole_group ready control (first ∷ others) passes some)
               (doubt_group bound disk files sequence tail holdings first others sound.handles one new (after_disk_fault ready) _ commits refl);
         },
-        record { handles = tt; buffers = none_hold Off next holdings.transactions; apart = tt },
+        record { found = tt; handles = tt; buffers = none_hold Off next holdings.transactions; apart = tt },
       )
 
 -- ---- the same for a store in any state, by the plan
@@ -322,27 +332,33 @@ module _ {D : Type 0} (bound : Ghosts D) (disk : D)
 module _ {D : Type 0} (bound : Ghosts D) (disk : D)
     (only : bound.honest disk → (bytes : List ℕ) → (bound.state disk).left_since (bound.state disk).moment bytes → MayLeave (bound.state disk) bytes)
     (holdings : Holdings) (control : ℕ) (group : List FileChange) where
-  pub store_committed : (state : State) (tail : ℕ) (new : StoreView D) → HasDirectory state → IsSound state holdings
-      → (bound.honest disk → LeavesItsFiles state (bound.state disk)) → first_refusal (refusals_of_commit (totals_of state holdings) control) ≡ None
+  pub store_committed : (layout : Layout) (state : State) (tail : ℕ) (new : StoreView D) → HasDirectory holdings.layout state
+      → IsSound layout state holdings → (bound.honest disk → LeavesItsFiles layout state (bound.state disk))
+      → first_refusal (refusals_of_commit (totals_of state holdings) control) ≡ None
       → Gathers (files_of (totals_of state holdings).mode) (transaction_at holdings.transactions control) group
-      → Commits bound (record { disk = disk; state = state; tail = tail }) group (Ok tt) new
+      → Commits bound (record { disk = disk; layout = layout; state = state; tail = tail }) group (Ok tt) new
       → (transactions : List (Option (List Change))) → transactions ≡ slice_set holdings.transactions control None
       → CommitsBuffer bound (view_at disk state holdings) control (Ok (answer.Done value.Empty))
-      (view_of new (record holdings { transactions = transactions })) × IsSound new.state (record holdings { transactions = transactions })
-  store_committed StoreOff tail new directory sound leaves passes gathered commits transactions is = absurd (off_refused holdings control passes)
-  store_committed (StoreReady files sequence) tail new directory sound leaves passes gathered commits transactions is =
-      rw is (done bound disk only files sequence tail holdings control gathered.first gathered.others passes gathered.buffered directory sound leaves new
-      (subst (λ (g : List FileChange). Commits bound (record { disk = disk; state = StoreReady files sequence; tail = tail }) g
-      (Ok tt) new) gathered.made commits))
+      (view_of new (record holdings { transactions = transactions })) × IsSound new.layout new.state (record holdings { transactions = transactions })
+  store_committed layout StoreOff tail new directory sound leaves passes gathered commits transactions is = absurd (off_refused holdings control passes)
+  store_committed layout (StoreReady files sequence) tail new directory sound leaves passes gathered commits transactions is =
+      rw is (done bound disk only files sequence tail holdings control gathered.first gathered.others passes gathered.buffered directory
+      (sound_as layout holdings.layout (StoreReady files sequence) holdings refl sound)
+      (λ h. leaves_found layout holdings.layout (StoreReady files sequence) (bound.state disk) sound.found (leaves h)) new
+      (subst (λ (g : List FileChange). Commits bound (record { disk = disk; layout = holdings.layout; state = StoreReady files sequence; tail = tail }) g
+      (Ok tt) new) gathered.made (committed_found bound disk layout holdings.layout files sequence tail sound.found commits)))
 
-  pub store_failed : (state : State) (tail : ℕ) (new : StoreView D) (cause : StoreFault) → HasDirectory state → IsSound state holdings
-      → (bound.honest disk → LeavesItsFiles state (bound.state disk)) → first_refusal (refusals_of_commit (totals_of state holdings) control) ≡ None
+  pub store_failed : (layout : Layout) (state : State) (tail : ℕ) (new : StoreView D) (cause : StoreFault) → HasDirectory holdings.layout state
+      → IsSound layout state holdings → (bound.honest disk → LeavesItsFiles layout state (bound.state disk))
+      → first_refusal (refusals_of_commit (totals_of state holdings) control) ≡ None
       → Gathers (files_of (totals_of state holdings).mode) (transaction_at holdings.transactions control) group
-      → Commits bound (record { disk = disk; state = state; tail = tail }) group (Err cause) new
+      → Commits bound (record { disk = disk; layout = layout; state = state; tail = tail }) group (Err cause) new
       → CommitsBuffer bound (view_at disk state holdings) control (answer_of cause)
-      (view_of new (refused_holdings holdings cause)) × IsSound new.state (refused_holdings holdings cause)
-  store_failed StoreOff tail new cause directory sound leaves passes gathered commits = absurd (off_refused holdings control passes)
-  store_failed (StoreReady files sequence) tail new cause directory sound leaves passes gathered commits =
-      failed bound disk only files sequence tail holdings control gathered.first gathered.others passes gathered.buffered directory sound leaves new cause
-      (subst (λ (g : List FileChange). Commits bound (record { disk = disk; state = StoreReady files sequence; tail = tail }) g
-      (Err cause) new) gathered.made commits)
+      (view_of new (refused_holdings holdings cause)) × IsSound new.layout new.state (refused_holdings holdings cause)
+  store_failed layout StoreOff tail new cause directory sound leaves passes gathered commits = absurd (off_refused holdings control passes)
+  store_failed layout (StoreReady files sequence) tail new cause directory sound leaves passes gathered commits =
+      failed bound disk only files sequence tail holdings control gathered.first gathered.others passes gathered.buffered directory
+      (sound_as layout holdings.layout (StoreReady files sequence) holdings refl sound)
+      (λ h. leaves_found layout holdings.layout (StoreReady files sequence) (bound.state disk) sound.found (leaves h)) new cause
+      (subst (λ (g : List FileChange). Commits bound (record { disk = disk; layout = holdings.layout; state = StoreReady files sequence; tail = tail }) g
+      (Err cause) new) gathered.made (committed_found bound disk layout holdings.layout files sequence tail sound.found commits))

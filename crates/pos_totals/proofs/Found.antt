@@ -6,14 +6,15 @@ use Rattle.std.proofs.lemmas.Bool.{eqb-true}
 use Rattle.pos_dir.specs.Files.{DirectoryView, IsDirectory}
 use Rattle.pos_dir.specs.declared.file.File.{File as PlainFile}
 use Rattle.pos_dir.specs.declared.limits.Limits.{Limits}
-use Rattle.pos_dir.specs.declared.limits.TheConstants.{LAYOUT_1}
+use Rattle.pos_image.specs.declared.layout.Layout.{Layout}
+use Rattle.pos_store.specs.Layouts.{limits_of}
 use Rattle.pos_store.specs.Modes.{StoreState as State, Off as StoreOff, Ready as StoreReady, files_of as store_files_of}
 use Rattle.pos_totals.specs.HardTotals.{File}
 use Rattle.pos_service.specs.Numbers.{is_natural}
 use Rattle.pos_totals.specs.TotalsFiles.{is_named, is_called}
 use Rattle.pos_totals.proofs.Places.{found_meets}
 use Rattle.pos_totals.specs.Groups.{index_of}
-use Rattle.pos_totals.specs.Views.{with_tags, HasDirectory, IsSound}
+use Rattle.pos_totals.specs.Views.{with_tags, HasDirectory, HasLayout, IsSound}
 use Rattle.pos_totals.specs.declared.handles.Tag.{Tag}
 use Rattle.pos_totals.specs.declared.holdings.Holdings.{Holdings}
 
@@ -47,15 +48,26 @@ called_is (negsuc n) files file found = absurd (let meets = found_meets (is_call
 some_files : (files others : List PlainFile) → Some files ≡ Some others → files ≡ others
 some_files files others is = cc
 
--- what a store that is ready shows is a directory
-pub their_directory : (state : State) (directory : DirectoryView) → Some directory.files ≡ store_files_of state → directory.limits ≡ LAYOUT_1
-    → IsDirectory directory.limits directory.files → HasDirectory state
-their_directory StoreOff directory is limits sound = tt
-their_directory (StoreReady files sequence) directory is limits sound =
-    subst (IsDirectory LAYOUT_1) (some_files directory.files files is) (subst (λ (l : Limits). IsDirectory l directory.files) limits sound)
+-- a store that shows files has the layout that was found
+pub found_layout : (layout found : Layout) (state : State) (directory : DirectoryView) → HasLayout layout state found
+    → Some directory.files ≡ store_files_of state → layout ≡ found
+found_layout layout found StoreOff directory same is = absurd cc
+found_layout layout found (StoreReady files sequence) directory same is = same
+
+-- what it shows is a directory within the limits of that
+pub shown_directory : (layout found : Layout) (state : State) (directory : DirectoryView) → HasLayout layout state found
+    → Some directory.files ≡ store_files_of state → directory.limits ≡ limits_of layout
+    → IsDirectory directory.limits directory.files → IsDirectory (limits_of found) directory.files
+shown_directory layout found state directory same is limits sound =
+    subst (λ (l : Limits). IsDirectory l directory.files) (limits ∙ ap limits_of (found_layout layout found state directory same is)) sound
+
+pub their_directory : (found : Layout) (state : State) (directory : DirectoryView) → Some directory.files ≡ store_files_of state
+    → IsDirectory (limits_of found) directory.files → HasDirectory found state
+their_directory found StoreOff directory is sound = tt
+their_directory found (StoreReady files sequence) directory is sound = subst (IsDirectory (limits_of found)) (some_files directory.files files is) sound
 
 -- and each of its files has a tag
-pub their_tags : (state : State) (holdings : Holdings) (directory : DirectoryView) → Some directory.files ≡ store_files_of state → IsSound state holdings
-    → length holdings.handles.given ≡ length directory.files
+pub their_tags : {layout : Layout} (state : State) (holdings : Holdings) (directory : DirectoryView) → Some directory.files ≡ store_files_of state
+    → IsSound layout state holdings → length holdings.handles.given ≡ length directory.files
 their_tags StoreOff holdings directory is sound = absurd cc
 their_tags (StoreReady files sequence) holdings directory is sound = sound.handles.count ∙ ap length (sym (some_files directory.files files is))

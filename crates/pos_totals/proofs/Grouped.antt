@@ -15,13 +15,14 @@ use Rattle.pos_dir.specs.declared.fault.DirectoryFault.{DirectoryFault}
 use Rattle.pos_dir.specs.declared.fault.DirectoryFault.TheVariants as fault
 use Rattle.pos_dir.specs.declared.file.File.{File as PlainFile}
 use Rattle.pos_dir.specs.declared.limits.Limits.{Limits}
-use Rattle.pos_dir.specs.declared.limits.TheConstants.{LAYOUT_1}
+use Rattle.pos_image.specs.declared.layout.Layout.{Layout}
 use Rattle.pos_service.specs.declared.answer.Answer.{Answer}
-use Rattle.pos_totals.specs.HardTotals.{File, Change, Create, Delete, Rename, Write, SetAll, layout_1}
+use Rattle.pos_totals.specs.HardTotals.{File, Change, Create, Delete, Rename, Write, SetAll, totals_limits}
 use Rattle.pos_totals.specs.TotalsFiles.{is_name, is_range, is_range_of, is_named, is_called, has_file, has_room, free_data, size_in_sum, with_each, overwritten}
 use Rattle.pos_service.specs.Numbers.{is_natural, is_up_to}
 use Rattle.pos_totals.specs.TotalsChanges.{change_rows, files_after}
 use Rattle.pos_service.specs.Refusals.{first_refusal}
+use Rattle.pos_store.specs.Layouts.{limits_of}
 use Rattle.pos_totals.proofs.Places.{OnlyOne, found_at, one_changed, one_gone}
 use Rattle.pos_totals.specs.Groups.{index_of, file_change, group_of}
 use Rattle.pos_totals.specs.Views.{plain, plain_file, handles_of, AreDistinct}
@@ -114,41 +115,45 @@ plain_size (first ∷ files) =
     omega (arith, here, there, rest)
 
 -- what the directory makes is what the change makes
-abbrev pub Makes : List File → Change → ℕ → Type 0
-Makes files change next = outcome LAYOUT_1 (plain files) (file_change files change) ≡ Ok (plain (files_after next files change))
+abbrev pub Makes : Layout → List File → Change → ℕ → Type 0
+Makes layout files change next = outcome (limits_of layout) (plain files) (file_change files change) ≡ Ok (plain (files_after next files change))
 
 up_to : (limit : ℕ) (n : ℤ) → is_up_to limit n ≡ true → nat_abs n ≤ limit
 up_to limit (pos n) fits = leb-true n limit fits
 up_to limit (negsuc n) fits = absurd cc
 
-made_create : (files : List File) (control : ℕ) (spent : Option ℕ) (name : List ℕ) (size : ℤ) (next : ℕ) → total_size (plain files) ≤ 8192
-    → first_refusal (change_rows layout_1 files control spent (Create name size)) ≡ None → Makes files (Create name size) next
-made_create files control spent name size next small unrefused =
+made_create : (layout : Layout) (files : List File) (control : ℕ) (spent : Option ℕ) (name : List ℕ) (size : ℤ) (next : ℕ)
+    → total_size (plain files) ≤ (limits_of layout).bytes
+    → first_refusal (change_rows (totals_limits layout) files control spent (Create name size)) ≡ None → Makes layout files (Create name size) next
+made_create layout files control spent name size next small unrefused =
     let good = not_refused (is_some spent || not (is_name name && is_natural size)) _ _ unrefused in
     let free = not_refused (has_file (is_named name) files) _ _ good.1 in
-    let room = not_refused (not (has_room layout_1 files size)) _ _ free.1 in
-    let parts = and_parts (is_up_to (free_data layout_1 files) size) (nat_lt (length files) 64) (not-false (has_room layout_1 files size) room.0) in
-    let few : nat_lt (length (plain files)) 64 ≡ true = ap (λ n. nat_lt n 64) (length-map files plain_file) ∙ parts.1 in
-    let fits : nat_le (total_size (plain files) + nat_abs size) 8192 ≡ true =
-    le-leb _ _ (omega (arith, small, plain_size files, up_to (free_data layout_1 files) size parts.0)) in
+    let room = not_refused (not (has_room (totals_limits layout) files size)) _ _ free.1 in
+    let parts = and_parts (is_up_to (free_data (totals_limits layout) files) size) (nat_lt (length files) (limits_of layout).files)
+    (not-false (has_room (totals_limits layout) files size) room.0) in
+    let few : nat_lt (length (plain files)) (limits_of layout).files ≡ true = ap (λ n. nat_lt n (limits_of layout).files) (length-map files plain_file) ∙
+    parts.1 in
+    let fits : nat_le (total_size (plain files) + nat_abs size) (limits_of layout).bytes ≡ true =
+    le-leb _ _ (omega (arith, small, plain_size files, up_to (free_data (totals_limits layout) files) size parts.0)) in
     let new : PlainFile = record { name = name; bytes = replicate (nat_abs size) 0 } in
     cond-false (has_name (plain files) name) _ _ (plain_name files name ∙ free.0)
-    ∙ cond-true (nat_lt (length (plain files)) 64 && nat_le (total_size (plain files) + nat_abs size) 8192) _ _ (and_from _ _ few fits)
+    ∙ cond-true (nat_lt (length (plain files)) (limits_of layout).files && nat_le (total_size (plain files) + nat_abs size) (limits_of layout).bytes) _ _
+    (and_from _ _ few fits)
     ∙ ap (λ (fs : List PlainFile). Ok fs)
     (sym (map-append plain_file files (record { handle = next; name = name; bytes = replicate (nat_abs size) 0; claim = None } ∷ [])))
 
 -- the file of a delete that nothing refuses
-pub deleted : (files : List File) (control : ℕ) (spent : Option ℕ) (name : List ℕ)
-    → first_refusal (change_rows layout_1 files control spent (Delete name)) ≡ None → (file : File) × (find (is_named name) files ≡ Some file)
-deleted files control spent name unrefused =
+pub deleted : (layout : Layout) (files : List File) (control : ℕ) (spent : Option ℕ) (name : List ℕ)
+    → first_refusal (change_rows (totals_limits layout) files control spent (Delete name)) ≡ None → (file : File) × (find (is_named name) files ≡ Some file)
+deleted layout files control spent name unrefused =
     let outside = not_refused (is_some spent) _ _ unrefused in
     let there = not_refused (not (has_file (is_named name) files)) _ _ outside.1 in
     some_file (find (is_named name) files) (not-false (has_file (is_named name) files) there.0)
 
-made_delete : (files : List File) (control : ℕ) (spent : Option ℕ) (name : List ℕ) (next : ℕ) → are_distinct (plain files) ≡ true
-    → first_refusal (change_rows layout_1 files control spent (Delete name)) ≡ None → Makes files (Delete name) next
-made_delete files control spent name next distinct unrefused =
-    let found = deleted files control spent name unrefused in
+made_delete : (layout : Layout) (files : List File) (control : ℕ) (spent : Option ℕ) (name : List ℕ) (next : ℕ) → are_distinct (plain files) ≡ true
+    → first_refusal (change_rows (totals_limits layout) files control spent (Delete name)) ≡ None → Makes layout files (Delete name) next
+made_delete layout files control spent name next distinct unrefused =
+    let found = deleted layout files control spent name unrefused in
     let index = index_of (is_named name) files in
     at_index files index found.0 (λ f. Ok (remove (plain files) index)) (found_at (is_named name) files found.0 found.1)
     ∙ ap (λ (fs : List PlainFile). Ok fs) (sym (map-remove plain_file files index))
@@ -161,9 +166,9 @@ set_plain files handle f change distinct found =
     sym (map-set plain_file files (index_of (is_called handle) files) (change f))
     ∙ ap (λ (fs : List File). plain fs) (sym (one_changed (is_called handle) change files f (only_called files handle distinct) found))
 
-made_rename : (files : List File) (control : ℕ) (spent : Option ℕ) (handle : ℤ) (name : List ℕ) (next : ℕ) → AreDistinct (handles_of files)
-    → first_refusal (change_rows layout_1 files control spent (Rename handle name)) ≡ None → Makes files (Rename handle name) next
-made_rename files control spent handle name next distinct unrefused =
+made_rename : (layout : Layout) (files : List File) (control : ℕ) (spent : Option ℕ) (handle : ℤ) (name : List ℕ) (next : ℕ) → AreDistinct (handles_of files)
+    → first_refusal (change_rows (totals_limits layout) files control spent (Rename handle name)) ≡ None → Makes layout files (Rename handle name) next
+made_rename layout files control spent handle name next distinct unrefused =
     let good = not_refused (is_some spent || not (has_file (is_called handle) files && is_name name)) _ _ unrefused in
     let free = not_refused (has_file (is_named name) files) _ _ good.1 in
     let both = neither (is_some spent) _ good.0 in
@@ -185,9 +190,9 @@ pub range_end : (size : ℕ) (offset : ℤ) (count : ℕ) → is_range size offs
 range_end size (pos offset) count fits = fits
 range_end size (negsuc n) count fits = absurd cc
 
-pub made_write : (files : List File) (handle offset : ℤ) (bytes : List ℕ) (next : ℕ) → AreDistinct (handles_of files)
-    → is_range_of (find (is_called handle) files) offset (pos (length bytes)) ≡ true → Makes files (Write handle offset bytes) next
-made_write files handle offset bytes next distinct fits =
+pub made_write : (layout : Layout) (files : List File) (handle offset : ℤ) (bytes : List ℕ) (next : ℕ) → AreDistinct (handles_of files)
+    → is_range_of (find (is_called handle) files) offset (pos (length bytes)) ≡ true → Makes layout files (Write handle offset bytes) next
+made_write layout files handle offset bytes next distinct fits =
     let found = ranged (find (is_called handle) files) offset (pos (length bytes)) fits in
     let index = index_of (is_called handle) files in
     at_index files index found.0
@@ -198,9 +203,9 @@ made_write files handle offset bytes next distinct fits =
     ∙ ap (λ (fs : List PlainFile). Ok fs)
     (set_plain files handle found.0 (λ f. record f { bytes = overwritten f.bytes (nat_abs offset) bytes }) distinct found.1)
 
-pub made_set_all : (files : List File) (handle n : ℤ) (next : ℕ) → AreDistinct (handles_of files) → has_file (is_called handle) files ≡ true
-    → Makes files (SetAll handle n) next
-made_set_all files handle n next distinct there =
+pub made_set_all : (layout : Layout) (files : List File) (handle n : ℤ) (next : ℕ) → AreDistinct (handles_of files) → has_file (is_called handle) files ≡ true
+    → Makes layout files (SetAll handle n) next
+made_set_all layout files handle n next distinct there =
     let found = some_file (find (is_called handle) files) there in
     let index = index_of (is_called handle) files in
     at_index files index found.0 (λ f. Ok (slice_set (plain files) index (record f { bytes = replicate (length f.bytes) (nat_abs n) })))
@@ -208,33 +213,34 @@ made_set_all files handle n next distinct there =
     ∙ ap (λ (fs : List PlainFile). Ok fs) (set_plain files handle found.0 (λ f. record f { bytes = replicate (length f.bytes) (nat_abs n) }) distinct found.1)
 
 -- the range of a Write that nothing refuses, and the file and the value of a SetAll
-pub range_fits : (files : List File) (control : ℕ) (spent : Option ℕ) (handle offset : ℤ) (bytes : List ℕ)
-    → first_refusal (change_rows layout_1 files control spent (Write handle offset bytes)) ≡ None
+pub range_fits : (layout : Layout) (files : List File) (control : ℕ) (spent : Option ℕ) (handle offset : ℤ) (bytes : List ℕ)
+    → first_refusal (change_rows (totals_limits layout) files control spent (Write handle offset bytes)) ≡ None
     → is_range_of (find (is_called handle) files) offset (pos (length bytes)) ≡ true
-range_fits files control spent handle offset bytes unrefused =
+range_fits layout files control spent handle offset bytes unrefused =
     not-false _ (not_refused (not (is_range_of (find (is_called handle) files) offset (pos (length bytes)))) _ _ unrefused).0
 
-pub value_fits : (files : List File) (control : ℕ) (spent : Option ℕ) (handle n : ℤ)
-    → first_refusal (change_rows layout_1 files control spent (SetAll handle n)) ≡ None
+pub value_fits : (layout : Layout) (files : List File) (control : ℕ) (spent : Option ℕ) (handle n : ℤ)
+    → first_refusal (change_rows (totals_limits layout) files control spent (SetAll handle n)) ≡ None
     → (has_file (is_called handle) files ≡ true) × (is_up_to 255 n ≡ true)
-value_fits files control spent handle n unrefused =
+value_fits layout files control spent handle n unrefused =
     and_parts (has_file (is_called handle) files) (is_up_to 255 n)
     (not-false (has_file (is_called handle) files && is_up_to 255 n) (not_refused (not (has_file (is_called handle) files && is_up_to 255 n)) _ _ unrefused).0)
 
 -- Where nothing refuses a change, it makes of the plain files those after it.
-pub makes : (files : List File) (control : ℕ) (spent : Option ℕ) (change : Change) (next : ℕ) → IsDirectory LAYOUT_1 (plain files)
-    → AreDistinct (handles_of files) → first_refusal (change_rows layout_1 files control spent change) ≡ None → Makes files change next
-makes files control spent (Create name size) next sound distinct unrefused = made_create files control spent name size next sound.size unrefused
-makes files control spent (Delete name) next sound distinct unrefused = made_delete files control spent name next sound.distinct unrefused
-makes files control spent (Rename handle name) next sound distinct unrefused = made_rename files control spent handle name next distinct unrefused
-makes files control spent (Write handle offset bytes) next sound distinct unrefused =
-    made_write files handle offset bytes next distinct (range_fits files control spent handle offset bytes unrefused)
-makes files control spent (SetAll handle n) next sound distinct unrefused =
-    made_set_all files handle n next distinct (value_fits files control spent handle n unrefused).0
+pub makes : (layout : Layout) (files : List File) (control : ℕ) (spent : Option ℕ) (change : Change) (next : ℕ) → IsDirectory (limits_of layout) (plain files)
+    → AreDistinct (handles_of files) → first_refusal (change_rows (totals_limits layout) files control spent change) ≡ None → Makes layout files change next
+makes layout files control spent (Create name size) next sound distinct unrefused = made_create layout files control spent name size next sound.size unrefused
+makes layout files control spent (Delete name) next sound distinct unrefused = made_delete layout files control spent name next sound.distinct unrefused
+makes layout files control spent (Rename handle name) next sound distinct unrefused = made_rename layout files control spent handle name next distinct unrefused
+makes layout files control spent (Write handle offset bytes) next sound distinct unrefused =
+    made_write layout files handle offset bytes next distinct (range_fits layout files control spent handle offset bytes unrefused)
+makes layout files control spent (SetAll handle n) next sound distinct unrefused =
+    made_set_all layout files handle n next distinct (value_fits layout files control spent handle n unrefused).0
 
 -- so does its group
-pub makes_group : (files : List File) (control : ℕ) (spent : Option ℕ) (change : Change) (next : ℕ) → IsDirectory LAYOUT_1 (plain files)
-    → AreDistinct (handles_of files) → first_refusal (change_rows layout_1 files control spent change) ≡ None
-    → outcome_of_all LAYOUT_1 (plain files) (group_of files (change ∷ [])) ≡ Ok (plain (files_after next files change))
-makes_group files control spent change next sound distinct unrefused =
-    one_change LAYOUT_1 (plain files) _ (file_change files change) (makes files control spent change next sound distinct unrefused)
+pub makes_group : (layout : Layout) (files : List File) (control : ℕ) (spent : Option ℕ) (change : Change) (next : ℕ)
+    → IsDirectory (limits_of layout) (plain files)
+    → AreDistinct (handles_of files) → first_refusal (change_rows (totals_limits layout) files control spent change) ≡ None
+    → outcome_of_all (limits_of layout) (plain files) (group_of files (change ∷ [])) ≡ Ok (plain (files_after next files change))
+makes_group layout files control spent change next sound distinct unrefused =
+    one_change (limits_of layout) (plain files) _ (file_change files change) (makes layout files control spent change next sound distinct unrefused)

@@ -5,7 +5,8 @@ use Rattle.std.specs.List.{AllByRecursion}
 use Rattle.std.proofs.lemmas.List.{map-append, length-map}
 use Rattle.std.proofs.Math.Seq.{take-nil, drop-nil}
 use Rattle.pos_dir.specs.Files.{are_distinct}
-use Rattle.pos_totals.specs.HardTotals.{File, Change, Create, Delete, Rename, Write, SetAll, layout_1}
+use Rattle.pos_image.specs.declared.layout.Layout.{Layout}
+use Rattle.pos_totals.specs.HardTotals.{File, Change, Create, Delete, Rename, Write, SetAll, totals_limits}
 use Rattle.pos_totals.specs.TotalsFiles.{is_named, is_called, with_each, overwritten}
 use Rattle.pos_totals.specs.TotalsChanges.{change_rows, files_after, next_after, given_by}
 use Rattle.pos_service.specs.Refusals.{first_refusal}
@@ -30,20 +31,20 @@ same_tags test change (first ∷ files) keeps = by (test first) (same_tags test 
     by true rest = ap (λ t. t ∷ tags_of (with_each test change files)) (keeps first) ∙ ap (λ ts. tag_of first ∷ ts) rest
     by false rest = ap (λ ts. tag_of first ∷ ts) rest
 
-pub given_is : (files : List File) (control : ℕ) (spent : Option ℕ) (change : Change) (next : ℕ) → are_distinct (plain files) ≡ true
-    → first_refusal (change_rows layout_1 files control spent change) ≡ None
+pub given_is : (layout : Layout) (files : List File) (control : ℕ) (spent : Option ℕ) (change : Change) (next : ℕ) → are_distinct (plain files) ≡ true
+    → first_refusal (change_rows (totals_limits layout) files control spent change) ≡ None
     → given_after (tags_of files) next (file_change files change) ≡ tags_of (files_after next files change)
-given_is files control spent (Create name size) next distinct unrefused =
+given_is layout files control spent (Create name size) next distinct unrefused =
     sym (map-append tag_of files (record { handle = next; name = name; bytes = replicate (nat_abs size) 0; claim = None } ∷ []))
-given_is files control spent (Delete name) next distinct unrefused =
-    let found = deleted files control spent name unrefused in
+given_is layout files control spent (Delete name) next distinct unrefused =
+    let found = deleted layout files control spent name unrefused in
     sym (map-remove tag_of files (index_of (is_named name) files))
     ∙ ap tags_of (sym (one_gone (is_named name) files found.0 (only_named files name distinct) found.1))
-given_is files control spent (Rename handle name) next distinct unrefused =
+given_is layout files control spent (Rename handle name) next distinct unrefused =
     sym (same_tags (is_called handle) (λ file. record file { name = name }) files (λ file. refl))
-given_is files control spent (Write handle offset bytes) next distinct unrefused =
+given_is layout files control spent (Write handle offset bytes) next distinct unrefused =
     sym (same_tags (is_called handle) (λ file. record file { bytes = overwritten file.bytes (nat_abs offset) bytes }) files (λ file. refl))
-given_is files control spent (SetAll handle n) next distinct unrefused =
+given_is layout files control spent (SetAll handle n) next distinct unrefused =
     sym (same_tags (is_called handle) (λ file. record file { bytes = replicate (length file.bytes) (nat_abs n) }) files (λ file. refl))
 
 pub next_is : (files : List File) (change : Change) (next : ℕ) → following next (file_change files change) ≡ next_after next change
@@ -109,12 +110,12 @@ below_after files (Delete name) tags next below =
 below_after files other tags next below = below
 
 -- The tags after a change are tags of the files after it.
-pub are_after : (files : List File) (control : ℕ) (spent : Option ℕ) (change : Change) (next : ℕ) → are_distinct (plain files) ≡ true
-    → AreHandles (tags_of files) (plain files) next → first_refusal (change_rows layout_1 files control spent change) ≡ None
+pub are_after : (layout : Layout) (files : List File) (control : ℕ) (spent : Option ℕ) (change : Change) (next : ℕ) → are_distinct (plain files) ≡ true
+    → AreHandles (tags_of files) (plain files) next → first_refusal (change_rows (totals_limits layout) files control spent change) ≡ None
     → AreHandles (given_after (tags_of files) next (file_change files change)) (plain (files_after next files change))
     (following next (file_change files change))
-are_after files control spent change next distinct handles unrefused = record {
-  count = ap length (given_is files control spent change next distinct unrefused) ∙ length-map (files_after next files change) tag_of
+are_after layout files control spent change next distinct handles unrefused = record {
+  count = ap length (given_is layout files control spent change next distinct unrefused) ∙ length-map (files_after next files change) tag_of
       ∙ sym (length-map (files_after next files change) plain_file);
   distinct = distinct_after files change (tags_of files) next handles.distinct handles.below;
   below = below_after files change (tags_of files) next handles.below;

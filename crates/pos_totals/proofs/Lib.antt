@@ -7,6 +7,7 @@ mod Ended
 mod Found
 mod Grouped
 mod Handled
+mod Largest
 mod Numbered
 mod Outlined
 mod Pairs

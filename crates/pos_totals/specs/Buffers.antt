@@ -2,11 +2,12 @@
 use Rattle.std.specs.Prelude.{◌≡◌, ◌<◌, ◌≤◌, ◌+◌, ℕ, ℤ, pos, negsuc, nat_abs, Bool, true, false, List, [], ◌∷◌, ◌++◌, length, Option, Some, None, IfSome, Result, Ok, Err, slice_set, ⊤}
 use Rattle.std.specs.List.{AllByRecursion}
 use Rattle.std.specs.Option.{option_map}
+use Rattle.pos_dir.specs.declared.limits.TheConstants.{LAYOUT_2}
 use Rattle.pos_service.specs.declared.answer.Answer.{Answer}
 use Rattle.pos_service.specs.declared.answer.Answer.TheVariants as answer
 use Rattle.pos_service.specs.declared.answer.Value.TheVariants as value
 use Rattle.pos_service.specs.declared.memory.NoMemory.{NoMemory}
-use Rattle.pos_totals.specs.HardTotals.{File, Mode, Off, Ready, Change, Create, Delete, Rename, Write, SetAll, layout_1, transaction_at, without_transactions}
+use Rattle.pos_totals.specs.HardTotals.{File, Mode, Off, Ready, Change, Create, Delete, Rename, Write, SetAll, transaction_at, without_transactions}
 use Rattle.pos_totals.specs.TotalsFiles.{is_called, is_range}
 use Rattle.pos_service.specs.Numbers.{is_up_to}
 use Rattle.pos_totals.specs.TotalsChanges.{cost_of_all}
@@ -91,10 +92,10 @@ cost_of_checked (checked.Rename index name) = 0
 cost_of_checked (checked.Write index handle offset bytes) = length bytes.now + 16
 cost_of_checked (checked.SetAll index handle n) = 16
 
--- a transaction has so much left
+-- a transaction has so much left, whatever the layout of the disk
 abbrev pub HasLeft : Option (List Change) → ℕ → Type 0
 HasLeft None cost = ⊥
-HasLeft (Some buffer) cost = cost_of_all buffer + cost ≤ layout_1.cost
+HasLeft (Some buffer) cost = cost_of_all buffer + cost ≤ LAYOUT_2.bytes
 
 -- A checked change may be buffered, and the control is in a transaction that has enough left for it.
 pub record MayBuffer (transactions : List (Option (List Change))) (control : ℕ) (made : Checked) : Type 0 where
@@ -128,3 +129,4 @@ transactions_after (fault.Refused refusal) transactions = transactions
 transactions_after fault.Exhausted transactions = transactions
 transactions_after fault.Unformatted transactions = transactions
 transactions_after fault.Damaged transactions = transactions
+transactions_after fault.AlreadyLayout2 transactions = transactions

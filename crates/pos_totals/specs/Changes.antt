@@ -4,54 +4,58 @@ use Rattle.pos_disk.specs.Keeps.{KeepsDisk}
 use Rattle.pos_disk.specs.State.{DiskState, HasNotFailed, Rises}
 use Rattle.pos_disk.specs.declared.device.Disk.{Ghosts}
 use Rattle.pos_dir.specs.Changes.{outcome_of_all}
-use Rattle.pos_dir.specs.declared.limits.TheConstants.{LAYOUT_1}
+use Rattle.pos_image.specs.declared.layout.Layout.{Layout}
 use Rattle.pos_service.specs.declared.answer.Answer.{Answer}
 use Rattle.pos_service.specs.declared.answer.Answer.TheVariants as answer
 use Rattle.pos_service.specs.declared.memory.NoMemory.{NoMemory}
-use Rattle.pos_totals.specs.HardTotals.{Mode, Off, Ready, Totals, Change, files_of, next_sequences, layout_1}
+use Rattle.pos_totals.specs.HardTotals.{Mode, Off, Ready, Totals, Change, files_of, next_sequences}
 use Rattle.pos_totals.specs.TotalsChanges.{files_after_all, Changed, group_by_change}
 use Rattle.pos_totals.specs.TotalsCommits.{Committed, group_by_commit}
 use Rattle.pos_totals.specs.TotalsArrangements.{Arrangement, Arranges}
+use Rattle.pos_store.specs.Layouts.{limits_of}
 use Rattle.pos_store.specs.Modes as store
 use Rattle.pos_store.specs.Standing.{Standing, Stands, LeavesOneOf, Passes}
 use Rattle.pos_totals.specs.Groups.{group_of}
 use Rattle.pos_totals.specs.Views.{TotalsView, plain, stored, TurnsOff, WhenOff}
 
--- the files before a group of changes, and those after the whole of it with each of the next sequences
-abbrev pub before_or_after : ℕ → Mode → List Change → List Standing
-before_or_after next Off changes = []
-before_or_after next (Ready files sequence) [] = Stands (plain files) sequence ∷ []
-before_or_after next (Ready files sequence) (change ∷ changes) =
-    Stands (plain files) sequence
-    ∷ map (λ follows. Stands (plain (files_after_all next files (change ∷ changes))) follows) (next_sequences sequence)
+-- the files before a group of changes, and those after the whole of it with each of the next sequences, on a disk of a
+-- layout
+abbrev pub before_or_after : Layout → ℕ → Mode → List Change → List Standing
+before_or_after layout next Off changes = []
+before_or_after layout next (Ready files sequence) [] = Stands layout (plain files) sequence ∷ []
+before_or_after layout next (Ready files sequence) (change ∷ changes) =
+    let after = plain (files_after_all next files (change ∷ changes)) in
+    Stands layout (plain files) sequence ∷ map (λ follows. Stands layout after follows) (next_sequences sequence)
 
 -- for what the bytes stand that a crash leaves: while the totals are ready, for their files alone, and else for one of
 -- others
-abbrev pub settled : Mode → List Standing → List Standing
-settled mode otherwise = store.settled (stored mode) otherwise
+abbrev pub settled : Layout → Mode → List Standing → List Standing
+settled layout mode otherwise = store.settled layout (stored mode) otherwise
 
 -- the same where the disk failed in a group: while the totals were off, what it was before it
-abbrev pub in_doubt : ℕ → List Standing → List Change → Mode → List Standing
-in_doubt next left changes Off = left
-in_doubt next left changes (Ready files sequence) = before_or_after next (Ready files sequence) changes
+abbrev pub in_doubt : Layout → ℕ → List Standing → List Change → Mode → List Standing
+in_doubt layout next left changes Off = left
+in_doubt layout next left changes (Ready files sequence) = before_or_after layout next (Ready files sequence) changes
 
--- the same after a group, by the modes before it and now: the files that the totals have; where they are off, those
--- before or after the group
-abbrev pub left_after : ℕ → List Standing → Mode → List Change → Mode → List Standing
-left_after next left old changes now = settled now (in_doubt next left changes old)
+-- the same after a group, by the totals before it and the mode now: the files that the totals have; where they are off,
+-- those before or after the group
+abbrev pub left_after : Totals → List Standing → List Change → Mode → List Standing
+left_after old left changes now = settled old.layout now (in_doubt old.layout old.next left changes old.mode)
 
 -- what a crash leaves around a group, by the totals before it and the mode now, whatever it leaves before it while the
 -- totals are off
 abbrev pub LeavesBeforeOrAfter : Totals → List Change → Mode → DiskState → DiskState → Type 0
 LeavesBeforeOrAfter totals changes now old new =
     (left : List Standing) → WhenOff totals.mode (LeavesOneOf left old)
-    → Passes old new (settled totals.mode left) (left_after totals.next left totals.mode changes now)
+    → Passes old new (settled totals.layout totals.mode left) (left_after totals left changes now)
 
--- without their handles, the files after changes are those after the whole of their group
+-- without their handles, the files after changes are those after the whole of their group, within the limits of the
+-- layout
 abbrev pub IsOneGroup : Totals → List Change → Type 0
 IsOneGroup old changes =
     let files = files_of old.mode in
-    outcome_of_all LAYOUT_1 (plain files) (group_of files changes) ≡ Ok (plain (files_after_all old.next files changes))
+    let outcome = outcome_of_all (limits_of old.layout) (plain files) (group_of files changes) in
+    outcome ≡ Ok (plain (files_after_all old.next files changes))
 
 -- it was answered that the call was done
 abbrev pub IsDone : Result Answer NoMemory → Type 0
@@ -84,8 +88,8 @@ pub record PutsGroup {D : Type 0} (bound : Ghosts D) (old : TotalsView D) (chang
 -- What a change does: it is answered by its table, and its group is put on the disk.
 pub record Changes {D : Type 0} (bound : Ghosts D) (old : TotalsView D) (control : ℕ) (change : Change)
     (outcome : Result Answer NoMemory) (new : TotalsView D) : Type 0 where
-  pub answer : Changed layout_1 (HasFailed bound old.disk new.disk) old.totals control change outcome new.totals
-  pub disk : PutsGroup bound old (group_by_change layout_1 old.totals control change) outcome new
+  pub answer : Changed (HasFailed bound old.disk new.disk) old.totals control change outcome new.totals
+  pub disk : PutsGroup bound old (group_by_change old.totals control change) outcome new
 
 -- What a commit does: it is answered by its table, and its group is put on the disk.
 pub record CommitsBuffer {D : Type 0} (bound : Ghosts D) (old : TotalsView D) (control : ℕ)

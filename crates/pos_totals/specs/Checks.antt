@@ -6,18 +6,19 @@ use Rattle.pos_dir.specs.Changes.{flaw_of}
 use Rattle.pos_dir.specs.Files.{IsDirectory}
 use Rattle.pos_dir.specs.declared.change.Change.{Change as FileChange}
 use Rattle.pos_dir.specs.declared.change.Change.TheVariants as file
-use Rattle.pos_dir.specs.declared.limits.TheConstants.{LAYOUT_1}
+use Rattle.pos_dir.specs.declared.limits.TheConstants.{LAYOUT_2}
 use Rattle.pos_service.specs.declared.answer.Answer.{Answer}
 use Rattle.pos_service.specs.declared.answer.Answer.TheVariants as answer
 use Rattle.pos_service.specs.declared.code.Code.TheVariants as code
 use Rattle.pos_service.specs.declared.memory.NoMemory.{NoMemory}
 use Rattle.pos_service.specs.Claims.{is_foreign}
-use Rattle.pos_totals.specs.HardTotals.{File, Mode, Off, Ready, Totals, Change, Create, Delete, Rename, Write, SetAll, layout_1, transaction_of, files_of}
+use Rattle.pos_totals.specs.HardTotals.{File, Mode, Off, Ready, Totals, Change, Create, Delete, Rename, Write, SetAll, TotalsLimits, totals_limits, transaction_of, files_of}
 use Rattle.pos_totals.specs.TotalsChanges.{change_rows, refusals_of_change, spent_by}
 use Rattle.pos_totals.specs.TotalsArrangements.{Arrangement, arrangement_rows, refusals_of_arrangement}
 use Rattle.pos_totals.specs.TotalsCommits.{refusals_of_commit}
 use Rattle.pos_totals.specs.TotalsQuestions.{Question, question_rows, told_of}
 use Rattle.pos_service.specs.Refusals.{Row, first_refusal, Decided}
+use Rattle.pos_store.specs.Layouts.{limits_of}
 use Rattle.pos_store.specs.declared.fault.StoreFault.{StoreFault}
 use Rattle.pos_store.specs.declared.fault.StoreFault.TheVariants as fault
 use Rattle.pos_totals.specs.Buffers.{IsAsked}
@@ -53,9 +54,13 @@ file_change_of (checked.SetAll index handle n) = file.SetAll index n
 abbrev pub files_in : Files → List File
 files_in files = with_tags files.tags.now files.directory.now.files
 
--- The files are those of a directory, and each has a tag.
+-- the limits of the totals, which go by the layout of their disk
+abbrev pub limits_in : Files → TotalsLimits
+limits_in files = totals_limits files.layout
+
+-- The files are those of a directory within the limits of the layout, and each has a tag.
 pub record AreFiles (files : Files) : Type 0 where
-  pub directory : IsDirectory LAYOUT_1 files.directory.now.files
+  pub directory : IsDirectory (limits_of files.layout) files.directory.now.files
   pub paired : length files.tags.now ≡ length files.directory.now.files
 
 -- what is seen of the files: none while they aren't known
@@ -75,11 +80,11 @@ pub record IsRange (size : ℕ) (offset count : ℤ) (from many : ℕ) : Type 0 
 abbrev pub file_of : Found → File
 file_of found = record { handle = found.handle; name = found.name.now; bytes = found.bytes.now; claim = found.claim }
 
--- A search finds the first file that meets a test, and its index.
+-- A search finds the first file that meets a test, and its index. No disk has a larger file than layout 2 allows.
 pub record FindsFile (test : File → Bool) (files : List File) (found : Option Found) : Type 0 where
   pub file : option_map file_of found ≡ find test files
   pub index : IfSome found (λ f. f.index ≡ index_of test files)
-  pub small : IfSome found (λ f. length f.bytes.now ≤ layout_1.bytes)
+  pub small : IfSome found (λ f. length f.bytes.now ≤ LAYOUT_2.bytes)
 
 -- a question about files that are known is answered by its table, and then told; memory is wanted only behind the table
 abbrev pub TellsIn : List File → ℕ → Question → Answer → Type 0
@@ -92,30 +97,31 @@ MayTellIn files control question outcome =
     (λ want. first_refusal (question_rows files control question) ≡ None)
 
 -- Nothing refuses the change, and a group takes it.
-pub record Passes (files : List File) (control : ℕ) (spent : Option ℕ) (change : Change)
+pub record Passes (limits : TotalsLimits) (files : List File) (control : ℕ) (spent : Option ℕ) (change : Change)
     (checked : Checked) : Type 0 where
-  pub unrefused : first_refusal (change_rows layout_1 files control spent change) ≡ None
+  pub unrefused : first_refusal (change_rows limits files control spent change) ≡ None
   pub made : file_change files change ≡ file_change_of checked
   pub flawless : flaw_of (file_change_of checked) ≡ None
   pub asked : IsAsked change checked
 
 -- what a check of a change by its table finds
-abbrev pub Checks : List File → Caller → Change → Result Checked Answer → Type 0
-Checks files caller change (Ok made) = Passes files caller.control caller.spent change made
-Checks files caller change (Err refusal) =
-    first_refusal (change_rows layout_1 files caller.control caller.spent change) ≡ Some refusal
+abbrev pub Checks : TotalsLimits → List File → Caller → Change → Result Checked Answer → Type 0
+Checks limits files caller change (Ok made) = Passes limits files caller.control caller.spent change made
+Checks limits files caller change (Err refusal) =
+    first_refusal (change_rows limits files caller.control caller.spent change) ≡ Some refusal
 
 -- nothing refuses the change of totals that are off, or ready
-abbrev pub PassesIn : Mode → ℕ → Option ℕ → Change → Checked → Type 0
-PassesIn Off control spent change made = ⊥
-PassesIn (Ready files sequence) control spent change made = Passes files control spent change made
+abbrev pub PassesIn : TotalsLimits → Mode → ℕ → Option ℕ → Change → Checked → Type 0
+PassesIn limits Off control spent change made = ⊥
+PassesIn limits (Ready files sequence) control spent change made = Passes limits files control spent change made
 
 -- what a check of a change finds
 abbrev pub ChecksAt : Totals → ℕ → Change → Result Checked Answer → Type 0
 ChecksAt totals control change (Ok made) =
-    (is_foreign control totals.area ≡ false) × PassesIn totals.mode control (spent_by totals control) change made
+    (is_foreign control totals.area ≡ false)
+    × PassesIn (totals_limits totals.layout) totals.mode control (spent_by totals control) change made
 ChecksAt totals control change (Err refusal) =
-    first_refusal (refusals_of_change layout_1 totals control change) ≡ Some refusal
+    first_refusal (refusals_of_change totals control change) ≡ Some refusal
 
 -- what a check of an arrangement of a file by its table finds: the handle, where nothing refuses it
 abbrev pub LetsThrough : Option ℕ → Option (Option (List Change)) → List File → ℕ → Arrangement → ℤ
@@ -158,3 +164,4 @@ answer_of fault.Exhausted = Ok (answer.Refused code.Failure 0)
 answer_of fault.Unformatted = Ok (answer.Refused code.Failure 0)
 answer_of fault.Damaged = Ok (answer.Refused code.Failure 0)
 answer_of fault.Device = Ok (answer.Refused code.Failure 0)
+answer_of fault.AlreadyLayout2 = Ok (answer.Refused code.Failure 0)

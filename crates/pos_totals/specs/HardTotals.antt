@@ -2,6 +2,8 @@
 -- below 0.
 use Rattle.std.specs.Prelude.{◌≡◌, ◌⊎◌, ℕ, ◌+◌, ℤ, Bool, true, false, List, [], ◌∷◌, ◌++◌, map, slice_get, slice_set, Option, Some, None, is_some, nat_eq, if◌then◌else◌}
 use Rattle.std.specs.Option.{option_flatten}
+use Rattle.pos_image.specs.declared.layout.Layout.{Layout}
+use Rattle.pos_store.specs.Layouts.{limits_of}
 
 -- How much totals may hold, which goes by the layout of their disk: the most bytes of all files in sum (TotalsSize),
 -- the most files, and the most that the changes of one transaction may cost in sum.
@@ -10,13 +12,14 @@ pub record TotalsLimits : Type 0 where
   pub files : ℕ
   pub cost : ℕ
 
--- TotalsSize on a disk of the first layout; a transaction may cost as much
-abbrev pub totals_size : ℕ
-totals_size = 8192
-
--- the limits of totals on a disk of the first layout
-abbrev pub layout_1 : TotalsLimits
-layout_1 = record { bytes = totals_size; files = 64; cost = totals_size }
+-- the limits of totals on a disk of a layout: those of its files, and a transaction may cost as much as all files may
+-- hold
+abbrev pub totals_limits : Layout → TotalsLimits
+totals_limits layout = record {
+  bytes = (limits_of layout).bytes;
+  files = (limits_of layout).files;
+  cost = (limits_of layout).bytes;
+}
 
 -- the last number of 64 bits: no file gets it as its handle, and no sequence follows it
 abbrev pub last_number : ℕ
@@ -53,10 +56,12 @@ pub data Change : Type 0 where
   Write : (handle offset : ℤ) (bytes : List ℕ) → Change
   SetAll : (handle value : ℤ) → Change
 
--- The totals: what is known of the files, the handle that the next new file gets, the control that has claimed the area
--- (the whole device), and, by the controls' numbers, the changes that each has buffered, in their order; a control that
--- is in no transaction has None.
+-- The totals: the layout that the last recovery found which succeeded, that of a new disk before the first; what is
+-- known of the files, the handle that the next new file gets, the control that has claimed the area (the whole
+-- device), and, by the controls' numbers, the changes that each has buffered, in their order; a control that is in no
+-- transaction has None.
 pub record Totals : Type 0 where
+  pub layout : Layout
   pub mode : Mode
   pub next : ℕ
   pub area : Option ℕ
@@ -92,8 +97,8 @@ sequences_after (Ready files sequence) = next_sequences sequence
 abbrev pub without_transactions : List (Option (List Change)) → List (Option (List Change))
 without_transactions transactions = map (λ transaction. None) transactions
 
--- totals whose disk has failed: what the disk has is not known, nothing is claimed of it nor buffered for it; the next
--- handle stays, and so does the claim of the area
+-- totals whose disk has failed: what the disk has is not known, nothing is claimed of it nor buffered for it; the
+-- layout and the next handle stay, and so does the claim of the area
 abbrev pub after_disk_fault : Totals → Totals
 after_disk_fault totals = record totals { mode = Off; transactions = without_transactions totals.transactions }
 

@@ -7,6 +7,7 @@ use Rattle.pos_totals.specs.Tables.{new_tag}
 use Rattle.pos_totals.specs.declared.handles.Tag.{Tag}
 use Rattle.pos_dir.specs.declared.change.Change.{Change as FileChange}
 use Rattle.pos_dir.specs.declared.change.Change.TheVariants as file
+use Rattle.pos_dir.specs.declared.limits.TheConstants.{LAYOUT_2}
 
 -- the tags of so many files that have the handles from one on
 abbrev pub tags_from : ℕ → ℕ → List Tag
@@ -20,7 +21,7 @@ lacks next other = false
 
 -- a new file finds a place and a handle for it, and a file that goes is there
 abbrev pub HasPlace : List Tag → ℕ → FileChange → Type 0
-HasPlace given next (file.Create name size) = (length given < 64) × (next < last_number)
+HasPlace given next (file.Create name size) = (length given < LAYOUT_2.files) × (next < last_number)
 HasPlace given next (file.Delete index) = index < length given
 HasPlace given next other = ⊤
 

@@ -4,6 +4,7 @@ use Rattle.pos_disk.specs.Keeps.{KeepsDisk}
 use Rattle.pos_disk.specs.State.{DiskState, HasNotFailed}
 use Rattle.pos_disk.specs.declared.device.Disk.{Ghosts}
 use Rattle.pos_dir.specs.declared.file.File.{File as PlainFile}
+use Rattle.pos_image.specs.declared.layout.Layout.{Layout}
 use Rattle.pos_service.specs.declared.code.Code.{Code}
 use Rattle.pos_service.specs.declared.code.Code.TheVariants as code
 use Rattle.pos_totals.specs.HardTotals.{File, Ready, Totals, last_number}
@@ -25,19 +26,26 @@ numbered next (file ∷ files) = called (new_tag next) file ∷ numbered (next +
 abbrev pub AreLeft : ℕ → ℕ → Type 0
 AreLeft next count = next + count ≤ last_number
 
--- The files that were found have the handles from the next one on, and it is behind them.
+-- The layout is the one that was found, and the files that were found have the handles from the next one on, which is
+-- behind them.
 pub record HasFound (P : Standing → Type 0) (old new : Totals) : Type 0 where
+  pub layout : Layout
   pub files : List PlainFile
   pub sequence : ℕ
-  pub found : P (Stands files sequence)
+  pub found : P (Stands layout files sequence)
   pub handles : AreLeft old.next (length files)
-  pub totals : new ≡ record old { mode = Ready (numbered old.next files) sequence; next = old.next + length files }
+  pub totals : new ≡ record old {
+    layout = layout;
+    mode = Ready (numbered old.next files) sequence;
+    next = old.next + length files;
+  }
 
 -- Files were found that are more than the handles that are left.
 pub record HasTooMany (P : Standing → Type 0) (next : ℕ) : Type 0 where
+  pub layout : Layout
   pub files : List PlainFile
   pub sequence : ℕ
-  pub found : P (Stands files sequence)
+  pub found : P (Stands layout files sequence)
   pub handles : ¬ (AreLeft next (length files))
 
 -- what a recovery of totals that are off answers, and the totals after it, where P tells what is found
@@ -54,7 +62,7 @@ FindsFiles P old (Err fault.Device) new = new ≡ old
 pub record RecoversOneOf (candidates : List Standing) (old new : DiskState) (before : Totals)
     (result : Result (Unit {0}) RecoveryFault) (after : Totals) : Type 0 where
   pub found : FindsFiles (IsOneOf candidates) before result after
-  pub passes : Passes old new candidates (settled after.mode candidates)
+  pub passes : Passes old new candidates (settled after.layout after.mode candidates)
 
 -- the bytes of an honest disk stand for this
 abbrev pub ReadsAs : {D : Type 0} → Ghosts D → D → Standing → Type 0
@@ -77,7 +85,7 @@ pub record Recovers {D : Type 0} (bound : Ghosts D) (old : TotalsView D) (result
   -- whatever it answers, the bytes of the disk are what they were
   pub reading : bound.honest old.disk → (bound.state new.disk).reading ≡ (bound.state old.disk).reading
   -- a crash now leaves the files that were found alone
-  pub now : bound.honest old.disk → LeavesTheirFiles new.totals.mode (bound.state new.disk)
+  pub now : bound.honest old.disk → LeavesTheirFiles new.totals.layout new.totals.mode (bound.state new.disk)
   pub device : IsErrOf result fault.Device → HasFailed bound old.disk new.disk
   -- and it fails only where its fault is answered
   pub counts : bound.honest old.disk
@@ -97,6 +105,7 @@ abbrev pub told_as : StoreFault → Option RecoveryFault
 told_as store.Off = None
 told_as (store.Refused refusal) = None
 told_as store.Exhausted = None
+told_as store.AlreadyLayout2 = None
 told_as store.Unformatted = Some fault.Unformatted
 told_as store.Damaged = Some fault.Damaged
 told_as store.NoMemory = Some fault.NoMemory

@@ -2,7 +2,7 @@
 use Rattle.std.specs.Prelude.{ℕ, List, []}
 use Rattle.pos_service.specs.declared.call.Call.{Call}
 use Rattle.pos_service.specs.declared.call.Call.TheVariants as call
-use Rattle.pos_totals.specs.HardTotals.{Totals, layout_1}
+use Rattle.pos_totals.specs.HardTotals.{Totals}
 use Rattle.pos_totals.specs.TotalsQuestions.{Question, Find, FindByIndex, Read, refusals_of_question}
 use Rattle.pos_totals.specs.HardTotals.{Change, Create, Delete, Rename, Write, SetAll}
 use Rattle.pos_totals.specs.TotalsChanges.{refusals_of_change}
@@ -40,7 +40,7 @@ file_call asked = Nothing
 -- what the totals refuse to the control with a number
 abbrev pub file_rows : Totals → ℕ → FileCall → List Row
 file_rows totals number (Asks question) = refusals_of_question totals number question
-file_rows totals number (Makes change) = refusals_of_change layout_1 totals number change
+file_rows totals number (Makes change) = refusals_of_change totals number change
 file_rows totals number (Arranges arrangement) = refusals_of_arrangement totals number arrangement
 file_rows totals number Commits = refusals_of_commit totals number
 file_rows totals number Nothing = []

@@ -10,7 +10,7 @@ use Rattle.pos_service.specs.declared.code.Code.TheVariants as code
 use Rattle.pos_service.specs.declared.memory.NoMemory.{NoMemory}
 use Rattle.pos_service.specs.Numbers.{is_natural, is_up_to}
 use Rattle.pos_service.specs.Refusals.{Row, when, first_refusal, Decided}
-use Rattle.pos_totals.specs.HardTotals.{TotalsLimits, last_number, IsAmong, File, Mode, Off, Ready, Change, Create, Delete, Rename, Write, SetAll, Totals, transaction_of, in_transaction, sequences_after, after_disk_fault, with_transaction, is_last}
+use Rattle.pos_totals.specs.HardTotals.{TotalsLimits, totals_limits, last_number, IsAmong, File, Mode, Off, Ready, Change, Create, Delete, Rename, Write, SetAll, Totals, transaction_of, in_transaction, sequences_after, after_disk_fault, with_transaction, is_last}
 use Rattle.pos_totals.specs.TotalsFiles.{is_name, is_named, is_called, has_file, is_foreign_file, has_room, is_range_of, overwritten, with_each}
 use Rattle.pos_totals.specs.TotalsRows.{when_no_room, while_ready, when_foreign_area}
 
@@ -72,9 +72,10 @@ change_rows limits files control spent (SetAll handle n) =
     ∷ when_no_room (is_over limits spent (cost_of (SetAll handle n)))
     ∷ []
 
--- the same by the totals and the number of the control that calls
-abbrev pub refusals_of_change : TotalsLimits → Totals → ℕ → Change → List Row
-refusals_of_change limits totals control change =
+-- the same by the totals, whose layout has the limits, and the number of the control that calls
+abbrev pub refusals_of_change : Totals → ℕ → Change → List Row
+refusals_of_change totals control change =
+    let limits = totals_limits totals.layout in
     when_foreign_area totals control
     ∷ while_ready totals.mode (λ files. change_rows limits files control (spent_by totals control) change)
 
@@ -158,16 +159,16 @@ DoesChange DiskFailed old control change result new = MatchOption (transaction_o
 
 -- A change is answered by its table, and then does what it does. Want of memory comes only behind the table, and
 -- changes nothing.
-abbrev pub Changed : TotalsLimits → Type 0 → Totals → ℕ → Change → Result Answer NoMemory → Totals → Type 0
-Changed limits DiskFailed old control change outcome new = MatchResult outcome
+abbrev pub Changed : Type 0 → Totals → ℕ → Change → Result Answer NoMemory → Totals → Type 0
+Changed DiskFailed old control change outcome new = MatchResult outcome
     (λ result.
-    Decided (refusals_of_change limits old control change) result (new ≡ old)
+    Decided (refusals_of_change old control change) result (new ≡ old)
     (DoesChange DiskFailed old control change result new))
-    (λ want. (first_refusal (refusals_of_change limits old control change) ≡ None) × (new ≡ old))
+    (λ want. (first_refusal (refusals_of_change old control change) ≡ None) × (new ≡ old))
 
 -- the group of changes that a change puts on the disk: none where it is refused, and none where it is buffered
-abbrev pub group_by_change : TotalsLimits → Totals → ℕ → Change → List Change
-group_by_change limits totals control change =
-    if is_none (first_refusal (refusals_of_change limits totals control change)) && not (in_transaction totals control)
+abbrev pub group_by_change : Totals → ℕ → Change → List Change
+group_by_change totals control change =
+    if is_none (first_refusal (refusals_of_change totals control change)) && not (in_transaction totals control)
     then change ∷ []
     else []

@@ -4,10 +4,11 @@ use Rattle.std.specs.List.{AllByRecursion}
 use Rattle.pos_disk.specs.State.{DiskState}
 use Rattle.pos_dir.specs.Files.{IsDirectory}
 use Rattle.pos_dir.specs.declared.file.File.{File as PlainFile}
-use Rattle.pos_dir.specs.declared.limits.TheConstants.{LAYOUT_1}
+use Rattle.pos_image.specs.declared.layout.Layout.{Layout}
 use Rattle.pos_service.specs.Claims.{is_foreign}
 use Rattle.pos_totals.specs.HardTotals.{File, Mode, Off, Ready, Totals, files_of}
 use Rattle.pos_totals.specs.TotalsClaims.{is_foreign_claim}
+use Rattle.pos_store.specs.Layouts.{limits_of}
 use Rattle.pos_store.specs.Modes.{StoreState as State, LeavesItsFiles}
 use Rattle.pos_store.specs.Modes.{Off as StoreOff, Ready as StoreReady, StoreView}
 use Rattle.pos_totals.specs.Buffers.{HaveBuffers}
@@ -71,8 +72,8 @@ TurnsOff old Off = IsReady old
 TurnsOff old (Ready files sequence) = ⊥
 
 -- where they are ready, a crash at this moment leaves their files alone
-abbrev pub LeavesTheirFiles : Mode → DiskState → Type 0
-LeavesTheirFiles mode disk = LeavesItsFiles (stored mode) disk
+abbrev pub LeavesTheirFiles : Layout → Mode → DiskState → Type 0
+LeavesTheirFiles layout mode disk = LeavesItsFiles layout (stored mode) disk
 
 -- files and their tags in one list
 abbrev pub with_tags : List Tag → List PlainFile → List File
@@ -88,6 +89,7 @@ mode_of tags (StoreReady files sequence) = Ready (with_tags tags files) sequence
 -- what a store's state and the holdings mean
 abbrev pub totals_of : State → Holdings → Totals
 totals_of state holdings = record {
+  layout = holdings.layout;
   mode = mode_of holdings.handles.given state;
   next = holdings.handles.next;
   area = holdings.area;
@@ -120,28 +122,36 @@ AreApart StoreOff area tags = ⊤
 AreApart (StoreReady files sequence) area tags =
     IfSome area (λ holder. AllByRecursion (λ tag. is_foreign holder tag.claim ≡ false) tags)
 
--- Where a store is ready, its files have their handles, buffered changes fit their files, and where a control has
--- claimed the area, no other has claimed a file; where it is off, nothing is buffered.
-pub record IsSound (state : State) (holdings : Holdings) : Type 0 where
+-- where a store is ready, its layout is the one that was found
+abbrev pub HasLayout : Layout → State → Layout → Type 0
+HasLayout layout StoreOff found = ⊤
+HasLayout layout (StoreReady files sequence) found = layout ≡ found
+
+-- Where a store is ready, its layout is the one that was found, its files have their handles, buffered changes fit
+-- their files, and where a control has claimed the area, no other has claimed a file; where it is off, nothing is
+-- buffered.
+pub record IsSound (layout : Layout) (state : State) (holdings : Holdings) : Type 0 where
+  pub found : HasLayout layout state holdings.layout
   pub handles : HasHandles state holdings.handles.given holdings.handles.next
   pub buffers : HaveBuffers (mode_of holdings.handles.given state) holdings.handles.next holdings.transactions
   pub apart : AreApart state holdings.area holdings.handles.given
 
--- where a store is ready, its files are those of a directory
-abbrev pub HasDirectory : State → Type 0
-HasDirectory StoreOff = ⊤
-HasDirectory (StoreReady files sequence) = IsDirectory LAYOUT_1 files
+-- where a store is ready, its files are those of a directory within the limits of a layout
+abbrev pub HasDirectory : Layout → State → Type 0
+HasDirectory layout StoreOff = ⊤
+HasDirectory layout (StoreReady files sequence) = IsDirectory (limits_of layout) files
 
--- No two files have one handle, and each handle is below the next one; without their handles the files are a directory.
-pub record AreTheirFiles (files : List File) (next : ℕ) : Type 0 where
+-- No two files have one handle, and each handle is below the next one; without their handles the files are a directory
+-- within the limits of the layout.
+pub record AreTheirFiles (layout : Layout) (files : List File) (next : ℕ) : Type 0 where
   pub distinct : AreDistinct (handles_of files)
   pub below : AllByRecursion (λ handle. handle < next) (handles_of files)
-  pub directory : IsDirectory LAYOUT_1 (plain files)
+  pub directory : IsDirectory (limits_of layout) (plain files)
 
 -- Where the totals are ready, so are their files, and what is buffered fits them; where they are off, nothing is
 -- buffered. Where a control has claimed the area, no other has claimed a file.
 pub record HasItsFiles (totals : Totals) : Type 0 where
-  pub files : WhenReady totals.mode (AreTheirFiles (files_of totals.mode) totals.next)
+  pub files : WhenReady totals.mode (AreTheirFiles totals.layout (files_of totals.mode) totals.next)
   pub buffers : HaveBuffers totals.mode totals.next totals.transactions
   pub apart : IfSome totals.area
       (λ holder. AllByRecursion (λ file. is_foreign_claim holder file ≡ false) (files_of totals.mode))

@@ -18,7 +18,7 @@ use std::alloc::Global;
 
 /// The handle and the size of the file with a name.
 pub fn find<D: Disk>(store: &Store<D>, holdings: &Holdings, control: usize, name: &[u8]) -> Answer
-    requires sound { IsSound store.now.state holdings.now }
+    requires sound { IsSound store.now.layout store.now.state holdings.now }
     ensures { Tells (totals_of store.now.state holdings.now) control (Find name.now) result }
 {
     if is_foreign(control, holdings.area) {
@@ -52,7 +52,7 @@ pub fn find_by_index<D: Disk>(
     control: usize,
     index: i128,
 ) -> Result<Answer, NoMemory>
-    requires sound { IsSound store.now.state holdings.now }
+    requires sound { IsSound store.now.layout store.now.state holdings.now }
     ensures { MayTell (totals_of store.now.state holdings.now) control (FindByIndex index) result }
 {
     if is_foreign(control, holdings.area) {
@@ -104,7 +104,7 @@ pub fn read<D: Disk>(
     offset: i128,
     count: i128,
 ) -> Result<Answer, NoMemory>
-    requires sound { IsSound store.now.state holdings.now }
+    requires sound { IsSound store.now.layout store.now.state holdings.now }
     ensures { MayTell (totals_of store.now.state holdings.now) control (Read handle offset count) result }
 {
     if is_foreign(control, holdings.area) {

@@ -28,8 +28,8 @@ pub fn change<D: Disk>(
     control: usize,
     request: Request<'_>,
 ) -> Result<Answer, NoMemory>
-    requires sound { IsSound store.old.state holdings.old }
-    ensures sound { IsSound store.new.state holdings.new }
+    requires sound { IsSound store.old.layout store.old.state holdings.old }
+    ensures sound { IsSound store.new.layout store.new.state holdings.new }
     ensures changes { Changes D.Disk (view_of store.old holdings.old) control (change_of request.entry) result
         (view_of store.new holdings.new) }
 {
@@ -141,9 +141,9 @@ fn check_request<'a, D: Disk>(
     control: usize,
     request: &Request<'a>,
 ) -> Result<Checked<'a>, Answer>
-    requires sound { IsSound store.now.state holdings.now }
+    requires sound { IsSound store.now.layout store.now.state holdings.now }
     ensures checks { ChecksAt (totals_of store.now.state holdings.now) control (change_of request.now) result }
-    ensures directory { HasDirectory store.now.state }
+    ensures directory { HasDirectory holdings.now.layout store.now.state }
 {
     let files = see_files(store, holdings);
     if is_foreign(control, holdings.area) {

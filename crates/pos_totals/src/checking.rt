@@ -1,20 +1,19 @@
 //! The tables of the changes: what is refused, and what is to be done where nothing is.
 ghost use Rattle.std.specs.Prelude.{◌≡◌, ◌≤◌, ◌+◌};
-ghost use Rattle.pos_totals.specs.HardTotals.{Create, Delete, Rename, Write, SetAll, layout_1};
+ghost use Rattle.pos_dir.specs.declared.limits.TheConstants.{LAYOUT_2};
+ghost use Rattle.pos_totals.specs.HardTotals.{Create, Delete, Rename, Write, SetAll, totals_limits};
 ghost use Rattle.pos_totals.specs.TotalsChanges.{is_over};
-ghost use Rattle.pos_totals.specs.Checks.{files_in, change_of, AreFiles, Checks};
+ghost use Rattle.pos_totals.specs.Checks.{files_in, limits_in, change_of, AreFiles, Checks};
 
-use crate::files::{Files, TOTALS_SIZE, find_handle, find_name, has_room};
+use crate::files::{Files, find_handle, find_name, has_room, totals_size};
 use crate::numbers::{to_byte, to_range};
 use crate::request::{Caller, Checked, Request};
 use crate::transactions::COST_OF_CHANGE;
 use pos_dir::is_name;
+use pos_image::Layout;
 use pos_service::claims::is_foreign;
 use pos_service::numbers::to_natural;
 use pos_service::{Answer, Code, ETOT_NOROOM};
-
-/// What the changes of a transaction may cost in sum: as much as all files may hold.
-const MOST_COST: usize = TOTALS_SIZE;
 
 /// Checks a change by its table.
 pub fn check<'a>(
@@ -23,7 +22,7 @@ pub fn check<'a>(
     request: &Request<'a>,
 ) -> Result<Checked<'a>, Answer>
     requires { AreFiles files }
-    ensures { Checks (files_in files.entry) caller (change_of request.now) result }
+    ensures { Checks (limits_in files.entry) (files_in files.entry) caller (change_of request.now) result }
 {
     match request {
         Request::Create { name, size } => check_create(files, caller, name, *size),
@@ -46,7 +45,7 @@ fn check_create<'a>(
     size: i128,
 ) -> Result<Checked<'a>, Answer>
     requires { AreFiles files }
-    ensures { Checks (files_in files.entry) caller (Create name.now size) result }
+    ensures { Checks (limits_in files.entry) (files_in files.entry) caller (Create name.now size) result }
 {
     if caller.spent.is_some() {
         return Err(Answer::Refused(Code::Illegal, 0));
@@ -72,7 +71,7 @@ fn check_create<'a>(
 /// A file with the name.
 fn check_delete<'a>(files: Files<'_>, caller: Caller, name: &'a [u8]) -> Result<Checked<'a>, Answer>
     requires { AreFiles files }
-    ensures { Checks (files_in files.entry) caller (Delete name.now) result }
+    ensures { Checks (limits_in files.entry) (files_in files.entry) caller (Delete name.now) result }
 {
     if caller.spent.is_some() {
         return Err(Answer::Refused(Code::Illegal, 0));
@@ -94,7 +93,7 @@ fn check_rename<'a>(
     name: &'a [u8],
 ) -> Result<Checked<'a>, Answer>
     requires { AreFiles files }
-    ensures { Checks (files_in files.entry) caller (Rename handle name.now) result }
+    ensures { Checks (limits_in files.entry) (files_in files.entry) caller (Rename handle name.now) result }
 {
     if caller.spent.is_some() {
         return Err(Answer::Refused(Code::Illegal, 0));
@@ -126,7 +125,7 @@ fn check_write<'a>(
     bytes: &'a [u8],
 ) -> Result<Checked<'a>, Answer>
     requires { AreFiles files }
-    ensures { Checks (files_in files.entry) caller (Write handle offset bytes.now) result }
+    ensures { Checks (limits_in files.entry) (files_in files.entry) caller (Write handle offset bytes.now) result }
 {
     let Some(found) = find_handle(files, handle) else {
         return Err(Answer::Refused(Code::Illegal, 0));
@@ -137,7 +136,7 @@ fn check_write<'a>(
     if is_foreign(caller.control, found.claim) {
         return Err(Answer::Refused(Code::Claimed, 0));
     }
-    if is_too_costly(caller.spent, bytes.len()) {
+    if is_too_costly(files.layout, caller.spent, bytes.len()) {
         return Err(Answer::Refused(Code::Extended, ETOT_NOROOM));
     }
     Ok(Checked::Write {
@@ -156,7 +155,7 @@ fn check_set_all<'a>(
     value: i128,
 ) -> Result<Checked<'a>, Answer>
     requires { AreFiles files }
-    ensures { Checks (files_in files.entry) caller (SetAll handle value) result }
+    ensures { Checks (limits_in files.entry) (files_in files.entry) caller (SetAll handle value) result }
 {
     let Some(found) = find_handle(files, handle) else {
         return Err(Answer::Refused(Code::Illegal, 0));
@@ -167,7 +166,7 @@ fn check_set_all<'a>(
     if is_foreign(caller.control, found.claim) {
         return Err(Answer::Refused(Code::Claimed, 0));
     }
-    if is_too_costly(caller.spent, 0) {
+    if is_too_costly(files.layout, caller.spent, 0) {
         return Err(Answer::Refused(Code::Extended, ETOT_NOROOM));
     }
     Ok(Checked::SetAll {
@@ -178,12 +177,13 @@ fn check_set_all<'a>(
 }
 
 /// Whether a change of so many bytes costs more than is left to the transaction in which so much is spent.
-fn is_too_costly(spent: Option<usize>, bytes: usize) -> bool
-    requires { bytes ≤ layout_1.bytes }
-    ensures { result ≡ is_over layout_1 spent (bytes + 16) }
+fn is_too_costly(layout: Layout, spent: Option<usize>, bytes: usize) -> bool
+    requires { bytes ≤ LAYOUT_2.bytes }
+    ensures { result ≡ is_over (totals_limits layout) spent (bytes + 16) }
 {
+    let most = totals_size(layout);
     match spent {
-        Some(spent) => spent > MOST_COST || bytes + COST_OF_CHANGE > MOST_COST - spent,
+        Some(spent) => spent > most || bytes + COST_OF_CHANGE > most - spent,
         None => false,
     }
 }

@@ -25,8 +25,8 @@ pub fn claim_file<D: Disk>(
     handle: i128,
     timeout: i128,
 ) -> Answer
-    requires sound { IsSound store.now.state holdings.old }
-    ensures sound { IsSound store.now.state holdings.new }
+    requires sound { IsSound store.now.layout store.now.state holdings.old }
+    ensures sound { IsSound store.now.layout store.now.state holdings.new }
     ensures arranges { Arranges (totals_of store.now.state holdings.old) control (ClaimFile handle timeout) result
         (totals_of store.now.state holdings.new) }
 {
@@ -47,7 +47,7 @@ fn check_claim<D: Disk>(
     handle: i128,
     timeout: i128,
 ) -> Result<u64, Answer>
-    requires sound { IsSound store.now.state holdings.now }
+    requires sound { IsSound store.now.layout store.now.state holdings.now }
     ensures { LetsThroughAt (totals_of store.now.state holdings.now) control (ClaimFile handle timeout) handle result }
 {
     match see_files(store, holdings) {
@@ -86,8 +86,8 @@ pub fn release_file<D: Disk>(
     control: usize,
     handle: i128,
 ) -> Answer
-    requires sound { IsSound store.now.state holdings.old }
-    ensures sound { IsSound store.now.state holdings.new }
+    requires sound { IsSound store.now.layout store.now.state holdings.old }
+    ensures sound { IsSound store.now.layout store.now.state holdings.new }
     ensures arranges { Arranges (totals_of store.now.state holdings.old) control (ReleaseFile handle) result
         (totals_of store.now.state holdings.new) }
 {
@@ -107,7 +107,7 @@ fn check_release<D: Disk>(
     control: usize,
     handle: i128,
 ) -> Result<u64, Answer>
-    requires sound { IsSound store.now.state holdings.now }
+    requires sound { IsSound store.now.layout store.now.state holdings.now }
     ensures { LetsThroughAt (totals_of store.now.state holdings.now) control (ReleaseFile handle) handle result }
 {
     match see_files(store, holdings) {
@@ -136,8 +136,8 @@ pub fn claim_area<D: Disk>(
     holdings: &mut Holdings,
     control: usize,
 ) -> Result<(), Code>
-    requires sound { IsSound store.now.state holdings.old }
-    ensures sound { IsSound store.now.state holdings.new }
+    requires sound { IsSound store.now.layout store.now.state holdings.old }
+    ensures sound { IsSound store.now.layout store.now.state holdings.new }
     ensures claims { ClaimsArea (totals_of store.now.state holdings.old) control result
         (totals_of store.now.state holdings.new) }
 {
@@ -150,7 +150,7 @@ pub fn claim_area<D: Disk>(
 
 /// Whether another control has claimed the area, or a file.
 fn is_area_taken<D: Disk>(store: &Store<D>, holdings: &Holdings, control: usize) -> bool
-    requires sound { IsSound store.now.state holdings.now }
+    requires sound { IsSound store.now.layout store.now.state holdings.now }
     ensures { result ≡ is_area_taken (totals_of store.now.state holdings.now) control }
 {
     if is_foreign(control, holdings.area) {
@@ -175,8 +175,8 @@ pub fn release_area<D: Disk>(
     holdings: &mut Holdings,
     control: usize,
 ) -> Result<(), Code>
-    requires sound { IsSound store.now.state holdings.old }
-    ensures sound { IsSound store.now.state holdings.new }
+    requires sound { IsSound store.now.layout store.now.state holdings.old }
+    ensures sound { IsSound store.now.layout store.now.state holdings.new }
     ensures releases { ReleasesArea (totals_of store.now.state holdings.old) control result
         (totals_of store.now.state holdings.new) }
 {

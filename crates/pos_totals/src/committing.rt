@@ -36,8 +36,8 @@ pub fn commit_trans<D: Disk>(
     holdings: &mut Holdings,
     control: usize,
 ) -> Result<Answer, NoMemory>
-    requires sound { IsSound store.old.state holdings.old }
-    ensures sound { IsSound store.new.state holdings.new }
+    requires sound { IsSound store.old.layout store.old.state holdings.old }
+    ensures sound { IsSound store.new.layout store.new.state holdings.new }
     ensures commits { CommitsBuffer D.Disk (view_of store.old holdings.old) control result
         (view_of store.new holdings.new) }
 {
@@ -67,9 +67,9 @@ fn make_plan<D: Disk>(
     holdings: &Holdings,
     control: usize,
 ) -> Result<Plan, NoMemory>
-    requires sound { IsSound store.now.state holdings.now }
+    requires sound { IsSound store.now.layout store.now.state holdings.now }
     ensures plans { PlansAt (totals_of store.now.state holdings.now) control result }
-    ensures directory { HasDirectory store.now.state }
+    ensures directory { HasDirectory holdings.now.layout store.now.state }
 {
     let files = see_files(store, holdings);
     if is_foreign(control, holdings.area) {

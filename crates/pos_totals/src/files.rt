@@ -1,25 +1,25 @@
 ghost use Rattle.std.specs.Prelude.{◌≡◌, ◌≤◌, pos, length, position, IfSome, slice_get, nat_eq};
 ghost use Rattle.std.specs.Option.{option_map};
+ghost use Rattle.pos_dir.specs.declared.limits.TheConstants.{LAYOUT_2};
 ghost use Rattle.pos_totals.specs.TotalsFiles.{is_named, is_called, free_data, has_room};
-ghost use Rattle.pos_totals.specs.HardTotals.{layout_1};
+ghost use Rattle.pos_totals.specs.HardTotals.{totals_limits};
 ghost use Rattle.pos_totals.specs.Groups.{index_of};
-ghost use Rattle.pos_totals.specs.Checks.{files_in, file_of, AreFiles, FindsFile, IsSeen};
+ghost use Rattle.pos_totals.specs.Checks.{files_in, limits_in, file_of, AreFiles, FindsFile, IsSeen};
 ghost use Rattle.pos_totals.specs.Views.{HasDirectory, IsSound, mode_of};
 
-use crate::handles::{MOST_FILES, Tag};
+use crate::handles::Tag;
 use crate::holdings::Holdings;
+use pos_dir::Directory;
 use pos_dir::laws::is_directory;
-use pos_dir::{Directory, LAYOUT_1};
 use pos_disk::Disk;
+use pos_image::Layout;
 use pos_service::numbers::to_natural;
-use pos_store::Store;
+use pos_store::{Store, limits_of};
 
-/// TotalsSize: the most bytes of all files in sum.
-pub const TOTALS_SIZE: usize = LAYOUT_1.bytes as usize;
-
-/// The files of the totals: what the directory has of them, and their tags in index order.
+/// The files of the totals: the layout of their disk, what the directory has of them, and their tags in index order.
 #[derive(Clone, Copy)]
 pub struct Files<'a> {
+    pub layout: Layout,
     pub directory: &'a Directory,
     pub tags: &'a [Tag],
 }
@@ -36,16 +36,18 @@ pub struct Found<'a> {
 
 /// The files of a store that is ready, with their tags.
 pub fn see_files<'a, D: Disk>(store: &'a Store<D>, holdings: &'a Holdings) -> Option<Files<'a>>
-    requires { IsSound store.now.state holdings.now }
+    requires { IsSound store.now.layout store.now.state holdings.now }
     ensures seen { IsSeen (mode_of holdings.now.handles.given store.now.state) (option_map files_in result) }
     ensures files { IfSome result AreFiles }
-    ensures directory { HasDirectory store.now.state }
+    ensures layout { IfSome result (λ files. files.layout ≡ holdings.now.layout) }
+    ensures directory { HasDirectory holdings.now.layout store.now.state }
 {
     let Some(directory) = store.files() else {
         return None;
     };
     is_directory(directory);
     Some(Files {
+        layout: holdings.layout,
         directory,
         tags: holdings.handles.as_slice(),
     })
@@ -56,7 +58,7 @@ pub fn get_file<'a>(files: Files<'a>, index: usize) -> Option<Found<'a>>
     requires { AreFiles files }
     ensures file { option_map file_of result ≡ slice_get (files_in files.entry) index }
     ensures index { IfSome result (λ found. found.index ≡ index) }
-    ensures small { IfSome result (λ found. length found.bytes.now ≤ layout_1.bytes) }
+    ensures small { IfSome result (λ found. length found.bytes.now ≤ LAYOUT_2.bytes) }
 {
     if index >= files.tags.len() {
         return None;
@@ -123,9 +125,9 @@ fn search(tags: &[Tag], handle: u128) -> Option<usize>
 /// FreeData: how many bytes are left for new files.
 pub fn measure_free(files: Files<'_>) -> usize
     requires { AreFiles files }
-    ensures { result ≡ free_data layout_1 (files_in files.entry) }
+    ensures { result ≡ free_data (limits_in files.entry) (files_in files.entry) }
 {
-    TOTALS_SIZE - files.directory.size()
+    totals_size(files.layout) - files.directory.size()
 }
 
 /// NumberOfFiles.
@@ -139,7 +141,21 @@ pub fn count_files(files: Files<'_>) -> usize
 /// Whether there is room for one more file, of this size.
 pub fn has_room(files: Files<'_>, size: u128) -> bool
     requires { AreFiles files }
-    ensures { result ≡ has_room layout_1 (files_in files.entry) (pos size) }
+    ensures { result ≡ has_room (limits_in files.entry) (files_in files.entry) (pos size) }
 {
-    size <= measure_free(files) as u128 && count_files(files) < MOST_FILES
+    size <= measure_free(files) as u128 && count_files(files) < most_files(files.layout)
+}
+
+/// TotalsSize on a disk of a layout: the most bytes of all files in sum. A transaction may cost as much.
+pub fn totals_size(layout: Layout) -> usize
+    ensures { result ≡ (totals_limits layout).bytes }
+{
+    limits_of(layout).bytes as usize
+}
+
+/// The most files on a disk of a layout.
+fn most_files(layout: Layout) -> usize
+    ensures { result ≡ (totals_limits layout).files }
+{
+    limits_of(layout).files as usize
 }

@@ -1,4 +1,5 @@
 ghost use Rattle.std.specs.Prelude.{◌≡◌, ◌<◌, ◌≤◌, ◌+◌, ◌^◌, [], map};
+ghost use Rattle.pos_dir.specs.declared.limits.TheConstants.{LAYOUT_2};
 ghost use Rattle.pos_totals.specs.HardTotals.{last_number};
 ghost use Rattle.pos_totals.specs.Checks.{file_change_of};
 ghost use Rattle.pos_totals.specs.Tables.{tag_claimed, tag_released};
@@ -6,12 +7,13 @@ ghost use Rattle.pos_totals.specs.Numbering.{tags_from, lacks, given_after, foll
 
 use crate::request::Checked;
 use arrayvec::ArrayVec;
+use pos_dir::LAYOUT_2;
 use pos_service::Value;
 use pos_service::claims::is_own;
 use std::marker::Model;
 
-/// The most files.
-pub const MOST_FILES: usize = 64;
+/// The most files on a disk of any layout.
+pub const MOST_FILES: usize = LAYOUT_2.files as usize;
 
 /// What the totals keep beside a file: its handle, and the control that has claimed it.
 #[derive(Clone, Copy, Default)]
@@ -109,7 +111,7 @@ impl Handles {
 
     /// Gives so many files handles from the next one on, where so many are left.
     pub fn number(&mut self, count: usize) -> bool
-        requires { count ≤ 64 }
+        requires { count ≤ LAYOUT_2.files }
         ensures { Numbers self.old.given self.old.next count result self.new.given self.new.next }
     {
         let Some(end) = self.next.checked_add(count as u64) else {
@@ -164,7 +166,7 @@ fn release_tag(tag: Tag, control: usize) -> Tag
 
 /// The tags of so many files that have the handles from the first one on.
 fn count_from(first: u64, count: usize) -> ArrayVec<Tag, MOST_FILES>
-    requires few { count ≤ 64 }
+    requires few { count ≤ LAYOUT_2.files }
     requires left { first + count < 2 ^ 64 }
     ensures { result.items ≡ tags_from first count }
 {

@@ -8,7 +8,8 @@ use pos_store::laws::leaves_its_files;
 
 /// A crash at this moment leaves the files of totals that are ready alone.
 pub fn leaves_their_files<D: Disk>(totals: &Totals<D>)
-    ensures { D.honest totals.now.disk → LeavesTheirFiles totals.now.totals.mode (D.state totals.now.disk) }
+    ensures { D.honest totals.now.disk → LeavesTheirFiles totals.now.totals.layout totals.now.totals.mode
+        (D.state totals.now.disk) }
 {
     leaves_its_files(&totals.store);
 }

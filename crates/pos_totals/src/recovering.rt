@@ -9,6 +9,7 @@ use crate::holdings::Holdings;
 use core::mem::replace_with;
 use pos_dir::laws::is_directory;
 use pos_disk::Disk;
+use pos_image::Layout;
 use pos_store::laws::leaves_its_files;
 use pos_store::{Mode, Store, StoreFault};
 use std::alloc::Global;
@@ -19,8 +20,8 @@ pub fn recover<D: Disk>(
     store: &mut Store<D>,
     holdings: &mut Holdings,
 ) -> Result<(), RecoveryFault>
-    requires sound { IsSound store.old.state holdings.old }
-    ensures sound { IsSound store.new.state holdings.new }
+    requires sound { IsSound store.old.layout store.old.state holdings.old }
+    ensures sound { IsSound store.new.layout store.new.state holdings.new }
     ensures recovers { Recovers D.Disk (view_of store.old holdings.old) result
         (view_of store.new holdings.new) }
 {
@@ -38,8 +39,8 @@ fn recover_off<D: Disk>(
     holdings: &mut Holdings,
 ) -> Result<(), RecoveryFault>
     requires off { mode_of store.old.state ≡ Mode.Off }
-    requires sound { IsSound store.old.state holdings.old }
-    ensures sound { IsSound store.new.state holdings.new }
+    requires sound { IsSound store.old.layout store.old.state holdings.old }
+    ensures sound { IsSound store.new.layout store.new.state holdings.new }
     ensures recovers { Recovers D.Disk (view_of store.old holdings.old) result
         (view_of store.new holdings.new) }
 {
@@ -55,6 +56,7 @@ fn recover_off<D: Disk>(
         None => unreachable!(),
     };
     if holdings.handles.number(count) {
+        holdings.layout = store.layout();
         return Ok(());
     }
     replace_with(store, alloc, turn_off);
@@ -71,13 +73,16 @@ fn tell_fault(fault: StoreFault) -> RecoveryFault
         StoreFault::Damaged => RecoveryFault::Damaged,
         StoreFault::NoMemory => RecoveryFault::NoMemory,
         StoreFault::Device => RecoveryFault::Device,
-        StoreFault::Off | StoreFault::Exhausted | StoreFault::Refused(_) => unreachable!(),
+        StoreFault::Off
+        | StoreFault::Exhausted
+        | StoreFault::Refused(_)
+        | StoreFault::AlreadyLayout2 => unreachable!(),
     }
 }
 
 /// The same disk under a store that is off.
 fn turn_off<D: Disk>(store: Store<D>, alloc: Global) -> (Store<D>, ())
-    ensures { result.0 ≡ record { disk = store.disk; state = Off; tail = 0 } }
+    ensures { result.0 ≡ record { disk = store.disk; layout = Layout.Layout1; state = Off; tail = 0 } }
 {
     (Store::new(alloc, store.into_disk()), ())
 }

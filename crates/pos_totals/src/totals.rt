@@ -5,7 +5,7 @@ use crate::changing::change;
 use crate::claims::{claim_area, claim_file, release_area, release_file};
 use crate::committing::commit_trans;
 use crate::fault::RecoveryFault;
-use crate::files::{TOTALS_SIZE, count_files, measure_free, see_files};
+use crate::files::{count_files, measure_free, see_files, totals_size};
 use crate::handles::Handles;
 use crate::holdings::Holdings;
 use crate::recovering::recover;
@@ -13,6 +13,7 @@ use crate::request::Request;
 use crate::transacting::{begin_trans, drop_control, rollback};
 use crate::transactions::Transactions;
 use pos_disk::Disk;
+use pos_image::Layout;
 use pos_service::{Answer, Code, NoMemory};
 use pos_store::{Mode, Store};
 use std::alloc::Global;
@@ -46,7 +47,7 @@ impl<D: Disk> Model for Totals<D> {
 
     ghost view = { λ t. view_of t.store t.holdings };
 
-    ghost invariant = { λ t. IsSound t.store.state t.holdings };
+    ghost invariant = { λ t. IsSound t.store.layout t.store.state t.holdings };
 }
 
 impl<D: Disk> Totals<D> {
@@ -59,19 +60,20 @@ impl<D: Disk> Totals<D> {
     ghost use Rattle.pos_totals.specs.TotalsQuestions.{Tells, MayTell};
     ghost use Rattle.pos_totals.specs.HardTotals.{in_transaction, with_control};
     ghost use Rattle.pos_totals.specs.TotalsClaims.{without_control};
-    ghost use Rattle.pos_totals.specs.HardTotals.{is_ready, files_of, layout_1};
+    ghost use Rattle.pos_totals.specs.HardTotals.{is_ready, files_of, totals_limits};
     ghost use Rattle.pos_totals.specs.TotalsFiles.{free_data};
     ghost use Rattle.pos_totals.specs.Changes.{Arranged, Changes, CommitsBuffer};
     ghost use Rattle.pos_totals.specs.Checks.{change_of};
     ghost use Rattle.pos_totals.specs.Recoveries.{Recovers};
     ghost use Rattle.pos_totals.specs.Views.{IsReady, WhenReady};
 
-    /// Totals that are off, over a disk. Nothing is read yet. The first file gets the first handle;
-    /// 18,446,744,073,709,551,615 there means that no handle is left.
+    /// Totals that are off, over a disk. Nothing is read yet: their layout is that of a new disk. The first file gets
+    /// the first handle; 18,446,744,073,709,551,615 there means that no handle is left.
     pub fn new(alloc: Global, disk: D, first_handle: u64) -> Totals<D>
         ensures { result ≡ record {
           disk = disk;
           totals = record {
+            layout = Layout.Layout1;
             mode = Off;
             next = first_handle;
             area = None;
@@ -83,6 +85,7 @@ impl<D: Disk> Totals<D> {
             alloc,
             store: Store::new(alloc, disk),
             holdings: Holdings {
+                layout: Layout::Layout1,
                 handles: Handles::new(first_handle),
                 area: None,
                 transactions: Transactions::new(alloc),
@@ -97,7 +100,7 @@ impl<D: Disk> Totals<D> {
     /// # Errors
     ///
     /// `Unformatted`, `Damaged`, `Handles` where the files are more than the handles that are left, `NoMemory`, and
-    /// `Device` where the disk failed. The totals are still off, and the next handle is as it was.
+    /// `Device` where the disk failed. The totals are still off, and their layout and the next handle are as they were.
     pub fn recover(&mut self) -> Result<(), RecoveryFault>
         ensures { Recovers D.Disk self.old result self.new }
     {
@@ -107,8 +110,8 @@ impl<D: Disk> Totals<D> {
     /// `create`: adds a file of zero bytes behind the others, and gives its handle. Error detection changes nothing.
     ///
     /// Refused with E_ILLEGAL in a transaction of the control, for a bad name or a size below 0, E_EXISTS where a file
-    /// has the name, E_EXTENDED ETOT_NOROOM where the size is above FreeData or there are 64 files, E_FAILURE where no
-    /// handle or no sequence is left or the disk fails.
+    /// has the name, E_EXTENDED ETOT_NOROOM where the size is above FreeData or there are as many files as the layout
+    /// of the disk allows, E_FAILURE where no handle or no sequence is left or the disk fails.
     pub fn create(
         &mut self,
         control: usize,
@@ -146,8 +149,8 @@ impl<D: Disk> Totals<D> {
     ///
     /// Refused with E_ILLEGAL where no file has the handle, or the bytes don't lie within the file, E_CLAIMED where
     /// another control has claimed the file; in a transaction of the control E_EXTENDED ETOT_NOROOM where it costs more
-    /// than is left (the number of bytes and 16, at most 8,192 in sum); else E_FAILURE where no sequence is left or the
-    /// disk fails.
+    /// than is left (the number of bytes and 16, at most TotalsSize in sum); else E_FAILURE where no sequence is left
+    /// or the disk fails.
     pub fn write(
         &mut self,
         control: usize,
@@ -352,17 +355,18 @@ impl<D: Disk> Totals<D> {
         self.store.mode() != Mode::Off
     }
 
-    /// TotalsSize: the most bytes of all files in sum.
+    /// TotalsSize: the most bytes of all files in sum, by the layout that the last recovery found which succeeded; that
+    /// of a new disk before the first.
     pub fn size(&self) -> usize
-        ensures { result ≡ layout_1.bytes }
+        ensures { result ≡ (totals_limits self.now.totals.layout).bytes }
     {
-        TOTALS_SIZE
+        totals_size(self.holdings.layout)
     }
 
     /// FreeData: how many bytes are left for new files. The totals are ready.
     pub fn free(&self) -> usize
         requires { IsReady self.now.totals.mode }
-        ensures { result ≡ free_data layout_1 (files_of self.now.totals.mode) }
+        ensures { result ≡ free_data (totals_limits self.now.totals.layout) (files_of self.now.totals.mode) }
     {
         match see_files(&self.store, &self.holdings) {
             Some(files) => measure_free(files),

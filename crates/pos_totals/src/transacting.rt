@@ -19,8 +19,8 @@ pub fn begin_trans<D: Disk>(
     holdings: &mut Holdings,
     control: usize,
 ) -> Answer
-    requires sound { IsSound store.now.state holdings.old }
-    ensures sound { IsSound store.now.state holdings.new }
+    requires sound { IsSound store.now.layout store.now.state holdings.old }
+    ensures sound { IsSound store.now.layout store.now.state holdings.new }
     ensures arranges { Arranges (totals_of store.now.state holdings.old) control BeginTrans result
         (totals_of store.now.state holdings.new) }
 {
@@ -36,8 +36,8 @@ pub fn begin_trans<D: Disk>(
 
 /// Drops a transaction.
 pub fn rollback<D: Disk>(store: &Store<D>, holdings: &mut Holdings, control: usize) -> Answer
-    requires sound { IsSound store.now.state holdings.old }
-    ensures sound { IsSound store.now.state holdings.new }
+    requires sound { IsSound store.now.layout store.now.state holdings.old }
+    ensures sound { IsSound store.now.layout store.now.state holdings.new }
     ensures arranges { Arranges (totals_of store.now.state holdings.old) control Rollback result
         (totals_of store.now.state holdings.new) }
 {
@@ -53,8 +53,8 @@ pub fn rollback<D: Disk>(store: &Store<D>, holdings: &mut Holdings, control: usi
 
 /// Ends all claims of a control and drops its transaction.
 pub fn drop_control<D: Disk>(store: &Store<D>, holdings: &mut Holdings, control: usize)
-    requires sound { IsSound store.now.state holdings.old }
-    ensures sound { IsSound store.now.state holdings.new }
+    requires sound { IsSound store.now.layout store.now.state holdings.old }
+    ensures sound { IsSound store.now.layout store.now.state holdings.new }
     ensures totals { totals_of store.now.state holdings.new
         ≡ without_control (totals_of store.now.state holdings.old) control }
 {

@@ -2,8 +2,9 @@
 ghost use Rattle.std.specs.Prelude.{◌≡◌, ◌≤◌, ◌+◌, ◌++◌, ◌∷◌, [], Some, None, IfOk, OnOk, OnErr, is_some, slice_get};
 ghost use Rattle.std.specs.Prelude.{slice_set};
 ghost use Rattle.std.specs.Option.{option_copied, option_map};
+ghost use Rattle.pos_dir.specs.declared.limits.TheConstants.{LAYOUT_2};
 ghost use Rattle.pos_totals.specs.TotalsChanges.{cost_of, cost_of_all};
-ghost use Rattle.pos_totals.specs.HardTotals.{layout_1, transaction_at, without_transactions};
+ghost use Rattle.pos_totals.specs.HardTotals.{transaction_at, without_transactions};
 ghost use Rattle.pos_totals.specs.TotalsArrangements.{may_begin};
 ghost use Rattle.pos_totals.specs.Buffers.{buffered_change, placed_change, with_buffered, HasLeft, IsOf};
 
@@ -74,7 +75,7 @@ impl Buffered {
 
     /// What it costs.
     pub fn cost(&self) -> usize
-        requires { cost_of self.now ≤ layout_1.cost }
+        requires { cost_of self.now ≤ LAYOUT_2.bytes }
         ensures { result ≡ cost_of self.now }
     {
         match &self.action {
@@ -130,7 +131,7 @@ impl Buffer {
 
     /// Adds a change behind the others. Want of memory changes nothing.
     pub fn push(&mut self, change: Buffered) -> Result<(), NoMemory>
-        requires { cost_of_all self.old + cost_of change ≤ layout_1.cost }
+        requires { cost_of_all self.old + cost_of change ≤ LAYOUT_2.bytes }
         ensures ok { OnOk result (self.new ≡ self.old ++ change ∷ []) }
         ensures err { OnErr result (self.new ≡ self.old) }
     {

@@ -1,6 +1,6 @@
 // Refused growths, answers that ample memory gives, and texts.
 use crate::changes::{BEFORE, CHANGES, Change, carry_out, is_after};
-use crate::support::{disk_with_files, over, spell};
+use crate::support::{disk_of_layout_2, disk_with_files, over, spell};
 use pos_disk::MemDisk;
 use pos_service::{Answer, Value};
 use pos_totals::{RecoveryFault, Totals};
@@ -56,15 +56,38 @@ fn fill_up(totals: &mut Totals<MemDisk>, bytes: &[u8]) -> Result<Answer, Fail> {
     Ok(totals.read(0, 3, 0, bytes.len() as i128)?)
 }
 
-#[test]
-fn the_largest_write(rt: HostRuntime) -> Result<(), Fail> {
-    let bytes = vec![in rt.alloc(); 7u8; 8_186]?;
-    let mut totals = over(rt.alloc(), disk_with_files(rt.alloc())?)?;
+// Whether a third file of so many bytes may be written whole, and nothing is free then.
+fn fills_up(alloc: Global, disk: MemDisk, size: usize) -> Result<bool, Fail> {
+    let bytes = vec![in alloc; 7u8; size]?;
+    let mut totals = over(alloc, disk)?;
     totals.recover()?;
     let read = fill_up(&mut totals, &bytes)?;
-    assert!(rt;
-        matches!(&read, Answer::Done(Value::Bytes(it)) if it.as_slice() == bytes.as_slice())
-    );
+    let is_read =
+        matches!(&read, Answer::Done(Value::Bytes(it)) if it.as_slice() == bytes.as_slice());
+    Ok(is_read && totals.is_ready() && totals.free() == 0)
+}
+
+#[test]
+fn the_largest_write(rt: HostRuntime) -> Result<(), Fail> {
+    let alloc = rt.alloc();
+    assert!(rt; fills_up(alloc, disk_with_files(alloc)?, 8_186)?);
+    assert!(rt; fills_up(alloc, disk_of_layout_2(alloc)?, 65_530)?);
+    Ok(())
+}
+
+// What TotalsSize is before a recovery of a disk and behind it.
+fn sizes(alloc: Global, disk: MemDisk) -> Result<(usize, usize), Fail> {
+    let mut totals = over(alloc, disk)?;
+    let before = totals.size();
+    totals.recover()?;
+    Ok((before, totals.size()))
+}
+
+#[test]
+fn the_size_goes_by_the_layout(rt: HostRuntime) -> Result<(), Fail> {
+    let alloc = rt.alloc();
+    assert_eq!(rt; sizes(alloc, disk_with_files(alloc)?)?, (8_192, 8_192));
+    assert_eq!(rt; sizes(alloc, disk_of_layout_2(alloc)?)?, (8_192, 65_536));
     Ok(())
 }
 

@@ -11,16 +11,25 @@ const FILES: [u8; 33] = [
     0, 0, 2, 0, 0,
 ];
 
-// A disk with these bytes at its start, and so many zero bytes behind them.
-fn disk_of(alloc: Global, start: &[u8], size: usize) -> Result<MemDisk, AllocError> {
-    let mut bytes = Vec::from_slice(alloc, start)?;
-    bytes.extend_from_slice(&vec![in alloc; 0u8; size]?)?;
+// A disk with these bytes behind so many zero bytes, and zero bytes behind them.
+fn disk_of(alloc: Global, before: usize, image: &[u8]) -> Result<MemDisk, AllocError> {
+    let mut bytes = vec![in alloc; 0u8; before]?;
+    bytes.extend_from_slice(image)?;
+    let rest = 327_680usize
+        .saturating_sub(before)
+        .saturating_sub(image.len());
+    bytes.extend_from_slice(&vec![in alloc; 0u8; rest]?)?;
     MemDisk::new(alloc, bytes)
 }
 
-/// A disk with these files.
+/// A disk of layout 1 with these files.
 pub fn disk_with_files(alloc: Global) -> Result<MemDisk, AllocError> {
-    disk_of(alloc, &FILES, 327_647)
+    disk_of(alloc, 0, &FILES)
+}
+
+/// A disk of layout 2 with them.
+pub fn disk_of_layout_2(alloc: Global) -> Result<MemDisk, AllocError> {
+    disk_of(alloc, 65_536, &FILES)
 }
 
 /// Totals that are off, whose first handle is 1, with a place for a transaction of one control.

@@ -5,5 +5,4 @@ use Rattle.kijolvar.proofs.kijolvar_open.Goals as goal
 pub returns-clause-opened : goal.returns-clause-opened
 returns-clause-opened c = λ fine.
     let (kept, at, same) = c.leave.ensures in
-    let (disk, new, begins) = c.in-Ok-begin.ensures in
-    (c.in-Ok.profile, disk, kept, c.in-Ok.ensures, new, at, subst (Begins _ _ disk) (sym same) begins)
+    (c.in-Ok.profile, c.in-Ok-format_disk.disk, kept, c.in-Ok.ensures, c.in-Ok-format_disk.ensures, at, subst (Begins _ _ _) (sym same) c.in-Ok-begin.ensures)

@@ -39,6 +39,7 @@ impl Control {
     {
         self.device = Some(place);
         self.is_frozen = false;
+        self.power_notify = false;
         self.reader.reset();
         self.cursor = Cursor::new();
         self.writer.reset();

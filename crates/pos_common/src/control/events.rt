@@ -1,22 +1,22 @@
 ghost use Rattle.std.specs.Prelude.{◌≡◌, ◌≤◌, ◌+◌, OnOk, OnErr};
 ghost use Rattle.pos_service.specs.Controls.{listens, if_listening, heard, read, failed, is_held_back, deliverable, delivered, without_input, without_scan};
-ghost use Rattle.pos_service.specs.Statuses.{status_events, changed_status};
+ghost use Rattle.pos_service.specs.Statuses.{changed_status, heard_signs};
 ghost use Rattle.pos_common.specs.Held.{HasRoom, sign_events, scan_events, fault_events};
 
 use super::Control;
-use crate::status::{cover_status, drawer_status, paper_status};
+use crate::status::{cover_status, drawer_status, paper_status, power_status};
 use pos_service::{ErrorReply, Event, NoMemory, Scan, Signs};
 
-/// The most status events that one change of a device's signs has: drawer, cover, paper.
-pub const SIGN_EVENTS: usize = 3;
+/// The most status events that one change of a device's signs has: drawer, cover, paper, power.
+pub const SIGN_EVENTS: usize = 4;
 
 /// The most events that an input has: those of a change of signs; a scan has one, a failed scan two (ErrorEvents with
 /// EL_INPUT_DATA and with EL_INPUT).
-pub const INPUT_EVENTS: usize = 3;
+pub const INPUT_EVENTS: usize = 4;
 
 /// The most events that a request of output has which is worked on: those of a change of signs, and one that it is
 /// done, or has failed.
-pub const WORK_EVENTS: usize = 4;
+pub const WORK_EVENTS: usize = 5;
 
 impl Control {
     /// Whether it has the device at this place open and enabled.
@@ -39,11 +39,12 @@ impl Control {
         Ok(())
     }
 
-    /// Enqueues the statuses that have changed, in the order drawer, cover, paper, if it has the device at this place
-    /// open and enabled (common chapter, StatusUpdateEvent).
+    /// Enqueues the statuses that have changed, in the order drawer, cover, paper, power, if it has the device at this
+    /// place open and enabled; that of power only if it is to be notified of it (common chapter, StatusUpdateEvent and
+    /// device power reporting).
     pub fn hear(&mut self, place: usize, old: Signs, new: Signs)
         requires { HasRoom place sign_events self.old }
-        ensures heard { self.new.control ≡ if_listening place (heard (status_events old new)) self.old.control }
+        ensures heard { self.new.control ≡ if_listening place (heard_signs old new) self.old.control }
         ensures room { self.old.spare ≤ self.new.spare + sign_events }
     {
         if self.listens(place) {
@@ -53,6 +54,9 @@ impl Control {
             );
             self.tell(cover_status(old.cover_open), cover_status(new.cover_open));
             self.tell(paper_status(old.paper), paper_status(new.paper));
+            if self.is_notified() {
+                self.tell(power_status(old.powered), power_status(new.powered));
+            }
         }
     }
 

@@ -1,81 +1,104 @@
-ghost use Rattle.std.specs.Prelude.{◌≡◌, ◌&&◌, ◌∷◌, [], ⊤, true, false, not, is_none};
-ghost use Rattle.pos_service.specs.Controls.{state_of};
-ghost use Rattle.pos_service.specs.Properties.{row_of, is_of_bytes, takes, set_rows, after_set, get_rows, property_of};
+ghost use Rattle.std.specs.Prelude.{◌≡◌, ◌&&◌, ◌∷◌, [], ⊤, true, false, not, is_none, Option};
+ghost use Rattle.pos_service.specs.declared.kind.Kind.{Kind};
+ghost use Rattle.pos_service.specs.Controls.{reports_power, state_of};
+ghost use Rattle.pos_service.specs.Properties.{row_of, is_of_bytes, set_rows, value_rows, cursor_after, is_notify_refused, tells_power, after_set, get_rows, property_of, notify_number, power_reporting, power_state};
 ghost use Rattle.pos_service.specs.Kinds.{rows_of, columns_of};
-ghost use Rattle.pos_service.specs.Numbers.{is_index, is_up_to};
+ghost use Rattle.pos_service.specs.Numbers.{is_index, is_one, is_up_to};
 ghost use Rattle.pos_service.specs.Refusals.{Decided, when};
-ghost use Rattle.pos_common.specs.Held.{TurnsInto, Gets};
+ghost use Rattle.pos_common.specs.Held.{TurnsInto, SetsTo, Gets};
 
 use super::Control;
+use crate::status::power_status;
 use pos_service::numbers::{to_count, to_index};
 use pos_service::{
-    Answer, Bytes, Code, Facts, Kind, NoMemory, Property, Value, chars_of, columns_of, rows_of,
+    Answer, Bytes, Code, Facts, Kind, NoMemory, Property, Signs, Value, chars_of, columns_of,
+    rows_of,
 };
 
 impl Control {
     /// Sets a property, by the control's number, the number of the control that holds its device, if any, and what its
-    /// device's peripheral is, where it has one (common chapter, chapter Line Display). The value that it has is
-    /// checked like any other.
+    /// device's peripheral is and shows, where it has one (common chapter, chapter Line Display). The value that it has
+    /// is checked like any other. Where DeviceEnabled becomes true and the control is to be notified of its device's
+    /// power, a StatusUpdateEvent tells it how that is, for which memory may be wanted; that changes nothing (common
+    /// chapter, device power reporting).
     ///
     /// Refused with E_CLOSED where the control is closed, E_ILLEGAL where its category doesn't have the property or it
     /// can't be set; for DeviceEnabled of an exclusive-use device with E_CLAIMED where another control holds the
-    /// device, E_NOTCLAIMED where nobody does; with E_ILLEGAL for a value of another type or out of range.
+    /// device, E_NOTCLAIMED where nobody does; with E_ILLEGAL for a value of another type or out of range, for another
+    /// PowerNotify than it is while the device is enabled, and for PN_ENABLED where the power isn't reported.
     pub fn set(
         &mut self,
         number: usize,
         holder: Option<usize>,
         kind: Option<Kind>,
+        signs: Signs,
         property: Property,
         value: &Value,
-    ) -> Answer
-        ensures { TurnsInto (set_rows number holder kind self.old.control property value.now) result self.old self.new
-            (after_set self.old.control property value.now) }
+    ) -> Result<Answer, NoMemory>
+        ensures { let control = self.old.control in
+            SetsTo (set_rows number holder kind control property value.now) (tells_power control property value.now)
+            result self.old self.new (after_set signs control property value.now) }
     {
         match self.check(number, holder, property.needs_to_set(self.category)) {
-            Ok(()) => self.set_value(kind, property, value),
-            Err(code) => Answer::Refused(code, 0),
+            Ok(()) => self.set_value(kind, signs, property, value),
+            Err(code) => Ok(Answer::Refused(code, 0)),
         }
     }
 
-    /// Sets a property, by what the device's peripheral is.
+    /// Sets a property, by what the device's peripheral is and shows. Want of memory changes nothing.
     ///
-    /// Refused with E_ILLEGAL for a value of another type or out of range.
-    fn set_value(&mut self, kind: Option<Kind>, property: Property, value: &Value) -> Answer
+    /// Refused with E_ILLEGAL for a value of another type or out of range, or that PowerNotify can't have now.
+    fn set_value(
+        &mut self,
+        kind: Option<Kind>,
+        signs: Signs,
+        property: Property,
+        value: &Value,
+    ) -> Result<Answer, NoMemory>
         requires { (row_of property).is_settable ≡ true }
-        ensures { TurnsInto (when (not (takes kind property value.now)) Code.Illegal ∷ []) result
-            self.old self.new (after_set self.old.control property value.now) }
+        ensures { let control = self.old.control in
+            SetsTo (value_rows kind control property value.now) (tells_power control property value.now)
+            result self.old self.new (after_set signs control property value.now) }
     {
         match value {
-            Value::Truth(is_true) => {
-                if matches!(property, Property::CursorRow | Property::CursorColumn) {
-                    return Answer::Refused(Code::Illegal, 0);
-                }
-                self.set_truth(property, *is_true);
-                Answer::Done(Value::Empty)
-            }
-            Value::Number(number) => self.set_number(kind, property, *number),
-            _ => Answer::Refused(Code::Illegal, 0),
+            Value::Truth(is_true) => self.set_truth(signs, property, *is_true),
+            Value::Number(number) => match property {
+                Property::PowerNotify => Ok(self.set_power_notify(*number)),
+                Property::CursorRow => Ok(self.set_row(kind, *number)),
+                Property::CursorColumn => Ok(self.set_column(kind, *number)),
+                _ => Ok(Answer::Refused(Code::Illegal, 0)),
+            },
+            _ => Ok(Answer::Refused(Code::Illegal, 0)),
         }
     }
 
-    /// Sets a property that is a number, by what the device's peripheral is.
-    ///
-    /// Refused with E_ILLEGAL for a property that isn't one, and for a number out of range.
-    fn set_number(&mut self, kind: Option<Kind>, property: Property, number: i128) -> Answer
-        ensures { TurnsInto (when (not (takes kind property (Value.Number number))) Code.Illegal ∷ []) result
-            self.old self.new (after_set self.old.control property (Value.Number number)) }
+    /// Sets PowerNotify: 0 or 1, which while the device is enabled is what it is already, and 0 where the power isn't
+    /// reported; else it is refused with E_ILLEGAL.
+    fn set_power_notify(&mut self, number: i128) -> Answer
+        ensures { let control = self.old.control in
+            TurnsInto (when (not (is_up_to 1 number)) Code.Illegal
+            ∷ when (is_notify_refused control Property.PowerNotify (Value.Number number)) Code.Illegal ∷ []) result
+            self.old self.new (record control { power_notify = is_one number }) }
     {
-        match property {
-            Property::CursorRow => self.set_row(kind, number),
-            Property::CursorColumn => self.set_column(kind, number),
-            _ => Answer::Refused(Code::Illegal, 0),
+        let Some(number) = to_count(number, 1) else {
+            return Answer::Refused(Code::Illegal, 0);
+        };
+        let is_on = number == 1;
+        if self.is_enabled && is_on != self.power_notify {
+            return Answer::Refused(Code::Illegal, 0);
         }
+        if is_on && !self.category.reports_power() {
+            return Answer::Refused(Code::Illegal, 0);
+        }
+        self.power_notify = is_on;
+        Answer::Done(Value::Empty)
     }
 
     /// Sets CursorRow: 0 to Rows - 1, else it is refused with E_ILLEGAL.
     fn set_row(&mut self, kind: Option<Kind>, number: i128) -> Answer
-        ensures { TurnsInto (when (not (is_index (rows_of kind) number)) Code.Illegal ∷ []) result
-            self.old self.new (after_set self.old.control Property.CursorRow (Value.Number number)) }
+        ensures { let control = self.old.control in
+            TurnsInto (when (not (is_index (rows_of kind) number)) Code.Illegal ∷ []) result self.old self.new
+            (record control { cursor = cursor_after control.cursor Property.CursorRow (Value.Number number) }) }
     {
         let Some(row) = to_index(number, rows_of(kind)) else {
             return Answer::Refused(Code::Illegal, 0);
@@ -86,8 +109,9 @@ impl Control {
 
     /// Sets CursorColumn: 0 to Columns, else it is refused with E_ILLEGAL.
     fn set_column(&mut self, kind: Option<Kind>, number: i128) -> Answer
-        ensures { TurnsInto (when (not (is_up_to (columns_of kind) number)) Code.Illegal ∷ []) result
-            self.old self.new (after_set self.old.control Property.CursorColumn (Value.Number number)) }
+        ensures { let control = self.old.control in
+            TurnsInto (when (not (is_up_to (columns_of kind) number)) Code.Illegal ∷ []) result self.old self.new
+            (record control { cursor = cursor_after control.cursor Property.CursorColumn (Value.Number number) }) }
     {
         let Some(column) = to_count(number, columns_of(kind)) else {
             return Answer::Refused(Code::Illegal, 0);
@@ -96,20 +120,47 @@ impl Control {
         Answer::Done(Value::Empty)
     }
 
-    /// Sets a property that is a truth value.
-    fn set_truth(&mut self, property: Property, is_true: bool)
-        ensures { self.new ≡ record self.old { control = after_set self.old.control property (Value.Truth is_true) } }
+    /// Sets a property that is a truth value, by what the device's peripheral shows. Want of memory changes nothing.
+    ///
+    /// Refused with E_ILLEGAL for a property that isn't one.
+    fn set_truth(
+        &mut self,
+        signs: Signs,
+        property: Property,
+        is_true: bool,
+    ) -> Result<Answer, NoMemory>
+        requires { (row_of property).is_settable ≡ true }
+        ensures { let control = self.old.control in (kind : Option Kind) →
+            SetsTo (value_rows kind control property (Value.Truth is_true))
+            (tells_power control property (Value.Truth is_true))
+            result self.old self.new (after_set signs control property (Value.Truth is_true)) }
     {
         match property {
-            Property::DeviceEnabled => self.is_enabled = is_true,
+            Property::DeviceEnabled => return self.set_enabled(signs, is_true),
             Property::FreezeEvents => self.is_frozen = is_true,
             Property::DataEventEnabled => self.reader.set_data_enabled(is_true),
             Property::AutoDisable => self.reader.set_auto_disable(is_true),
             Property::DecodeData => self.reader.set_decode(is_true),
             Property::CursorUpdate => self.cursor.update = is_true,
             Property::AsyncMode => self.writer.set_async(is_true),
-            _ => {}
+            _ => return Ok(Answer::Refused(Code::Illegal, 0)),
         }
+        Ok(Answer::Done(Value::Empty))
+    }
+
+    /// Sets DeviceEnabled, by what the device's peripheral shows. Where it becomes true, and the control is to be
+    /// notified of the device's power, an event tells it how that is. Want of memory for the event changes nothing.
+    fn set_enabled(&mut self, signs: Signs, is_enabled: bool) -> Result<Answer, NoMemory>
+        ensures { let control = self.old.control in let value = Value.Truth is_enabled in
+            SetsTo [] (tells_power control Property.DeviceEnabled value) result self.old self.new
+            (after_set signs control Property.DeviceEnabled value) }
+    {
+        if is_enabled && !self.is_enabled && self.is_notified() {
+            self.events.room(1)?;
+            self.events.status(power_status(signs.powered));
+        }
+        self.is_enabled = is_enabled;
+        Ok(Answer::Done(Value::Empty))
     }
 
     /// A property, by the control's number, the number of the control that holds its device, if any, and what is known
@@ -167,6 +218,31 @@ impl Control {
         2
     }
 
+    /// CapPowerReporting: PR_STANDARD 1 or PR_NONE 0.
+    fn power_reporting(&self) -> u32
+        ensures { result ≡ power_reporting (reports_power self.now.control.category) }
+    {
+        if self.category.reports_power() { 1 } else { 0 }
+    }
+
+    /// PowerNotify: PN_ENABLED 1 or PN_DISABLED 0.
+    fn notify_number(&self) -> u32
+        ensures { result ≡ notify_number self.now.control.power_notify }
+    {
+        if self.power_notify { 1 } else { 0 }
+    }
+
+    /// PowerState, by what the device's peripheral shows: PS_ONLINE 2001 or PS_OFF_OFFLINE 2004 while the device is
+    /// enabled and the control is to be notified of its power, else PS_UNKNOWN 2000.
+    fn power_state(&self, signs: Signs) -> u32
+        ensures { result ≡ power_state self.now.control signs }
+    {
+        if !self.is_enabled || !self.is_notified() {
+            return 2000;
+        }
+        power_status(signs.powered)
+    }
+
     /// The value of a property but of one of bytes, by what is known of the control's device.
     ///
     /// Refused with E_FAILURE where it is one of the files and the totals are off.
@@ -180,6 +256,13 @@ impl Control {
             Property::Claimed => Answer::Done(Value::Truth(facts.is_claimed)),
             Property::DeviceEnabled => Answer::Done(Value::Truth(self.is_enabled)),
             Property::FreezeEvents => Answer::Done(Value::Truth(self.is_frozen)),
+            Property::CapPowerReporting => {
+                Answer::Done(Value::Number(i128::from(self.power_reporting())))
+            }
+            Property::PowerNotify => Answer::Done(Value::Number(i128::from(self.notify_number()))),
+            Property::PowerState => {
+                Answer::Done(Value::Number(i128::from(self.power_state(facts.signs))))
+            }
             Property::DataEventEnabled => Answer::Done(Value::Truth(self.reader.data_enabled())),
             Property::AutoDisable => Answer::Done(Value::Truth(self.reader.auto_disable())),
             Property::DataCount => Answer::Done(Value::Number(self.events.data_count() as i128)),

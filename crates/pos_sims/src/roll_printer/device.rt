@@ -7,14 +7,14 @@ use super::RollPrinter;
 use crate::roll::Roll;
 use pos_service::receipt_text::Outcome;
 use pos_service::{
-    Input, Kind, NoMemory, Order, PaperLevel, Peripheral, Plant, Receipt, Reply, Signs, Snapshot,
-    Taken,
+    Form, Input, Kind, NoMemory, Order, PaperLevel, Peripheral, Plant, Receipt, Reply, Signs,
+    Snapshot, Taken,
 };
 use std::alloc::Global;
 
 impl RollPrinter {
-    /// A printer of 1 to 255 characters a line that is in service and has printed nothing, with 0 to 100,000 lines of
-    /// paper left, which are near their end at 1 to `near`, 0 to 100,000. The cover is closed.
+    /// A printer of 1 to 255 characters a line that is on and in service and has printed nothing, with 0 to 100,000
+    /// lines of paper left, which are near their end at 1 to `near`, 0 to 100,000. The cover is closed.
     pub fn new(alloc: Global, chars: u32, lines: u32, near: u32) -> Self
         requires chars { (1 ≤ chars) × (chars ≤ 255) }
         requires lines { lines ≤ 100000 }
@@ -25,6 +25,7 @@ impl RollPrinter {
             alloc,
             roll: Roll::new(alloc, chars, lines),
             near,
+            powered: true,
             is_parked: false,
             orders: 0,
         }
@@ -54,6 +55,7 @@ impl Peripheral for RollPrinter {
 
     fn signs(&self) -> Signs {
         Signs {
+            powered: self.powered,
             drawer_open: false,
             cover_open: self.roll.is_cover_open(),
             paper: PaperLevel::of_lines(self.near, self.roll.lines_left()),
@@ -62,6 +64,9 @@ impl Peripheral for RollPrinter {
 
     fn ask(&mut self, order: &Order) -> Result<Reply, NoMemory> {
         self.orders = self.orders.saturating_add(1);
+        if !self.powered {
+            return Ok(Reply::Offline);
+        }
         if !order.fits(self.kind()) {
             return Ok(Reply::LineFault);
         }
@@ -77,6 +82,13 @@ impl Peripheral for RollPrinter {
             Fed (state_of self.old) input.now result (state_of self.new) }
         ensures takes_no_memory { IsOk result }
     {
+        if let Input::PowerMoved(is_on) = input {
+            self.powered = *is_on;
+            return Ok(Taken::Quiet);
+        }
+        if !self.powered {
+            return Ok(Taken::Quiet);
+        }
         match input {
             Input::CoverMoved(is_open) => {
                 self.roll.move_cover(*is_open);
@@ -99,7 +111,10 @@ impl Peripheral for RollPrinter {
             self.roll.lines_left(),
             self.roll.is_cover_open(),
         );
-        Ok(Snapshot(Plant::Printer(receipt)))
+        Ok(Snapshot(Plant {
+            powered: self.powered,
+            form: Form::Printer(receipt),
+        }))
     }
 
     fn park(&mut self) {

@@ -1,6 +1,6 @@
 use Rattle.std.proofs.Common.{◌≡◌, ◌++◌, ℕ, ◌+◌, All, map, take, drop}
-use Rattle.pos_service.specs.Controls.{heard, if_listening}
-use Rattle.pos_service.specs.Statuses.{status_events}
+use Rattle.pos_service.specs.Controls.{if_listening}
+use Rattle.pos_service.specs.Statuses.{heard_signs}
 use Rattle.pos_common.specs.Held.{HasRoom, controls_of, sign_events}
 use Rattle.pos_common.proofs.controls.hear_all.Given as goal
 
@@ -9,7 +9,7 @@ abbrev pub invariant-loop-control : goal.invariant-loop-control
 invariant-loop-control l =
     let before = controls_of l.fn.controls in
     record {
-      heard : controls_of l.controls ≡ map (if_listening l.place (heard (status_events l.old l.new)))
+      heard : controls_of l.controls ≡ map (if_listening l.place (heard_signs l.old l.new))
           (take l.control-index before) ++ drop l.control-index before;
       room : All (HasRoom l.place sign_events) (drop l.control-index l.controls);
       left : (count : ℕ) → All (HasRoom l.place (sign_events + count)) l.fn.controls →

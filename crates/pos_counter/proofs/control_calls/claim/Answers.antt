@@ -8,8 +8,7 @@ use Rattle.pos_totals.specs.TotalsClaims.{is_area_taken}
 use Rattle.pos_common.specs.Held.{Held}
 use Rattle.pos_counter.specs.Leaving.{part_of}
 use Rattle.pos_counter.specs.Steps.{CallOf, Answered}
-use Rattle.pos_counter.specs.Totals.{settled}
-use Rattle.pos_counter.proofs.Claiming.{are_totals, area_claim_mode, claim_area, claim_device, claimed_covers, covered_at}
+use Rattle.pos_counter.proofs.Claiming.{are_totals, area_claim_settled, claim_area, claim_device, claimed_covers, covered_at}
 use Rattle.pos_counter.proofs.Lifts.{control_at}
 use Rattle.pos_counter.proofs.Serving.{arranges_serve}
 use Rattle.pos_counter.proofs.control_calls.claim.Goals as goal
@@ -35,10 +34,10 @@ returns-then-is_totals g c = λ devices sound.
     let is = are_totals one.category (sym c.is_totals.ensures ∙ c.if-is_totals.true) in
     let fits : SFits w128 c.args.timeout = c.ranges.timeout in
     let decided = simp to_z-of_z at c.claim_area.ensures.answer in
-    let mode = area_claim_mode (claim_rows one (is_area_taken view.totals n) c.args.timeout) c.claim_area.result view.totals now.totals (Some n) decided in
+    let same = area_claim_settled (claim_rows one (is_area_taken view.totals n) c.args.timeout) c.claim_area.result view.totals now.totals (Some n) decided in
     arranges_serve g.D.Disk view now now.totals hs hs cl cl devices (CallOf n (call.Claim c.args.timeout)) (Answered c.claim_area.result)
     (λ bytes honest since. g.met.D.Disk.only_now view.disk bytes honest since)
-    c.claim_area.ensures.disk refl (λ left. ap (λ m. settled m left) mode) sound refl
+    c.claim_area.ensures.disk refl same sound refl
     (λ left. claim_area hs cl devices (part_of g.D.Disk view left) n one c.args.timeout c.claim_area.result now.totals at is decided)
 
 pub returns : goal.returns

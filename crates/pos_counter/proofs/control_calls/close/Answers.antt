@@ -42,7 +42,8 @@ returns-then-is_totals g c = λ devices sound.
     let is = are_totals h.control.category (sym (ap (λ (k : Held). is_totals k.control.category) second) ∙ sym c.is_totals.ensures ∙ c.if-is_totals.true) in
     arranges_serve g.D.Disk view c.drop_control.new.self (without_control view.totals n) hs (set hs n c.close.new.self) cl cl devices
     (CallOf n call.Close) (Answered c.close.result) (λ bytes honest since. g.met.D.Disk.only_now view.disk bytes honest since)
-    c.drop_control.ensures.disk c.drop_control.ensures.totals (λ left. settled_claimed (is_own_claim n) None view.totals.mode left) sound refl
+    c.drop_control.ensures.disk c.drop_control.ensures.totals
+    (λ left. settled_claimed (is_own_claim n) None view.totals.layout view.totals.mode left) sound refl
     (λ left. close_area hs cl devices (part_of g.D.Disk view left) n h.control h c.close.new.self c.close.result
     (control_at hs n c.index-controls-number-then-is_totals.result c.requires) is
     (is_none_as h.control.device c.device-device.result _ _ device c.is_none.ensures c.if-is_none.false) c.close.ensures)

@@ -1,11 +1,10 @@
-use Rattle.std.proofs.Common.{◌∙◌, None, ap, get_or, refl, set, sym}
+use Rattle.std.proofs.Common.{◌∙◌, None, get_or, refl, set, sym}
 use Rattle.std.proofs.lemmas.List.{get_or_default}
 use Rattle.pos_service.specs.declared.call.Call.TheVariants as call
 use Rattle.pos_service.specs.Claims.{holder_at, is_own, release_rows}
 use Rattle.pos_counter.specs.Leaving.{part_of}
 use Rattle.pos_counter.specs.Steps.{CallOf, Answered}
-use Rattle.pos_counter.specs.Totals.{settled}
-use Rattle.pos_counter.proofs.Claiming.{are_totals, area_release_mode, release_area, release_device, released_covers}
+use Rattle.pos_counter.proofs.Claiming.{are_totals, area_release_settled, release_area, release_device, released_covers}
 use Rattle.pos_counter.proofs.Lifts.{control_at}
 use Rattle.pos_counter.proofs.Serving.{arranges_serve}
 use Rattle.pos_counter.proofs.control_calls.release.Goals as goal
@@ -22,11 +21,11 @@ returns-then-is_totals g c = λ devices sound.
     let now = c.release_area.new.totals in
     let at = control_at hs n c.index-controls-number.result c.requires in
     let is = are_totals one.category (sym c.is_totals.ensures ∙ c.if-is_totals.true) in
-    let mode = area_release_mode (release_rows one
+    let same = area_release_settled (release_rows one
     (is_own n view.totals.area)) c.release_area.result view.totals now.totals None _ _ c.release_area.ensures.answer in
     arranges_serve g.D.Disk view now now.totals hs (set hs n c.release_area.new.control) cl cl devices (CallOf n call.Release)
     (Answered c.release_area.result) (λ bytes honest since. g.met.D.Disk.only_now view.disk bytes honest since)
-    c.release_area.ensures.disk refl (λ left. ap (λ m. settled m left) mode) sound refl
+    c.release_area.ensures.disk refl same sound refl
     (λ left. release_area hs cl devices
     (part_of g.D.Disk view left) n one h c.release_area.new.control c.release_area.result now.totals at is here c.release_area.ensures.answer)
 

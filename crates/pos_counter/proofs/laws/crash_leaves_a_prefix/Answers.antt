@@ -4,14 +4,15 @@ use Rattle.pos_counter.proofs.Runs.{beside_is_step, runs_from}
 use Rattle.pos_counter.proofs.laws.crash_leaves_a_prefix.Goals as goal
 
 pub returns-clause-begins : goal.returns-clause-begins
-returns-clause-begins g c start sequence is = has_begun g.D.Disk _ start sequence c.args.counter.now is
+returns-clause-begins g c layout start sequence is = has_begun g.D.Disk _ layout start sequence c.args.counter.now is
 
 pub returns-clause-call : goal.returns-clause-call
-returns-clause-call g c start sequence steps old past request response step =
-    keeps_prefix g.D.Disk _ start sequence steps old c.args.counter.now past request response step
+returns-clause-call g c layout start sequence steps old past request response step =
+    keeps_prefix g.D.Disk _ layout start sequence steps old c.args.counter.now past request response step
 
 pub returns-clause-list : goal.returns-clause-list
-returns-clause-list g c start sequence steps more old past run = keeps_prefixes g.D.Disk _ start sequence steps more old c.args.counter.now past run
+returns-clause-list g c layout start sequence steps more old past run =
+    keeps_prefixes g.D.Disk _ layout start sequence steps more old c.args.counter.now past run
 
 pub returns-clause-moments : goal.returns-clause-moments
 returns-clause-moments g c left steps old leaves run =

@@ -3,11 +3,11 @@ use Rattle.pos_counter.proofs.Reopening.{disk_failed, few_stand, finds_them}
 use Rattle.pos_counter.proofs.laws.enabling_finds_the_files.Goals as goal
 
 pub returns-clause-finds : goal.returns-clause-finds
-returns-clause-finds c start sequence old new number control response is at asks step =
-    finds_them start sequence old is number control asks response new at step
+returns-clause-finds c layout start sequence old new number control response is at asks step =
+    finds_them layout start sequence old is number control asks response new at step
 
 pub returns-clause-failed : goal.returns-clause-failed
-returns-clause-failed c start sequence first last steps run is few next = disk_failed start sequence first last steps run is few next
+returns-clause-failed c layout start sequence first last steps run is few next = disk_failed layout start sequence first last steps run is few next
 
 pub returns-clause-few : goal.returns-clause-few
 returns-clause-few c = few_stand

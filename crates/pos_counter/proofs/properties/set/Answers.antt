@@ -1,16 +1,20 @@
-use Rattle.std.proofs.Common.{◌≡◌, ◌∙◌, ◌&&◌, List, [], not, ap, get_or, set, subst, sym, false, refl}
+use Rattle.std.proofs.Common.{◌≡◌, ◌∙◌, ◌&&◌, ℕ, List, [], Option, not, ap, get_or, set, subst, sym, false, refl}
 use Rattle.pos_totals.specs.HardTotals.{is_ready}
-use Rattle.pos_service.specs.Properties.{after_set, set_rows}
-use Rattle.pos_common.specs.Held.{Held, TurnsInto}
+use Rattle.pos_service.specs.declared.kind.Kind.{Kind}
+use Rattle.pos_service.specs.declared.signs.Signs.{Signs}
+use Rattle.pos_service.specs.Stations.{signs_in}
+use Rattle.pos_service.specs.Properties.{after_set, set_rows, tells_power}
+use Rattle.pos_common.specs.Held.{Held, SetsTo}
 use Rattle.pos_store.specs.Standing.{Standing}
-use Rattle.pos_counter.specs.Machine.{Shared, device_at, holder_in, kind_in}
+use Rattle.pos_counter.specs.Machine.{Shared, device_at, holder_in, kind_in, station_in}
 use Rattle.pos_counter.specs.Totals.{asks_recovery}
 use Rattle.std.proofs.lemmas.List.{get_or_default}
 use Rattle.pos_service.specs.declared.call.Call.TheVariants as call
 use Rattle.pos_counter.specs.KeptDevices.{devices_in}
 use Rattle.pos_counter.specs.Assembly.{machine_with}
 use Rattle.pos_counter.specs.Leaving.{part_of}
-use Rattle.pos_counter.specs.Steps.{CallOf, Answered}
+use Rattle.pos_counter.specs.Steps.{CallOf}
+use Rattle.pos_counter.specs.Responses.{answered}
 use Rattle.pos_counter.proofs.Recovering.{plain_set}
 use Rattle.pos_counter.proofs.Serving.{kept_disk, rests_stepped, stepped_sound}
 use Rattle.pos_counter.proofs.properties.set.Goals as goal
@@ -30,11 +34,13 @@ returns g c = λ sound.
     let same = get_or_default hs n c.index-controls-number-2.result c.index-controls-number.result c.requires in
     let holder = c.find_holder-holder.ensures ∙ ap (λ o. holder_in h.control.category cl o h.control.device) c.area.ensures in
     let kind = c.kind_at-kind.ensures ∙ ap (λ o. kind_in (device_at ds o)) c.device-device.ensures in
-    let held = subst (λ o. TurnsInto (set_rows n o c.kind_at-kind.result h.control p v) c.set.result h c.set.new.self
-    (after_set h.control p v)) holder c.set.ensures in
-    let turns = subst (λ at. TurnsInto
-    (set_rows n (holder_in h.control.category cl view.totals.area h.control.device) at h.control p v) c.set.result h c.set.new.self
-    (after_set h.control p v)) kind held in
+    let signs = c.signs_at-signs.ensures ∙ ap (λ o. signs_in (station_in (device_at ds o))) c.device-device.ensures in
+    let To = λ (o : Option ℕ) (at : Option Kind) (s : Signs). SetsTo (set_rows n o at h.control p v) (tells_power h.control p v)
+    c.set.result h c.set.new.self (after_set s h.control p v) in
+    let held = subst (λ o. To o c.kind_at-kind.result c.signs_at-signs.result) holder c.set.ensures in
+    let at_kind = subst (λ at. To (holder_in h.control.category cl view.totals.area h.control.device) at c.signs_at-signs.result) kind held in
+    let turns = subst (λ s. To (holder_in h.control.category cl view.totals.area h.control.device) (kind_in (device_at ds h.control.device)) s)
+    signs at_kind in
     let plain = subst (λ (k : Held). (asks_recovery k.control p v && not (is_ready view.totals.mode)) ≡ false) (sym same)
     (ap (λ b. asks_recovery (get_or hs n c.index-controls-number.result).control p v && not b) (sym c.is_ready.ensures) ∙ sym c.is_recovering.ensures
     ∙ c.if-is_recovering.false) in
@@ -42,8 +48,8 @@ returns g c = λ sound.
     let shared : Shared = record { claims = cl; totals = part_of g.D.Disk view [] } in
     record {
       steps = λ left leaves. rests_stepped g.D.Disk view (machine_with hs cl ds) (machine_with (set hs n c.set.new.self) cl ds) q
-          (Answered c.set.result) left (λ bytes honest since. g.met.D.Disk.only_now view.disk bytes honest since) leaves (step left);
-      sound = stepped_sound hs (set hs n c.set.new.self) ds shared shared q (Answered c.set.result) sound (step []);
+          (answered c.set.result) left (λ bytes honest since. g.met.D.Disk.only_now view.disk bytes honest since) leaves (step left);
+      sound = stepped_sound hs (set hs n c.set.new.self) ds shared shared q (answered c.set.result) sound (step []);
       covers = refl;
       places = refl;
       untouched = λ left spares. refl;

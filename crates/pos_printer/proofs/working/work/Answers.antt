@@ -9,7 +9,7 @@ complete-requires-clause-request g c =
     let holder = c.in-Some.holder in
     let f = first_found place holder (controls_of c.args.controls.now) (sym c.has_work.ensures.work ∙ c.if-not-has_work.false) in
     let roomy = subst (IsFirst place holder f.0) (sym c.room_all.ensures.same) f.1 in
-    let heard = first_heard place holder f.0 _ _ _ roomy c.hear_all.ensures.heard in
+    let heard = first_heard place holder f.0 c.signs-old.result c.signs.result _ _ roomy c.hear_all.ensures.heard in
     has_request place holder 1 f.0 c.hear_all.new.controls heard (omega arith) (c.hear_all.ensures.room 1 c.in_ok-room_all.ensures.room)
 
 pub fail-requires-clause-request : goal.fail-requires-clause-request

@@ -13,3 +13,9 @@ format_task-requires g c =
     let name : c.as_str-name.result.now ≡ codes "format" =
     (bytes_eq-Decides c.as_str-name.result.now (codes "format")).0 (sym c.eq-2.ensures ∙ c.if-eq-2.true) in
     first_named g.S.AsStr.text c.args.words.now c.in-Some.first.now _ (sym c.in-Some.ensures.value) (sym c.as_str-name.ensures ∙ name)
+
+pub migrate_task-requires : goal.migrate_task-requires
+migrate_task-requires g c =
+    let name : c.as_str-name.result.now ≡ codes "migrate" =
+    (bytes_eq-Decides c.as_str-name.result.now (codes "migrate")).0 (sym c.eq-3.ensures ∙ c.if-eq-3.true) in
+    first_named g.S.AsStr.text c.args.words.now c.in-Some.first.now _ (sym c.in-Some.ensures.value) (sym c.as_str-name.ensures ∙ name)

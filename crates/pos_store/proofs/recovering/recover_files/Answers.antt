@@ -1,14 +1,18 @@
-use Rattle.std.proofs.Common.{◌≡◌, ℕ, List, map, Vec, Global, inl, inr, ⊎_elim, refl, sym, ap, subst, ◌∙◌}
-use Rattle.pos_dir.specs.Calls.{IsBody}
-use Rattle.pos_dir.specs.declared.limits.TheConstants.{LAYOUT_1}
+use Rattle.std.proofs.Common.{◌≡◌, Err, ℕ, List, map, Vec, Global, inl, inr, ⊎_elim, refl, sym, ap, subst, ◌∙◌}
+use Rattle.pos_dir.specs.Calls.{IsBody, Decodes}
+use Rattle.pos_dir.specs.declared.limits.Limits.{Limits}
+use Rattle.pos_dir.specs.Files.{IsDirectory}
 use Rattle.pos_disk.specs.State.{Watches, HasNotFailed}
 use Rattle.pos_disk.specs.Keeps.{KeepsDisk}
 use Rattle.pos_dir.specs.Spelling.{spelling}
 use Rattle.pos_dir.specs.declared.file.File.{File}
 use Rattle.pos_disk.proofs.Moments.{watches_on}
 use Rattle.pos_image.specs.Images.{View}
+use Rattle.pos_image.specs.Layout.{layout_of}
+use Rattle.pos_image.specs.declared.layout.Layout.{Layout}
 use Rattle.pos_image.specs.Standing as image
 use Rattle.pos_log.specs.Records.{HoldsRecords, HoldsSome}
+use Rattle.pos_store.specs.Layouts.{limits_of}
 use Rattle.pos_store.specs.Standing.{HoldsFiles, Applies}
 use Rattle.pos_store.specs.Recoveries.{DiskStandsFor, EndsAt}
 use Rattle.pos_store.proofs.FilesOnDisk.{leaves_files}
@@ -20,9 +24,10 @@ use Rattle.pos_store.proofs.recovering.recover_files.Goals as goal
 pub returns-in-Err-clause-recovers : goal.returns-in-Err-clause-recovers
 returns-in-Err-clause-recovers g c =
     let opened = c.in-Err.ensures in
-    rw c.in-Off.is (off_recovers g.D.Disk c.in-Off.disk _ _
-    (told_finds (DiskStandsFor g.D.Disk c.in-Off.disk) c.in-Err.fault c.tell_images.result c.tell_images.ensures
+    rw c.in-Off.is (off_recovers g.D.Disk c.in-Off.disk c.in-Off.layout _ _
+    (told_finds (DiskStandsFor g.D.Disk c.in-Off.disk) c.in-Off.layout c.in-Err.fault c.tell_images.result c.tell_images.ensures
     (λ is h. opened.unformatted h is) (λ is h. damaged_stands _ (opened.damaged h is)) opened.faults)
+    (λ err. refl)
     opened.any_moment
     (λ h. tt)
     (λ h. tt)
@@ -33,12 +38,14 @@ returns-in-Err-clause-recovers g c =
 pub returns-in-Err-Malformed-clause-recovers : goal.returns-in-Err-Malformed-clause-recovers
 returns-in-Err-Malformed-clause-recovers g c =
     let opened = c.in-Ok.ensures in
-    rw (c.in-Off.is, c.into_disk.ensures) (off_recovers g.D.Disk c.in-Off.disk _ _ (
-      λ h. no_body_stands _ c.in-Ok.images.body c.in-Ok.images.sequence (opened.found h)
-          (λ spelled. malformed_none c.body.result.now _ c.in-Err-Malformed.field-0-is c.in-Err-Malformed.ensures
-          (subst (IsBody LAYOUT_1) (sym c.body.ensures) spelled)),
+    rw (c.in-Off.is, c.into_disk.ensures) (off_recovers g.D.Disk c.in-Off.disk c.in-Off.layout _ _ (
+      λ h. no_body_stands _ (layout_of c.in-Ok.images.slot) c.in-Ok.images.body c.in-Ok.images.sequence (opened.found h)
+          (λ spelled. malformed_none (limits_of (layout_of c.in-Ok.images.slot)) c.body.result.now _ c.in-Err-Malformed.field-0-is
+          (subst (λ (l : Limits). Decodes l c.body.result.now (Err c.in-Err-Malformed.field-0)) (c.limits_of-limits.ensures ∙ ap limits_of c.layout.ensures)
+          c.in-Err-Malformed.ensures) (subst (IsBody (limits_of (layout_of c.in-Ok.images.slot))) (sym c.body.ensures) spelled)),
       refl,
     )
+    (λ err. refl)
     opened.any_moment
     (λ h. tt)
     (λ h. tt)
@@ -49,8 +56,9 @@ returns-in-Err-Malformed-clause-recovers g c =
 pub returns-in-Err-decode-clause-recovers : goal.returns-in-Err-decode-clause-recovers
 returns-in-Err-decode-clause-recovers g c =
     let opened = c.in-Ok.ensures in
-    rw (c.in-Off.is, c.into_disk-in-Err-decode.ensures) (off_recovers g.D.Disk c.in-Off.disk _ _
+    rw (c.in-Off.is, c.into_disk-in-Err-decode.ensures) (off_recovers g.D.Disk c.in-Off.disk c.in-Off.layout _ _
     refl
+    (λ err. refl)
     opened.any_moment
     (λ h. tt)
     (λ h. tt)
@@ -62,10 +70,11 @@ pub returns-in-Err-open-clause-recovers : goal.returns-in-Err-open-clause-recove
 returns-in-Err-open-clause-recovers g c =
     let opened = c.in-Ok.ensures in
     let logged = c.in-Err-open.ensures in
-    rw (c.in-Off.is, c.into_disk-in-Err-open.ensures) (off_recovers g.D.Disk c.in-Off.disk _ _
-    (told_log_finds (DiskStandsFor g.D.Disk c.in-Off.disk) c.in-Err-open.fault c.tell_log.result c.tell_log.ensures
-    (λ is h. no_log_stands _ c.in-Ok.images.body c.in-Ok.images.sequence (opened.found h)
+    rw (c.in-Off.is, c.into_disk-in-Err-open.ensures) (off_recovers g.D.Disk c.in-Off.disk c.in-Off.layout _ _
+    (told_log_finds (DiskStandsFor g.D.Disk c.in-Off.disk) c.in-Off.layout c.in-Err-open.fault c.tell_log.result c.tell_log.ensures
+    (λ is h. no_log_stands _ (layout_of c.in-Ok.images.slot) c.in-Ok.images.body c.in-Ok.images.sequence (opened.found h)
     (subst (λ (b : List ℕ). ¬ (HoldsSome (image.log_of b))) (opened.any_moment h).reading (logged.damaged (opened.keeps.honest.0 h) is))))
+    (λ err. refl)
     (λ h. watches_on _ _ _ (opened.any_moment h) (logged.any_moment (opened.keeps.honest.0 h)))
     (λ h. tt)
     (λ h. tt)
@@ -76,6 +85,17 @@ returns-in-Err-open-clause-recovers g c =
     (both_keep g.D.Disk _ _ _ opened.keeps logged.keeps))
 
 module _ (g : Over) (c : After-apply_texts g) where
+  -- the layout of the disk, and its limits
+  abbrev layout : Layout
+  layout = layout_of c.in-Ok.images.slot
+
+  limits : c.in-Ok-decode.directory.limits ≡ limits_of layout
+  limits = c.in-Ok-decode.ensures.0 ∙ c.limits_of-limits.ensures ∙ ap limits_of c.layout.ensures
+
+  sound : IsDirectory (limits_of layout) c.in-Ok-decode.directory.files
+  sound = subst (λ (l : Limits). IsDirectory l c.in-Ok-decode.directory.files) (c.limits_of-limits.ensures ∙ ap limits_of c.layout.ensures)
+      c.in-Ok-decode.ensures.1
+
   spelled : c.in-Ok.images.body ≡ spelling c.in-Ok-decode.directory.files
   spelled = sym c.body.ensures ∙ c.in-Ok-decode.ensures.2
 
@@ -96,38 +116,51 @@ module _ (g : Over) (c : After-apply_texts g) where
   sequence_is : c.in-Ok-open.log.images.sequence ≡ c.in-Ok.images.sequence
   sequence_is = ap (λ (im : View g.row.D.Denot). im.sequence) c.in-Ok-open.ensures.same
 
+  layout_is : layout_of c.in-Ok-open.log.images.slot ≡ layout
+  layout_is = ap (λ (im : View g.row.D.Denot). layout_of im.slot) c.in-Ok-open.ensures.same
+
   -- the files that the disk holds
-  found : (files : List File) → Applies c.in-Ok-decode.directory.files (map (λ (t : Vec ℕ Global). t.items) c.deref.result.now) files
-      → g.D.Disk.honest c.in-Off.disk → HoldsFiles files c.in-Ok-open.log.images.sequence (g.D.Disk.state c.in-Off.disk).reading
-  found files applies h = subst (λ (n : ℕ). HoldsFiles files n (g.D.Disk.state c.in-Off.disk).reading) (sym sequence_is) record {
+  found : (files : List File) → Applies c.in-Ok-decode.directory.limits c.in-Ok-decode.directory.files
+      (map (λ (t : Vec ℕ Global). t.items) c.deref.result.now) files
+      → g.D.Disk.honest c.in-Off.disk
+      → HoldsFiles (layout_of c.in-Ok-open.log.images.slot) files c.in-Ok-open.log.images.sequence (g.D.Disk.state c.in-Off.disk).reading
+  found files applies h = rw (layout_is, sequence_is) record {
     base = c.in-Ok-decode.directory.files;
     texts = map (λ (t : Vec ℕ Global). t.items) c.in-Ok-open.texts.items;
-    directory = c.in-Ok-decode.ensures.1;
-    shows = c.in-Ok.ensures.found h ∙ ap (λ (b : List ℕ). image.OneImage b c.in-Ok.images.sequence) spelled;
+    directory = sound;
+    shows = c.in-Ok.ensures.found h ∙ ap (λ (b : List ℕ). image.OneImage layout b c.in-Ok.images.sequence) spelled;
     log = records h;
-    applies = subst (λ (ts : List (Vec ℕ Global)). Applies c.in-Ok-decode.directory.files
-        (map (λ (t : Vec ℕ Global). t.items) ts) files) c.deref.ensures.value applies;
+    applies = subst (λ (l : Limits). Applies l c.in-Ok-decode.directory.files (map (λ (t : Vec ℕ Global). t.items) c.in-Ok-open.texts.items) files) limits
+        (subst (λ (ts : List (Vec ℕ Global)). Applies c.in-Ok-decode.directory.limits c.in-Ok-decode.directory.files
+        (map (λ (t : Vec ℕ Global). t.items) ts) files) c.deref.ensures.value applies);
   }
 
-  found_now : (files : List File) → Applies c.in-Ok-decode.directory.files (map (λ (t : Vec ℕ Global). t.items) c.deref.result.now) files
-      → g.D.Disk.honest c.in-Ok-open.log.images.disk → HoldsFiles files c.in-Ok-open.log.images.sequence (g.D.Disk.state c.in-Ok-open.log.images.disk).reading
+  found_now : (files : List File) → Applies c.in-Ok-decode.directory.limits c.in-Ok-decode.directory.files
+      (map (λ (t : Vec ℕ Global). t.items) c.deref.result.now) files
+      → g.D.Disk.honest c.in-Ok-open.log.images.disk
+      → HoldsFiles (layout_of c.in-Ok-open.log.images.slot) files c.in-Ok-open.log.images.sequence (g.D.Disk.state c.in-Ok-open.log.images.disk).reading
   found_now files applies h =
       let was = keeps.honest.1 h in
-      subst (HoldsFiles files c.in-Ok-open.log.images.sequence) (sym (watches was).reading) (found files applies was)
+      subst (HoldsFiles (layout_of c.in-Ok-open.log.images.slot) files c.in-Ok-open.log.images.sequence) (sym (watches was).reading) (found files applies was)
 
-  ends : g.D.Disk.honest c.in-Off.disk → EndsAt c.in-Ok-open.log.tail (g.D.Disk.state c.in-Off.disk).reading
-  ends h = subst (EndsAt c.in-Ok-open.log.tail) (watches h).reading (c.in-Ok-open.ensures.ready.records (keeps.honest.0 h))
+  ends : g.D.Disk.honest c.in-Off.disk → EndsAt (layout_of c.in-Ok-open.log.images.slot) c.in-Ok-open.log.tail (g.D.Disk.state c.in-Off.disk).reading
+  ends h = subst (EndsAt (layout_of c.in-Ok-open.log.images.slot) c.in-Ok-open.log.tail) (watches h).reading
+      (c.in-Ok-open.ensures.ready.records (keeps.honest.0 h))
 
 pub returns-in-Ok-apply_texts-clause-sound : goal.returns-in-Ok-apply_texts-clause-sound
 returns-in-Ok-apply_texts-clause-sound g c =
-    let here = (goal.at.returns-in-Ok-apply_texts-clause-sound g c).After-apply_texts in
-    (c.in-Ok-open.ensures.ready, found_now g here c.apply_texts.new.directory.files c.in-Ok-apply_texts.ensures.ok, c.apply_texts.ensures.limits)
+    let here = (goal.at.returns-in-Ok-apply_texts-clause-sound g c).After-apply_texts in (
+      c.in-Ok-open.ensures.ready,
+      found_now g here c.apply_texts.new.directory.files c.in-Ok-apply_texts.ensures.ok,
+      c.apply_texts.ensures.limits ∙ limits g here ∙ ap limits_of (sym (layout_is g here)),
+    )
 
 pub returns-in-Ok-apply_texts-clause-recovers : goal.returns-in-Ok-apply_texts-clause-recovers
 returns-in-Ok-apply_texts-clause-recovers g c =
     let here = (goal.at.returns-in-Ok-apply_texts-clause-recovers g c).After-apply_texts in
-    rw c.in-Off.is (off_recovers g.D.Disk c.in-Off.disk _ _
+    rw c.in-Off.is (off_recovers g.D.Disk c.in-Off.disk c.in-Off.layout _ _
     (found g here c.apply_texts.new.directory.files c.in-Ok-apply_texts.ensures.ok)
+    (λ err. absurd cc)
     (watches g here)
     (λ h. leaves_files g.D.Disk c.in-Ok-open.log.images c.apply_texts.new.directory.files c.in-Ok-open.ensures.ready.images
     (found_now g here c.apply_texts.new.directory.files c.in-Ok-apply_texts.ensures.ok) ((keeps g here).honest.0 h))
@@ -140,13 +173,15 @@ pub returns-in-Err-apply_texts-clause-recovers : goal.returns-in-Err-apply_texts
 returns-in-Err-apply_texts-clause-recovers g c =
     let here = (goal.at.returns-in-Err-apply_texts-clause-recovers g c).After-apply_texts in
     let faults = c.in-Err-apply_texts.ensures.faults in
-    rw (c.in-Off.is, c.into_disk-in-Err-apply_texts.ensures, c.into_images.ensures) (off_recovers g.D.Disk c.in-Off.disk _ _
-    (told_text_finds (DiskStandsFor g.D.Disk c.in-Off.disk) c.in-Err-apply_texts.fault faults
-    (λ is h. no_groups_stand _ c.in-Ok.images.body c.in-Ok.images.sequence c.in-Ok-decode.directory.files _
-    (c.in-Ok.ensures.found h) c.in-Ok-decode.ensures.1 (spelled g here) (records g here h)
+    rw (c.in-Off.is, c.into_disk-in-Err-apply_texts.ensures, c.into_images.ensures) (off_recovers g.D.Disk c.in-Off.disk c.in-Off.layout _ _
+    (told_text_finds (DiskStandsFor g.D.Disk c.in-Off.disk) c.in-Off.layout c.in-Err-apply_texts.fault faults
+    (λ is h. no_groups_stand _ (layout g here) c.in-Ok.images.body c.in-Ok.images.sequence c.in-Ok-decode.directory.files _
+    (c.in-Ok.ensures.found h) (sound g here) (spelled g here) (records g here h)
     (λ last applies. c.in-Err-apply_texts.ensures.damaged is last
-    (subst (λ (ts : List (Vec ℕ Global)). Applies c.in-Ok-decode.directory.files (map (λ (t : Vec ℕ Global). t.items) ts) last)
-    (sym c.deref.ensures.value) applies))))
+    (subst (λ (l : Limits). Applies l c.in-Ok-decode.directory.files (map (λ (t : Vec ℕ Global). t.items) c.deref.result.now) last) (sym (limits g here))
+    (subst (λ (ts : List (Vec ℕ Global)). Applies (limits_of (layout g here)) c.in-Ok-decode.directory.files (map (λ (t : Vec ℕ Global). t.items) ts) last)
+    (sym c.deref.ensures.value) applies)))))
+    (λ err. refl)
     (watches g here)
     (λ h. tt)
     (λ h. tt)

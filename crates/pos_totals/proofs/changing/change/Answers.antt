@@ -20,7 +20,7 @@ returns-then-is_open-clause-sound g c =
     let store = c.args.store.now in
     (store_buffers g.D.Disk store.disk (λ h bytes left. g.met.D.Disk.only_now store.disk bytes h left) c.args.holdings.now c.args.control
     (change_of c.args.request) c.in-Ok.checked
-    store.state c.in-Ok.ensures.directory c.requires.sound c.leaves_its_files.ensures c.in-Ok.ensures.checks
+    store.layout store.state c.in-Ok.ensures.directory c.requires.sound c.leaves_its_files.ensures c.in-Ok.ensures.checks
     (sym c.is_open.ensures ∙ c.if-is_open.true) c.buffer_change.result c.buffer_change.new.transactions c.buffer_change.ensures).1
 
 pub returns-then-is_open-clause-changes : goal.returns-then-is_open-clause-changes
@@ -28,7 +28,7 @@ returns-then-is_open-clause-changes g c =
     let store = c.args.store.now in
     (store_buffers g.D.Disk store.disk (λ h bytes left. g.met.D.Disk.only_now store.disk bytes h left) c.args.holdings.now c.args.control
     (change_of c.args.request) c.in-Ok.checked
-    store.state c.in-Ok.ensures.directory c.requires.sound c.leaves_its_files.ensures c.in-Ok.ensures.checks
+    store.layout store.state c.in-Ok.ensures.directory c.requires.sound c.leaves_its_files.ensures c.in-Ok.ensures.checks
     (sym c.is_open.ensures ∙ c.if-is_open.true) c.buffer_change.result c.buffer_change.new.transactions c.buffer_change.ensures).0
 
 pub returns-in-Err-make_group-clause-changes : goal.returns-in-Err-make_group-clause-changes
@@ -63,7 +63,7 @@ returns-in-Ok-put_group-clause-sound g c =
     rw (c.keep.ensures.given, c.keep.ensures.next, c.in-Ok-put_group.ensures.transactions)
     (store_done g.D.Disk store.disk (λ h bytes left. g.met.D.Disk.only_now store.disk bytes h left) c.args.holdings.now c.args.control
     (change_of c.args.request) c.in-Ok.checked
-    store.state store.tail c.put_group.new.store c.in-Ok.ensures.directory c.requires.sound c.leaves_its_files.ensures c.in-Ok.ensures.checks
+    store.layout store.state store.tail c.put_group.new.store c.in-Ok.ensures.directory c.requires.sound c.leaves_its_files.ensures c.in-Ok.ensures.checks
     (sym c.is_open.ensures ∙ c.if-is_open.false) (sym c.lack.ensures.lacks ∙ c.if-lack.false) commits).1
 
 pub returns-in-Ok-put_group-clause-changes : goal.returns-in-Ok-put_group-clause-changes
@@ -74,7 +74,7 @@ returns-in-Ok-put_group-clause-changes g c =
     rw (c.keep.ensures.given, c.keep.ensures.next, c.keep.ensures.value, c.in-Ok-put_group.ensures.transactions)
     (store_done g.D.Disk store.disk (λ h bytes left. g.met.D.Disk.only_now store.disk bytes h left) c.args.holdings.now c.args.control
     (change_of c.args.request) c.in-Ok.checked
-    store.state store.tail c.put_group.new.store c.in-Ok.ensures.directory c.requires.sound c.leaves_its_files.ensures c.in-Ok.ensures.checks
+    store.layout store.state store.tail c.put_group.new.store c.in-Ok.ensures.directory c.requires.sound c.leaves_its_files.ensures c.in-Ok.ensures.checks
     (sym c.is_open.ensures ∙ c.if-is_open.false) (sym c.lack.ensures.lacks ∙ c.if-lack.false) commits).0
 
 pub returns-clause-sound : goal.returns-clause-sound
@@ -85,7 +85,7 @@ returns-clause-sound g c =
     rw c.in-Err-put_group.ensures.transactions
     (store_refused g.D.Disk store.disk (λ h bytes left. g.met.D.Disk.only_now store.disk bytes h left) c.args.holdings.now c.args.control
     (change_of c.args.request) c.in-Ok.checked
-    store.state store.tail c.put_group.new.store c.in-Err-put_group.fault c.in-Ok.ensures.directory c.requires.sound c.leaves_its_files.ensures
+    store.layout store.state store.tail c.put_group.new.store c.in-Err-put_group.fault c.in-Ok.ensures.directory c.requires.sound c.leaves_its_files.ensures
     c.in-Ok.ensures.checks (sym c.is_open.ensures ∙ c.if-is_open.false) (sym c.lack.ensures.lacks ∙ c.if-lack.false) commits).1
 
 pub returns-clause-changes : goal.returns-clause-changes
@@ -96,5 +96,5 @@ returns-clause-changes g c =
     rw (c.answer_fault.ensures, c.in-Err-put_group.ensures.transactions)
     (store_refused g.D.Disk store.disk (λ h bytes left. g.met.D.Disk.only_now store.disk bytes h left) c.args.holdings.now c.args.control
     (change_of c.args.request) c.in-Ok.checked
-    store.state store.tail c.put_group.new.store c.in-Err-put_group.fault c.in-Ok.ensures.directory c.requires.sound c.leaves_its_files.ensures
+    store.layout store.state store.tail c.put_group.new.store c.in-Err-put_group.fault c.in-Ok.ensures.directory c.requires.sound c.leaves_its_files.ensures
     c.in-Ok.ensures.checks (sym c.is_open.ensures ∙ c.if-is_open.false) (sym c.lack.ensures.lacks ∙ c.if-lack.false) commits).0

@@ -1,5 +1,6 @@
 use Rattle.std.proofs.Common.{sym, arith}
 use Rattle.std.proofs.lemmas.Option.{slice_get-get_or, slice_get_past}
+use Rattle.pos_totals.proofs.Largest.{most_bytes}
 use Rattle.pos_totals.proofs.Pairs.{pair_at, one_of_sum, none_at, length-with_tags}
 use Rattle.pos_totals.specs.Views.{with_tags}
 use Rattle.pos_totals.proofs.files.get_file.Goals as goal
@@ -28,4 +29,4 @@ returns-clause-small c =
     let files = c.args.files.directory.now.files in
     let one = one_of_sum files c.args.index c.in-Some-bytes.bytes.now (sym c.in-Some-bytes.ensures) in
     let all = c.requires.directory.size in
-    omega (arith, one, all)
+    omega (arith, one, all, most_bytes c.args.files.layout)

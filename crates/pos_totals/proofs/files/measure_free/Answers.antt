@@ -2,6 +2,7 @@ use Rattle.std.proofs.Common.{◌∙◌, ◌-◌, sym, ap}
 use Rattle.pos_dir.specs.Files.{total_size}
 use Rattle.pos_totals.proofs.Grouped.{plain_size}
 use Rattle.pos_totals.proofs.Pairs.{plain_of}
+use Rattle.pos_totals.specs.HardTotals.{totals_limits}
 use Rattle.pos_totals.specs.Views.{with_tags}
 use Rattle.pos_totals.proofs.files.measure_free.Goals as goal
 
@@ -9,4 +10,6 @@ pub returns : goal.returns
 returns c =
     let tags = c.args.files.tags.now in
     let files = c.args.files.directory.now.files in
-    ap (λ n. 8192 - n) (c.size.ensures ∙ ap total_size (sym (plain_of tags files c.requires.paired)) ∙ plain_size (with_tags tags files))
+    ap (λ n. n - c.size.result) c.totals_size.ensures
+    ∙ ap (λ n. (totals_limits c.args.files.layout).bytes - n)
+    (c.size.ensures ∙ ap total_size (sym (plain_of tags files c.requires.paired)) ∙ plain_size (with_tags tags files))

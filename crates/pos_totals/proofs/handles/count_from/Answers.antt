@@ -7,7 +7,7 @@ use Rattle.pos_totals.proofs.handles.count_from.Goals as goal
 pub push-requires : goal.push-requires
 push-requires c =
     let held = ap (λ (numbers : List Tag). length numbers) c.loop-place.invariant in
-    let small : length c.loop-place.tags.items < 64 =
+    let small : length c.loop-place.tags.items < 250 =
     omega (arith, held, length-tags c.args.first c.loop-place.place, c.loop-place-test.true, c.requires.few) in
     (lit< tt, small)
 

@@ -1,11 +1,8 @@
 use Rattle.std.proofs.Common.{◌∙◌, ap, subst, refl}
-use Rattle.std.specs.Prelude.{[], ◌∷◌, not}
-use Rattle.pos_service.specs.declared.code.Code.TheVariants as code
-use Rattle.pos_service.specs.Properties.{needs_to_set, row_of, is_in, takes}
-use Rattle.pos_service.specs.Refusals.{when}
+use Rattle.pos_service.specs.Properties.{needs_to_set, row_of, is_in, value_rows}
 use Rattle.pos_common.specs.Checks.{Checks}
 use Rattle.pos_common.specs.Held.{Held}
-use Rattle.pos_common.proofs.CheckLemmas.{asks_second, check_lets, check_refuses, decided_by_rest}
+use Rattle.pos_common.proofs.CheckLemmas.{asks_second, check_lets, check_refuses, sets_by_rest}
 use Rattle.pos_common.proofs.control.Control.set.Goals as goal
 
 pub set_value-requires : goal.set_value-requires
@@ -19,9 +16,9 @@ pub returns-in-Ok : goal.returns-in-Ok
 returns-in-Ok c =
     let needs = c.needs_to_set.ensures ∙ ap (λ (held : Held). needs_to_set held.control.category c.args.property) c.self.view_is in
     let checks = subst (λ o. Checks c.args.number c.args.holder c.args.self.now.control c.needs_to_set.result o) c.in-Ok.is c.check.ensures in
-    decided_by_rest _ _ _ _ _ (check_lets c.args.number c.args.holder c.args.self.now.control c.needs_to_set.result
+    sets_by_rest _ _ _ _ _ _ _ (check_lets c.args.number c.args.holder c.args.self.now.control c.needs_to_set.result
     (needs_to_set c.args.self.now.control.category c.args.property)
-    (when (not (takes c.args.kind c.args.property c.args.value.now)) code.Illegal ∷ []) needs checks) c.set_value.ensures
+    (value_rows c.args.kind c.args.self.now.control c.args.property c.args.value.now) needs checks) c.set_value.ensures
 
 pub returns-in-Err : goal.returns-in-Err
 returns-in-Err c =

@@ -1,9 +1,9 @@
-use Rattle.std.proofs.Common.{◌≡◌, ◌+◌, ℕ, List, sym, subst, arith, rules}
+use Rattle.std.proofs.Common.{◌≡◌, ◌+◌, ℕ, List, length, sym, subst, arith, rules}
 use Rattle.pos_disk.specs.State.{DiskState, MayLeave, LeavesOnly, Writes, splice}
-use Rattle.pos_image.specs.Found.{prepared_body}
+use Rattle.pos_image.specs.Found.{prepared_image}
 use Rattle.pos_image.specs.Images.{View, images_of}
-use Rattle.pos_image.specs.Layout.{start}
-use Rattle.pos_image.specs.Spans.{IsWritable, KeepsImage, span_of}
+use Rattle.pos_image.specs.Layout.{start, layout_of}
+use Rattle.pos_image.specs.Spans.{IsInSpan, IsWritable, KeepsImage, span_of}
 use Rattle.pos_image.proofs.Spanned.{writable, write_held, writes_span, write_moments}
 use Rattle.pos_image.proofs.images.Images.log_write.Given.{Over}
 use Rattle.pos_image.proofs.images.Images.log_write.Goals.{After-write}
@@ -13,7 +13,7 @@ module _ (g : Over) (c : After-write g) where
   abbrev images : View g.row.D.Denot
   images =
       let d = c.self.inside in
-      images_of d.disk d.slot d.current.body.items d.current.sequence (prepared_body d.prepared)
+      images_of d.disk d.current.slot d.current.body.items d.current.sequence (prepared_image d.prepared)
 
   abbrev s0 : DiskState
   s0 = g.D.Disk.state c.self.inside.disk
@@ -24,11 +24,14 @@ module _ (g : Over) (c : After-write g) where
   is_writable : IsWritable g.D.Disk images
   is_writable = subst (IsWritable g.D.Disk) (sym c.self.view_is) c.requires.writable
 
+  inside : IsInSpan (layout_of c.self.inside.current.slot) c.args.at (length c.args.bytes.now)
+  inside = subst (λ (v : View g.row.D.Denot). IsInSpan (layout_of v.slot) c.args.at (length c.args.bytes.now)) (sym c.self.view_is) c.requires.inside
+
   only : g.D.Disk.honest c.self.inside.disk → (f : List ℕ) → s0.left_since s0.moment f → MayLeave s0 f
   only honest f left = g.met.D.Disk.only_now c.self.inside.disk f honest left
 
   -- the write began at its place in the slot
-  wrote : g.D.Disk.honest c.self.inside.disk → Writes s0 s1 (start c.self.inside.slot + c.args.at) c.args.bytes.now c.write.result
+  wrote : g.D.Disk.honest c.self.inside.disk → Writes s0 s1 (start c.self.inside.current.slot + c.args.at) c.args.bytes.now c.write.result
   wrote honest = subst (λ (k : ℕ). Writes s0 s1 (k + c.args.at) c.args.bytes.now c.write.result) c.start.ensures (c.write.ensures.writes honest)
 
   -- a crash at any moment, whatever the write answers
@@ -37,7 +40,7 @@ module _ (g : Over) (c : After-write g) where
       (KeepsImage c.args.self.now (span_of c.args.self.now (g.D.Disk.state c.write.new.self)))
   moments = rw (← c.self.view_is) (λ honest.
       write_moments images (g.D.Disk.state c.self.inside.disk) (g.D.Disk.state c.write.new.self) c.write.result (is_writable.held honest)
-      (only honest) c.args.at c.args.bytes.now c.requires.inside.from c.requires.inside.to (wrote honest))
+      (only honest) c.args.at c.args.bytes.now inside.from inside.to (wrote honest))
 
 pub returns-in_err-write-clause-any_moment : goal.returns-in_err-write-clause-any_moment
 returns-in_err-write-clause-any_moment g c = moments g (goal.at.returns-in_err-write-clause-any_moment g c).After-write
@@ -49,14 +52,14 @@ pub returns-in_err-write-clause-span : goal.returns-in_err-write-clause-span
 returns-in_err-write-clause-span g c = rw (← c.self.view_is) (λ honest.
     let here = (goal.at.returns-in_err-write-clause-span g c).After-write in
     writes_span (images g here) (s0 g here) (s1 g here) c.write.result ((is_writable g here).held honest)
-    (only g here honest) c.args.at c.args.bytes.now c.requires.inside.from c.requires.inside.to (wrote g here honest) _ (search rules))
+    (only g here honest) c.args.at c.args.bytes.now (inside g here).from (inside g here).to (wrote g here honest) _ (search rules))
 
 pub returns-clause-span : goal.returns-clause-span
 returns-clause-span g c = rw (← c.self.view_is) (λ honest.
     let here = (goal.at.returns-clause-span g c).After-write in
     let placed = λ (k : ℕ). (s1 g here).reading ≡ splice (s0 g here).reading (k + c.args.at) c.args.bytes.now in
     writes_span (images g here) (s0 g here) (s1 g here) c.write.result ((is_writable g here).held honest)
-    (only g here honest) c.args.at c.args.bytes.now c.requires.inside.from c.requires.inside.to (wrote g here honest) _
+    (only g here honest) c.args.at c.args.bytes.now (inside g here).from (inside g here).to (wrote g here honest) _
     (subst placed c.start.ensures (c.in_ok-write.ensures.writes honest).written))
 
 pub returns-clause-writable : goal.returns-clause-writable
@@ -66,5 +69,5 @@ returns-clause-writable g c =
     writable g.D.Disk _ (omega (arith, was.large, c.write.ensures.size)) was.counted (λ honest.
     let honest0 = c.write.ensures.honest.1 honest in
     let held = write_held (images g here) (s0 g here) (s1 g here) c.write.result (was.held honest0)
-    (only g here honest0) c.args.at c.args.bytes.now c.requires.inside.from c.requires.inside.to (wrote g here honest0) in
+    (only g here honest0) c.args.at c.args.bytes.now (inside g here).from (inside g here).to (wrote g here honest0) in
     record { loose = held.loose; current = held.current; prepared = held.prepared })

@@ -7,7 +7,7 @@ use Rattle.pos_image.proofs.images.Images.open.Goals as goal
 
 pub returns-in-Ok-clause-found : goal.returns-in-Ok-clause-found
 returns-in-Ok-clause-found g c honest =
-    current_stands c.in-Ok.found.slot (g.D.Disk.state c.args.disk).reading c.in-Ok.found.image.body.items c.in-Ok.found.image.sequence
+    current_stands c.in-Ok.current.slot (g.D.Disk.state c.args.disk).reading c.in-Ok.current.body.items c.in-Ok.current.sequence
     (c.in-Ok.ensures.found honest)
 
 pub returns-in-Ok-clause-ready : goal.returns-in-Ok-clause-ready
@@ -16,7 +16,7 @@ returns-in-Ok-clause-ready g c = (
       let was = c.find.ensures.keeps.honest.1 honest in
       record {
         at_rest = c.in-Ok.ensures.at_rest was;
-        current = subst (λ (b : List ℕ). IsCurrent b c.in-Ok.found.slot c.in-Ok.found.image.body.items c.in-Ok.found.image.sequence)
+        current = subst (λ (b : List ℕ). IsCurrent b c.in-Ok.current.slot c.in-Ok.current.body.items c.in-Ok.current.sequence)
             (sym (c.find.ensures.watches was).reading) (c.in-Ok.ensures.found was);
         prepared = tt;
       }),

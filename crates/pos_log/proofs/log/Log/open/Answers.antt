@@ -1,5 +1,9 @@
-use Rattle.std.proofs.Common.{◌≡◌, inl, inr, ⊎_elim, ◌+◌, ℕ, refl, sym, ap, subst, ◌∙◌, arith, rules}
+use Rattle.std.proofs.Common.{◌≡◌, inl, inr, ⊎_elim, ◌+◌, ◌-◌, ℕ, length, refl, sym, ap, subst, ◌∙◌, arith, rules}
+use Rattle.pos_disk.specs.State.{part}
+use Rattle.pos_image.specs.Images.{View}
+use Rattle.pos_image.specs.Layout.{layout_of, log_place, log_size}
 use Rattle.pos_image.specs.Standing.{log_of}
+use Rattle.pos_image.proofs.Places.{places}
 use Rattle.pos_image.proofs.Spanned.{ready_writable}
 use Rattle.pos_log.specs.Records.{HoldsRecords, HoldsSome}
 use Rattle.pos_log.proofs.Appending.{never_failed}
@@ -9,13 +13,25 @@ use Rattle.pos_log.proofs.log.Log.open.Given.{Over}
 use Rattle.pos_log.proofs.log.Log.open.Goals.{After-read_records}
 use Rattle.pos_log.proofs.log.Log.open.Goals as goal
 
--- what was read is the span
-read_is : (g : Over) (c : After-read_records g) → g.D.Disk.honest c.args.images.disk → c.deref.result.now ≡ log_of (g.D.Disk.state c.args.images.disk).reading
-read_is g c honest =
-    let long = ready_length g.D.Disk c.args.images c.requires honest in
-    whole_read c.deref.result.now c.log_read.new.out c.in-Ok.buffer.items
-    (log_of (g.D.Disk.state c.args.images.disk).reading) c.in-Ok.buffer.len c.in-Ok.ensures.len
-    (omega (arith, c.log_read.auto.out, c.as_mut_slice.ensures.len, c.in-Ok.ensures.len)) long c.deref.ensures.value (c.in-Ok-log_read.ensures.bytes honest)
+module _ (g : Over) (c : After-read_records g) where
+  from_is : c.log_span-first.result.0 ≡ log_place (layout_of c.args.images.slot)
+  from_is = ap (λ s. s.0) c.log_span-first.ensures
+
+  length_is : c.in-Ok.buffer.len ≡ log_size (layout_of c.args.images.slot)
+  length_is =
+      let to = ap (λ s. s.1) c.log_span-first.ensures in
+      let end = (places (layout_of c.args.images.slot)).end in
+      omega (arith, c.in-Ok.ensures.len, from_is, to, end)
+
+  -- what was read is the span
+  read_is : g.D.Disk.honest c.args.images.disk → c.deref.result.now ≡ log_of (g.D.Disk.state c.args.images.disk).reading
+  read_is honest =
+      let long = ready_length g.D.Disk c.args.images c.requires honest in
+      let span = log_of (g.D.Disk.state c.args.images.disk).reading in
+      let at : c.log_span-first.result.0 - log_place (layout_of c.args.images.slot) ≡ 0 = omega (arith, from_is) in
+      whole_read c.deref.result.now c.log_read.new.out c.in-Ok.buffer.items span c.in-Ok.buffer.len (log_size (layout_of c.args.images.slot)) length_is
+      (omega (arith, c.log_read.auto.out, c.as_mut_slice.ensures.len, length_is)) long c.deref.ensures.value
+      (c.in-Ok-log_read.ensures.bytes honest ∙ ap (λ (k : ℕ). part k (length c.log_read.new.out) span) at)
 
 pub log_read-requires-clause-writable : goal.log_read-requires-clause-writable
 log_read-requires-clause-writable g c = ready_writable g.D.Disk c.args.images c.requires
@@ -46,11 +62,12 @@ returns-in-Ok-read_records-clause-ready g c =
       images = c.in-Ok-log_read.ensures.ready c.requires;
       records = λ honest.
           let was = c.log_read.ensures.keeps.honest.1 honest in
-          let end = c.in-Ok-read_records.ensures.end in (
+          let end = c.in-Ok-read_records.ensures.end in
+          let place = ap (λ (im : View g.row.D.Denot). log_place (layout_of im.slot)) (sym c.log_read.ensures.same) in (
             _,
             subst (HoldsRecords _) (read_is g here was
                 ∙ ap log_of (sym (c.log_read.ensures.any_moment was).reading)) c.in-Ok-read_records.ensures.held,
-            ap (λ (k : ℕ). 16384 + k) end,
+            (λ i. (from_is g here ∙ place) i + end i),
           );
     }
 

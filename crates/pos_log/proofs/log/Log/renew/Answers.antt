@@ -1,41 +1,22 @@
-use Rattle.std.proofs.Common.{inl, inr, ⊎_elim, [], refl, ap, rules}
-use Rattle.pos_image.specs.Images.{View}
-use Rattle.pos_log.specs.Logs.{log_over}
-use Rattle.pos_log.proofs.Emptied.{no_records, renewing}
+use Rattle.std.proofs.Common.{◌+◌, ap, subst, Ok, Err}
+use Rattle.pos_image.specs.Images.{next_image}
+use Rattle.pos_image.specs.declared.layout.Layout.{Layout}
+use Rattle.pos_image.proofs.Places.{same_layout}
+use Rattle.pos_log.specs.Logs.{Renews, log_over}
+use Rattle.pos_log.proofs.Emptied.{renewed, not_renewed}
 use Rattle.pos_log.proofs.log.Log.renew.Goals as goal
 
 pub returns-in-Err-clause-renews : goal.returns-in-Err-clause-renews
-returns-in-Err-clause-renews g c = rw (← c.self.view_is) record {
-  ready = tt;
-  body_is = tt;
-  sequence_is = tt;
-  tail_is = tt;
-  image = λ honest. tt;
-  any_moment = λ honest. renewing _ _ _ _ _ _ (c.renew_images.ensures.any_moment honest);
-  too_large = c.in-Err.ensures.too_large;
-  exhausted = c.in-Err.ensures.exhausted;
-  unchanged = λ err. ⊎_elim (λ device. inl device) (λ same. inr (ap (λ (im : View g.row.D.Denot). log_over im c.self.inside.tail) same))
-      (c.in-Err.ensures.unchanged (search rules));
-  device = λ honest is. c.in-Err.ensures.device honest is;
-  counts = c.in-Err.ensures.counts;
-  keeps = c.renew_images.ensures.keeps;
-}
+returns-in-Err-clause-renews g c = rw (← c.self.view_is)
+    (let old = c.self.inside.images in
+    subst (λ (layout : Layout). Renews g.D.Disk (log_over old c.self.inside.tail) layout c.args.body.items (old.sequence + 1) (Err c.in-Err.fault)
+    (log_over c.renew_images.new.images c.self.inside.tail)) (same_layout old.slot)
+    (not_renewed g.D.Disk old c.self.inside.tail (next_image old c.args.body.items) c.renew_images.new.images _ c.in-Err.ensures.replaces))
 
 pub returns-in-Ok-clause-renews : goal.returns-in-Ok-clause-renews
-returns-in-Ok-clause-renews g c = rw (← c.self.view_is) record {
-  ready = record {
-    images = c.in-Ok.ensures.ready;
-    records = λ honest. ([], (no_records _ _ _ (c.in-Ok.ensures.log (c.renew_images.ensures.keeps.honest.1 honest))).log, refl);
-  };
-  body_is = c.in-Ok.ensures.published.0;
-  sequence_is = c.in-Ok.ensures.published.1;
-  tail_is = refl;
-  image = λ honest. no_records _ _ _ (c.in-Ok.ensures.log honest);
-  any_moment = λ honest. renewing _ _ _ _ _ _ (c.renew_images.ensures.any_moment honest);
-  too_large = c.in-Ok.ensures.too_large;
-  exhausted = c.in-Ok.ensures.exhausted;
-  unchanged = λ err. absurd cc;
-  device = λ honest is. absurd cc;
-  counts = c.in-Ok.ensures.counts;
-  keeps = c.renew_images.ensures.keeps;
-}
+returns-in-Ok-clause-renews g c = rw (← c.self.view_is)
+    (let old = c.self.inside.images in
+    subst (λ (layout : Layout). Renews g.D.Disk (log_over old c.self.inside.tail) layout c.args.body.items (old.sequence + 1) (Ok tt)
+    (log_over c.renew_images.new.images c.log_span.result.0)) (same_layout old.slot)
+    (renewed g.D.Disk old c.self.inside.tail (next_image old c.args.body.items) c.renew_images.new.images _ (ap (λ s. s.0) c.log_span.ensures)
+    c.in-Ok.ensures.replaces))

@@ -1,0 +1,3 @@
+[[device]]
+name = "t1"
+category = "HardTotals"

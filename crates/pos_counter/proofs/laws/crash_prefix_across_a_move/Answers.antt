@@ -1,0 +1,22 @@
+use Rattle.pos_counter.proofs.Moves.{fits_moved, held_along, moved_prefix}
+use Rattle.pos_counter.proofs.Prefixes.{fits_leaves}
+use Rattle.pos_counter.proofs.PrefixRuns.{bytes_along, run_fits}
+use Rattle.pos_counter.specs.History.{history_along}
+use Rattle.pos_counter.specs.Prefixes.{moved_with}
+use Rattle.pos_counter.proofs.laws.crash_prefix_across_a_move.Goals as goal
+
+pub returns-clause-moved : goal.returns-clause-moved
+returns-clause-moved c = moved_prefix
+
+pub returns-clause-after : goal.returns-clause-after
+returns-clause-after c history held files sequence is first last steps run starts =
+    let both = moved_with history is.prefix in
+    fits_leaves (history_along both first steps last run) last.totals
+    (run_fits both first steps last run (fits_moved history held files sequence is first.totals starts))
+
+pub returns-clause-along : goal.returns-clause-along
+returns-clause-along c history held files sequence is first last steps run starts =
+    bytes_along (moved_with history is.prefix) first steps last run (fits_moved history held files sequence is first.totals starts)
+
+pub returns-clause-held : goal.returns-clause-held
+returns-clause-held c history held files sequence is first last steps run = held_along (moved_with history is.prefix) held first steps last run is.holds

@@ -1,0 +1,55 @@
+use Rattle.std.proofs.Common.{◌≤◌, ◌≡◌, ℕ, List, length, refl, subst, ◌∙◌, arith}
+use Rattle.pos_image.specs.Slots.{HasHead}
+use Rattle.pos_image.specs.declared.slot.Slot.TheVariants.{Third, Fourth}
+use Rattle.pos_image.proofs.Current.{first_here, second_layout}
+use Rattle.pos_image.proofs.reading.read_heads.Given.{Over}
+use Rattle.pos_image.proofs.reading.read_heads.Goals.{After-read_head-2, then-third-via-then-third, then-third-via-else-third+then-fourth}
+use Rattle.pos_image.proofs.reading.read_heads.Goals as goal
+
+module _ (g : Over) (c : After-read_head-2 g) (honest : g.D.Disk.honest c.args.disk.now) where
+  abbrev bytes : List ℕ
+  bytes = (g.D.Disk.state c.args.disk.now).reading
+
+  whole : 327680 ≤ length bytes
+  whole = let size = g.met.D.Disk.whole c.args.disk.now honest in let large = c.requires.large in omega (arith, size, large)
+
+  honest1 : g.D.Disk.honest c.read_head.new.disk
+  honest1 = c.read_head.ensures.keeps.honest.0 honest
+
+  same1 : (g.D.Disk.state c.read_head.new.disk).reading ≡ bytes
+  same1 = (c.read_head.ensures.watches honest).reading
+
+  honest2 : g.D.Disk.honest c.read_head-2.new.disk
+  honest2 = c.read_head-2.ensures.keeps.honest.0 honest1
+
+  same2 : (g.D.Disk.state c.read_head-2.new.disk).reading ≡ bytes
+  same2 = (c.read_head-2.ensures.watches honest1).reading ∙ same1
+
+pub returns-then-third-clause-heads : goal.returns-then-third-clause-heads
+returns-then-third-clause-heads g c honest =
+    let here = (goal.at.returns-then-third-clause-heads g c).After-read_head-2 in
+    let third = c.in_ok-third.ensures.head honest in
+    let fourth = subst (λ (b : List ℕ). HasHead b 196608 c.in_ok-fourth.fourth) (same1 g here honest) (c.in_ok-fourth.ensures.head (honest1 g here honest)) in
+    record {
+      whole = whole g here honest;
+      layout_is = elim c.then-third.branch [
+        | then-third-via-then-third w ↦ second_layout (bytes g here honest) Third refl (third.gate ∙ w.if-third.true)
+        | then-third-via-else-third+then-fourth w ↦ second_layout (bytes g here honest) Fourth refl (fourth.gate ∙ w.if-fourth.true)
+      ];
+      at_first = third;
+      at_second = fourth;
+    }
+
+pub returns-clause-heads : goal.returns-clause-heads
+returns-clause-heads g c honest =
+    let here = (goal.at.returns-clause-heads g c).After-read_head-2 in
+    let third = c.in_ok-third.ensures.head honest in
+    let fourth = subst (λ (b : List ℕ). HasHead b 196608 c.in_ok-fourth.fourth) (same1 g here honest) (c.in_ok-fourth.ensures.head (honest1 g here honest)) in
+    let honest3 = c.read_head-3.ensures.keeps.honest.0 (honest2 g here honest) in
+    let same3 = (c.read_head-3.ensures.watches (honest2 g here honest)).reading ∙ same2 g here honest in
+    record {
+      whole = whole g here honest;
+      layout_is = first_here (bytes g here honest) (third.gate ∙ c.if-third.false) (fourth.gate ∙ c.if-fourth.false);
+      at_first = subst (λ (b : List ℕ). HasHead b 0 c.in_ok-first.first) (same2 g here honest) (c.in_ok-first.ensures.head (honest2 g here honest));
+      at_second = subst (λ (b : List ℕ). HasHead b 32768 c.in_ok-second.second) same3 (c.in_ok-second.ensures.head honest3);
+    }

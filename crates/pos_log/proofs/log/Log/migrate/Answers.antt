@@ -1,0 +1,14 @@
+use Rattle.std.proofs.Common.{ap}
+use Rattle.pos_image.specs.Images.{migrated_image}
+use Rattle.pos_log.proofs.Emptied.{renewed, not_renewed}
+use Rattle.pos_log.proofs.log.Log.migrate.Goals as goal
+
+pub returns-in-Err-clause-migrates : goal.returns-in-Err-clause-migrates
+returns-in-Err-clause-migrates g c = rw (← c.self.view_is)
+    (not_renewed g.D.Disk c.self.inside.images c.self.inside.tail (migrated_image c.args.body.items) c.migrate_images.new.images _
+    c.in-Err.ensures.replaces)
+
+pub returns-in-Ok-clause-migrates : goal.returns-in-Ok-clause-migrates
+returns-in-Ok-clause-migrates g c = rw (← c.self.view_is)
+    (renewed g.D.Disk c.self.inside.images c.self.inside.tail (migrated_image c.args.body.items) c.migrate_images.new.images _
+    (ap (λ s. s.0) c.log_span.ensures) c.in-Ok.ensures.replaces)

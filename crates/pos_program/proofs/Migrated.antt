@@ -1,0 +1,155 @@
+-- What a move to layout 2 did, by what the store's recovery and migration did.
+use Rattle.std.proofs.Common.{◌≡◌, inl, inr, ⊎_elim, ℕ, List, [], ◌∷◌, map, Result, Ok, Err, IsErrOf, refl, ap, sym, subst}
+use Rattle.pos_dir.specs.declared.file.File.{File}
+use Rattle.pos_disk.specs.State.{IsAtRest, LeavesOnly, Rises}
+use Rattle.pos_disk.specs.declared.device.Disk.{Ghosts}
+use Rattle.pos_disk.proofs.Moments.{followed_by, weaker}
+use Rattle.pos_image.specs.declared.layout.Layout.{Layout}
+use Rattle.pos_image.specs.declared.layout.Layout.TheVariants.{Layout1, Layout2}
+use Rattle.pos_image.specs.Layout.{log_place}
+use Rattle.pos_store.specs.Migrations.{AnswersMigration, Migrates}
+use Rattle.pos_store.specs.Modes.{StoreState, StoreView, Off, Ready, WhenReady, settled}
+use Rattle.pos_store.specs.Recoveries.{Recovers, RecoversOneOf}
+use Rattle.pos_store.specs.Standing.{Standing, Stands, IsOneOf, StandsFor, StandsForOneOf, StandsForEither, LeavesOneOf, Passes}
+use Rattle.pos_store.specs.declared.fault.StoreFault.{StoreFault}
+use Rattle.pos_store.specs.declared.fault.StoreFault.TheVariants as fault
+use Rattle.pos_program.specs.Migrating.{AnswersMove, MovesAny, MovesOneOf, moved}
+
+-- a new store over a disk
+abbrev pub new_store : {D : Type 0} → D → StoreView D
+new_store disk = record { disk = disk; layout = Layout1; state = Off; tail = 0 }
+
+-- one of the candidates is among them
+among : (candidates : List Standing) (standing : Standing) (bytes : List ℕ) → IsOneOf candidates standing → StandsFor standing bytes
+    → StandsForOneOf candidates bytes
+among [] standing bytes is stands = absurd is
+among (candidate ∷ candidates) standing bytes is stands =
+    ⊎_elim (λ this. inl (subst (λ (s : Standing). StandsFor s bytes) this stands)) (λ rest. inr (among candidates standing bytes rest stands)) is
+
+-- and with its files moved it is among the candidates that were moved
+one_moved : (candidates : List Standing) (standing : Standing) → IsOneOf candidates standing → IsOneOf (map moved candidates) (moved standing)
+one_moved [] standing is = absurd is
+one_moved (candidate ∷ candidates) standing is = ⊎_elim (λ this. inl (ap moved this)) (λ rest. inr (one_moved candidates standing rest)) is
+
+module _ {D : Type 0} (bound : Ghosts D) (disk : D) where
+  module _ (mid : D) (layout : Layout) (files : List File) (sequence tail : ℕ)
+      (recovers : Recovers bound (new_store disk) (Ok tt) (record { disk = mid; layout = layout; state = Ready files sequence; tail = tail }))
+      (honest : bound.honest disk) (candidates : List Standing) (leaves : LeavesOneOf candidates (bound.state disk)) where
+    one : RecoversOneOf candidates (bound.state disk) (bound.state mid) (Ok tt) layout (Ready files sequence)
+    one = recovers.one_of honest candidates leaves
+
+    -- what was found, by its own layout or by layout 2, is one of the candidates, or one that was moved
+    found_or_moved : (bytes : List ℕ) → StandsForOneOf (Stands layout files sequence ∷ Stands Layout2 files 1 ∷ []) bytes
+        → StandsForEither candidates (map moved candidates) bytes
+    found_or_moved bytes stands =
+        ⊎_elim (λ was. inl (among candidates (Stands layout files sequence) bytes one.found was))
+        (λ rest. ⊎_elim (λ is. inr (among (map moved candidates) (Stands Layout2 files 1) bytes (one_moved candidates (Stands layout files sequence) one.found) is))
+        (λ no. absurd no) rest) stands
+
+    -- a crash at any moment of both calls, where one of the migration leaves these
+    at_any_moment : (new : D) (after : List Standing)
+        → ((bytes : List ℕ) → StandsForOneOf after bytes → StandsForOneOf (Stands layout files sequence ∷ Stands Layout2 files 1 ∷ []) bytes)
+        → Passes (bound.state mid) (bound.state new) (Stands layout files sequence ∷ []) after
+        → LeavesOnly (bound.state disk) (bound.state new) (StandsForEither candidates (map moved candidates))
+    at_any_moment new after are passes =
+        followed_by (bound.state disk) (bound.state mid) (bound.state new) (StandsForEither candidates (map moved candidates))
+        (weaker (bound.state disk) (bound.state mid) (StandsForEither candidates candidates) (StandsForEither candidates (map moved candidates))
+        (λ bytes stands. inl (⊎_elim (λ was. was) (λ is. is) stands)) one.passes.any_moment)
+        (weaker (bound.state mid) (bound.state new) (StandsForEither (Stands layout files sequence ∷ []) after)
+        (StandsForEither candidates (map moved candidates))
+        (λ bytes stands. found_or_moved bytes (⊎_elim (λ was. ⊎_elim (λ this. inl this) (λ no. absurd no) was) (λ is. are bytes is) stands))
+        passes.any_moment)
+
+    -- nothing was moved
+    stays : (why : StoreFault) (new : StoreView D) → new ≡ record { disk = mid; layout = layout; state = Ready files sequence; tail = tail }
+        → AnswersMove candidates (bound.state disk) (Err why) (bound.state mid)
+        → MovesOneOf candidates (bound.state disk) (bound.state new.disk) (Err why)
+    stays why new same answer =
+        subst (λ (v : StoreView D). MovesOneOf candidates (bound.state disk) (bound.state v.disk) (Err why)) (sym same) (record {
+          answer = answer;
+          any_moment = weaker (bound.state disk) (bound.state mid) (StandsForEither candidates candidates) (StandsForEither candidates (map moved candidates))
+              (λ bytes stands. inl (⊎_elim (λ was. was) (λ is. is) stands)) one.passes.any_moment;
+          now = λ bytes may. inl (one.passes.now bytes may);
+        })
+
+    -- the files were moved
+    goes : (new : StoreView D) → layout ≡ Layout1
+        → new ≡ record { disk = new.disk; layout = Layout2; state = Ready files 1; tail = log_place Layout2 }
+        → Passes (bound.state mid) (bound.state new.disk) (Stands layout files sequence ∷ [])
+        (settled new.layout new.state (Stands layout files sequence ∷ Stands Layout2 files 1 ∷ []))
+        → WhenReady new.state (IsAtRest (bound.state new.disk)) → MovesOneOf candidates (bound.state disk) (bound.state new.disk) (Ok tt)
+    goes new first same passes at_rest =
+        let now : Passes (bound.state mid) (bound.state new.disk) (Stands layout files sequence ∷ []) (Stands Layout2 files 1 ∷ []) =
+        subst (Passes (bound.state mid) (bound.state new.disk) (Stands layout files sequence ∷ []))
+        (ap (λ (v : StoreView D). settled v.layout v.state (Stands layout files sequence ∷ Stands Layout2 files 1 ∷ [])) same) passes in
+        record {
+          answer = record {
+            files = files;
+            sequence = sequence;
+            found = subst (λ (l : Layout). IsOneOf candidates (Stands l files sequence)) first one.found;
+            at_rest = subst (λ (s : StoreState). WhenReady s (IsAtRest (bound.state new.disk))) (ap (λ (v : StoreView D). v.state) same) at_rest;
+            now = now.now;
+          };
+          any_moment = at_any_moment new.disk (Stands Layout2 files 1 ∷ []) (λ bytes is. inr is) now;
+          now = λ bytes may. found_or_moved bytes (inr (now.now bytes may));
+        }
+
+    -- the disk failed
+    fails : (new : StoreView D) → new.state ≡ Off
+        → Passes (bound.state mid) (bound.state new.disk) (Stands layout files sequence ∷ [])
+        (settled new.layout new.state (Stands layout files sequence ∷ Stands Layout2 files 1 ∷ []))
+        → Rises (bound.state mid).failures (bound.state new.disk).failures
+        → MovesOneOf candidates (bound.state disk) (bound.state new.disk) (Err fault.Device)
+    fails new off passes rises =
+        let both = Stands layout files sequence ∷ Stands Layout2 files 1 ∷ [] in
+        let now : Passes (bound.state mid) (bound.state new.disk) (Stands layout files sequence ∷ []) both =
+        subst (λ (s : StoreState). Passes (bound.state mid) (bound.state new.disk) (Stands layout files sequence ∷ [])
+        (settled new.layout s both)) off passes in
+        record {
+          answer = subst (λ n. Rises n (bound.state new.disk).failures) (⊎_elim (λ no. absurd cc) (λ same. same) (recovers.counts honest)) rises;
+          any_moment = at_any_moment new.disk both (λ bytes is. is) now;
+          now = λ bytes may. found_or_moved bytes (now.now bytes may);
+        }
+
+    -- what a migration of what was found answers, by its layout
+    found_moves : (by : Layout) → layout ≡ by → (result : Result (Unit {0}) StoreFault) (new : StoreView D)
+        → AnswersMigration (Ready files sequence) by (record { disk = mid; layout = layout; state = Ready files sequence; tail = tail }) result new
+        → Passes (bound.state mid) (bound.state new.disk) (Stands layout files sequence ∷ [])
+        (settled new.layout new.state (Stands layout files sequence ∷ Stands Layout2 files 1 ∷ []))
+        → WhenReady new.state (IsAtRest (bound.state new.disk))
+        → (IsErrOf result fault.Device → Rises (bound.state mid).failures (bound.state new.disk).failures)
+        → MovesOneOf candidates (bound.state disk) (bound.state new.disk) result
+    found_moves Layout1 is (Ok u) new answer passes at_rest device = goes new is answer passes at_rest
+    found_moves Layout1 is (Err fault.NoMemory) new answer passes at_rest device =
+        stays fault.NoMemory new answer (recovers.reading honest, one.passes.now)
+    found_moves Layout1 is (Err fault.Device) new answer passes at_rest device = fails new answer.0 passes (device refl)
+    found_moves Layout1 is (Err fault.Off) new answer passes at_rest device = absurd answer
+    found_moves Layout1 is (Err (fault.Refused refusal)) new answer passes at_rest device = absurd answer
+    found_moves Layout1 is (Err fault.Exhausted) new answer passes at_rest device = absurd answer
+    found_moves Layout1 is (Err fault.Unformatted) new answer passes at_rest device = absurd answer
+    found_moves Layout1 is (Err fault.Damaged) new answer passes at_rest device = absurd answer
+    found_moves Layout1 is (Err fault.AlreadyLayout2) new answer passes at_rest device = absurd answer
+    found_moves Layout2 is result new answer passes at_rest device =
+        subst (λ r. MovesOneOf candidates (bound.state disk) (bound.state new.disk) r) (sym answer.0)
+        (stays fault.AlreadyLayout2 new answer.1 (
+          record {
+            files = files;
+            sequence = sequence;
+            found = subst (λ (l : Layout). IsOneOf candidates (Stands l files sequence)) is one.found;
+          },
+          (recovers.reading honest, one.passes.now),
+        ))
+
+  -- a disk of which files were found, or not, and what became of them
+  pub migrated_moves : (mid : D) (layout : Layout) (state : StoreState) (tail : ℕ)
+      → Recovers bound (new_store disk) (Ok tt) (record { disk = mid; layout = layout; state = state; tail = tail })
+      → (result : Result (Unit {0}) StoreFault) (new : StoreView D)
+      → Migrates bound (record { disk = mid; layout = layout; state = state; tail = tail }) result new
+      → (bound.honest new.disk → WhenReady new.state (IsAtRest (bound.state new.disk))) → bound.honest disk
+      → MovesAny (bound.state disk) (bound.state new.disk) result
+  migrated_moves mid layout Off tail recovers result new migrates at_rest honest candidates leaves =
+      absurd (recovers.one_of honest candidates leaves).found
+  migrated_moves mid layout (Ready files sequence) tail recovers result new migrates at_rest honest candidates leaves =
+      let there = recovers.keeps.honest.0 honest in
+      found_moves mid layout files sequence tail recovers honest candidates leaves layout refl result new migrates.answer (migrates.crash there)
+      (at_rest (migrates.keeps.honest.0 there)) (migrates.device there)
