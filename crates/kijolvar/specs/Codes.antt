@@ -13,7 +13,7 @@ no_memory = 1
 abbrev pub bad_profile : ℕ
 bad_profile = 2
 
--- the answer is longer than the room for it
+-- what is told is longer than the room for it
 abbrev pub short : ℕ
 short = 3
 
@@ -21,17 +21,33 @@ short = 3
 abbrev pub cut : ℕ
 cut = 4
 
--- the descriptor is that of no file
-abbrev pub no_file : ℕ
-no_file = 5
+-- the answer waits for errands
+abbrev pub errands_left : ℕ
+errands_left = 5
+
+-- errands of earlier lines are left
+abbrev pub undone : ℕ
+undone = 6
+
+-- the file fell behind
+abbrev pub disk_failed : ℕ
+disk_failed = 7
 
 -- totals are in the file already
 abbrev pub formatted : ℕ
-formatted = 6
+formatted = 8
 
--- the disk failed, or it is too short
-abbrev pub disk_failed : ℕ
-disk_failed = 7
+-- the file is shorter than a disk
+abbrev pub too_small : ℕ
+too_small = 9
+
+-- an errand that writes
+abbrev pub write : ℕ
+write = 10
+
+-- an errand that makes what was written stay
+abbrev pub sync : ℕ
+sync = 11
 
 -- the code of an answer, by whether the room holds it
 abbrev pub told : Bool → ℕ
@@ -44,6 +60,11 @@ abbrev pub carried : {E : Type 0} → Result (Unit {0}) E → Bool → ℕ
 carried (Ok u) holds = told holds
 carried (Err fault) holds = cut
 
--- what formatting answers
+-- what formatting a file answers beside what opening one does
 abbrev pub IsFormatCode : ℕ → Type 0
-IsFormatCode code = (code ≡ ok) ⊎ (code ≡ no_file) ⊎ (code ≡ formatted) ⊎ (code ≡ disk_failed)
+IsFormatCode code = (code ≡ formatted) ⊎ (code ≡ too_small) ⊎ (code ≡ disk_failed)
+
+-- what is told of the next errand: that none is left, or its kind, or that there is less room than its bytes need
+abbrev pub IsErrandCode : ℕ → Type 0
+IsErrandCode code =
+    (code ≡ ok) ⊎ (code ≡ write) ⊎ (code ≡ sync) ⊎ (code ≡ short) ⊎ (code ≡ disk_failed)

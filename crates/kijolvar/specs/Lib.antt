@@ -1,4 +1,4 @@
 pub mod Codes
-pub mod Disks
+pub mod Errands
 pub mod Tills
 pub mod Profiles

@@ -1,5 +1,5 @@
 -- What a till is, and what is written of its answers (abi/README.md).
-use Rattle.std.specs.Prelude.{◌≡◌, ◌++◌, ℕ, List, [], Some, Result, length, take, drop, nat_le}
+use Rattle.std.specs.Prelude.{◌≡◌, ◌≢◌, ◌⊎◌, ◌++◌, ℕ, List, [], Some, Ok, length, take, drop, nat_le}
 use Rattle.pos_disk.specs.declared.device.Disk.{Ghosts as DiskGhosts}
 use Rattle.pos_disk.specs.Memory.{Memory, state_of}
 use Rattle.pos_disk.specs.State.{IsAtRest}
@@ -18,7 +18,9 @@ use Rattle.pos_run.specs.Simulating.{simulated_all, simulated_devices}
 use Rattle.pos_run.specs.Transcript.{Session, begun_session}
 use Rattle.kijolvar.specs.declared.kept.Kept.{Kept}
 use Rattle.kijolvar.specs.declared.till_disk.TillDisk.{TillDisk}
-use Rattle.kijolvar.specs.Codes.{carried}
+use Rattle.kijolvar.specs.declared.settlement.Settlement.{Settlement}
+use Rattle.kijolvar.specs.declared.settlement.Settlement.TheVariants.{InMemory, Settled, Owed, Failed}
+use Rattle.kijolvar.specs.Codes.{IsErrandCode, carried, disk_failed, errands_left, ok, undone}
 
 -- what the lines of a till have: the names of its controls, and its spares
 abbrev pub session_in : Ghosts Wrapped → Kept → Session
@@ -32,6 +34,7 @@ pub record Begins (peripherals : Ghosts Wrapped) (contents : Contents) (disk : T
   pub totals : till.counter.totals ≡ off_over disk
   pub session : session_in peripherals till ≡ begun_session (simulated_all contents.spares)
   pub answer : till.answer.items ≡ []
+  pub outcome : till.outcome ≡ Ok tt
 
 -- A disk that was formatted: at rest, with no files by layout 1, and sequence 1.
 pub record IsNewDisk (disk : Memory) : Type 0 where
@@ -39,12 +42,12 @@ pub record IsNewDisk (disk : Memory) : Type 0 where
   pub image : HasNewImage Layout1 no_files 1 (state_of disk).reading
 
 -- The lines of a text are carried out in order, and the new answer is what they print; or, where there was no memory
--- for that, they are as far as it is there, and it is a front.
-abbrev pub CarriesOut : {E : Type 0} → DiskGhosts TillDisk → Ghosts Wrapped → Kept → List ℕ → Result (Unit {0}) E → Kept
-    → Type 0
-CarriesOut bound peripherals old text result new =
-    CarriesOutLines bound peripherals old.counter (session_in peripherals old) (lines_of text) (Some [])
-    (Some new.answer.items) result (session_in peripherals new) new.counter
+-- for that, they are as far as it is there, and it is a front. What is in memory alone stays there.
+pub record CarriesOut (bound : DiskGhosts TillDisk) (peripherals : Ghosts Wrapped) (old : Kept) (text : List ℕ) (new : Kept)
+    : Type 0 where
+  pub lines : CarriesOutLines bound peripherals old.counter (session_in peripherals old) (lines_of text) (Some [])
+      (Some new.answer.items) new.outcome (session_in peripherals new) new.counter
+  pub in_memory : old.settlement ≡ InMemory → new.settlement ≡ InMemory
 
 -- The front of an answer that there is room for is written, what stands behind it in the room stays, and how long the
 -- answer is is told.
@@ -52,9 +55,69 @@ pub record Tells (answer before after : List ℕ) (needed : ℕ) : Type 0 where
   pub written : after ≡ take (length before) answer ++ drop (length answer) before
   pub length_told : needed ≡ length answer
 
--- What a call that carries out lines leaves: the till after it, what is written of its answer, and the code.
-pub record Answers {E : Type 0} (bound : DiskGhosts TillDisk) (peripherals : Ghosts Wrapped) (old : Kept)
-    (text before after : List ℕ) (needed code : ℕ) (result : Result (Unit {0}) E) (new : Kept) : Type 0 where
-  pub carries : CarriesOut bound peripherals old text result new
-  pub tells : Tells new.answer.items before after needed
-  pub code_told : code ≡ carried result (nat_le (length new.answer.items) (length before))
+-- nothing is written, and the code is this one
+pub record TellsNothing (before after : List ℕ) (needed_before needed code why : ℕ) : Type 0 where
+  pub text_stays : after ≡ before
+  pub needed_stays : needed ≡ needed_before
+  pub code_told : code ≡ why
+
+-- the answer is told, and the code of its lines
+pub record TellsAll (till : Kept) (before after : List ℕ) (needed code : ℕ) : Type 0 where
+  pub tells : Tells till.answer.items before after needed
+  pub code_told : code ≡ carried till.outcome (nat_le (length till.answer.items) (length before))
+
+-- what is handed over of a till's answer, by how its host stands to its disk: all of it, or nothing while errands are
+-- left or one failed
+abbrev pub HandsOverBy : Settlement → (till : Kept) (before after : List ℕ) (needed_before needed code : ℕ) → Type 0
+HandsOverBy InMemory till before after needed_before needed code = TellsAll till before after needed code
+HandsOverBy Settled till before after needed_before needed code = TellsAll till before after needed code
+HandsOverBy Owed till before after needed_before needed code =
+    TellsNothing before after needed_before needed code errands_left
+HandsOverBy Failed till before after needed_before needed code =
+    TellsNothing before after needed_before needed code disk_failed
+
+abbrev pub HandsOver : (till : Kept) (before after : List ℕ) (needed_before needed code : ℕ) → Type 0
+HandsOver till = HandsOverBy till.settlement till
+
+-- the lines of a text are carried out, and their answer is handed over
+pub record Served (bound : DiskGhosts TillDisk) (peripherals : Ghosts Wrapped) (old : Kept)
+    (text before after : List ℕ) (needed_before needed code : ℕ) (new : Kept) : Type 0 where
+  pub carries : CarriesOut bound peripherals old text new
+  pub hands_over : HandsOver new before after needed_before needed code
+
+-- nothing is carried out, and the code says why
+pub record Undone (old : Kept) (before after : List ℕ) (needed_before needed code why : ℕ) (new : Kept) : Type 0 where
+  pub stays : new ≡ old
+  pub tells : TellsNothing before after needed_before needed code why
+
+-- what a call with lines leaves, by how the till's host stands to its disk
+abbrev pub AnswersBy : Settlement → DiskGhosts TillDisk → Ghosts Wrapped → (old : Kept)
+    (text before after : List ℕ) (needed_before needed code : ℕ) (new : Kept) → Type 0
+AnswersBy InMemory bound peripherals old text before after needed_before needed code new =
+    Served bound peripherals old text before after needed_before needed code new
+AnswersBy Settled bound peripherals old text before after needed_before needed code new =
+    Served bound peripherals old text before after needed_before needed code new
+AnswersBy Owed bound peripherals old text before after needed_before needed code new =
+    Undone old before after needed_before needed code undone new
+AnswersBy Failed bound peripherals old text before after needed_before needed code new =
+    Undone old before after needed_before needed code disk_failed new
+
+abbrev pub Answers : DiskGhosts TillDisk → Ghosts Wrapped → (old : Kept)
+    (text before after : List ℕ) (needed_before needed code : ℕ) (new : Kept) → Type 0
+Answers bound peripherals old = AnswersBy old.settlement bound peripherals old
+
+-- Asking for the next errand changes how the host stands to the disk alone: where errands were left, none is where the
+-- code says so, and else none was before.
+pub record GoesOn (old new : Kept) (code : ℕ) : Type 0 where
+  pub stays : new ≡ record old { settlement = new.settlement }
+  pub code_told : IsErrandCode code
+  pub settles : new.settlement ≡ Settled → code ≡ ok
+  pub ends : code ≡ ok → (new.settlement ≡ InMemory) ⊎ (new.settlement ≡ Settled)
+  pub in_memory : old.settlement ≡ InMemory → new.settlement ≡ InMemory
+  pub failed : old.settlement ≡ Failed → (new.settlement ≡ Failed) × (code ≡ disk_failed)
+
+-- that an errand failed is taken as said, but where there is no file
+pub record Fails (old new : Kept) : Type 0 where
+  pub stays : new ≡ record old { settlement = new.settlement }
+  pub failed : old.settlement ≢ InMemory → new.settlement ≡ Failed
+  pub in_memory : old.settlement ≡ InMemory → new.settlement ≡ InMemory

@@ -1,22 +1,41 @@
-ghost use Rattle.std.specs.Prelude.{IfOk};
+//! The disks that tills begin with.
+ghost use Rattle.std.specs.Prelude.{◌≡◌, IfErr, IfOk};
+ghost use Rattle.pos_disk.specs.Memory.{fresh};
+ghost use Rattle.kijolvar.specs.Codes.{IsFormatCode};
 ghost use Rattle.kijolvar.specs.Tills.{IsNewDisk};
 
+use crate::codes::{DISK_FAILED, FORMATTED, TOO_SMALL};
+use crate::till_disk::TillDisk;
 use pos_disk::MemDisk;
-use pos_image::Images;
+use pos_image::{ImageFault, Images};
 use pos_service::NoMemory;
 use std::alloc::Global;
 
 /// How many bytes the disk of the totals has.
 const SIZE: usize = 327_680;
 
-/// A disk in memory that was formatted. Such a disk never fails, so want of memory is the only refusal.
-pub fn format_disk(alloc: Global) -> Result<MemDisk, NoMemory>
-    ensures { IfOk result (λ disk. IsNewDisk disk) }
-{
+/// A disk in memory of zero bytes.
+pub fn zero_disk(alloc: Global) -> Result<MemDisk, NoMemory> {
     let bytes = vec![in alloc; 0; SIZE]?;
-    let disk = MemDisk::new(alloc, bytes)?;
+    Ok(MemDisk::new(alloc, bytes)?)
+}
+
+/// A disk in memory of these bytes.
+pub fn disk_of(alloc: Global, bytes: &[u8]) -> Result<MemDisk, NoMemory>
+    ensures { IfOk result (λ disk. disk ≡ fresh bytes.now) }
+{
+    Ok(MemDisk::new(alloc, bytes.to_vec(alloc)?)?)
+}
+
+/// A disk with no files. Refused with FORMATTED where it has totals, and with TOO_SMALL where it is too short; it never fails.
+pub fn format_disk(disk: TillDisk) -> Result<TillDisk, u32>
+    ensures formatted { IfOk result (λ formatted. IsNewDisk formatted.memory) }
+    ensures refused { IfErr result (λ code. IsFormatCode code) }
+{
     match Images::format(disk) {
         Ok(formatted) => Ok(formatted),
-        Err((_, _)) => Err(NoMemory),
+        Err((ImageFault::AlreadyFormatted, _)) => Err(FORMATTED),
+        Err((ImageFault::TooSmall, _)) => Err(TOO_SMALL),
+        Err((_, _)) => Err(DISK_FAILED),
     }
 }

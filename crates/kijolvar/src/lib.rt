@@ -1,61 +1,40 @@
 //! A till for C, and for whatever calls C: lines in, the text of their answers out (docs/CONSOLE.md, abi/README.md).
 #![tactic(auto)]
 
-ghost use Rattle.std.specs.Prelude.{◌≡◌, ◌≢◌, ◌⊎◌, length, nat_le, IfOk, Ok, Err, Result};
-ghost use Rattle.pos_disk.specs.Memory.{Memory};
+ghost use Rattle.std.specs.Prelude.{◌≡◌, ◌≢◌, ◌↔◌, ◌⊎◌, IfErr, IfOk, IsNone, Ok, Err};
+ghost use Rattle.pos_disk.specs.Memory.{fresh};
 ghost use Rattle.pos_profile.specs.Entries.{Contents};
-ghost use Rattle.pos_script.specs.declared.write.WriteFault.{WriteFault};
-ghost use Rattle.kijolvar.specs.Codes.{IsFormatCode, carried, no_file, told};
+ghost use Rattle.kijolvar.specs.Codes.{IsFormatCode, no_memory, ok};
 ghost use Rattle.kijolvar.specs.Profiles.{Gives};
-ghost use Rattle.kijolvar.specs.Tills.{Answers, Begins, IsNewDisk, Tells};
+ghost use Rattle.kijolvar.specs.Tills.{Answers, Begins, Fails, GoesOn, HandsOver, IsNewDisk};
+ghost use Rattle.kijolvar.specs.declared.settlement.Settlement.TheVariants.{InMemory};
 ghost use Rattle.kijolvar.specs.declared.till.Till.{Till};
-ghost use Rattle.kijolvar.specs.declared.till_disk.TillDisk.TheVariants.{Memory as InMemory, File as InFile};
-ghost use Rattle.pos_descriptor.specs.declared.descriptor_disk.DescriptorDisk.{DescriptorDisk};
+ghost use Rattle.kijolvar.specs.declared.till_disk.TillDisk.{TillDisk};
 
+mod codes;
 mod disk;
+mod errands;
 mod kept;
 mod loose;
 mod session;
+mod settlement;
+mod telling;
 mod till;
 mod till_disk;
 
-use disk::format_disk;
-use pos_descriptor::DescriptorDisk;
+use codes::{BAD_PROFILE, DISK_FAILED, NO_MEMORY, OK, UNDONE};
+use disk::{disk_of, format_disk, zero_disk};
+use errands::Errands;
 use pos_disk::Disk;
-use pos_image::{ImageFault, Images};
 use pos_profile::{Profile, ProfileFault};
 use pos_run::Wrapped;
-use pos_script::WriteFault;
 use pos_service::{NoMemory, Peripheral};
 use session::Session;
+use settlement::Settlement;
 use std::alloc::Global;
 use std::str;
 use till::{Till, give, hold, take};
 use till_disk::TillDisk;
-
-/// The call did what it says.
-const OK: u32 = 0;
-
-/// There was no memory, and nothing was done.
-const NO_MEMORY: u32 = 1;
-
-/// The profile is refused (docs/PROFILE.md).
-const BAD_PROFILE: u32 = 2;
-
-/// The answer is longer than the room for it.
-const SHORT: u32 = 3;
-
-/// There was no memory for the whole answer.
-const CUT: u32 = 4;
-
-/// The descriptor is that of no file whose length can be told.
-const NO_FILE: u32 = 5;
-
-/// Totals are in the file already.
-const FORMATTED: u32 = 6;
-
-/// A read, a write or a sync failed, or the file is shorter than a disk.
-const DISK_FAILED: u32 = 7;
 
 /// The version of this interface. It changes where a call's meaning or its parameters do, and not with the language of
 /// the lines.
@@ -86,28 +65,6 @@ fn read_profile(alloc: Global, bytes: &[u8]) -> Result<Profile, u32>
     }
 }
 
-/// Writes the front of an answer that there is room for, and how long the answer is: whether that is all of it.
-fn tell(answer: &[u8], text: &mut [u8], needed: &mut usize) -> bool
-    ensures tells { Tells answer.now text.old text.new needed.new }
-    ensures whole { result ≡ nat_le (length answer.now) (length text.old) }
-{
-    let count = answer.len().min(text.len());
-    text[..count].copy_from_slice(&answer[..count]);
-    *needed = answer.len();
-    answer.len() <= text.len()
-}
-
-/// The code of lines that were carried out, by whether the room holds their answer.
-fn code_of(outcome: Result<(), WriteFault>, holds: bool) -> u32
-    ensures { result ≡ carried outcome holds }
-{
-    match outcome {
-        Ok(()) if holds => OK,
-        Ok(()) => SHORT,
-        Err(WriteFault) => CUT,
-    }
-}
-
 /// Leaves a session to C.
 fn leave(session: Box<Session>, out: &mut *mut u8)
     ensures { (kept : Till) × (out.new ≡ kept.at) × (kept.session ≡ session.value) }
@@ -116,13 +73,42 @@ fn leave(session: Box<Session>, out: &mut *mut u8)
 }
 
 /// A new session of a profile over a disk.
-fn begin(alloc: Global, profile: &Profile, disk: TillDisk) -> Result<Box<Session>, NoMemory>
-    ensures { IfOk result (λ session. Begins ⟦<Wrapped as Peripheral>⟧ profile.now disk session.value) }
+fn begin(
+    alloc: Global,
+    profile: &Profile,
+    disk: TillDisk,
+    errands: Option<Errands>,
+) -> Result<Box<Session>, NoMemory>
+    ensures begins { IfOk result (λ session. Begins ⟦<Wrapped as Peripheral>⟧ profile.now disk session.value) }
+    ensures settlement { IfOk result (λ session. IsNone errands ↔ (session.value.settlement ≡ InMemory)) }
 {
-    let session = Session::new(alloc, profile, disk)?;
+    let session = Session::new(alloc, profile, disk, errands)?;
     match Box::new(alloc, session) {
         Ok(kept) => Ok(kept),
         Err(_) => Err(NoMemory),
+    }
+}
+
+/// The disk of a file's bytes, and the errands that it adds to.
+fn disk_in_file(alloc: Global, bytes: &[u8]) -> Result<(TillDisk, Errands), NoMemory>
+    ensures { IfOk result (λ made. made.0.memory ≡ fresh bytes.now) }
+{
+    let errands = Errands::new(alloc)?;
+    let memory = disk_of(alloc, bytes)?;
+    Ok((TillDisk::new(memory, Some(errands.share()?)), errands))
+}
+
+/// A disk in memory with no files.
+fn new_disk(alloc: Global) -> Result<TillDisk, u32>
+    ensures made { IfOk result (λ disk. IsNewDisk disk.memory) }
+    ensures refused { IfErr result (λ code. code ≡ no_memory) }
+{
+    let Ok(memory) = zero_disk(alloc) else {
+        return Err(NO_MEMORY);
+    };
+    match format_disk(TillDisk::new(memory, None)) {
+        Ok(disk) => Ok(disk),
+        Err(_) => Err(NO_MEMORY),
     }
 }
 
@@ -132,72 +118,104 @@ fn begin(alloc: Global, profile: &Profile, disk: TillDisk) -> Result<Box<Session
 /// Answers OK, NO_MEMORY or BAD_PROFILE; where it isn't OK, nothing is written.
 #[unsafe(no_mangle)]
 pub extern "C" fn kijolvar_open(alloc: Global, profile: &[u8], out: &mut *mut u8) -> u32
-    ensures opened { result ≡ 0 → (contents : Contents) × (disk : Memory) × (kept : Till)
-        × Gives profile.now (Ok contents) × IsNewDisk disk × (out.new ≡ kept.at)
-        × Begins ⟦<Wrapped as Peripheral>⟧ contents (InMemory disk) kept.session }
-    ensures refused { result ≢ 0 → (out.new ≡ out.old) × Gives profile.now (Err result) }
+    ensures opened { result ≡ ok → (contents : Contents) × (disk : TillDisk) × (kept : Till)
+        × Gives profile.now (Ok contents) × IsNewDisk disk.memory × (out.new ≡ kept.at)
+        × Begins ⟦<Wrapped as Peripheral>⟧ contents disk kept.session × (kept.session.settlement ≡ InMemory) }
+    ensures refused { result ≢ ok → (out.new ≡ out.old) × Gives profile.now (Err result) }
 {
     let profile = match read_profile(alloc, profile) {
         Ok(profile) => profile,
         Err(code) => return code,
     };
-    let Ok(disk) = format_disk(alloc) else {
+    let Ok(disk) = new_disk(alloc) else {
         return NO_MEMORY;
     };
-    let Ok(session) = begin(alloc, &profile, TillDisk::Memory(disk)) else {
+    let Ok(session) = begin(alloc, &profile, disk, None) else {
         return NO_MEMORY;
     };
     leave(session, out);
     OK
 }
 
-/// A new till as `kijolvar_open` makes it, but with totals in the file of a descriptor, which the host has opened for
-/// reading and writing, keeps open as long as the till is there, and lets nobody else write. A file that is not
-/// formatted (`kijolvar_format`, or the program's `format`) is one whose totals can't be enabled.
+/// A new till as `kijolvar_open` makes it, but with totals in a file, whose bytes these are. The host has it open for
+/// writing as long as the till is there, lets nobody else write it, and does in it what the till's disk does, errand by
+/// errand (`kijolvar_next_errand`). A file that is not formatted (`kijolvar_format_file`, or the program's `format`)
+/// is one whose totals can't be enabled.
 ///
-/// Answers OK, NO_MEMORY, BAD_PROFILE or NO_FILE; where it isn't OK, nothing is written.
+/// Answers OK, NO_MEMORY or BAD_PROFILE; where it isn't OK, nothing is written.
 #[unsafe(no_mangle)]
 pub extern "C" fn kijolvar_open_file(
     alloc: Global,
     profile: &[u8],
-    descriptor: i32,
+    bytes: &[u8],
     out: &mut *mut u8,
 ) -> u32
-    ensures opened { result ≡ 0 → (contents : Contents) × (disk : DescriptorDisk) × (kept : Till)
-        × Gives profile.now (Ok contents) × (disk.descriptor ≡ descriptor) × (out.new ≡ kept.at)
-        × Begins ⟦<Wrapped as Peripheral>⟧ contents (InFile disk) kept.session }
-    ensures refused { result ≢ 0 → (out.new ≡ out.old) × ((result ≡ no_file) ⊎ Gives profile.now (Err result)) }
+    ensures opened { result ≡ ok → (contents : Contents) × (disk : TillDisk) × (kept : Till)
+        × Gives profile.now (Ok contents) × (disk.memory ≡ fresh bytes.now) × (out.new ≡ kept.at)
+        × Begins ⟦<Wrapped as Peripheral>⟧ contents disk kept.session × (kept.session.settlement ≢ InMemory) }
+    ensures refused { result ≢ ok → (out.new ≡ out.old) × Gives profile.now (Err result) }
 {
     let profile = match read_profile(alloc, profile) {
         Ok(profile) => profile,
         Err(code) => return code,
     };
-    let Ok(disk) = DescriptorDisk::over(descriptor) else {
-        return NO_FILE;
+    let Ok((disk, errands)) = disk_in_file(alloc, bytes) else {
+        return NO_MEMORY;
     };
-    let Ok(session) = begin(alloc, &profile, TillDisk::File(disk)) else {
+    let Ok(session) = begin(alloc, &profile, disk, Some(errands)) else {
         return NO_MEMORY;
     };
     leave(session, out);
     OK
 }
 
-/// Puts no files into the file of a descriptor, which the host has opened for reading and writing and made at least
-/// 327,680 bytes long (docs/DISK.md, "Formatting").
+/// A new till as `kijolvar_open_file` makes it, over a file that has no totals yet, of at least 327,680 bytes: it gets
+/// no files (docs/DISK.md, "Formatting"), which are the till's first errands.
 ///
-/// Answers OK, NO_FILE, FORMATTED where totals are there, which stay as they are, or DISK_FAILED, also where the file
-/// is shorter.
+/// Answers OK, NO_MEMORY or BAD_PROFILE, FORMATTED where the file has totals, or TOO_SMALL; where it isn't OK, nothing
+/// is written, and the file stays as it is.
 #[unsafe(no_mangle)]
-pub extern "C" fn kijolvar_format(descriptor: i32) -> u32
-    ensures { IsFormatCode result }
+pub extern "C" fn kijolvar_format_file(
+    alloc: Global,
+    profile: &[u8],
+    bytes: &[u8],
+    out: &mut *mut u8,
+) -> u32
+    ensures opened { result ≡ ok → (contents : Contents) × (disk : TillDisk) × (kept : Till)
+        × Gives profile.now (Ok contents) × IsNewDisk disk.memory × (out.new ≡ kept.at)
+        × Begins ⟦<Wrapped as Peripheral>⟧ contents disk kept.session × (kept.session.settlement ≢ InMemory) }
+    ensures refused { result ≢ ok → (out.new ≡ out.old) × (Gives profile.now (Err result) ⊎ IsFormatCode result) }
 {
-    let Ok(disk) = DescriptorDisk::over(descriptor) else {
-        return NO_FILE;
+    let profile = match read_profile(alloc, profile) {
+        Ok(profile) => profile,
+        Err(code) => return code,
     };
-    match Images::format(disk) {
-        Ok(_) => OK,
-        Err((ImageFault::AlreadyFormatted, _)) => FORMATTED,
-        Err((_, _)) => DISK_FAILED,
+    let Ok((disk, errands)) = disk_in_file(alloc, bytes) else {
+        return NO_MEMORY;
+    };
+    let disk = match format_disk(disk) {
+        Ok(formatted) => formatted,
+        Err(code) => return code,
+    };
+    let Ok(session) = begin(alloc, &profile, disk, Some(errands)) else {
+        return NO_MEMORY;
+    };
+    leave(session, out);
+    OK
+}
+
+/// Carries out lines and hands their answer over, where no errand is left and none failed.
+fn serve(session: &mut Session, lines: &[u8], text: &mut [u8], needed: &mut usize) -> u32
+    ensures { Answers ⟦<TillDisk as Disk>⟧ ⟦<Wrapped as Peripheral>⟧ session.old lines.now text.old text.new needed.old
+        needed.new result session.new }
+{
+    match session.settlement() {
+        Settlement::Owed => UNDONE,
+        Settlement::Failed => DISK_FAILED,
+        Settlement::InMemory | Settlement::Settled => {
+            session.carry_out(lines);
+            session.hand_over(text, needed)
+        }
     }
 }
 
@@ -208,6 +226,11 @@ pub extern "C" fn kijolvar_format(descriptor: i32) -> u32
 /// Answers OK; or SHORT where `text` has less room: all lines were carried out, a front of the answer is in `text`,
 /// and `kijolvar_answer` gives it whole; or CUT where there was no memory for what a line prints: that line was carried
 /// out, and no later one, and a front of the answer is kept.
+///
+/// Of a till over a file also: ERRANDS where the lines were carried out and their answer is kept until the host has
+/// done its errands: nothing is written; UNDONE where errands of earlier lines are left, and DISK_FAILED where one
+/// failed: nothing was carried out or written. DISK_FAILED too where there was no memory for an errand of these lines:
+/// what they changed may not be in the file.
 #[unsafe(no_mangle)]
 pub extern "C" fn kijolvar_carry_out(
     till: Till,
@@ -216,21 +239,21 @@ pub extern "C" fn kijolvar_carry_out(
     text: &mut [u8],
     needed: &mut usize,
 ) -> u32
-    ensures { (kept : Till) × (outcome : Result (Unit {0}) WriteFault) × (out.new ≡ kept.at)
-        × Answers ⟦<TillDisk as Disk>⟧ ⟦<Wrapped as Peripheral>⟧ till.session lines.now text.old text.new needed.new
-        result outcome kept.session }
+    ensures { (kept : Till) × (out.new ≡ kept.at)
+        × Answers ⟦<TillDisk as Disk>⟧ ⟦<Wrapped as Peripheral>⟧ till.session lines.now text.old text.new needed.old
+        needed.new result kept.session }
 {
     let mut session = take(till);
-    let outcome = session.carry_out(lines);
-    let holds = tell(session.answer(), text, needed);
+    let code = serve(&mut session, lines, text, needed);
     leave(session, out);
-    code_of(outcome, holds)
+    code
 }
 
 /// Writes to `text` the answer to the lines that the till was given last, as far as it was kept, and to `needed` how
 /// many bytes it has. Nothing is carried out. The till is what is written to `out` from then on.
 ///
-/// Answers OK, or SHORT where `text` has less room: a front of the answer is there.
+/// Answers OK, or SHORT where `text` has less room, or CUT as `kijolvar_carry_out` does: a front of the answer is there;
+/// or ERRANDS where errands are left, or DISK_FAILED where one failed: nothing is written.
 #[unsafe(no_mangle)]
 pub extern "C" fn kijolvar_answer(
     till: Till,
@@ -239,16 +262,49 @@ pub extern "C" fn kijolvar_answer(
     needed: &mut usize,
 ) -> u32
     ensures till { (kept : Till) × (out.new ≡ kept.at) × (kept.session ≡ till.session) }
-    ensures tells { Tells till.session.answer.items text.old text.new needed.new }
-    ensures code { result ≡ told (nat_le (length till.session.answer.items) (length text.old)) }
+    ensures answer { HandsOver till.session text.old text.new needed.old needed.new result }
 {
     let session = take(till);
-    let holds = tell(session.answer(), text, needed);
+    let code = session.hand_over(text, needed);
     leave(session, out);
-    code_of(Ok(()), holds)
+    code
 }
 
-/// Ends a till, its totals at rest.
+/// Tells the host the next thing to do to its file, once the one before is done: WRITE, where `needed` bytes, which are
+/// in `bytes`, go to the place `at`; SYNC, where what was written has to stay; or OK, where nothing is left. The till is
+/// what is written to `out` from then on.
+///
+/// Answers SHORT where `bytes` has less room than `needed` says: the errand stays the next one, and nothing else is
+/// written; and DISK_FAILED where an errand failed.
+#[unsafe(no_mangle)]
+pub extern "C" fn kijolvar_next_errand(
+    till: Till,
+    out: &mut *mut u8,
+    at: &mut u64,
+    bytes: &mut [u8],
+    needed: &mut usize,
+) -> u32
+    ensures { (kept : Till) × (out.new ≡ kept.at) × GoesOn till.session kept.session result }
+{
+    let mut session = take(till);
+    let code = session.next_errand(at, bytes, needed);
+    leave(session, out);
+    code
+}
+
+/// Tells a till that an errand failed. What its lines changed may or may not be in the file, none of them is answered,
+/// and the till can only be closed; one that is opened anew finds what is there. A till in memory stays as it is. The
+/// till is what is written to `out` from then on.
+#[unsafe(no_mangle)]
+pub extern "C" fn kijolvar_errand_failed(till: Till, out: &mut *mut u8)
+    ensures { (kept : Till) × (out.new ≡ kept.at) × Fails till.session kept.session }
+{
+    let mut session = take(till);
+    session.fail();
+    leave(session, out);
+}
+
+/// Ends a till, its totals at rest. Errands that are left are dropped.
 #[unsafe(no_mangle)]
 pub extern "C" fn kijolvar_close(till: Till) {
     drop(take(till));

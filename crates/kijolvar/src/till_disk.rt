@@ -1,63 +1,69 @@
 //! The disk of a till.
+ghost use Rattle.std.specs.Prelude.{◌≡◌};
 
-use pos_descriptor::DescriptorDisk;
+use crate::errands::Errands;
 use pos_disk::{Disk, DiskFault, MemDisk};
 
-/// The disk of a till: in memory, or in a file that its host has opened. It is honest in memory alone.
+/// The disk of a till: one in memory. Where a host has it in a file, each write and each sync becomes an errand of the
+/// host's too.
 #[derive(Drop)]
-pub enum TillDisk {
-    /// In memory.
-    Memory(MemDisk),
-    /// In a file, by its descriptor.
-    File(DescriptorDisk),
+pub struct TillDisk {
+    memory: MemDisk,
+    errands: Option<Errands>,
+}
+
+impl TillDisk {
+    /// The disk over one in memory.
+    pub fn new(memory: MemDisk, errands: Option<Errands>) -> TillDisk
+        ensures { result.memory ≡ memory }
+    {
+        TillDisk { memory, errands }
+    }
 }
 
 impl Disk for TillDisk {
-    ghost use Rattle.kijolvar.specs.Disks.{IsHonest, ReadsItself, SyncsItself, WritesItself, counts, only, size_of, state_in, whole};
+    ghost use Rattle.std.specs.Prelude.{length, ⊤};
+    ghost use Rattle.std.proofs.Common.{refl};
+    ghost use Rattle.pos_disk.specs.Memory.{state_of, MemoryReads, MemoryWrites, MemorySyncs};
+    ghost use Rattle.pos_disk.specs.Kept.{counts, only};
 
-    ghost size = { size_of };
+    ghost size = { λ disk. length disk.memory.present.reading };
 
-    ghost honest = { IsHonest };
+    ghost honest = { λ _. ⊤ };
 
-    ghost state = { state_in };
+    ghost state = { λ disk. state_of disk.memory };
 
-    ghost own_read = { ReadsItself };
+    ghost own_read = { λ old new. MemoryReads old.memory new.memory };
 
-    ghost own_write = { WritesItself };
+    ghost own_write = { λ old new. MemoryWrites old.memory new.memory };
 
-    ghost own_sync = { SyncsItself };
+    ghost own_sync = { λ old new. MemorySyncs old.memory new.memory };
 
-    ghost whole = { whole };
+    ghost whole = { λ disk _. refl };
 
-    ghost counts_now = { counts };
+    ghost counts_now = { λ disk t bytes _. counts disk.memory t bytes };
 
-    ghost only_now = { only };
+    ghost only_now = { λ disk bytes _. only disk.memory bytes };
 
     fn len(&self) -> u64 {
-        match self {
-            TillDisk::Memory(disk) => disk.len(),
-            TillDisk::File(disk) => disk.len(),
-        }
+        self.memory.len()
     }
 
     fn read(&mut self, at: u64, out: &mut [u8]) -> Result<(), DiskFault> {
-        match self {
-            TillDisk::Memory(disk) => disk.read(at, out),
-            TillDisk::File(disk) => disk.read(at, out),
-        }
+        self.memory.read(at, out)
     }
 
     fn write(&mut self, at: u64, bytes: &[u8]) -> Result<(), DiskFault> {
-        match self {
-            TillDisk::Memory(disk) => disk.write(at, bytes),
-            TillDisk::File(disk) => disk.write(at, bytes),
+        if let Some(errands) = &self.errands {
+            errands.add_write(at, bytes);
         }
+        self.memory.write(at, bytes)
     }
 
     fn sync(&mut self) -> Result<(), DiskFault> {
-        match self {
-            TillDisk::Memory(disk) => disk.sync(),
-            TillDisk::File(disk) => disk.sync(),
+        if let Some(errands) = &self.errands {
+            errands.add_sync();
         }
+        self.memory.sync()
     }
 }

@@ -4,4 +4,5 @@ pub mod Kept
 pub mod Memory
 pub mod Stamps
 pub mod State
+pub mod Unkept
 pub mod Within

@@ -1,7 +1,7 @@
 //! A disk in a file.
 ghost use Rattle.std.specs.Prelude.{◌≡◌, ◌≤◌, ◌+◌, ◌↔◌, IfOk, IsOk, Ok, true, false, length, max};
 ghost use Rattle.std.specs.Fs.{new_options, with_create, with_read, with_write};
-ghost use Rattle.pos_descriptor.specs.Unkept.{Fails, is_fault, unknown_state};
+ghost use Rattle.pos_disk.specs.Unkept.{Fails, is_fault, unknown_state};
 ghost use Rattle.pos_program.specs.Faults.{TellsOpen};
 
 use crate::file_fault::FileFault;

@@ -1,6 +1,4 @@
-use Rattle.std.proofs.Common.{◌∙◌, subst, sym}
-use Rattle.std.proofs.lemmas.Int.{to_z-of_z}
-use Rattle.std.specs.Int.{w32}
+use Rattle.std.proofs.Common.{◌∙◌, ap, subst, sym, true≢false}
 use Rattle.kijolvar.specs.Tills.{Begins}
 use Rattle.kijolvar.proofs.kijolvar_open_file.Goals as goal
 
@@ -8,10 +6,11 @@ pub returns-clause-opened : goal.returns-clause-opened
 returns-clause-opened c = λ fine.
     let (kept, at, same) = c.leave.ensures in (
       c.in-Ok.profile,
-      c.in-Ok-over.disk,
+      c.in-Ok-disk_in_file.disk,
       kept,
       c.in-Ok.ensures,
-      c.in-Ok-over.ensures.0 ∙ to_z-of_z w32 c.args.descriptor c.ranges.descriptor,
+      c.in-Ok-disk_in_file.ensures,
       at,
-      subst (Begins _ _ _) (sym same) c.in-Ok-begin.ensures,
+      subst (Begins _ _ _) (sym same) c.in-Ok-begin.ensures.begins,
+      λ in_memory. true≢false (c.in-Ok-begin.ensures.settlement.1 (ap (λ till. till.settlement) (sym same) ∙ in_memory)),
     )
