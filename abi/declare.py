@@ -1,6 +1,6 @@
 #!/usr/bin/env python3
-"""Writes what the library declares, out of the exports of crates/kijolvar/src/lib.rt and the numbers of crates/pos_service: for C
-kijolvar.h, for Python and Rust the constants alone.
+"""Writes what the library declares, out of the exports and codes of crates/kijolvar/src and the numbers of crates/pos_service: for
+C kijolvar.h, for Python and Rust the constants alone.
 
 Usage: abi/declare.py c > abi/kijolvar.h; abi/declare.py python > abi/python/standard.py; abi/declare.py rust > abi/rust/standard.rs
 """
@@ -10,12 +10,13 @@ import sys
 import textwrap
 
 TOP = pathlib.Path(__file__).resolve().parent.parent
+LIBRARY = TOP / "crates/kijolvar/src"
 TYPES = {
     "u32": "uint32_t {}",
-    "i32": "int32_t {}",
     "Till": "kijolvar_till {}",
     "&[u8]": "const uint8_t *{0}, size_t {0}_len",
     "&mut [u8]": "uint8_t *{0}, size_t {0}_len",
+    "&mut u64": "uint64_t *{}",
     "&mut usize": "size_t *{}",
     "&mut *mut u8": "void **{}",
 }
@@ -98,19 +99,20 @@ def version(source):
 
 
 def disk_length():
-    source = (TOP / "crates/kijolvar/src/disk.rt").read_text()
-    return int(re.search(r"const SIZE: usize = ([0-9_]+);", source)[1])
+    source = (LIBRARY / "disk.rt").read_text()
+    return int(re.search(r"pub const SIZE: usize = ([0-9_]+);", source)[1])
 
 
-def codes(source):
+def codes():
     """The library's codes, each with what it means."""
-    for found in re.finditer(r"^const ([A-Z_]+): u32 = (\d+);", source, re.M):
+    source = (LIBRARY / "codes.rt").read_text()
+    for found in re.finditer(r"^pub const ([A-Z_]+): u32 = (\d+);", source, re.M):
         yield f"KIJOLVAR_{found[1]}", int(found[2]), doc_before(source, found.start())
 
 
 def constants(source):
     """All numbers, each group with what it is."""
-    named = {"KIJOLVAR_VERSION": version(source), "KIJOLVAR_DISK_LENGTH": disk_length()} | {word: number for word, number, _ in codes(source)}
+    named = {"KIJOLVAR_VERSION": version(source), "KIJOLVAR_DISK_LENGTH": disk_length()} | {word: number for word, number, _ in codes()}
     yield "The version of the library, the bytes of a file for totals, and what calls answer.", named
     yield from groups()
 
@@ -142,7 +144,7 @@ typedef struct {{
 
 /* What a call answers. */
 enum {{""")
-    print("\n".join(f"    {comment(doc)}\n    {word} = {number}," for word, number, doc in codes(source)))
+    print("\n".join(f"    {comment(doc)}\n    {word} = {number}," for word, number, doc in codes()))
     print("};\n")
     for what, named in groups():
         print(f"/* {what} */\nenum {{")
@@ -173,4 +175,4 @@ def rust(source):
 
 if len(sys.argv) != 2 or sys.argv[1] not in ("c", "python", "rust"):
     sys.exit(__doc__)
-{"c": c, "python": python, "rust": rust}[sys.argv[1]]((TOP / "crates/kijolvar/src/lib.rt").read_text())
+{"c": c, "python": python, "rust": rust}[sys.argv[1]]((LIBRARY / "lib.rt").read_text())

@@ -11,7 +11,7 @@ extern "C" {
 #endif
 
 /* The version of this interface, which the library's has to be. */
-#define KIJOLVAR_VERSION 1u
+#define KIJOLVAR_VERSION 2u
 
 /* The least bytes of a file for totals. */
 #define KIJOLVAR_DISK_LENGTH 327680
@@ -30,16 +30,24 @@ enum {
     KIJOLVAR_NO_MEMORY = 1,
     /* The profile is refused (docs/PROFILE.md). */
     KIJOLVAR_BAD_PROFILE = 2,
-    /* The answer is longer than the room for it. */
+    /* What is told is longer than the room for it. */
     KIJOLVAR_SHORT = 3,
     /* There was no memory for the whole answer. */
     KIJOLVAR_CUT = 4,
-    /* The descriptor is that of no file whose length can be told. */
-    KIJOLVAR_NO_FILE = 5,
-    /* Totals are in the file already. */
-    KIJOLVAR_FORMATTED = 6,
-    /* A read, a write or a sync failed, or the file is shorter than a disk. */
+    /* The lines were carried out, and their answer waits for the errands that the host has in its file. */
+    KIJOLVAR_ERRANDS = 5,
+    /* Errands of the lines before are left, so these were not carried out. */
+    KIJOLVAR_UNDONE = 6,
+    /* The file fell behind: an errand failed, or there was no memory for one. The till can only be closed. */
     KIJOLVAR_DISK_FAILED = 7,
+    /* Totals are in the file already. */
+    KIJOLVAR_FORMATTED = 8,
+    /* The file is shorter than a disk. */
+    KIJOLVAR_TOO_SMALL = 9,
+    /* The errand writes bytes at a place. */
+    KIJOLVAR_WRITE = 10,
+    /* The errand makes what was written stay. */
+    KIJOLVAR_SYNC = 11,
 };
 
 /* The result codes of the standard, which stand in answers. */
@@ -142,19 +150,23 @@ uint32_t kijolvar_version(void);
    Answers OK, NO_MEMORY or BAD_PROFILE; where it isn't OK, nothing is written. */
 uint32_t kijolvar_open(const uint8_t *profile, size_t profile_len, void **out);
 
-/* A new till as kijolvar_open makes it, but with totals in the file of a descriptor, which the host has opened for
-   reading and writing, keeps open as long as the till is there, and lets nobody else write. A file that is not
-   formatted (kijolvar_format, or the program's format) is one whose totals can't be enabled.
+/* A new till as kijolvar_open makes it, but with totals in a file, whose bytes these are. The host has it open for
+   writing as long as the till is there, lets nobody else write it, and does in it what the till's disk does, errand by
+   errand (kijolvar_next_errand). A file that is not formatted (kijolvar_format_file, or the program's format)
+   is one whose totals can't be enabled.
 
-   Answers OK, NO_MEMORY, BAD_PROFILE or NO_FILE; where it isn't OK, nothing is written. */
-uint32_t kijolvar_open_file(const uint8_t *profile, size_t profile_len, int32_t descriptor, void **out);
+   Answers OK, NO_MEMORY or BAD_PROFILE, or TOO_SMALL where the file has fewer than 327,680 bytes; where it isn't OK,
+   nothing is written. */
+uint32_t kijolvar_open_file(const uint8_t *profile, size_t profile_len, const uint8_t *bytes, size_t bytes_len, void
+    **out);
 
-/* Puts no files into the file of a descriptor, which the host has opened for reading and writing and made at least
-   327,680 bytes long (docs/DISK.md, "Formatting").
+/* A new till as kijolvar_open_file makes it, over a file that has no totals yet, of at least 327,680 bytes: it gets
+   no files (docs/DISK.md, "Formatting"), which are the till's first errands.
 
-   Answers OK, NO_FILE, FORMATTED where totals are there, which stay as they are, or DISK_FAILED, also where the file
-   is shorter. */
-uint32_t kijolvar_format(int32_t descriptor);
+   Answers OK, NO_MEMORY or BAD_PROFILE, FORMATTED where the file has totals, or TOO_SMALL; where it isn't OK, nothing
+   is written, and the file stays as it is. */
+uint32_t kijolvar_format_file(const uint8_t *profile, size_t profile_len, const uint8_t *bytes, size_t bytes_len, void
+    **out);
 
 /* Carries out the lines of a text, each whole before the next, and writes to text what they print, and to
    needed how many bytes that is. What stands behind the last line feed is a line too. The till is what is written
@@ -162,17 +174,37 @@ uint32_t kijolvar_format(int32_t descriptor);
 
    Answers OK; or SHORT where text has less room: all lines were carried out, a front of the answer is in text,
    and kijolvar_answer gives it whole; or CUT where there was no memory for what a line prints: that line was carried
-   out, and no later one, and a front of the answer is kept. */
+   out, and no later one, and a front of the answer is kept.
+
+   Of a till over a file also: ERRANDS where the lines were carried out and their answer is kept until the host has
+   done its errands: nothing is written; UNDONE where errands of earlier lines are left, and DISK_FAILED where one
+   failed: nothing was carried out or written. DISK_FAILED too where there was no memory for an errand of these lines:
+   what they changed may not be in the file. */
 uint32_t kijolvar_carry_out(kijolvar_till till, void **out, const uint8_t *lines, size_t lines_len, uint8_t *text,
     size_t text_len, size_t *needed);
 
 /* Writes to text the answer to the lines that the till was given last, as far as it was kept, and to needed how
    many bytes it has. Nothing is carried out. The till is what is written to out from then on.
 
-   Answers OK, or SHORT where text has less room: a front of the answer is there. */
+   Answers OK, or SHORT where text has less room, or CUT as kijolvar_carry_out does: a front of the answer is there;
+   or ERRANDS where errands are left, or DISK_FAILED where one failed: nothing is written. */
 uint32_t kijolvar_answer(kijolvar_till till, void **out, uint8_t *text, size_t text_len, size_t *needed);
 
-/* Ends a till, its totals at rest. */
+/* Tells the host the next thing to do to its file, once the one before is done: WRITE, where needed bytes, which are
+   in bytes, go to the place at; SYNC, where what was written has to stay; or OK, where nothing is left. The till is
+   what is written to out from then on.
+
+   Answers SHORT where bytes has less room than needed says: the errand stays the next one, and nothing else is
+   written; and DISK_FAILED where an errand failed. */
+uint32_t kijolvar_next_errand(kijolvar_till till, void **out, uint64_t *at, uint8_t *bytes, size_t bytes_len, size_t
+    *needed);
+
+/* Tells a till that an errand failed. What its lines changed may or may not be in the file, none of them is answered,
+   and the till can only be closed; one that is opened anew finds what is there. A till in memory stays as it is. The
+   till is what is written to out from then on. */
+void kijolvar_errand_failed(kijolvar_till till, void **out);
+
+/* Ends a till, its totals at rest. Errands that are left are dropped. */
 void kijolvar_close(kijolvar_till till);
 
 #ifdef __cplusplus

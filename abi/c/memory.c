@@ -1,5 +1,5 @@
-/* Want of memory at each allocation in turn, over a small day: each answer is a code or a line of docs/CONSOLE.md, and
-   nothing is left. */
+/* Want of memory at each allocation in turn, over a small day with totals in memory and one with totals in a file: each
+   answer is a code or a line of docs/CONSOLE.md, nothing is left, and the file opens again. */
 #include "kijolvar.h"
 #include <stdbool.h>
 #include <stdio.h>
@@ -41,33 +41,80 @@ static const char lines[] = "new d CashDrawer\nopen d d1\nset d DeviceEnabled tr
                             "call t write 1 0 00000001";
 static const char wanted[] = "ok\nok\nok\nok\nevent StatusUpdateEvent 1\nok\nok\nok\nok 1\nok\n";
 
+static uint8_t file[KIJOLVAR_DISK_LENGTH], bytes[KIJOLVAR_DISK_LENGTH];
+
+/* Does the errands of a till in the file. */
+static uint32_t settle(kijolvar_till *till) {
+    uint64_t at = 0;
+    size_t count = 0;
+    for (;;) {
+        uint32_t code = kijolvar_next_errand(*till, &till->at, &at, bytes, sizeof bytes, &count);
+        if (code == KIJOLVAR_WRITE) memcpy(file + at, bytes, count);
+        else if (code != KIJOLVAR_SYNC) return code;
+    }
+}
+
+/* A till over totals in memory or in the file, which may be a new one. */
+static uint32_t begin(kijolvar_till *till, bool in_file, bool is_new) {
+    if (!in_file) return kijolvar_open(NULL, 0, &till->at);
+    uint32_t code = is_new ? kijolvar_format_file(NULL, 0, file, sizeof file, &till->at)
+                           : kijolvar_open_file(NULL, 0, file, sizeof file, &till->at);
+    return code;
+}
+
+/* Whether the file is new, or what stands in it opens and holds the day's totals or none. */
+static bool opens_again(void) {
+    static const char look[] = "new t HardTotals\nopen t t1\nset t DeviceEnabled true\nget t NumberOfFiles\n";
+    kijolvar_till till = {NULL};
+    uint8_t text[64];
+    size_t needed = 0;
+    may_come = 1000000;
+    if (begin(&till, true, false) != KIJOLVAR_OK) return false;
+    uint32_t code = kijolvar_carry_out(till, &till.at, (const uint8_t *)look, strlen(look), text, sizeof text, &needed);
+    if (code == KIJOLVAR_ERRANDS && (code = settle(&till)) == KIJOLVAR_OK)
+        code = kijolvar_answer(till, &till.at, text, sizeof text, &needed);
+    kijolvar_close(till);
+    return code == KIJOLVAR_OK && needed == 14 && memcmp(text, "ok\nok\nok\nok ", 12) == 0 && text[12] <= '1';
+}
+
 /* A day where so many allocations come: whether it ended whole; exits where it is amiss. */
-static bool day(long count) {
+static bool day(long count, bool in_file) {
     kijolvar_till till = {NULL};
     uint8_t text[512];
     size_t needed = 0;
+    memset(file, 0, sizeof file);
     may_come = count;
     live = 0;
-    uint32_t code = kijolvar_open(NULL, 0, &till.at);
+    uint32_t code = begin(&till, in_file, true);
+    bool is_formatted = false;
     if (code == KIJOLVAR_OK) {
-        code = kijolvar_carry_out(till, &till.at, (const uint8_t *)lines, strlen(lines), text, sizeof text, &needed);
+        code = settle(&till);
+        is_formatted = in_file && code == KIJOLVAR_OK;
+        if (code == KIJOLVAR_OK)
+            code = kijolvar_carry_out(till, &till.at, (const uint8_t *)lines, strlen(lines), text, sizeof text, &needed);
+        if (code == KIJOLVAR_ERRANDS && (code = settle(&till)) == KIJOLVAR_OK)
+            code = kijolvar_answer(till, &till.at, text, sizeof text, &needed);
         kijolvar_close(till);
     } else if (till.at != NULL) {
         exit(printf("a till was written at code %u\n", code));
     }
     if (live != 0) exit(printf("%ld allocations are left where %ld came\n", live, count));
-    if (code == KIJOLVAR_NO_MEMORY || code == KIJOLVAR_CUT) return false;
+    if (is_formatted && !opens_again()) exit(printf("the file doesn't open again where %ld came\n", count));
+    if (code == KIJOLVAR_NO_MEMORY || code == KIJOLVAR_CUT || (in_file && code == KIJOLVAR_DISK_FAILED)) return false;
     if (code != KIJOLVAR_OK) exit(printf("code %u where %ld came\n", code, count));
     return needed == strlen(wanted) && memcmp(text, wanted, needed) == 0;
 }
 
+/* How many allocations a whole day takes. */
+static long whole(bool in_file) {
+    long count = 0;
+    while (!day(count, in_file))
+        if (++count == 10000) exit(printf("never whole\n"));
+    return count;
+}
+
 int main(void) {
-    for (long count = 0; count < 10000; count++) {
-        if (day(count)) {
-            printf("%ld allocations\nwhole in the end, and nothing is left\n", count);
-            return 0;
-        }
-    }
-    printf("never whole\n");
-    return 1;
+    printf("%ld and %ld allocations\n", whole(false), whole(true));
+    printf("whole in the end, and nothing is left\n");
+    return 0;
 }

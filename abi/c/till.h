@@ -11,44 +11,72 @@
 #include <sys/stat.h>
 #include <unistd.h>
 
-/* A till, and the answer to the lines that it was given last, which ends in a 0 byte. */
+/* A till, the answer to the lines that it was given last, which ends in a 0 byte, and the file of its totals, with room for
+   what goes there; no file where they are in memory. */
 typedef struct {
     kijolvar_till till;
     char *text;
     size_t room;
+    int file;
+    uint8_t *bytes;
 } till;
 
 /* What isn't a result code of the standard: there was no memory, or the line was refused before it reached a control. */
 enum { TILL_NO_MEMORY = -1, TILL_REFUSED = -2 };
 
-/* A file for totals, opened for this till alone, made and formatted where it isn't yet. A negative number where that
-   can't be: it is to be removed first, if its totals may go. */
+/* A file for totals, opened for this till alone, and made where it isn't yet. A negative number where that can't be. */
 static inline int till_totals_file(const char *path) {
     struct stat told;
     int descriptor = open(path, O_RDWR | O_CREAT | O_CLOEXEC, 0600);
     if (descriptor < 0) return -1;
     if (flock(descriptor, LOCK_EX | LOCK_NB) == 0 && fstat(descriptor, &told) == 0
         && (told.st_size >= KIJOLVAR_DISK_LENGTH
-            || (ftruncate(descriptor, KIJOLVAR_DISK_LENGTH) == 0 && fsync(descriptor) == 0))) {
-        uint32_t code = kijolvar_format(descriptor);
-        if (code == KIJOLVAR_OK || code == KIJOLVAR_FORMATTED) return descriptor;
-    }
+            || (told.st_size == 0 && ftruncate(descriptor, KIJOLVAR_DISK_LENGTH) == 0 && fsync(descriptor) == 0)))
+        return descriptor;
     close(descriptor);
     return -1;
+}
+
+/* Does what the till's disk has done in the file, errand by errand: KIJOLVAR_OK where all of it is there. */
+static inline uint32_t till_settle(till *self) {
+    for (;;) {
+        uint64_t at = 0;
+        size_t count = 0;
+        uint32_t code = kijolvar_next_errand(self->till, &self->till.at, &at, self->bytes, KIJOLVAR_DISK_LENGTH, &count);
+        if (code == KIJOLVAR_WRITE && pwrite(self->file, self->bytes, count, (off_t)at) == (ssize_t)count) continue;
+        if (code == KIJOLVAR_SYNC && fsync(self->file) == 0) continue;
+        if (code == KIJOLVAR_OK) return code;
+        kijolvar_errand_failed(self->till, &self->till.at);
+        return KIJOLVAR_DISK_FAILED;
+    }
+}
+
+/* Opens the till over the file's bytes. A file of zero bytes alone is a new one, and gets no files. */
+static inline uint32_t till_open_file(till *self, const uint8_t *text, size_t count) {
+    const size_t length = KIJOLVAR_DISK_LENGTH;
+    if (self->bytes == NULL) return KIJOLVAR_NO_MEMORY;
+    ssize_t found = pread(self->file, self->bytes, length, 0);
+    if (found != (ssize_t)length) return found < 0 ? KIJOLVAR_DISK_FAILED : KIJOLVAR_TOO_SMALL;
+    int is_new = self->bytes[0] == 0 && memcmp(self->bytes, self->bytes + 1, length - 1) == 0;
+    uint32_t code = is_new ? kijolvar_format_file(text, count, self->bytes, length, &self->till.at)
+                           : kijolvar_open_file(text, count, self->bytes, length, &self->till.at);
+    if (code == KIJOLVAR_OK && (code = till_settle(self)) != KIJOLVAR_OK) kijolvar_close(self->till);
+    return code;
 }
 
 /* Opens a till over a profile's text (an empty one is the built profile), and a file for totals, which stays the caller's
    to close behind it; over totals in memory where the descriptor is negative. */
 static inline uint32_t till_open(till *self, const char *profile, int descriptor) {
     const uint8_t *text = (const uint8_t *)profile;
-    *self = (till){{NULL}, malloc(1), 1};
-    if (self->text == NULL) return KIJOLVAR_NO_MEMORY;
-    self->text[0] = 0;
-    uint32_t code = KIJOLVAR_BAD_PROFILE;
-    if (kijolvar_version() == KIJOLVAR_VERSION)
+    *self = (till){{NULL}, malloc(1), 1, descriptor, descriptor < 0 ? NULL : malloc(KIJOLVAR_DISK_LENGTH)};
+    uint32_t code = KIJOLVAR_NO_MEMORY;
+    if (kijolvar_version() != KIJOLVAR_VERSION) code = KIJOLVAR_BAD_PROFILE;
+    else if (self->text != NULL)
         code = descriptor < 0 ? kijolvar_open(text, strlen(profile), &self->till.at)
-                              : kijolvar_open_file(text, strlen(profile), descriptor, &self->till.at);
-    if (code != KIJOLVAR_OK) free(self->text);
+                              : till_open_file(self, text, strlen(profile));
+    if (code == KIJOLVAR_OK) return self->text[0] = 0, code;
+    free(self->text);
+    free(self->bytes);
     return code;
 }
 
@@ -56,20 +84,22 @@ static inline uint32_t till_open(till *self, const char *profile, int descriptor
 static inline void till_close(till *self) {
     kijolvar_close(self->till);
     free(self->text);
+    free(self->bytes);
 }
 
-/* Carries out lines; their answers are in self->text. */
+/* Carries out lines; their answers are in self->text, once what they changed is in the file. */
 static inline uint32_t till_carry_out(till *self, const char *lines) {
     size_t needed = 0;
     uint32_t code = kijolvar_carry_out(self->till, &self->till.at, (const uint8_t *)lines, strlen(lines),
                                        (uint8_t *)self->text, self->room - 1, &needed);
+    if (code == KIJOLVAR_ERRANDS && (code = till_settle(self)) == KIJOLVAR_OK)
+        code = kijolvar_answer(self->till, &self->till.at, (uint8_t *)self->text, self->room - 1, &needed);
     if (needed >= self->room) {
         char *text = realloc(self->text, needed + 1);
         if (text == NULL) return self->text[0] = 0, KIJOLVAR_NO_MEMORY;
         self->text = text;
         self->room = needed + 1;
-        uint32_t told = kijolvar_answer(self->till, &self->till.at, (uint8_t *)text, needed, &needed);
-        if (code == KIJOLVAR_SHORT) code = told;
+        code = kijolvar_answer(self->till, &self->till.at, (uint8_t *)text, needed, &needed);
     }
     self->text[needed] = 0;
     return code;

@@ -46,7 +46,7 @@ def look(till):
 
 
 library = load(sys.argv[1])
-with totals_file(library, sys.argv[2]) as totals:
+with totals_file(sys.argv[2]) as totals:
     for part in (sell, look):
         with Till(library, "", totals) as till:
             part(till)

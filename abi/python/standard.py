@@ -1,16 +1,20 @@
 """The numbers that stand in lines and answers. Written by abi/declare.py: don't change it by hand."""
 
 # The version of the library, the bytes of a file for totals, and what calls answer.
-KIJOLVAR_VERSION = 1
+KIJOLVAR_VERSION = 2
 KIJOLVAR_DISK_LENGTH = 327680
 KIJOLVAR_OK = 0
 KIJOLVAR_NO_MEMORY = 1
 KIJOLVAR_BAD_PROFILE = 2
 KIJOLVAR_SHORT = 3
 KIJOLVAR_CUT = 4
-KIJOLVAR_NO_FILE = 5
-KIJOLVAR_FORMATTED = 6
+KIJOLVAR_ERRANDS = 5
+KIJOLVAR_UNDONE = 6
 KIJOLVAR_DISK_FAILED = 7
+KIJOLVAR_FORMATTED = 8
+KIJOLVAR_TOO_SMALL = 9
+KIJOLVAR_WRITE = 10
+KIJOLVAR_SYNC = 11
 
 # The result codes of the standard, which stand in answers.
 E_SUCCESS = 0

@@ -3,8 +3,8 @@ import ctypes
 import fcntl
 import os
 
-from standard import (DISP_DT_NORMAL, KIJOLVAR_DISK_LENGTH, KIJOLVAR_FORMATTED, KIJOLVAR_OK, KIJOLVAR_SHORT, KIJOLVAR_VERSION,
-                      PTR_S_RECEIPT)
+from standard import (DISP_DT_NORMAL, KIJOLVAR_DISK_FAILED, KIJOLVAR_DISK_LENGTH, KIJOLVAR_ERRANDS, KIJOLVAR_OK, KIJOLVAR_SHORT,
+                      KIJOLVAR_SYNC, KIJOLVAR_VERSION, KIJOLVAR_WRITE, PTR_S_RECEIPT)
 
 
 class Fault(Exception):
@@ -26,9 +26,11 @@ def load(path):
     out, text, needed = ctypes.POINTER(pointer), ctypes.c_char_p, ctypes.POINTER(size)
     library.kijolvar_version.restype = number
     library.kijolvar_open.argtypes, library.kijolvar_open.restype = [text, size, out], number
-    library.kijolvar_open_file.argtypes = [text, size, ctypes.c_int32, out]
-    library.kijolvar_open_file.restype = number
-    library.kijolvar_format.argtypes, library.kijolvar_format.restype = [ctypes.c_int32], number
+    for call in (library.kijolvar_open_file, library.kijolvar_format_file):
+        call.argtypes, call.restype = [text, size, text, size, out], number
+    library.kijolvar_next_errand.argtypes = [Raw, out, ctypes.POINTER(ctypes.c_uint64), text, size, needed]
+    library.kijolvar_next_errand.restype = number
+    library.kijolvar_errand_failed.argtypes, library.kijolvar_errand_failed.restype = [Raw, out], None
     library.kijolvar_carry_out.argtypes = [Raw, out, text, size, text, size, needed]
     library.kijolvar_carry_out.restype = number
     library.kijolvar_answer.argtypes, library.kijolvar_answer.restype = [Raw, out, text, size, needed], number
@@ -36,17 +38,13 @@ def load(path):
     return library
 
 
-def totals_file(library, path):
-    """A file for totals, opened for one till alone, made and formatted where it isn't yet."""
+def totals_file(path):
+    """A file for totals, opened for one till alone, and made where it isn't yet."""
     kept = open(path, "r+b" if os.path.exists(path) else "x+b", buffering=0)
     fcntl.flock(kept, fcntl.LOCK_EX | fcntl.LOCK_NB)
-    if os.fstat(kept.fileno()).st_size < KIJOLVAR_DISK_LENGTH:
+    if os.fstat(kept.fileno()).st_size == 0:
         kept.truncate(KIJOLVAR_DISK_LENGTH)
         os.fsync(kept)
-    code = library.kijolvar_format(kept.fileno())
-    if code not in (KIJOLVAR_OK, KIJOLVAR_FORMATTED):
-        kept.close()
-        raise Fault(f"library {code}")
     return kept
 
 
@@ -62,10 +60,19 @@ class Till:
         if totals is None:
             code = library.kijolvar_open(given, len(given), ctypes.byref(self._at))
         else:
-            code = library.kijolvar_open_file(given, len(given), totals.fileno(), ctypes.byref(self._at))
+            kept = os.pread(totals.fileno(), KIJOLVAR_DISK_LENGTH, 0)
+            self._room = ctypes.create_string_buffer(KIJOLVAR_DISK_LENGTH)
+            # A file of zero bytes alone is a new one, and gets no files; a short one is refused by either call.
+            begin = library.kijolvar_open_file if any(kept) else library.kijolvar_format_file
+            code = begin(given, len(given), kept, len(kept), ctypes.byref(self._at))
         if code != KIJOLVAR_OK:
             self._at = None
             raise Fault(f"library {code}")
+        try:
+            self._settle()
+        except BaseException:
+            self.close()
+            raise
 
     def __enter__(self):
         return self
@@ -79,17 +86,41 @@ class Till:
             self._library.kijolvar_close(Raw(self._at.value))
             self._at = None
 
+    def _call(self, call, *words):
+        """A call of the library that is given the till, and says what it is from then on."""
+        return call(Raw(self._at.value), ctypes.byref(self._at), *words)
+
+    def _settle(self):
+        """Does what the till's disk has done in the file, errand by errand."""
+        if self._totals is None:
+            return
+        at, count, file = ctypes.c_uint64(), ctypes.c_size_t(), self._totals.fileno()
+        while True:
+            code = self._call(self._library.kijolvar_next_errand, ctypes.byref(at), self._room, KIJOLVAR_DISK_LENGTH,
+                              ctypes.byref(count))
+            try:
+                if code == KIJOLVAR_OK:
+                    return
+                if code == KIJOLVAR_SYNC:
+                    os.fsync(file)
+                elif code != KIJOLVAR_WRITE or os.pwrite(file, self._room[:count.value], at.value) != count.value:
+                    raise Fault(f"library {KIJOLVAR_DISK_FAILED}")
+            except BaseException:
+                self._call(self._library.kijolvar_errand_failed)
+                raise
+
     def carry_out(self, lines):
-        """Carries out lines: the text of their answers."""
+        """Carries out lines: the text of their answers, once what they changed is in the file."""
         if self._at is None:
             raise Fault("the till is closed")
         given, room, needed = lines.encode(), ctypes.create_string_buffer(256), ctypes.c_size_t()
-        code = self._library.kijolvar_carry_out(
-            Raw(self._at.value), ctypes.byref(self._at), given, len(given), room, 256, ctypes.byref(needed))
+        code = self._call(self._library.kijolvar_carry_out, given, len(given), room, 256, ctypes.byref(needed))
+        if code == KIJOLVAR_ERRANDS:
+            self._settle()
+            code = self._call(self._library.kijolvar_answer, room, 256, ctypes.byref(needed))
         if code == KIJOLVAR_SHORT:
             room = ctypes.create_string_buffer(needed.value)
-            code = self._library.kijolvar_answer(
-                Raw(self._at.value), ctypes.byref(self._at), room, needed.value, ctypes.byref(needed))
+            code = self._call(self._library.kijolvar_answer, room, needed.value, ctypes.byref(needed))
         if code != KIJOLVAR_OK:
             raise Fault(f"library {code}")
         return room.raw[: needed.value].decode()

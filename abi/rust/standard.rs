@@ -1,16 +1,20 @@
 //! The numbers that stand in lines and answers. Written by abi/declare.py: don't change it by hand.
 
 // The version of the library, the bytes of a file for totals, and what calls answer.
-pub const KIJOLVAR_VERSION: u32 = 1;
+pub const KIJOLVAR_VERSION: u32 = 2;
 pub const KIJOLVAR_DISK_LENGTH: u32 = 327680;
 pub const KIJOLVAR_OK: u32 = 0;
 pub const KIJOLVAR_NO_MEMORY: u32 = 1;
 pub const KIJOLVAR_BAD_PROFILE: u32 = 2;
 pub const KIJOLVAR_SHORT: u32 = 3;
 pub const KIJOLVAR_CUT: u32 = 4;
-pub const KIJOLVAR_NO_FILE: u32 = 5;
-pub const KIJOLVAR_FORMATTED: u32 = 6;
+pub const KIJOLVAR_ERRANDS: u32 = 5;
+pub const KIJOLVAR_UNDONE: u32 = 6;
 pub const KIJOLVAR_DISK_FAILED: u32 = 7;
+pub const KIJOLVAR_FORMATTED: u32 = 8;
+pub const KIJOLVAR_TOO_SMALL: u32 = 9;
+pub const KIJOLVAR_WRITE: u32 = 10;
+pub const KIJOLVAR_SYNC: u32 = 11;
 
 // The result codes of the standard, which stand in answers.
 pub const E_SUCCESS: u32 = 0;

@@ -4,14 +4,15 @@
 pub mod standard;
 
 use self::standard::{
-    DISP_DT_NORMAL, KIJOLVAR_DISK_LENGTH, KIJOLVAR_FORMATTED, KIJOLVAR_OK, KIJOLVAR_SHORT, KIJOLVAR_VERSION, PTR_S_RECEIPT,
+    DISP_DT_NORMAL, KIJOLVAR_DISK_FAILED, KIJOLVAR_DISK_LENGTH, KIJOLVAR_ERRANDS, KIJOLVAR_OK, KIJOLVAR_SHORT, KIJOLVAR_SYNC,
+    KIJOLVAR_VERSION, KIJOLVAR_WRITE, PTR_S_RECEIPT,
 };
 use std::ffi::c_void;
 use std::fmt;
 use std::fs::{File, OpenOptions};
 use std::io;
 use std::marker::PhantomData;
-use std::os::fd::AsRawFd;
+use std::os::unix::fs::FileExt;
 
 #[repr(C)]
 #[derive(Clone, Copy)]
@@ -20,8 +21,16 @@ struct Raw(*mut c_void);
 unsafe extern "C" {
     fn kijolvar_version() -> u32;
     fn kijolvar_open(profile: *const u8, profile_len: usize, out: *mut *mut c_void) -> u32;
-    fn kijolvar_open_file(profile: *const u8, profile_len: usize, descriptor: i32, out: *mut *mut c_void) -> u32;
-    fn kijolvar_format(descriptor: i32) -> u32;
+    fn kijolvar_open_file(
+        profile: *const u8, profile_len: usize, bytes: *const u8, bytes_len: usize, out: *mut *mut c_void,
+    ) -> u32;
+    fn kijolvar_format_file(
+        profile: *const u8, profile_len: usize, bytes: *const u8, bytes_len: usize, out: *mut *mut c_void,
+    ) -> u32;
+    fn kijolvar_next_errand(
+        till: Raw, out: *mut *mut c_void, at: *mut u64, bytes: *mut u8, bytes_len: usize, needed: *mut usize,
+    ) -> u32;
+    fn kijolvar_errand_failed(till: Raw, out: *mut *mut c_void);
     fn kijolvar_carry_out(
         till: Raw, out: *mut *mut c_void, lines: *const u8, lines_len: usize, text: *mut u8, text_len: usize,
         needed: *mut usize,
@@ -61,51 +70,89 @@ impl fmt::Display for Fault {
     }
 }
 
-/// A file for totals, opened for one till alone, made and formatted where it isn't yet.
+/// A file for totals, opened for one till alone, and made where it isn't yet.
 pub fn totals_file(path: &str) -> Result<File, Fault> {
     let file = OpenOptions::new().read(true).write(true).create(true).truncate(false).open(path)?;
     file.try_lock().map_err(|cause| Fault::File(cause.to_string()))?;
-    if file.metadata()?.len() < u64::from(KIJOLVAR_DISK_LENGTH) {
+    if file.metadata()?.len() == 0 {
         file.set_len(u64::from(KIJOLVAR_DISK_LENGTH))?;
         file.sync_all()?;
     }
-    // SAFETY: the descriptor is that of an open file.
-    match unsafe { kijolvar_format(file.as_raw_fd()) } {
-        KIJOLVAR_OK | KIJOLVAR_FORMATTED => Ok(file),
-        code => Err(Fault::Library(code)),
-    }
+    Ok(file)
 }
 
 /// A till, which closes itself. It stays on its thread, and has the file of its totals for itself.
 pub struct Till<'a> {
     at: Raw,
-    totals: PhantomData<Option<&'a mut File>>,
+    totals: Option<&'a mut File>,
+    bytes: Vec<u8>,
     on_one_thread: PhantomData<*mut ()>,
 }
 
 impl<'a> Till<'a> {
     /// A till over a profile's text (an empty one is the built profile), with totals in a file or, where there is none,
-    /// in memory.
+    /// in memory. A file of zero bytes alone is a new one, and gets no files.
     pub fn open(profile: &str, totals: Option<&'a mut File>) -> Result<Till<'a>, Fault> {
-        let mut at = std::ptr::null_mut();
+        let (mut at, mut bytes) = (std::ptr::null_mut(), Vec::new());
         // SAFETY: it takes nothing.
         if unsafe { kijolvar_version() } != KIJOLVAR_VERSION {
             return Err(Fault::Refused("another version of the library".to_string()));
         }
-        // SAFETY: a slice and a place, lent for the call, and a descriptor that stays open as long as the till is there.
+        if let Some(file) = &totals {
+            bytes.resize(KIJOLVAR_DISK_LENGTH as usize, 0);
+            file.read_exact_at(&mut bytes, 0)?;
+        }
+        let (text, length) = (profile.as_ptr(), profile.len());
+        // SAFETY: slices and a place, lent for the call.
         let code = unsafe {
             match totals {
-                None => kijolvar_open(profile.as_ptr(), profile.len(), &mut at),
-                Some(file) => kijolvar_open_file(profile.as_ptr(), profile.len(), file.as_raw_fd(), &mut at),
+                None => kijolvar_open(text, length, &mut at),
+                Some(_) if bytes.iter().all(|byte| *byte == 0) => {
+                    kijolvar_format_file(text, length, bytes.as_ptr(), bytes.len(), &mut at)
+                }
+                Some(_) => kijolvar_open_file(text, length, bytes.as_ptr(), bytes.len(), &mut at),
             }
         };
-        match code {
-            KIJOLVAR_OK => Ok(Till { at: Raw(at), totals: PhantomData, on_one_thread: PhantomData }),
-            code => Err(Fault::Library(code)),
+        if code != KIJOLVAR_OK {
+            return Err(Fault::Library(code));
+        }
+        let mut till = Till { at: Raw(at), totals, bytes, on_one_thread: PhantomData };
+        till.settle()?;
+        Ok(till)
+    }
+
+    /// Does what the till's disk has done in the file, errand by errand.
+    fn settle(&mut self) -> Result<(), Fault> {
+        let Some(file) = &self.totals else { return Ok(()) };
+        loop {
+            let (mut at, mut count) = (0, 0);
+            // SAFETY: the pointer is the one that was handed out last, and the buffers are apart.
+            let code = unsafe {
+                kijolvar_next_errand(
+                    self.at, &mut self.at.0, &mut at, self.bytes.as_mut_ptr(), self.bytes.len(), &mut count,
+                )
+            };
+            let done = match code {
+                KIJOLVAR_OK => return Ok(()),
+                KIJOLVAR_WRITE => file.write_all_at(&self.bytes[..count], at).map_err(Fault::from),
+                KIJOLVAR_SYNC => file.sync_all().map_err(Fault::from),
+                _ => Err(Fault::Library(KIJOLVAR_DISK_FAILED)),
+            };
+            if done.is_err() {
+                // SAFETY: as above.
+                unsafe { kijolvar_errand_failed(self.at, &mut self.at.0) };
+                return done;
+            }
         }
     }
 
-    /// Carries out lines: the text of their answers.
+    /// The answer to the lines that were given last, and its code, where there is this much room.
+    fn answer(&mut self, text: &mut [u8], needed: &mut usize) -> u32 {
+        // SAFETY: the pointer is the one that was handed out last, and the buffers are apart.
+        unsafe { kijolvar_answer(self.at, &mut self.at.0, text.as_mut_ptr(), text.len(), needed) }
+    }
+
+    /// Carries out lines: the text of their answers, once what they changed is in the file.
     pub fn carry_out(&mut self, lines: &str) -> Result<String, Fault> {
         let (mut text, mut needed) = (vec![0u8; 256], 0);
         // SAFETY: the pointer is the one that was handed out last, and the buffers are apart.
@@ -114,10 +161,13 @@ impl<'a> Till<'a> {
                 self.at, &mut self.at.0, lines.as_ptr(), lines.len(), text.as_mut_ptr(), text.len(), &mut needed,
             )
         };
+        if code == KIJOLVAR_ERRANDS {
+            self.settle()?;
+            code = self.answer(&mut text, &mut needed);
+        }
         if code == KIJOLVAR_SHORT {
             text.resize(needed, 0);
-            // SAFETY: as above.
-            code = unsafe { kijolvar_answer(self.at, &mut self.at.0, text.as_mut_ptr(), text.len(), &mut needed) };
+            code = self.answer(&mut text, &mut needed);
         }
         if code != KIJOLVAR_OK {
             return Err(Fault::Library(code));

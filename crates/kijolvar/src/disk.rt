@@ -12,7 +12,7 @@ use pos_service::NoMemory;
 use std::alloc::Global;
 
 /// How many bytes the disk of the totals has.
-const SIZE: usize = 327_680;
+pub const SIZE: usize = 327_680;
 
 /// A disk in memory of zero bytes.
 pub fn zero_disk(alloc: Global) -> Result<MemDisk, NoMemory> {

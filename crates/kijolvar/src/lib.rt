@@ -1,10 +1,11 @@
 //! A till for C, and for whatever calls C: lines in, the text of their answers out (docs/CONSOLE.md, abi/README.md).
 #![tactic(auto)]
 
-ghost use Rattle.std.specs.Prelude.{◌≡◌, ◌≢◌, ◌↔◌, ◌⊎◌, IfErr, IfOk, IsNone, Ok, Err};
+ghost use Rattle.std.specs.Prelude.{◌≡◌, ◌≢◌, ◌<◌, ◌↔◌, ◌⊎◌, length, IfErr, IfOk, IsNone, Ok, Err};
 ghost use Rattle.pos_disk.specs.Memory.{fresh};
 ghost use Rattle.pos_profile.specs.Entries.{Contents};
-ghost use Rattle.kijolvar.specs.Codes.{IsFormatCode, no_memory, ok};
+ghost use Rattle.kijolvar.specs.Codes.{IsFormatCode, no_memory, ok, too_small};
+ghost use Rattle.pos_image.specs.Layout.{disk_size};
 ghost use Rattle.kijolvar.specs.Profiles.{Gives};
 ghost use Rattle.kijolvar.specs.Tills.{Answers, Begins, Fails, GoesOn, HandsOver, IsNewDisk};
 ghost use Rattle.kijolvar.specs.declared.settlement.Settlement.TheVariants.{InMemory};
@@ -22,8 +23,8 @@ mod telling;
 mod till;
 mod till_disk;
 
-use codes::{BAD_PROFILE, DISK_FAILED, NO_MEMORY, OK, UNDONE};
-use disk::{disk_of, format_disk, zero_disk};
+use codes::{BAD_PROFILE, DISK_FAILED, NO_MEMORY, OK, TOO_SMALL, UNDONE};
+use disk::{SIZE, disk_of, format_disk, zero_disk};
 use errands::Errands;
 use pos_disk::Disk;
 use pos_profile::{Profile, ProfileFault};
@@ -40,9 +41,9 @@ use till_disk::TillDisk;
 /// the lines.
 #[unsafe(no_mangle)]
 pub extern "C" fn kijolvar_version() -> u32
-    ensures { result ≡ 1 }
+    ensures { result ≡ 2 }
 {
-    1
+    2
 }
 
 /// The profile of a text; the built one where the text is empty.
@@ -142,7 +143,8 @@ pub extern "C" fn kijolvar_open(alloc: Global, profile: &[u8], out: &mut *mut u8
 /// errand (`kijolvar_next_errand`). A file that is not formatted (`kijolvar_format_file`, or the program's `format`)
 /// is one whose totals can't be enabled.
 ///
-/// Answers OK, NO_MEMORY or BAD_PROFILE; where it isn't OK, nothing is written.
+/// Answers OK, NO_MEMORY or BAD_PROFILE, or TOO_SMALL where the file has fewer than 327,680 bytes; where it isn't OK,
+/// nothing is written.
 #[unsafe(no_mangle)]
 pub extern "C" fn kijolvar_open_file(
     alloc: Global,
@@ -153,12 +155,16 @@ pub extern "C" fn kijolvar_open_file(
     ensures opened { result ≡ ok → (contents : Contents) × (disk : TillDisk) × (kept : Till)
         × Gives profile.now (Ok contents) × (disk.memory ≡ fresh bytes.now) × (out.new ≡ kept.at)
         × Begins ⟦<Wrapped as Peripheral>⟧ contents disk kept.session × (kept.session.settlement ≢ InMemory) }
-    ensures refused { result ≢ ok → (out.new ≡ out.old) × Gives profile.now (Err result) }
+    ensures refused { result ≢ ok → (out.new ≡ out.old) × (Gives profile.now (Err result) ⊎ (result ≡ too_small)) }
+    ensures small { result ≡ too_small → length bytes.now < disk_size }
 {
     let profile = match read_profile(alloc, profile) {
         Ok(profile) => profile,
         Err(code) => return code,
     };
+    if bytes.len() < SIZE {
+        return TOO_SMALL;
+    }
     let Ok((disk, errands)) = disk_in_file(alloc, bytes) else {
         return NO_MEMORY;
     };
