@@ -1,0 +1,4 @@
+pub mod Applied
+pub mod Behind
+pub mod Broken
+pub mod Heads
