@@ -2,3 +2,4 @@ pub mod Applied
 pub mod Behind
 pub mod Broken
 pub mod Heads
+pub mod Told

@@ -1,2 +1,3 @@
 pub mod Damages
 pub mod Tellings
+pub mod Texts

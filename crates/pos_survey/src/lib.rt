@@ -9,6 +9,7 @@ mod log;
 mod opening;
 mod records;
 mod survey;
+mod text;
 
 pub use fault::{Rule, SurveyFault};
 pub use survey::Survey;
