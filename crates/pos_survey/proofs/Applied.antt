@@ -7,7 +7,7 @@ use Rattle.pos_dir.specs.declared.limits.Limits.{Limits}
 use Rattle.pos_log.specs.Records.{record_spelling, spelling}
 use Rattle.pos_store.proofs.Stepped.{front_drop}
 use Rattle.pos_store.specs.Standing.{Applies, IsStep}
-use Rattle.pos_survey.specs.Damages.{HasFlaw, StopsFor}
+use Rattle.pos_survey.specs.Damages.{IsRefused, StopsFor}
 use Rattle.pos_survey.specs.declared.fault.SurveyFault.{SurveyFault}
 use Rattle.pos_survey.specs.declared.fault.SurveyFault.TheVariants as fault
 
@@ -35,7 +35,7 @@ ends_within texts before behind text is =
 
 -- the first text that isn't applied
 pub stops : (limits : Limits) (base files : List File) (texts before behind : List (List ℕ)) (text : List ℕ) (first at : ℕ) (cause : SurveyFault)
-    → texts ≡ before ++ text ∷ behind → at ≡ first + length (spelling before) → Applies limits base before files → HasFlaw limits files text at cause
+    → texts ≡ before ++ text ∷ behind → at ≡ first + length (spelling before) → Applies limits base before files → IsRefused limits files text at cause
     → StopsFor limits base texts first cause
 stops limits base files texts before behind text first at fault.NoMemory is place applies flaw = tt
 stops limits base files texts before behind text first at fault.TooSmall is place applies flaw = flaw

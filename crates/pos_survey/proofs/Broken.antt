@@ -31,18 +31,27 @@ pub no_files : (bytes body : List ℕ) (slot : Slot) (sequence : ℕ) (cause : S
 no_files bytes body slot sequence fault.NoMemory current none = tt
 no_files bytes body slot sequence fault.TooSmall current none = absurd none
 no_files bytes body slot sequence fault.Unformatted current none = absurd none
-no_files bytes body slot sequence (fault.Damaged at broken) current none =
-    rw none.0 (
-      no_body_stands bytes (layout_of slot) body sequence (image_here slot bytes body sequence current).image none.2,
-      record { slot = slot; body = body; sequence = sequence; current = current; place_is = none.1; none = none.2 },
-    )
+no_files bytes body slot sequence (fault.Damaged at (rule.NoFiles flaw)) current none = (
+  no_body_stands bytes (layout_of slot) body sequence (image_here slot bytes body sequence current).image none.0,
+  record {
+    slot = slot;
+    body = body;
+    sequence = sequence;
+    current = current;
+    none = none.0;
+    within = none.1.0;
+    place_is = none.1.1;
+    has = none.1.2;
+  },
+)
+no_files bytes body slot sequence (fault.Damaged at other) current none = absurd none
 
 -- a text with a flaw is no step
 no_step : (limits : Limits) (files : List File) (text : List ℕ) (broken : Rule) → IsFlaw limits files text broken → (next : List File)
     → IsStep limits files text next → ⊥
 no_step limits files text rule.SameSequence flaw next step = flaw
 no_step limits files text rule.LongBody flaw next step = flaw
-no_step limits files text rule.NoFiles flaw next step = flaw
+no_step limits files text (rule.NoFiles why) flaw next step = flaw
 no_step limits files text rule.LongRecord flaw next step = flaw
 no_step limits files text rule.NoGroup flaw next step = flaw (step.changes, step.group, step.spelled)
 no_step limits files text rule.EmptyGroup flaw next step =
@@ -73,7 +82,7 @@ none_applied limits base texts first at broken stops last applies =
 bad_rule : (bytes : List ℕ) (at : ℕ) (broken : Rule) → HasBadRecord bytes at broken → IsDamage bytes at broken
 bad_rule bytes at rule.SameSequence bad = absurd bad.stops.flaw
 bad_rule bytes at rule.LongBody bad = absurd bad.stops.flaw
-bad_rule bytes at rule.NoFiles bad = absurd bad.stops.flaw
+bad_rule bytes at (rule.NoFiles why) bad = absurd bad.stops.flaw
 bad_rule bytes at rule.LongRecord bad = absurd bad.stops.flaw
 bad_rule bytes at rule.NoGroup bad = bad
 bad_rule bytes at rule.EmptyGroup bad = bad

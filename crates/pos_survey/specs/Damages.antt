@@ -3,6 +3,8 @@ use Rattle.std.specs.Prelude.{◌≡◌, ◌≤◌, ◌<◌, ◌+◌, ◌++◌, 
 use Rattle.pos_dir.specs.Calls.{IsBody, IsGroupText}
 use Rattle.pos_dir.specs.Changes.{IsGroup, fault_of}
 use Rattle.pos_dir.specs.Files.{IsDirectory}
+use Rattle.pos_dir.specs.Flaws.{HasFlaw}
+use Rattle.pos_dir.specs.declared.flaw.Flaw.{Flaw}
 use Rattle.pos_dir.specs.Spelling as directory
 use Rattle.pos_dir.specs.declared.change.Change.{Change}
 use Rattle.pos_dir.specs.declared.file.File.{File}
@@ -43,10 +45,10 @@ IsFlaw limits files text (rule.NotApplicable cause) =
 IsFlaw limits files text other = ⊥
 
 -- why the text of a record at this place isn't applied
-abbrev pub HasFlaw : Limits → List File → List ℕ → ℕ → SurveyFault → Type 0
-HasFlaw limits files text place fault.NoMemory = ⊤
-HasFlaw limits files text place (fault.Damaged at broken) = (at ≡ place) × IsFlaw limits files text broken
-HasFlaw limits files text place other = ⊥
+abbrev pub IsRefused : Limits → List File → List ℕ → ℕ → SurveyFault → Type 0
+IsRefused limits files text place fault.NoMemory = ⊤
+IsRefused limits files text place (fault.Damaged at broken) = (at ≡ place) × IsFlaw limits files text broken
+IsRefused limits files text place other = ⊥
 
 -- Of the records of a log that begins at a place, the one at this place breaks this rule: the groups of those before it
 -- are applied, and its text is no group that is applicable then.
@@ -74,8 +76,9 @@ pub record HasBase (bytes : List ℕ) (slot : Slot) (base : List File) (sequence
 -- why the body of an image in this slot isn't read: it spells no files
 abbrev pub HasNoFilesIn : List ℕ → Slot → SurveyFault → Type 0
 HasNoFilesIn body slot fault.NoMemory = ⊤
-HasNoFilesIn body slot (fault.Damaged at broken) =
-    (broken ≡ rule.NoFiles) × (at ≡ body_begins slot) × ¬ (IsBody (limits_of (layout_of slot)) body)
+HasNoFilesIn body slot (fault.Damaged at (rule.NoFiles flaw)) =
+    ¬ (IsBody (limits_of (layout_of slot)) body)
+    × ((within : ℕ) × (at ≡ body_begins slot + within) × HasFlaw (limits_of (layout_of slot)) body within flaw)
 HasNoFilesIn body slot other = ⊥
 
 -- why the records of a span in this slot aren't read: one doesn't fit
@@ -85,14 +88,16 @@ HasLongIn span slot (fault.Damaged at broken) =
     (broken ≡ rule.LongRecord) × ((within : ℕ) × (at ≡ log_begins slot + within) × log.BreaksAt span within)
 HasLongIn span slot other = ⊥
 
--- The body of the current image spells no files.
-pub record HasNoFiles (bytes : List ℕ) (at : ℕ) : Type 0 where
+-- The body of the current image spells no files, for this rule.
+pub record HasNoFiles (bytes : List ℕ) (at : ℕ) (flaw : Flaw) : Type 0 where
   pub slot : Slot
   pub body : List ℕ
   pub sequence : ℕ
   pub current : IsCurrent bytes slot body sequence
-  pub place_is : at ≡ body_begins slot
   pub none : ¬ (IsBody (limits_of (layout_of slot)) body)
+  pub within : ℕ
+  pub place_is : at ≡ body_begins slot + within
+  pub has : HasFlaw (limits_of (layout_of slot)) body within flaw
 
 -- The log behind the current image has a record that doesn't fit.
 pub record HasLongRecord (bytes : List ℕ) (at : ℕ) : Type 0 where
@@ -121,7 +126,7 @@ IsDamage bytes at rule.SameSequence =
 IsDamage bytes at rule.LongBody =
     (longest (layout_of (current_on bytes)) < length_at bytes (start (current_on bytes)))
     × (at ≡ length_place (current_on bytes))
-IsDamage bytes at rule.NoFiles = HasNoFiles bytes at
+IsDamage bytes at (rule.NoFiles flaw) = HasNoFiles bytes at flaw
 IsDamage bytes at rule.LongRecord = HasLongRecord bytes at
 IsDamage bytes at broken = HasBadRecord bytes at broken
 

@@ -12,7 +12,7 @@ ghost use Rattle.pos_survey.specs.Damages.{Breaks, HasNoFilesIn};
 
 use crate::fault::{Rule, SurveyFault};
 use crate::image::tell_damage;
-use pos_dir::{Directory, DirectoryFault, decode};
+use pos_dir::{Directory, DirectoryFault, decode, find_flaw};
 use pos_disk::{Disk, MemDisk};
 use pos_image::{ImageFault, Images, read_heads};
 use pos_store::limits_of;
@@ -64,8 +64,9 @@ pub fn read_files(alloc: Global, images: &Images<MemDisk>) -> Result<Directory, 
     match decode(alloc, images.body(), limits_of(images.layout())) {
         Ok(directory) => Ok(directory),
         Err(DirectoryFault::Malformed) => {
-            let at = images.slot().start() + BODY;
-            Err(SurveyFault::Damaged(at, Rule::NoFiles))
+            let (place, flaw) = find_flaw(images.body(), limits_of(images.layout()));
+            let at = images.slot().start() + BODY + place as u64;
+            Err(SurveyFault::Damaged(at, Rule::NoFiles(flaw)))
         }
         Err(_) => Err(SurveyFault::NoMemory),
     }

@@ -2,7 +2,7 @@
 ghost use Rattle.std.specs.Prelude.{◌≡◌, ◌+◌, ◌<◌, ◌^◌, length, map, OnOk, IfErr};
 ghost use Rattle.pos_log.specs.Records.{spelling};
 ghost use Rattle.pos_store.specs.Standing.{Applies, IsStep};
-ghost use Rattle.pos_survey.specs.Damages.{HasFlaw, StopsFor};
+ghost use Rattle.pos_survey.specs.Damages.{IsRefused, StopsFor};
 
 use crate::fault::{Rule, SurveyFault};
 use pos_dir::{Directory, DirectoryFault, apply_group, decode_group};
@@ -20,7 +20,7 @@ fn apply_text(
 ) -> Result<(), SurveyFault>
     ensures ok { OnOk result (IsStep directory.old.limits directory.old.files text.now directory.new.files) }
     ensures limits { directory.new.limits ≡ directory.old.limits }
-    ensures broken { IfErr result (HasFlaw directory.old.limits directory.old.files text.now at) }
+    ensures broken { IfErr result (IsRefused directory.old.limits directory.old.files text.now at) }
 {
     let group = match decode_group(alloc, text) {
         Ok(group) => group,

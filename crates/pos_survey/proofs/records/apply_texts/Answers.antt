@@ -5,7 +5,7 @@ use Rattle.pos_dir.specs.declared.limits.Limits.{Limits}
 use Rattle.pos_log.proofs.Holding.{spelling_length}
 use Rattle.pos_log.specs.Records.{spelling}
 use Rattle.pos_store.specs.Standing.{Applies, IsStep}
-use Rattle.pos_survey.specs.Damages.{HasFlaw}
+use Rattle.pos_survey.specs.Damages.{IsRefused}
 use Rattle.pos_survey.proofs.Applied.{applied_more, in_three, ends_within, stops}
 use Rattle.pos_survey.proofs.records.apply_texts.Goals as goal
 
@@ -18,8 +18,8 @@ returns-in-Err-clause-broken c =
     stops c.args.directory.now.limits c.args.directory.now.files c.loop-text.directory.files (map text_of texts) (map text_of (take i texts))
     (map text_of (drop (i + 1) texts)) item.items c.args.first c.loop-text.at c.in-Err.fault
     (in_three text_of texts i item c.loop-text-test.true c.text-item.is) c.loop-text.invariant.place c.loop-text.invariant.applied
-    (subst (λ (l : Limits). HasFlaw l c.loop-text.directory.files item.items c.loop-text.at c.in-Err.fault) c.loop-text.invariant.limits
-    (subst (λ (t : List ℕ). HasFlaw c.loop-text.directory.limits c.loop-text.directory.files t c.loop-text.at c.in-Err.fault) c.deref.ensures.value
+    (subst (λ (l : Limits). IsRefused l c.loop-text.directory.files item.items c.loop-text.at c.in-Err.fault) c.loop-text.invariant.limits
+    (subst (λ (t : List ℕ). IsRefused c.loop-text.directory.limits c.loop-text.directory.files t c.loop-text.at c.in-Err.fault) c.deref.ensures.value
     c.in-Err.ensures.broken))
 
 pub overflow_add-at-in-Ok : goal.overflow_add-at-in-Ok
