@@ -35,7 +35,7 @@ use Rattle.pos_totals.specs.Views.{TotalsView, IsReady, WhenOff}
 use Rattle.pos_counter.specs.Machine.{Device, Machine, Shared, device_at, holder_in, holder_of, kind_in, kind_of, station_in, with_control}
 use Rattle.pos_counter.specs.DiskUse.{SparesDisk}
 use Rattle.pos_counter.specs.Assembly.{over, machine_with, ArePartsSound}
-use Rattle.pos_counter.specs.Leaving.{part_of, Leaves}
+use Rattle.pos_counter.specs.Leaving.{part_of, part_with, Leaves}
 use Rattle.pos_counter.specs.Responses.{answered}
 use Rattle.pos_counter.specs.Serving.{IsRecovering, Serves}
 use Rattle.pos_counter.specs.Steps.{CallOf, Answered, IsSound, Step, Sets, SetsByRecovery}
@@ -228,16 +228,20 @@ module _ {D : Type 0} (bound : Ghosts D) (old new : TotalsView D) (off : old.tot
     enabled = after_set (signs_in (station_in (device_at ds c.device))) c p v
 
     -- the call recovers totals that are off, and nothing refuses it
-    uses : (left : List Standing) → SparesDisk (before left) (CallOf n (call.Set p v)) → ⊥
-    uses left spares = by_row (subst (λ (o : Option Control). MatchOption o ⊤ Spares) at spares)
+    uses : (left : List Standing) (failures : ℕ)
+        → SparesDisk (machine_with hs cl ds (part_with old.totals left failures)) (CallOf n (call.Set p v)) → ⊥
+    uses left failures spares = by_row (subst (λ (o : Option Control). MatchOption o ⊤ Spares) at spares)
       where
+        m : Machine
+        m = machine_with hs cl ds (part_with old.totals left failures)
+
         Spares : Control → Type 0
-        Spares k = IsSome (first_refusal (set_rows n (holder_of (before left) k) (kind_of (before left) k) k p v)) ⊎
+        Spares k = IsSome (first_refusal (set_rows n (holder_of m k) (kind_of m k) k p v)) ⊎
             ((asks_recovery k p v && not (is_ready old.totals.mode)) ≡ false)
 
         by_row : Spares c → ⊥
         by_row (inl refused) =
-            let none = enabling_unrefused n (holder left) (kind_of (before left) c) c p v asks in
+            let none = enabling_unrefused n (holder_of m c) (kind_of m c) c p v asks in
             let bad : false ≡ true = subst IsSome none refused in
             cc
         by_row (inr rests) = cc
@@ -273,7 +277,7 @@ module _ {D : Type 0} (bound : Ghosts D) (old new : TotalsView D) (off : old.tot
       sound = set_sound hs ds n g (signs_in (station_in (device_at ds c.device))) c p v at asks is sound;
       covers = refl;
       places = refl;
-      untouched = λ left spares. absurd (uses left spares);
+      spared = λ left failures spares. absurd (uses left failures spares);
       unchanged = λ undone was now. absurd (was_off was);
       kept = recovers.kept;
     }
@@ -336,7 +340,7 @@ module _ {D : Type 0} (bound : Ghosts D) (old new : TotalsView D) (off : old.tot
       sound = sound;
       covers = refl;
       places = refl;
-      untouched = λ left spares. absurd (uses left spares);
+      spared = λ left failures spares. absurd (uses left failures spares);
       unchanged = λ undone was now. absurd (was_off was);
       kept = recovers.kept;
     }

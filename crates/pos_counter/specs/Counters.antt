@@ -11,7 +11,7 @@ use Rattle.pos_counter.specs.declared.counter.Counter.{Counter}
 use Rattle.pos_counter.specs.Machine.{Machine}
 use Rattle.pos_counter.specs.KeptDevices.{devices_in, profile_devices, AreDevicesSound}
 use Rattle.pos_counter.specs.Assembly.{machine_with, ArePartsSound}
-use Rattle.pos_counter.specs.Leaving.{part_of, Leaves, Stepped}
+use Rattle.pos_counter.specs.Leaving.{part_of, part_with, IsSettled, Leaves, Spared, Stepped}
 use Rattle.pos_counter.specs.DiskUse.{IsUndone, SparesDisk}
 use Rattle.pos_image.specs.declared.layout.Layout.TheVariants.{Layout1}
 use Rattle.pos_profile.specs.declared.entry.Entry.{Entry}
@@ -46,9 +46,10 @@ pub record IsStep {D P : Type 0} (bound : DiskGhosts D) (peripherals : Ghosts P)
     (old : Counter D P) (request : Request) (response : Response) (new : Counter D P) : Type 0 where
   pub steps : (left : List Standing) → Leaves bound old.totals left
       → Stepped bound left (machine peripherals old) old.totals request response (machine peripherals new) new.totals
-  -- a request that spares the disk doesn't touch it
-  pub untouched : (left : List Standing) → SparesDisk (machine peripherals old (part_of bound old.totals left)) request
-      → new.totals.disk ≡ old.totals.disk
+  -- a request that spares the disk is a step whatever the disk is, and doesn't touch it
+  pub spared : (left : List Standing) (failures : ℕ)
+      → SparesDisk (machine peripherals old (part_with old.totals.totals left failures)) request
+      → Spared left failures (machine peripherals old) old.totals request response (machine peripherals new) new.totals
   -- nor does a call that isn't done, but after a fault of the disk, which turns the totals off, and but a recovery,
   -- which finds them off
   pub unchanged : IsUndone response → IsReady old.totals.totals.mode → IsReady new.totals.totals.mode
