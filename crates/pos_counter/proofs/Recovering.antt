@@ -38,7 +38,7 @@ use Rattle.pos_counter.specs.Assembly.{over, machine_with, ArePartsSound}
 use Rattle.pos_counter.specs.Leaving.{part_of, part_with, Leaves}
 use Rattle.pos_counter.specs.Responses.{answered}
 use Rattle.pos_counter.specs.Serving.{IsRecovering, Serves}
-use Rattle.pos_counter.specs.Steps.{CallOf, Answered, IsSound, Step, Sets, SetsByRecovery}
+use Rattle.pos_counter.specs.Steps.{CallOf, Answered, OutOfMemory, IsSound, Step, Sets, SetsByRecovery}
 use Rattle.pos_counter.specs.Totals.{TotalsPart, Recovers, asks_recovery, recovers, is_enabling, is_totals, settled}
 use Rattle.pos_counter.proofs.FileCalls.{settled_twice}
 use Rattle.pos_counter.proofs.Lifts.{control_at, decided_at, over_same, match_at_none, match_at_some, match_cases, match_weaker}
@@ -344,6 +344,34 @@ module _ {D : Type 0} (bound : Ghosts D) (old new : TotalsView D) (off : old.tot
       unchanged = λ undone was now. absurd (was_off was);
       kept = recovers.kept;
     }
+
+    -- the recovery finds no memory, and nothing has changed
+    pub starved_serves : (x : RecoveryFault) → DiskRecovers bound old (Err x) new → None ≡ code_of x
+        → Serves bound hs cl ds old (CallOf n (call.Set p v)) OutOfMemory hs cl ds new
+    starved_serves x recovers is = record {
+      steps = λ left leaves.
+          let same = failed_left x left recovers leaves in
+          record {
+            after = left;
+            leaves = subst (Leaves bound new) same (recovered_leaves (Err x) left recovers leaves);
+            step = match_at_some _ c _ _ at (
+              subst (λ b. IsTrue (b || tells_power c p v)) (sym recovering) refl,
+              enabling_unrefused n (holder left) (kind_of (before left) c) c p v asks,
+              ap (machine_with hs cl ds) (same_part x left recovers leaves.honest (no_fault x is)),
+            );
+            any_moment = subst (λ after. LeavesOnly (bound.state old.disk) (bound.state new.disk) (StandsForEither left after)) same
+                (found_one (Err x) left recovers leaves).passes.any_moment;
+          };
+      sound = sound;
+      covers = refl;
+      places = refl;
+      spared = λ left failures spares. absurd (uses left failures spares);
+      unchanged = λ undone was now. absurd (was_off was);
+      kept = recovers.kept;
+    }
+      where
+        no_fault : (x : RecoveryFault) → None ≡ code_of x → IsErrOf {T = Unit {0}} (Err x) fault.Device → ⊥
+        no_fault x is failed = cc
 
 -- ---- what a function that recovers knows
 

@@ -13,7 +13,7 @@ use Rattle.pos_counter.specs.declared.counter.Counter.{Counter}
 use Rattle.pos_counter.specs.Counters.{machine as machine_of_counter, IsLeftDuring, IsRun, IsStep, IsStepBeside, RunsFrom}
 use Rattle.pos_counter.specs.KeptDevices.{devices_in}
 use Rattle.pos_counter.specs.Assembly.{machine_with}
-use Rattle.pos_counter.specs.Leaving.{part_of, part_with, IsSettled, Leaves, Spared, Stepped}
+use Rattle.pos_counter.specs.Leaving.{part_of, part_with, Leaves, Spared, Stepped}
 use Rattle.pos_counter.specs.Serving.{MakesControl}
 use Rattle.pos_counter.specs.Steps.{NewControl, Step, Run}
 use Rattle.pos_service.specs.declared.request.Request.{Request}

@@ -10,7 +10,7 @@ use Rattle.pos_totals.specs.HardTotals.{Totals}
 use Rattle.pos_totals.specs.Views.{TotalsView}
 use Rattle.pos_counter.specs.Machine.{Device, Machine, Shared}
 use Rattle.pos_counter.specs.Assembly.{over, machine_with, ArePartsSound}
-use Rattle.pos_counter.specs.Leaving.{part_of, part_with, Leaves, Spared, Stepped}
+use Rattle.pos_counter.specs.Leaving.{part_of, part_with, Leaves, Stepped}
 use Rattle.pos_counter.specs.Serving.{Serves, ServesBeside, ServesUnder}
 use Rattle.pos_counter.specs.Steps.{Request, Response, Step, IsSound}
 use Rattle.pos_counter.specs.Totals.{TotalsPart, settled}

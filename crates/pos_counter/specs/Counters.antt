@@ -11,7 +11,7 @@ use Rattle.pos_counter.specs.declared.counter.Counter.{Counter}
 use Rattle.pos_counter.specs.Machine.{Machine}
 use Rattle.pos_counter.specs.KeptDevices.{devices_in, profile_devices, AreDevicesSound}
 use Rattle.pos_counter.specs.Assembly.{machine_with, ArePartsSound}
-use Rattle.pos_counter.specs.Leaving.{part_of, part_with, IsSettled, Leaves, Spared, Stepped}
+use Rattle.pos_counter.specs.Leaving.{part_of, part_with, Leaves, Spared, Stepped}
 use Rattle.pos_counter.specs.DiskUse.{IsUndone, SparesDisk}
 use Rattle.pos_image.specs.declared.layout.Layout.TheVariants.{Layout1}
 use Rattle.pos_profile.specs.declared.entry.Entry.{Entry}
