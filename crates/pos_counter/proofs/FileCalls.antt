@@ -179,13 +179,13 @@ module _ {D : Type 0} (bound : Ghosts D) (old new : TotalsView D) (only : OnlyNo
           answer = called_ok n fc asked part (part_of bound new after) result is (record {
             outcome = match_at_none (first_refusal rows) _ _ none (does_so left after (bound.state old.disk).failures
                 (bound.state new.disk).failures result (record {
-              does = puts_fewer (HasFailed bound old.disk new.disk) (Rises (bound.state old.disk).failures (bound.state new.disk).failures)
-                  (λ failed. failed leaves.honest) result does;
-              group = puts.group;
-              left = refl;
-              counts = puts.counts leaves.honest;
-              later = puts.kept.later leaves.honest;
-            }));
+                  does = puts_fewer (HasFailed bound old.disk new.disk) (Rises (bound.state old.disk).failures (bound.state new.disk).failures)
+                      (λ failed. failed leaves.honest) result does;
+                  group = puts.group;
+                  left = refl;
+                  counts = puts.counts leaves.honest;
+                  later = puts.kept.later leaves.honest;
+                }));
           });
           any_moment = subst (λ l. LeavesOnly (bound.state old.disk) (bound.state new.disk) (StandsForEither l after))
               (sym leaves.is_settled) passes.any_moment;

@@ -33,7 +33,7 @@ use Rattle.pos_totals.specs.declared.fault.RecoveryFault.TheVariants as fault
 use Rattle.pos_totals.specs.Recoveries.{Recovers as DiskRecovers, RecoversOneOf, FindsFiles, ReadsAs, code_of}
 use Rattle.pos_totals.specs.Views.{TotalsView, IsReady, WhenOff}
 use Rattle.pos_counter.specs.Machine.{Device, Machine, Shared, device_at, holder_in, holder_of, kind_in, kind_of, station_in, with_control}
-use Rattle.pos_counter.specs.DiskUse.{SparesDisk}
+use Rattle.pos_counter.specs.DiskUse.{SparesDisk, after_enabling}
 use Rattle.pos_counter.specs.Assembly.{over, machine_with, ArePartsSound}
 use Rattle.pos_counter.specs.Leaving.{part_of, part_with, Leaves}
 use Rattle.pos_counter.specs.Responses.{answered}
@@ -246,6 +246,18 @@ module _ {D : Type 0} (bound : Ghosts D) (old new : TotalsView D) (off : old.tot
             cc
         by_row (inr rests) = cc
 
+    -- it enables its control, which is one of Hard Totals
+    totals : c.category ≡ category.HardTotals
+    totals = (asks_enabling c p v asks).3
+
+    abbrev enabling : Control
+    enabling = after_enabling (machine_with hs cl ds (part_with old.totals [] 0)) c
+
+    enabled_so : enabled ≡ enabling
+    enabled_so =
+        ap (λ (q : Property). after_set (signs_in (station_in (device_at ds c.device))) c q v) (asks_enabling c p v asks).0
+        ∙ ap (λ (u : Value). after_set (signs_in (station_in (device_at ds c.device))) c property.DeviceEnabled u) (asks_enabling c p v asks).1
+
     -- the totals are off before
     was_off : IsReady old.totals.mode → ⊥
     was_off ready = subst IsReady off ready
@@ -278,6 +290,10 @@ module _ {D : Type 0} (bound : Ghosts D) (old new : TotalsView D) (off : old.tot
       covers = refl;
       places = refl;
       spared = λ left failures spares. absurd (uses left failures spares);
+      otherwise = λ left failures.
+          let before = part_with old.totals left failures in
+          let after = part_with new.totals left failures in
+          inr (match_at_some _ c _ _ at (totals, inr (set_machine hs cl ds n g enabling before after (is ∙ enabled_so))));
       unchanged = λ undone was now. absurd (was_off was);
       kept = recovers.kept;
     }
@@ -341,6 +357,7 @@ module _ {D : Type 0} (bound : Ghosts D) (old new : TotalsView D) (off : old.tot
       covers = refl;
       places = refl;
       spared = λ left failures spares. absurd (uses left failures spares);
+      otherwise = λ left failures. inr (match_at_some _ c _ _ at (totals, inl refl));
       unchanged = λ undone was now. absurd (was_off was);
       kept = recovers.kept;
     }
@@ -366,6 +383,7 @@ module _ {D : Type 0} (bound : Ghosts D) (old new : TotalsView D) (off : old.tot
       covers = refl;
       places = refl;
       spared = λ left failures spares. absurd (uses left failures spares);
+      otherwise = λ left failures. inr (match_at_some _ c _ _ at (totals, inl refl));
       unchanged = λ undone was now. absurd (was_off was);
       kept = recovers.kept;
     }

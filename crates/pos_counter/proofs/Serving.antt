@@ -1,5 +1,5 @@
 -- A step from sound parts of a counter leads to sound ones.
-use Rattle.std.proofs.Common.{◌≡◌, ◌∙◌, ℕ, List, [], Option, length, ap, sym, subst, refl, arith}
+use Rattle.std.proofs.Common.{◌≡◌, ◌∙◌, inl, ℕ, List, [], Option, length, ap, sym, subst, refl, arith}
 use Rattle.pos_disk.specs.State.{MayLeave}
 use Rattle.pos_disk.specs.declared.device.Disk.{Ghosts}
 use Rattle.pos_common.specs.Held.{Held}
@@ -107,6 +107,7 @@ arranges_serve {D = D} bound view new totals hs gs cl dl ds q r only disk is sam
       covers = covers;
       places = refl;
       spared = λ left failures spares. record { disk = refl; step = λ is. step left failures; is_settled = λ is. is ∙ sym (same left) };
+      otherwise = λ left failures. inl (record { disk = refl; step = λ is. step left failures; is_settled = λ is. is ∙ sym (same left) });
       unchanged = λ undone was is. refl;
       kept = kept_disk bound view.disk;
     })
@@ -121,6 +122,7 @@ under_serves bound view hs gs cl ds es q r only serves = record {
   covers = refl;
   places = serves.places;
   spared = λ left failures spares. record { disk = refl; step = λ is. serves.step (part_with view.totals left failures); is_settled = λ is. is };
+  otherwise = λ left failures. inl (record { disk = refl; step = λ is. serves.step (part_with view.totals left failures); is_settled = λ is. is });
   unchanged = λ undone was is. refl;
   kept = kept_disk bound view.disk;
 }
@@ -145,6 +147,7 @@ looks_serve bound view hs cl ds q r only sound step = record {
   covers = refl;
   places = refl;
   spared = λ left failures spares. record { disk = refl; step = λ is. step left failures; is_settled = λ is. is };
+  otherwise = λ left failures. inl (record { disk = refl; step = λ is. step left failures; is_settled = λ is. is });
   unchanged = λ undone was is. refl;
   kept = kept_disk bound view.disk;
 }

@@ -111,6 +111,7 @@ files_serve bound view new hs cl ds n c asked outcome own at is lets calls sound
             (calls.spared left failures settled spares_files).answer;
         is_settled = λ settled. (calls.spared left failures settled spares_files).is_settled;
       };
+  otherwise = λ left failures. inr (match_at_some _ c _ _ at (is, inl refl));
   unchanged = λ undone was now. elim (calls.unchanged (not_done outcome undone)) [
     | inl turns ↦ absurd (still_ready view.totals.mode new.totals.mode turns now)
     | inr same ↦ same

@@ -19,7 +19,7 @@ use Rattle.pos_counter.specs.declared.faults.ControlFault.{ControlFault}
 use Rattle.pos_counter.specs.Steps.{Request, NewControl, Response, Step}
 use Rattle.pos_service.specs.declared.answer.Value.{Value}
 use Rattle.pos_service.specs.declared.property.Property.{Property}
-use Rattle.pos_counter.specs.DiskUse.{IsUndone, SparesDisk, SparesFiles}
+use Rattle.pos_counter.specs.DiskUse.{ChangesTotalsAlone, IsUndone, SparesDisk, SparesFiles}
 use Rattle.pos_counter.specs.Totals.{TotalsPart, FilesCalled, asks_recovery}
 use Rattle.pos_counter.specs.Assembly.{machine_with, ArePartsSound}
 use Rattle.pos_counter.specs.Leaving.{part_of, part_with, IsSettled, Leaves, Spared, Stepped}
@@ -60,6 +60,12 @@ pub record Serves {D : Type 0} (bound : Ghosts D) (helds : List Held) (claims : 
       → SparesDisk (machine_with helds claims devices (part_with before.totals left failures)) request
       → Spared left failures (machine_with helds claims devices) before request response
       (machine_with new_helds new_claims new_devices) now
+  -- any other is one too, or a call at Hard Totals that changes nothing beside them
+  pub otherwise : (left : List Standing) (failures : ℕ)
+      → Spared left failures (machine_with helds claims devices) before request response
+      (machine_with new_helds new_claims new_devices) now
+      ⊎ ChangesTotalsAlone (machine_with helds claims devices (part_with before.totals left failures)) request
+      (machine_with new_helds new_claims new_devices (part_with now.totals left failures))
   -- nor does a call that isn't done, but after a fault of the disk, which turns the totals off, and but a recovery,
   -- which finds them off
   pub unchanged : IsUndone response → IsReady before.totals.mode → IsReady now.totals.mode → now.disk ≡ before.disk

@@ -1,4 +1,4 @@
-use Rattle.std.proofs.Common.{◌≡◌, ◌∙◌, ◌&&◌, ℕ, List, [], Option, not, ap, get_or, set, subst, sym, false, refl}
+use Rattle.std.proofs.Common.{◌≡◌, ◌∙◌, inl, ◌&&◌, ℕ, List, [], Option, not, ap, get_or, set, subst, sym, false, refl}
 use Rattle.pos_totals.specs.HardTotals.{is_ready}
 use Rattle.pos_service.specs.declared.kind.Kind.{Kind}
 use Rattle.pos_service.specs.declared.signs.Signs.{Signs}
@@ -54,6 +54,7 @@ returns g c = λ sound.
       covers = refl;
       places = refl;
       spared = λ left failures spares. record { disk = refl; step = λ is. step left failures; is_settled = λ is. is };
+      otherwise = λ left failures. inl (record { disk = refl; step = λ is. step left failures; is_settled = λ is. is });
       unchanged = λ undone was now. refl;
       kept = kept_disk g.D.Disk view.disk;
     }

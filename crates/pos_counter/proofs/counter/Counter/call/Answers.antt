@@ -5,6 +5,7 @@ pub returns-clause-step : goal.returns-clause-step
 returns-clause-step g c = record {
   steps = c.call.ensures.serves.steps;
   spared = c.call.ensures.serves.spared;
+  otherwise = c.call.ensures.serves.otherwise;
   unchanged = c.call.ensures.serves.unchanged;
   kept = c.call.ensures.serves.kept;
 }
