@@ -116,7 +116,8 @@ pub spares_elsewhere : (m : Machine) (n : ℕ) (c : Control) (asked : Call) → 
 spares_elsewhere m n c asked at other = match_at_some _ c _ _ at (by asked)
   where
     by : (asked : Call) → IsSome (first_refusal (refusals m n c asked)) ⊎ AsksNothing m.totals n c asked
-    by (call.Set p v) = inr (subst (λ b. (b && is_some c.device && not c.enabled && is_enabling p v && not (is_ready m.totals.totals.mode)) ≡ false) (sym (other_totals c.category other)) refl)
+    by (call.Set p v) = inr (subst (λ b. (b && is_some c.device && not c.enabled && is_enabling p v && not (is_ready m.totals.totals.mode)) ≡ false)
+        (sym (other_totals c.category other)) refl)
     by (call.Create name size detection) = inl (refused_elsewhere m n c (call.Create name size detection) (other_category c.category other))
     by (call.Delete name) = inl (refused_elsewhere m n c (call.Delete name) (other_category c.category other))
     by (call.Write handle offset bytes) = inl (refused_elsewhere m n c (call.Write handle offset bytes) (other_category c.category other))

@@ -51,15 +51,16 @@ pub record IsStep {D P : Type 0} (bound : DiskGhosts D) (peripherals : Ghosts P)
   pub spared : (left : List Standing) (failures : ℕ)
       → SparesDisk (machine peripherals old (part_with old.totals.totals left failures)) request
       → Spared left failures (machine peripherals old) old.totals request response (machine peripherals new) new.totals
-  -- any other is one too, or a call at Hard Totals that changes nothing beside them
+  -- nor does a call touch the disk that isn't done, but after a fault of it, which turns the totals off, and but a
+  -- recovery, which finds them off
+  pub unchanged : IsUndone response → IsReady old.totals.totals.mode → IsReady new.totals.totals.mode
+      → new.totals.disk ≡ old.totals.disk
+  -- a request that doesn't spare it is a step whatever the disk is too, or a call at Hard Totals that changes nothing
+  -- beside them
   pub otherwise : (left : List Standing) (failures : ℕ)
       → Spared left failures (machine peripherals old) old.totals request response (machine peripherals new) new.totals
       ⊎ ChangesTotalsAlone (machine peripherals old (part_with old.totals.totals left failures)) request
       (machine peripherals new (part_with new.totals.totals left failures))
-  -- nor does a call that isn't done, but after a fault of the disk, which turns the totals off, and but a recovery,
-  -- which finds them off
-  pub unchanged : IsUndone response → IsReady old.totals.totals.mode → IsReady new.totals.totals.mode
-      → new.totals.disk ≡ old.totals.disk
   pub kept : KeepsDisk bound old.totals.disk new.totals.disk
 
 -- the bytes stand for what a crash leaves before a run, between two of its steps, or after it

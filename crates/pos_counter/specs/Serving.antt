@@ -60,15 +60,16 @@ pub record Serves {D : Type 0} (bound : Ghosts D) (helds : List Held) (claims : 
       → SparesDisk (machine_with helds claims devices (part_with before.totals left failures)) request
       → Spared left failures (machine_with helds claims devices) before request response
       (machine_with new_helds new_claims new_devices) now
-  -- any other is one too, or a call at Hard Totals that changes nothing beside them
+  -- nor does a call touch the disk that isn't done, but after a fault of it, which turns the totals off, and but a
+  -- recovery, which finds them off
+  pub unchanged : IsUndone response → IsReady before.totals.mode → IsReady now.totals.mode → now.disk ≡ before.disk
+  -- a request that doesn't spare it is a step whatever the disk is too, or a call at Hard Totals that changes nothing
+  -- beside them
   pub otherwise : (left : List Standing) (failures : ℕ)
       → Spared left failures (machine_with helds claims devices) before request response
       (machine_with new_helds new_claims new_devices) now
       ⊎ ChangesTotalsAlone (machine_with helds claims devices (part_with before.totals left failures)) request
       (machine_with new_helds new_claims new_devices (part_with now.totals left failures))
-  -- nor does a call that isn't done, but after a fault of the disk, which turns the totals off, and but a recovery,
-  -- which finds them off
-  pub unchanged : IsUndone response → IsReady before.totals.mode → IsReady now.totals.mode → now.disk ≡ before.disk
   pub kept : KeepsDisk bound before.disk now.disk
 
 -- A new control is made, which gets a place for its transaction, whatever the devices, the claims and what the disk may

@@ -167,7 +167,8 @@ pub fn new_counter_leaves_one_thing<D: Disk, P: Peripheral>(counter: &Counter<D,
 
 /// Whatever the disk of a counter is, honest or not: each request of a run that spares the disk is a step of the
 /// machine, and another, which is a call at Hard Totals, changes nothing beside them; and where all spare the disk, it
-/// is as it was. What the other calls answer and do to the totals is said over an honest disk alone.
+/// is as it was. What the other calls answer and do to the totals is said over an honest disk alone. docs/MODEL.md,
+/// "Over any disk".
 pub fn runs_over_any_disk<D: Disk, P: Peripheral>(counter: &Counter<D, P>)
     ensures { (left : List Standing) (failures : ℕ) (steps : List (Request × Response)) (old : _)
         → IsSettled old.totals.totals left

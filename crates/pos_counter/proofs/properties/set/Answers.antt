@@ -44,7 +44,8 @@ returns g c = λ sound.
     let plain = subst (λ (k : Held). (asks_recovery k.control p v && not (is_ready view.totals.mode)) ≡ false) (sym same)
     (ap (λ b. asks_recovery (get_or hs n c.index-controls-number.result).control p v && not b) (sym c.is_ready.ensures) ∙ sym c.is_recovering.ensures
     ∙ c.if-is_recovering.false) in
-    let step = λ (left : List Standing) (failures : ℕ). plain_set hs cl ds (part_with view.totals left failures) n c.set.new.self h p v c.set.result c.requires is plain turns in
+    let step = λ (left : List Standing) (failures : ℕ).
+    plain_set hs cl ds (part_with view.totals left failures) n c.set.new.self h p v c.set.result c.requires is plain turns in
     let shared : Shared = record { claims = cl; totals = part_with view.totals [] 0 } in
     record {
       steps = λ left leaves. rests_stepped g.D.Disk view (machine_with hs cl ds) (machine_with (set hs n c.set.new.self) cl ds) q
