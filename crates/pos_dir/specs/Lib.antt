@@ -7,3 +7,4 @@ pub mod Texts
 pub mod Outlines
 pub mod Steps
 pub mod Room
+pub mod Flaws

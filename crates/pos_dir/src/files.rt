@@ -15,14 +15,14 @@ use std::alloc::Global;
 
 /// A file in the bytes that spell it.
 #[derive(Drop)]
-struct FileText<'a> {
-    name: &'a [u8],
-    bytes: &'a [u8],
+pub(crate) struct FileText<'a> {
+    pub name: &'a [u8],
+    pub bytes: &'a [u8],
 }
 
 /// A file.
 #[tactic(auto, unfolding(crate::specs::Reading::file_at))]
-fn read_file(bytes: &[u8]) -> Option<(FileText<'_>, &[u8])>
+pub(crate) fn read_file(bytes: &[u8]) -> Option<(FileText<'_>, &[u8])>
     ensures { option_map (λ x. (file_of x.0, x.1.now)) result ≡ file_at bytes.now }
 {
     let (name, rest) = read_name(bytes)?;

@@ -145,6 +145,13 @@ impl<D: Disk> Images<D> {
         self.current.slot.layout()
     }
 
+    /// The slot of the current image.
+    pub fn slot(&self) -> Slot
+        ensures { result ≡ self.now.slot }
+    {
+        self.current.slot
+    }
+
     /// The number of the current image: 1 after formatting, and one more with each image that is published; that of the
     /// first image of layout 2 is 1 again.
     pub fn sequence(&self) -> u64

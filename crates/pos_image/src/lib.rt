@@ -15,3 +15,5 @@ mod steps;
 pub use fault::ImageFault;
 pub use images::Images;
 pub use layout::Layout;
+pub use reading::{Head, Heads, read_heads};
+pub use slot::Slot;
