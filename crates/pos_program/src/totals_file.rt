@@ -62,8 +62,8 @@ fn read_once<F: FileExt>(alloc: Global, file: &F) -> Result<Vec<u8>, FileFault>
 }
 
 /// The first 327,680 bytes of an open file, or all where it is shorter. It is read until two readings in turn are
-/// equal: of a file that changes they are what it was at some moment during the two, but for bytes that were changed and
-/// changed back.
+/// equal: of a file that changes they are what it was at some moment during the two, but for bytes that were changed
+/// and changed back.
 ///
 /// # Errors
 ///
