@@ -11,3 +11,5 @@ mod images;
 mod stores;
 #[cfg(test)]
 mod support;
+#[cfg(test)]
+mod surveys;
