@@ -43,8 +43,8 @@ pub record IsNewDisk (disk : Memory) : Type 0 where
 
 -- The lines of a text are carried out in order, and the new answer is what they print; or, where there was no memory
 -- for that, they are as far as it is there, and it is a front. What is in memory alone stays there.
-pub record CarriesOut (bound : DiskGhosts TillDisk) (peripherals : Ghosts Wrapped) (old : Kept) (text : List ℕ) (new : Kept)
-    : Type 0 where
+pub record CarriesOut (bound : DiskGhosts TillDisk) (peripherals : Ghosts Wrapped) (old : Kept)
+    (text : List ℕ) (new : Kept) : Type 0 where
   pub lines : CarriesOutLines bound peripherals old.counter (session_in peripherals old) (lines_of text) (Some [])
       (Some new.answer.items) new.outcome (session_in peripherals new) new.counter
   pub in_memory : old.settlement ≡ InMemory → new.settlement ≡ InMemory

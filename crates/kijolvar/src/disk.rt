@@ -27,7 +27,8 @@ pub fn disk_of(alloc: Global, bytes: &[u8]) -> Result<MemDisk, NoMemory>
     Ok(MemDisk::new(alloc, bytes.to_vec(alloc)?)?)
 }
 
-/// A disk with no files. Refused with FORMATTED where it has totals, and with TOO_SMALL where it is too short; it never fails.
+/// A disk with no files. Refused with FORMATTED where it has totals, and with TOO_SMALL where it is too short; it never
+/// fails.
 pub fn format_disk(disk: TillDisk) -> Result<TillDisk, u32>
     ensures formatted { IfOk result (λ formatted. IsNewDisk formatted.memory) }
     ensures refused { IfErr result (λ code. IsFormatCode code) }

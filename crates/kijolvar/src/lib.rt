@@ -258,8 +258,8 @@ pub extern "C" fn kijolvar_carry_out(
 /// Writes to `text` the answer to the lines that the till was given last, as far as it was kept, and to `needed` how
 /// many bytes it has. Nothing is carried out. The till is what is written to `out` from then on.
 ///
-/// Answers OK, or SHORT where `text` has less room, or CUT as `kijolvar_carry_out` does: a front of the answer is there;
-/// or ERRANDS where errands are left, or DISK_FAILED where one failed: nothing is written.
+/// Answers OK, or SHORT where `text` has less room, or CUT as `kijolvar_carry_out` does: a front of the answer is
+/// there; or ERRANDS where errands are left, or DISK_FAILED where one failed: nothing is written.
 #[unsafe(no_mangle)]
 pub extern "C" fn kijolvar_answer(
     till: Till,
@@ -277,8 +277,8 @@ pub extern "C" fn kijolvar_answer(
 }
 
 /// Tells the host the next thing to do to its file, once the one before is done: WRITE, where `needed` bytes, which are
-/// in `bytes`, go to the place `at`; SYNC, where what was written has to stay; or OK, where nothing is left. The till is
-/// what is written to `out` from then on.
+/// in `bytes`, go to the place `at`; SYNC, where what was written has to stay; or OK, where nothing is left. The till
+/// is what is written to `out` from then on.
 ///
 /// Answers SHORT where `bytes` has less room than `needed` says: the errand stays the next one, and nothing else is
 /// written; and DISK_FAILED where an errand failed.

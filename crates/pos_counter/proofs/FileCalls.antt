@@ -1,6 +1,6 @@
 -- What the totals do with a call, for all that their disk may leave before it.
-use Rattle.std.proofs.Common.{◌≡◌, ◌⊎◌, inl, inr, ⊎_elim, ℕ, List, [], ◌∷◌, Option, Some, None, Result, Ok, Err, Bool, true, false, cond, not, ◌&&◌, refl, sym, ap, ◌∙◌, subst}
-use Rattle.std.specs.Prelude.{MatchOption, MatchResult, IsSome, IsTrue, is_none}
+use Rattle.std.proofs.Common.{◌≡◌, ◌⊎◌, inl, inr, ⊎_elim, ℕ, List, [], ◌∷◌, ◌++◌, Option, Some, None, Result, Ok, Err, Bool, true, false, cond, not, ◌&&◌, refl, sym, ap, ◌∙◌, subst, arith}
+use Rattle.std.specs.Prelude.{MatchOption, MatchResult, IsSome, IsTrue, is_none, is_some}
 use Rattle.pos_disk.specs.Keeps.{KeepsDisk}
 use Rattle.pos_disk.specs.State.{LeavesOnly, Rises}
 use Rattle.pos_disk.specs.declared.device.Disk.{Ghosts}
@@ -14,7 +14,7 @@ use Rattle.pos_service.specs.declared.memory.NoMemory.{NoMemory}
 use Rattle.pos_service.specs.Calls.{takes_memory}
 use Rattle.pos_totals.specs.HardTotals.{File, Mode, Off, Ready, Totals, Change}
 use Rattle.pos_totals.specs.TotalsQuestions.{Question, refusals_of_question, MayTell}
-use Rattle.pos_totals.specs.TotalsChanges.{refusals_of_change, number_rows, given_by, Done, DoesChange}
+use Rattle.pos_totals.specs.TotalsChanges.{refusals_of_change, number_rows, given_by, Done, DoesChange, RunsOut}
 use Rattle.pos_totals.specs.TotalsArrangements.{Arrangement, ClaimFile, ReleaseFile, BeginTrans, Rollback, after_arrangement, claimed, refusals_of_arrangement}
 use Rattle.pos_totals.specs.TotalsCommits.{DoesCommit}
 use Rattle.pos_totals.specs.HardTotals.{changes_in, in_transaction, transaction_of, with_files, with_transaction}
@@ -23,12 +23,12 @@ use Rattle.pos_service.specs.Refusals.{Row, Decided, first_refusal}
 use Rattle.pos_totals.specs.TotalsCalls.{FileCall, Arranges as ArrangesCall, Asks, Commits, Makes, file_call, file_rows}
 use Rattle.pos_store.proofs.Passing.{stays}
 use Rattle.pos_store.specs.Standing.{Standing, Stands, StandsForEither, LeavesOneOf}
-use Rattle.pos_totals.specs.Changes.{Arranged, Changes, CommitsBuffer, PutsGroup, HasFailed, in_doubt}
+use Rattle.pos_totals.specs.Changes.{Arranged, Changes, CommitsBuffer, IsOneGroup, PutsGroup, HasFailed, in_doubt}
 use Rattle.pos_totals.specs.Views.{TotalsView, TurnsOff, WhenOff, plain, plain_file}
 use Rattle.pos_counter.specs.DiskUse.{SparesFiles}
-use Rattle.pos_counter.specs.Serving.{CallsFiles, FilesStepped}
+use Rattle.pos_counter.specs.Serving.{CallsFiles, FilesSpared, FilesStepped}
 use Rattle.pos_counter.specs.History.{changes_asked}
-use Rattle.pos_counter.specs.Leaving.{Leaves, part_of}
+use Rattle.pos_counter.specs.Leaving.{IsSettled, Leaves, part_of, part_with}
 use Rattle.pos_counter.specs.Totals.{TotalsPart, TotalsDo, FilesCalled, PutsChanges, put_at_once, settled, left_after}
 use Rattle.pos_counter.proofs.Lifts.{match_cases, match_weaker, match_at_none, match_at_some}
 use Rattle.pos_counter.proofs.Serving.{OnlyNow, kept_disk, same_view}
@@ -124,10 +124,14 @@ no_group None changes (inr none) = none
 module _ {D : Type 0} (bound : Ghosts D) (old new : TotalsView D) (only : OnlyNow bound old.disk) (n : ℕ) (asked : Call) (fc : FileCall)
     (is : file_call asked ≡ fc) (takes : takes_memory asked ≡ true) (PutsThem : Type 0 → Answer → Totals → Type 0)
     (puts_fewer : (P Q : Type 0) → (P → Q) → (result : Answer) → PutsThem P result new.totals → PutsThem Q result new.totals)
+    (puts_none : (P Q : Type 0) (result : Answer) → changes_asked old.totals n fc ≡ [] → PutsThem P result new.totals → PutsThem Q result new.totals)
     (keeps_layout : (P : Type 0) (result : Answer) → PutsThem P result new.totals → new.totals.layout ≡ old.totals.layout)
-    (does_so : (left after : List Standing) (result : Answer)
-    → PutsChanges (PutsThem (Rises (bound.state old.disk).failures (bound.state new.disk).failures)) (part_of bound old left)
-    (changes_asked old.totals n fc) result (part_of bound new after) → TotalsDo fc (part_of bound old left) n result (part_of bound new after)) where
+    (keeps_mode : (P : Type 0) (result : Answer) → changes_asked old.totals n fc ≡ [] → PutsThem P result new.totals
+    → new.totals.mode ≡ old.totals.mode)
+    (does_so : (left after : List Standing) (was is : ℕ) (result : Answer)
+    → PutsChanges (PutsThem (Rises was is)) (part_with old.totals left was)
+    (changes_asked old.totals n fc) result (part_with new.totals after is)
+    → TotalsDo fc (part_with old.totals left was) n result (part_with new.totals after is)) where
   abbrev rows : List Row
   rows = file_rows old.totals n fc
 
@@ -173,14 +177,15 @@ module _ {D : Type 0} (bound : Ghosts D) (old new : TotalsView D) (only : OnlyNo
                 (settled_twice old.totals.layout (in_doubt old.totals.layout old.totals.next left changes old.totals.mode) new.totals.mode);
           };
           answer = called_ok n fc asked part (part_of bound new after) result is (record {
-            outcome = match_at_none (first_refusal rows) _ _ none (does_so left after result (record {
-              does = puts_fewer (HasFailed bound old.disk new.disk) (Rises (bound.state old.disk).failures (bound.state new.disk).failures)
-                  (λ failed. failed leaves.honest) result does;
-              group = puts.group;
-              left = refl;
-              counts = puts.counts leaves.honest;
-              later = puts.kept.later leaves.honest;
-            }));
+            outcome = match_at_none (first_refusal rows) _ _ none (does_so left after (bound.state old.disk).failures
+                (bound.state new.disk).failures result (record {
+                  does = puts_fewer (HasFailed bound old.disk new.disk) (Rises (bound.state old.disk).failures (bound.state new.disk).failures)
+                      (λ failed. failed leaves.honest) result does;
+                  group = puts.group;
+                  left = refl;
+                  counts = puts.counts leaves.honest;
+                  later = puts.kept.later leaves.honest;
+                }));
           });
           any_moment = subst (λ l. LeavesOnly (bound.state old.disk) (bound.state new.disk) (StandsForEither l after))
               (sym leaves.is_settled) passes.any_moment;
@@ -199,10 +204,59 @@ module _ {D : Type 0} (bound : Ghosts D) (old new : TotalsView D) (only : OnlyNo
         moves result e (subst (λ g. PutsGroup bound old g (Ok result) new) (ap (λ (o : Option Answer). cond (is_none o) changes []) e) puts)
         (subst (λ o. MatchOption o (Puts result) (λ refusal. (result ≡ refusal) × (new.totals ≡ old.totals))) e told.outcome)
 
+  -- one that spares the disk, whatever that is
+  module _ (left : List Standing) (failures : ℕ) (settled_so : IsSettled old.totals left) where
+    abbrev over : Totals → TotalsPart
+    over totals = part_with totals left failures
+
+    abbrev Spares : Result Answer NoMemory → Type 0
+    Spares outcome = FilesSpared left failures old.totals n asked outcome new.totals
+
+    -- a call that is refused, or finds no memory, leaves the totals as they are
+    spared_there : (outcome : Result Answer NoMemory) → new.totals ≡ old.totals → FilesCalled n asked (over old.totals) outcome (over old.totals)
+        → Spares outcome
+    spared_there outcome same called = subst (λ t. FilesSpared left failures old.totals n asked outcome t) (sym same)
+        (record { answer = called; is_settled = settled_so })
+
+    -- one that nothing refuses, without changes
+    spared_moves : (result : Answer) → first_refusal rows ≡ None → changes ≡ [] → IsOneGroup old.totals changes → Puts result → Spares (Ok result)
+    spared_moves result none empty group does =
+        let mode = keeps_mode (HasFailed bound old.disk new.disk) result empty does in
+        let layout = keeps_layout (HasFailed bound old.disk new.disk) result does in
+        let same = ap (λ m. left_after (over old.totals) changes m) mode ∙ kept_left changes (over old.totals) settled_so in
+        record {
+          answer = called_ok n fc asked (over old.totals) (over new.totals) result is (record {
+            outcome = match_at_none (first_refusal rows) _ _ none (does_so left left failures failures result (record {
+              does = puts_none (HasFailed bound old.disk new.disk) (Rises failures failures) result empty does;
+              group = group;
+              left = sym same;
+              counts = inr refl;
+              later = omega arith;
+            }));
+          });
+          is_settled = settled_so ∙ sym (ap (λ l. settled l new.totals.mode left) layout ∙ ap (λ m. settled old.totals.layout m left) mode);
+        }
+
+    spared_by : (outcome : Result Answer NoMemory) → IsTold outcome → PutsGroup bound old (cond (is_none (first_refusal rows)) changes []) outcome new
+        → SparesFiles old.totals n fc → (o : Option Answer) → first_refusal rows ≡ o → Spares outcome
+    spared_by (Ok result) told puts spares (Some refusal) e =
+        let y = subst (λ o. MatchOption o (Puts result) (λ refusal. (result ≡ refusal) × (new.totals ≡ old.totals))) e told.outcome in
+        spared_there (Ok result) y.1 (called_ok n fc asked (over old.totals) (over old.totals) result is
+        (record { outcome = match_at_some (first_refusal rows) refusal _ _ e (y.0, refl) }))
+    spared_by (Err want) told puts spares (Some refusal) e = let bad = sym e ∙ told.0 in cc
+    spared_by (Err want) told puts spares None e = spared_there (Err want) told.1 (called_err n fc asked (over old.totals) want is takes e)
+    spared_by (Ok result) told puts spares None e =
+        let group = ap (λ (o : Option Answer). cond (is_none o) changes []) e in
+        spared_moves result e (sym group ∙ no_group (first_refusal rows) changes spares)
+        (subst (λ g. IsOneGroup old.totals g) group puts.group)
+        (subst (λ o. MatchOption o (Puts result) (λ refusal. (result ≡ refusal) × (new.totals ≡ old.totals))) e told.outcome)
+
   pub group_calls : (outcome : Result Answer NoMemory) → IsTold outcome
       → PutsGroup bound old (cond (is_none (first_refusal rows)) changes []) outcome new → CallsFiles bound old n asked outcome new
   group_calls outcome told puts = record {
     steps = λ left leaves. by_table left leaves outcome told puts (first_refusal rows) refl;
+    spared = λ left failures settled_so spares. spared_by left failures settled_so outcome told puts (subst (λ c. SparesFiles old.totals n c) is spares)
+        (first_refusal rows) refl;
     untouched = λ spares. puts.untouched (no_group (first_refusal rows) changes (subst (λ c. SparesFiles old.totals n c) is spares));
     unchanged = λ undone. same_disk old new (puts.unchanged undone);
     kept = puts.kept;
@@ -245,6 +299,24 @@ change_layout P old n change result new does =
       | inr x ↦ ap (λ (t : Totals). t.layout) x.2.1
     ]
 
+-- a change that isn't put there at once is buffered, whether the disk fails or not
+change_buffered : (P Q : Type 0) (old : Totals) (n : ℕ) (change : Change) (result : Answer) (new : Totals)
+    → put_at_once (in_transaction old n) change ≡ [] → DoesChange P old n change result new
+    → DoesChange Q old n change result new × (new.mode ≡ old.mode)
+change_buffered P Q old n change result new none does = by (transaction_of old n) none does
+  where
+    AtOnce : Type 0 → Type 0
+    AtOnce R = Decided (number_rows old change) result (new ≡ old)
+        (RunsOut old result new ⊎ Done R old (change ∷ []) (given_by old.next change) result new)
+
+    Buffers : List Change → Type 0
+    Buffers buffer = (result ≡ answer.Done value.Empty) × (new ≡ with_transaction old n (Some (buffer ++ change ∷ [])))
+
+    by : (o : Option (List Change)) → put_at_once (is_some o) change ≡ [] → MatchOption o (AtOnce P) Buffers
+        → MatchOption o (AtOnce Q) Buffers × (new.mode ≡ old.mode)
+    by None none does = absurd cc
+    by (Some buffer) none does = (does, ap (λ (t : Totals). t.mode) does.1)
+
 -- the group of a change is what it puts there at once, where nothing refuses it
 at_once : (o : Option Answer) (transacting : Bool) (change : Change)
     → cond (is_none o && not transacting) (change ∷ []) [] ≡ cond (is_none o) (put_at_once transacting change) []
@@ -259,7 +331,10 @@ pub change_calls : {D : Type 0} (bound : Ghosts D) (view new : TotalsView D) (n 
 change_calls bound view new n change asked outcome only is takes changes =
     group_calls bound view new only n asked (Makes change) is takes (λ P result totals. DoesChange P view.totals n change result totals)
     (λ P Q to result does. change_so P Q to view.totals n change result new.totals does)
-    (λ P result does. change_layout P view.totals n change result new.totals does) (λ left after result puts. puts) outcome changes.answer
+    (λ P Q result none does. (change_buffered P Q view.totals n change result new.totals none does).0)
+    (λ P result does. change_layout P view.totals n change result new.totals does)
+    (λ P result none does. (change_buffered P P view.totals n change result new.totals none does).1)
+    (λ left after was is result puts. puts) outcome changes.answer
     (subst (λ g. PutsGroup bound view g outcome new)
     (at_once (first_refusal (refusals_of_change view.totals n change)) (in_transaction view.totals n) change) changes.disk)
 
@@ -278,6 +353,13 @@ commit_layout P old n (change ∷ changes) result new does =
     ⊎_elim (λ out. ap (λ (t : Totals). t.layout) out.2)
     (λ done. done_layout P (with_transaction old n None) (change ∷ changes) value.Empty result new done) does
 
+-- a commit of nothing ends the transaction, whether the disk fails or not
+commit_of_none : (P Q : Type 0) (old : Totals) (n : ℕ) (changes : List Change) (result : Answer) (new : Totals) → changes ≡ []
+    → DoesCommit P old (with_transaction old n None) changes result new
+    → DoesCommit Q old (with_transaction old n None) changes result new × (new.mode ≡ old.mode)
+commit_of_none P Q old n [] result new none does = (does, ap (λ (t : Totals). t.mode) does.1)
+commit_of_none P Q old n (change ∷ changes) result new none does = absurd cc
+
 -- a call that commits
 pub commit_calls : {D : Type 0} (bound : Ghosts D) (view new : TotalsView D) (n : ℕ) (asked : Call) (outcome : Result Answer NoMemory)
     → OnlyNow bound view.disk → file_call asked ≡ Commits → takes_memory asked ≡ true → CommitsBuffer bound view n outcome new
@@ -287,8 +369,10 @@ commit_calls bound view new n asked outcome only is takes commits =
     let buffered = changes_in (transaction_of view.totals n) in
     group_calls bound view new only n asked Commits is takes (λ P result totals. DoesCommit P view.totals ended buffered result totals)
     (λ P Q to result does. commit_so P Q to view.totals ended buffered result new.totals does)
+    (λ P Q result none does. (commit_of_none P Q view.totals n buffered result new.totals none does).0)
     (λ P result does. commit_layout P view.totals n buffered result new.totals does)
-    (λ left after result puts. puts) outcome commits.answer commits.disk
+    (λ P result none does. (commit_of_none P P view.totals n buffered result new.totals none does).1)
+    (λ left after was is result puts. puts) outcome commits.answer commits.disk
 
 -- ---- an arrangement
 
@@ -306,6 +390,7 @@ pub arrangement_calls : {D : Type 0} (bound : Ghosts D) (view new : TotalsView D
     → CallsFiles bound view n asked (Ok result) new
 arrangement_calls {D = D} bound view new n arrangement asked result only is arranged = record {
   steps = λ left leaves. by_table left leaves (first_refusal rows) refl;
+  spared = λ left failures settled_so spares. spared_by left failures settled_so (first_refusal rows) refl;
   untouched = λ spares. arranged.disk;
   unchanged = λ undone. inr arranged.disk;
   kept = subst (λ d. KeepsDisk bound view.disk d) (sym arranged.disk) (kept_disk bound view.disk);
@@ -333,6 +418,27 @@ arrangement_calls {D = D} bound view new n arrangement asked result only is arra
         (called_ok n (ArrangesCall arrangement) asked (part_of bound view left) (part_of bound after left) result is
         (record { outcome = match_at_none (first_refusal rows) _ _ e (y.0, refl) })))
 
+    spared_by : (left : List Standing) (failures : ℕ) → IsSettled view.totals left → (o : Option Answer) → first_refusal rows ≡ o
+        → FilesSpared left failures view.totals n asked (Ok result) new.totals
+    spared_by left failures settled_so (Some refusal) e =
+        let y = subst (λ o. MatchOption o ((result ≡ answer.Done value.Empty) × (new.totals ≡ after_arrangement view.totals n arrangement))
+        (λ refusal. (result ≡ refusal) × (new.totals ≡ view.totals))) e arranged.answer.outcome in
+        let part = part_with view.totals left failures in
+        subst (λ t. FilesSpared left failures view.totals n asked (Ok result) t) (sym y.1) (record {
+          answer = called_ok n (ArrangesCall arrangement) asked part part result is
+              (record { outcome = match_at_some (first_refusal rows) refusal _ _ e (y.0, refl) });
+          is_settled = settled_so;
+        })
+    spared_by left failures settled_so None e =
+        let y = subst (λ o. MatchOption o ((result ≡ answer.Done value.Empty) × (new.totals ≡ after_arrangement view.totals n arrangement))
+        (λ refusal. (result ≡ refusal) × (new.totals ≡ view.totals))) e arranged.answer.outcome in
+        let totals = after_arrangement view.totals n arrangement in
+        subst (λ t. FilesSpared left failures view.totals n asked (Ok result) t) (sym y.1) (record {
+          answer = called_ok n (ArrangesCall arrangement) asked (part_with view.totals left failures) (part_with totals left failures) result is
+              (record { outcome = match_at_none (first_refusal rows) _ _ e (y.0, refl) });
+          is_settled = settled_so ∙ sym (arranged_settled view.totals n arrangement left);
+        })
+
 -- ---- a question
 
 -- a call that asks about the files
@@ -340,21 +446,22 @@ pub question_calls : {D : Type 0} (bound : Ghosts D) (view : TotalsView D) (n : 
     (outcome : Result Answer NoMemory) → OnlyNow bound view.disk → file_call asked ≡ Asks question
     → (takes_memory asked ≡ true) ⊎ ((a : Answer) × (outcome ≡ Ok a)) → MayTell view.totals n question outcome → CallsFiles bound view n asked outcome view
 question_calls bound view n question asked outcome only is takes tells = record {
-  steps = λ left leaves. rests bound view left n asked outcome only leaves (told left outcome takes tells);
+  steps = λ left leaves. rests bound view left n asked outcome only leaves (told left (bound.state view.disk).failures outcome takes tells);
+  spared = λ left failures settled_so spares. record { answer = told left failures outcome takes tells; is_settled = settled_so };
   untouched = λ spares. refl;
   unchanged = λ undone. inr refl;
   kept = kept_disk bound view.disk;
 }
   where
-    told : (left : List Standing) (o : Result Answer NoMemory) → (takes_memory asked ≡ true) ⊎ ((a : Answer) × (o ≡ Ok a))
-        → MayTell view.totals n question o → FilesCalled n asked (part_of bound view left) o (part_of bound view left)
-    told left (Ok result) takes h =
-        let part = part_of bound view left in
+    told : (left : List Standing) (failures : ℕ) (o : Result Answer NoMemory) → (takes_memory asked ≡ true) ⊎ ((a : Answer) × (o ≡ Ok a))
+        → MayTell view.totals n question o → FilesCalled n asked (part_with view.totals left failures) o (part_with view.totals left failures)
+    told left failures (Ok result) takes h =
+        let part = part_with view.totals left failures in
         called_ok n (Asks question) asked part part result is (record {
           outcome = match_weaker (first_refusal (refusals_of_question view.totals n question)) _ _ _ _ (λ y. (y, refl)) (λ refusal y. (y.0, refl)) h.outcome;
         })
-    told left (Err want) (inl takes) h = called_err n (Asks question) asked (part_of bound view left) want is takes h
-    told left (Err want) (inr fine) h =
+    told left failures (Err want) (inl takes) h = called_err n (Asks question) asked (part_with view.totals left failures) want is takes h
+    told left failures (Err want) (inr fine) h =
         let bad : Err want ≡ Ok fine.0 = fine.1 in
         let none : ⊥ = cc in
         absurd none

@@ -13,6 +13,7 @@ pub mod Beginning
 pub mod Claiming
 pub mod FileCalls
 pub mod TotalsSteps
+pub mod Sparing
 pub mod Recovering
 pub mod Prefixes
 pub mod PrefixSteps

@@ -33,12 +33,12 @@ use Rattle.pos_totals.specs.declared.fault.RecoveryFault.TheVariants as fault
 use Rattle.pos_totals.specs.Recoveries.{Recovers as DiskRecovers, RecoversOneOf, FindsFiles, ReadsAs, code_of}
 use Rattle.pos_totals.specs.Views.{TotalsView, IsReady, WhenOff}
 use Rattle.pos_counter.specs.Machine.{Device, Machine, Shared, device_at, holder_in, holder_of, kind_in, kind_of, station_in, with_control}
-use Rattle.pos_counter.specs.DiskUse.{SparesDisk}
+use Rattle.pos_counter.specs.DiskUse.{SparesDisk, after_enabling}
 use Rattle.pos_counter.specs.Assembly.{over, machine_with, ArePartsSound}
-use Rattle.pos_counter.specs.Leaving.{part_of, Leaves}
+use Rattle.pos_counter.specs.Leaving.{part_of, part_with, Leaves}
 use Rattle.pos_counter.specs.Responses.{answered}
 use Rattle.pos_counter.specs.Serving.{IsRecovering, Serves}
-use Rattle.pos_counter.specs.Steps.{CallOf, Answered, IsSound, Step, Sets, SetsByRecovery}
+use Rattle.pos_counter.specs.Steps.{CallOf, Answered, OutOfMemory, IsSound, Step, Sets, SetsByRecovery}
 use Rattle.pos_counter.specs.Totals.{TotalsPart, Recovers, asks_recovery, recovers, is_enabling, is_totals, settled}
 use Rattle.pos_counter.proofs.FileCalls.{settled_twice}
 use Rattle.pos_counter.proofs.Lifts.{control_at, decided_at, over_same, match_at_none, match_at_some, match_cases, match_weaker}
@@ -228,19 +228,35 @@ module _ {D : Type 0} (bound : Ghosts D) (old new : TotalsView D) (off : old.tot
     enabled = after_set (signs_in (station_in (device_at ds c.device))) c p v
 
     -- the call recovers totals that are off, and nothing refuses it
-    uses : (left : List Standing) → SparesDisk (before left) (CallOf n (call.Set p v)) → ⊥
-    uses left spares = by_row (subst (λ (o : Option Control). MatchOption o ⊤ Spares) at spares)
+    uses : (left : List Standing) (failures : ℕ)
+        → SparesDisk (machine_with hs cl ds (part_with old.totals left failures)) (CallOf n (call.Set p v)) → ⊥
+    uses left failures spares = by_row (subst (λ (o : Option Control). MatchOption o ⊤ Spares) at spares)
       where
+        m : Machine
+        m = machine_with hs cl ds (part_with old.totals left failures)
+
         Spares : Control → Type 0
-        Spares k = IsSome (first_refusal (set_rows n (holder_of (before left) k) (kind_of (before left) k) k p v)) ⊎
+        Spares k = IsSome (first_refusal (set_rows n (holder_of m k) (kind_of m k) k p v)) ⊎
             ((asks_recovery k p v && not (is_ready old.totals.mode)) ≡ false)
 
         by_row : Spares c → ⊥
         by_row (inl refused) =
-            let none = enabling_unrefused n (holder left) (kind_of (before left) c) c p v asks in
+            let none = enabling_unrefused n (holder_of m c) (kind_of m c) c p v asks in
             let bad : false ≡ true = subst IsSome none refused in
             cc
         by_row (inr rests) = cc
+
+    -- it enables its control, which is one of Hard Totals
+    totals : c.category ≡ category.HardTotals
+    totals = (asks_enabling c p v asks).3
+
+    abbrev enabling : Control
+    enabling = after_enabling (machine_with hs cl ds (part_with old.totals [] 0)) c
+
+    enabled_so : enabled ≡ enabling
+    enabled_so =
+        ap (λ (q : Property). after_set (signs_in (station_in (device_at ds c.device))) c q v) (asks_enabling c p v asks).0
+        ∙ ap (λ (u : Value). after_set (signs_in (station_in (device_at ds c.device))) c property.DeviceEnabled u) (asks_enabling c p v asks).1
 
     -- the totals are off before
     was_off : IsReady old.totals.mode → ⊥
@@ -273,7 +289,11 @@ module _ {D : Type 0} (bound : Ghosts D) (old new : TotalsView D) (off : old.tot
       sound = set_sound hs ds n g (signs_in (station_in (device_at ds c.device))) c p v at asks is sound;
       covers = refl;
       places = refl;
-      untouched = λ left spares. absurd (uses left spares);
+      spared = λ left failures spares. absurd (uses left failures spares);
+      otherwise = λ left failures.
+          let before = part_with old.totals left failures in
+          let after = part_with new.totals left failures in
+          inr (match_at_some _ c _ _ at (totals, inr (set_machine hs cl ds n g enabling before after (is ∙ enabled_so))));
       unchanged = λ undone was now. absurd (was_off was);
       kept = recovers.kept;
     }
@@ -336,10 +356,40 @@ module _ {D : Type 0} (bound : Ghosts D) (old new : TotalsView D) (off : old.tot
       sound = sound;
       covers = refl;
       places = refl;
-      untouched = λ left spares. absurd (uses left spares);
+      spared = λ left failures spares. absurd (uses left failures spares);
+      otherwise = λ left failures. inr (match_at_some _ c _ _ at (totals, inl refl));
       unchanged = λ undone was now. absurd (was_off was);
       kept = recovers.kept;
     }
+
+    -- the recovery finds no memory, and nothing has changed
+    pub starved_serves : (x : RecoveryFault) → DiskRecovers bound old (Err x) new → None ≡ code_of x
+        → Serves bound hs cl ds old (CallOf n (call.Set p v)) OutOfMemory hs cl ds new
+    starved_serves x recovers is = record {
+      steps = λ left leaves.
+          let same = failed_left x left recovers leaves in
+          record {
+            after = left;
+            leaves = subst (Leaves bound new) same (recovered_leaves (Err x) left recovers leaves);
+            step = match_at_some _ c _ _ at (
+              subst (λ b. IsTrue (b || tells_power c p v)) (sym recovering) refl,
+              enabling_unrefused n (holder left) (kind_of (before left) c) c p v asks,
+              ap (machine_with hs cl ds) (same_part x left recovers leaves.honest (no_fault x is)),
+            );
+            any_moment = subst (λ after. LeavesOnly (bound.state old.disk) (bound.state new.disk) (StandsForEither left after)) same
+                (found_one (Err x) left recovers leaves).passes.any_moment;
+          };
+      sound = sound;
+      covers = refl;
+      places = refl;
+      spared = λ left failures spares. absurd (uses left failures spares);
+      otherwise = λ left failures. inr (match_at_some _ c _ _ at (totals, inl refl));
+      unchanged = λ undone was now. absurd (was_off was);
+      kept = recovers.kept;
+    }
+      where
+        no_fault : (x : RecoveryFault) → None ≡ code_of x → IsErrOf {T = Unit {0}} (Err x) fault.Device → ⊥
+        no_fault x is failed = cc
 
 -- ---- what a function that recovers knows
 

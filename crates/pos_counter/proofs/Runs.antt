@@ -13,7 +13,7 @@ use Rattle.pos_counter.specs.declared.counter.Counter.{Counter}
 use Rattle.pos_counter.specs.Counters.{machine as machine_of_counter, IsLeftDuring, IsRun, IsStep, IsStepBeside, RunsFrom}
 use Rattle.pos_counter.specs.KeptDevices.{devices_in}
 use Rattle.pos_counter.specs.Assembly.{machine_with}
-use Rattle.pos_counter.specs.Leaving.{part_of, Leaves, Stepped}
+use Rattle.pos_counter.specs.Leaving.{part_of, part_with, Leaves, Spared, Stepped}
 use Rattle.pos_counter.specs.Serving.{MakesControl}
 use Rattle.pos_counter.specs.Steps.{NewControl, Step, Run}
 use Rattle.pos_service.specs.declared.request.Request.{Request}
@@ -61,10 +61,17 @@ module _ {D P : Type 0} (bound : DiskGhosts D) (peripherals : Ghosts P) where
         (machine_of_counter peripherals new) v) (sym beside.totals)
         (rests_stepped bound old.totals (machine_of_counter peripherals old) (machine_of_counter peripherals new) q r left only leaves
         (beside.step (part_of bound old.totals left)));
-    untouched = λ left spares. ap (λ (v : TotalsView D). v.disk) beside.totals;
+    spared = λ left failures spares. anyhow left failures;
+    otherwise = λ left failures. inl (anyhow left failures);
     unchanged = λ undone was is. ap (λ (v : TotalsView D). v.disk) beside.totals;
     kept = subst (λ (v : TotalsView D). KeepsDisk bound old.totals.disk v.disk) (sym beside.totals) (kept_disk bound old.totals.disk);
   }
+    where
+      anyhow : (left : List Standing) (failures : ℕ)
+          → Spared left failures (machine_of_counter peripherals old) old.totals q r (machine_of_counter peripherals new) new.totals
+      anyhow left failures = subst (λ (v : TotalsView D). Spared left failures (machine_of_counter peripherals old) old.totals q r
+          (machine_of_counter peripherals new) v) (sym beside.totals)
+          (record { disk = refl; step = λ is. beside.step (part_with old.totals.totals left failures); is_settled = λ is. is })
 
   -- the same by another name of the request and of the response
   pub beside_step_as : (old new : Counter D P) (q : machine.Request) (r : machine.Response) (asked : machine.Request) (answered : machine.Response)
@@ -86,17 +93,27 @@ module _ {D P : Type 0} (bound : DiskGhosts D) (peripherals : Ghosts P) where
     steps = λ left leaves. subst (λ (v : TotalsView D). Stepped bound left (machine_of_counter peripherals old) old.totals (NewControl tt k)
         (made outcome) (machine_of_counter peripherals new) v) (sym (same_view old.totals new.totals new.totals.totals makes.disk refl))
         (arranges_stepped bound old.totals new.totals.totals (machine_of_counter peripherals old) (machine_of_counter peripherals new)
-        (NewControl tt k) (made outcome) left only (ap (λ layout. settled layout new.totals.totals.mode left) makes.layout
-        ∙ ap (λ mode. settled old.totals.totals.layout mode left) makes.mode) leaves
-        (subst (λ m. Step (machine_of_counter peripherals old (part_of bound old.totals left)) (NewControl tt k) (made outcome) m) (sym (same (now left)))
-        (makes.step (devices_in peripherals old.devices) old.claims left (bound.state old.totals.disk).failures)));
-    untouched = λ left spares. makes.disk;
+        (NewControl tt k) (made outcome) left only (same_left left) leaves (makes_step left (bound.state old.totals.disk).failures));
+    spared = λ left failures spares. anyhow left failures;
+    otherwise = λ left failures. inl (anyhow left failures);
     unchanged = λ undone was is. makes.disk;
     kept = subst (λ (d : D). KeepsDisk bound old.totals.disk d) (sym makes.disk) (kept_disk bound old.totals.disk);
   }
     where
-      now : List Standing → TotalsPart
-      now left = record { totals = new.totals.totals; left = left; failures = (bound.state old.totals.disk).failures }
+      same_left : (left : List Standing) → settled new.totals.totals.layout new.totals.totals.mode left
+          ≡ settled old.totals.totals.layout old.totals.totals.mode left
+      same_left left = ap (λ layout. settled layout new.totals.totals.mode left) makes.layout
+          ∙ ap (λ mode. settled old.totals.totals.layout mode left) makes.mode
+
+      makes_step : (left : List Standing) (failures : ℕ) → Step (machine_of_counter peripherals old (part_with old.totals.totals left failures))
+          (NewControl tt k) (made outcome) (machine_of_counter peripherals new (part_with new.totals.totals left failures))
+      makes_step left failures =
+          subst (λ m. Step (machine_of_counter peripherals old (part_with old.totals.totals left failures)) (NewControl tt k) (made outcome) m)
+          (sym (same (part_with new.totals.totals left failures))) (makes.step (devices_in peripherals old.devices) old.claims left failures)
+
+      anyhow : (left : List Standing) (failures : ℕ) → Spared left failures (machine_of_counter peripherals old) old.totals (NewControl tt k)
+          (made outcome) (machine_of_counter peripherals new) new.totals
+      anyhow left failures = record { disk = makes.disk; step = λ is. makes_step left failures; is_settled = λ is. is ∙ sym (same_left left) }
 
   -- a step by another name of the request and of the response
   pub step_as : (old new : Counter D P) (q : machine.Request) (r : machine.Response) (asked : machine.Request) (answered : machine.Response)

@@ -1,5 +1,5 @@
 -- A step from sound parts of a counter leads to sound ones.
-use Rattle.std.proofs.Common.{◌≡◌, ◌∙◌, ℕ, List, [], Option, length, ap, sym, subst, refl, arith}
+use Rattle.std.proofs.Common.{◌≡◌, ◌∙◌, inl, ℕ, List, [], Option, length, ap, sym, subst, refl, arith}
 use Rattle.pos_disk.specs.State.{MayLeave}
 use Rattle.pos_disk.specs.declared.device.Disk.{Ghosts}
 use Rattle.pos_common.specs.Held.{Held}
@@ -10,7 +10,7 @@ use Rattle.pos_totals.specs.HardTotals.{Totals}
 use Rattle.pos_totals.specs.Views.{TotalsView}
 use Rattle.pos_counter.specs.Machine.{Device, Machine, Shared}
 use Rattle.pos_counter.specs.Assembly.{over, machine_with, ArePartsSound}
-use Rattle.pos_counter.specs.Leaving.{part_of, Leaves, Stepped}
+use Rattle.pos_counter.specs.Leaving.{part_of, part_with, Leaves, Stepped}
 use Rattle.pos_counter.specs.Serving.{Serves, ServesBeside, ServesUnder}
 use Rattle.pos_counter.specs.Steps.{Request, Response, Step, IsSound}
 use Rattle.pos_counter.specs.Totals.{TotalsPart, settled}
@@ -94,18 +94,20 @@ pub arranges_serve : {D : Type 0} (bound : Ghosts D) (view new : TotalsView D) (
     → new.disk ≡ view.disk → new.totals ≡ totals
     → ((left : List Standing) → settled totals.layout totals.mode left ≡ settled view.totals.layout view.totals.mode left)
     → ArePartsSound hs ds → length dl ≡ length cl
-    → ((left : List Standing) → Step (machine_with hs cl ds (part_of bound view left)) q r
-    (machine_with gs dl ds (part_of bound (record { disk = view.disk; totals = totals }) left)))
+    → ((left : List Standing) (failures : ℕ) → Step (machine_with hs cl ds (part_with view.totals left failures)) q r
+    (machine_with gs dl ds (part_with totals left failures)))
     → Serves bound hs cl ds view q r gs dl ds new
 arranges_serve {D = D} bound view new totals hs gs cl dl ds q r only disk is same sound covers step =
     let after : TotalsView D = record { disk = view.disk; totals = totals } in
     subst (λ (v : TotalsView D). Serves bound hs cl ds view q r gs dl ds v) (sym (same_view view new totals disk is)) (record {
-      steps = λ left leaves. arranges_stepped bound view totals (machine_with hs cl ds) (machine_with gs dl ds) q r left only (same left) leaves (step left);
-      sound = stepped_sound hs gs ds (record { claims = cl; totals = part_of bound view [] })
-          (record { claims = dl; totals = part_of bound after [] }) q r sound (step []);
+      steps = λ left leaves. arranges_stepped bound view totals (machine_with hs cl ds) (machine_with gs dl ds) q r left only (same left) leaves
+          (step left (bound.state view.disk).failures);
+      sound = stepped_sound hs gs ds (record { claims = cl; totals = part_with view.totals [] 0 })
+          (record { claims = dl; totals = part_with totals [] 0 }) q r sound (step [] 0);
       covers = covers;
       places = refl;
-      untouched = λ left spares. refl;
+      spared = λ left failures spares. record { disk = refl; step = λ is. step left failures; is_settled = λ is. is ∙ sym (same left) };
+      otherwise = λ left failures. inl (record { disk = refl; step = λ is. step left failures; is_settled = λ is. is ∙ sym (same left) });
       unchanged = λ undone was is. refl;
       kept = kept_disk bound view.disk;
     })
@@ -119,7 +121,8 @@ under_serves bound view hs gs cl ds es q r only serves = record {
   sound = serves.sound;
   covers = refl;
   places = serves.places;
-  untouched = λ left spares. refl;
+  spared = λ left failures spares. record { disk = refl; step = λ is. serves.step (part_with view.totals left failures); is_settled = λ is. is };
+  otherwise = λ left failures. inl (record { disk = refl; step = λ is. serves.step (part_with view.totals left failures); is_settled = λ is. is });
   unchanged = λ undone was is. refl;
   kept = kept_disk bound view.disk;
 }
@@ -134,15 +137,17 @@ beside_serves bound view hs gs cl ds es q r only serves =
 -- the same where nothing changes
 pub looks_serve : {D : Type 0} (bound : Ghosts D) (view : TotalsView D) (hs : List Held) (cl : List (Option ℕ)) (ds : List Device) (q : Request)
     (r : Response) → OnlyNow bound view.disk
-    → ArePartsSound hs ds → ((left : List Standing)
-    → Step (machine_with hs cl ds (part_of bound view left)) q r (machine_with hs cl ds (part_of bound view left)))
+    → ArePartsSound hs ds → ((left : List Standing) (failures : ℕ)
+    → Step (machine_with hs cl ds (part_with view.totals left failures)) q r (machine_with hs cl ds (part_with view.totals left failures)))
     → Serves bound hs cl ds view q r hs cl ds view
 looks_serve bound view hs cl ds q r only sound step = record {
-  steps = λ left leaves. rests_stepped bound view (machine_with hs cl ds) (machine_with hs cl ds) q r left only leaves (step left);
+  steps = λ left leaves. rests_stepped bound view (machine_with hs cl ds) (machine_with hs cl ds) q r left only leaves
+      (step left (bound.state view.disk).failures);
   sound = sound;
   covers = refl;
   places = refl;
-  untouched = λ left spares. refl;
+  spared = λ left failures spares. record { disk = refl; step = λ is. step left failures; is_settled = λ is. is };
+  otherwise = λ left failures. inl (record { disk = refl; step = λ is. step left failures; is_settled = λ is. is });
   unchanged = λ undone was is. refl;
   kept = kept_disk bound view.disk;
 }

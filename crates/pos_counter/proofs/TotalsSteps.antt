@@ -19,7 +19,7 @@ use Rattle.pos_totals.specs.Changes.{IsDone}
 use Rattle.pos_totals.specs.Views.{IsReady, TotalsView, TurnsOff}
 use Rattle.pos_counter.specs.Machine.{Device, Machine}
 use Rattle.pos_counter.specs.Assembly.{machine_with, ArePartsSound}
-use Rattle.pos_counter.specs.Leaving.{part_of}
+use Rattle.pos_counter.specs.Leaving.{part_of, part_with}
 use Rattle.pos_counter.specs.Serving.{CallsFiles, Serves}
 use Rattle.pos_counter.specs.Responses.{answered}
 use Rattle.pos_counter.specs.Steps.{CallOf, Step, CategoryDoes, category_rows, refusals}
@@ -87,7 +87,7 @@ still_ready old (Ready files sequence) turns ready = turns
 pub files_serve : {D : Type 0} (bound : Ghosts D) (view new : TotalsView D) (hs : List Held) (cl : List (Option ℕ)) (ds : List Device) (n : ℕ)
     (c : Control) (asked : Call) (outcome : Result Answer NoMemory)
     → is_common asked ≡ false → slice_get (controls_of hs) n ≡ Some c → c.category ≡ category.HardTotals
-    → ((left : List Standing) → IsLet (machine_with hs cl ds (part_of bound view left)) n c asked)
+    → ((left : List Standing) (failures : ℕ) → IsLet (machine_with hs cl ds (part_with view.totals left failures)) n c asked)
     → CallsFiles bound view n asked outcome new → ArePartsSound hs ds → Serves bound hs cl ds view (CallOf n asked) (answered outcome) hs cl ds new
 files_serve bound view new hs cl ds n c asked outcome own at is lets calls sound = record {
   steps = λ left leaves.
@@ -95,13 +95,23 @@ files_serve bound view new hs cl ds n c asked outcome own at is lets calls sound
       record {
         after = f.after;
         leaves = f.leaves;
-        step = called_step (machine_with hs cl ds (part_of bound view left)) (part_of bound new f.after) n c asked outcome own at is (lets left) f.answer;
+        step = called_step (machine_with hs cl ds (part_of bound view left)) (part_of bound new f.after) n c asked outcome own at is
+            (lets left (bound.state view.disk).failures) f.answer;
         any_moment = f.any_moment;
       };
   sound = sound;
   covers = refl;
   places = refl;
-  untouched = λ left spares. calls.untouched (spares_own (machine_with hs cl ds (part_of bound view left)) n c asked own at is (lets left) spares);
+  spared = λ left failures spares.
+      let m = machine_with hs cl ds (part_with view.totals left failures) in
+      let spares_files = spares_own m n c asked own at is (lets left failures) spares in
+      record {
+        disk = calls.untouched spares_files;
+        step = λ settled. called_step m (part_with new.totals left failures) n c asked outcome own at is (lets left failures)
+            (calls.spared left failures settled spares_files).answer;
+        is_settled = λ settled. (calls.spared left failures settled spares_files).is_settled;
+      };
+  otherwise = λ left failures. inr (match_at_some _ c _ _ at (is, inl refl));
   unchanged = λ undone was now. elim (calls.unchanged (not_done outcome undone)) [
     | inl turns ↦ absurd (still_ready view.totals.mode new.totals.mode turns now)
     | inr same ↦ same

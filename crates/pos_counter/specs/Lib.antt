@@ -12,5 +12,6 @@ pub mod Prefixes
 pub mod Reopening
 pub mod Responses
 pub mod Serving
+pub mod Sparing
 pub mod Steps
 pub mod Totals

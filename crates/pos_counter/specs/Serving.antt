@@ -3,7 +3,7 @@ use Rattle.std.specs.Prelude.{◌≡◌, ◌⊎◌, ◌&&◌, not, ℕ, true, Li
 use Rattle.pos_service.specs.declared.answer.Answer.{Answer}
 use Rattle.pos_service.specs.declared.call.Call.{Call}
 use Rattle.pos_service.specs.declared.memory.NoMemory.{NoMemory}
-use Rattle.pos_totals.specs.HardTotals.{Mode, is_ready}
+use Rattle.pos_totals.specs.HardTotals.{Mode, Totals, is_ready}
 use Rattle.pos_totals.specs.TotalsCalls.{file_call}
 use Rattle.pos_common.specs.Held.{Held, controls_of}
 use Rattle.pos_disk.specs.State.{LeavesOnly}
@@ -19,10 +19,10 @@ use Rattle.pos_counter.specs.declared.faults.ControlFault.{ControlFault}
 use Rattle.pos_counter.specs.Steps.{Request, NewControl, Response, Step}
 use Rattle.pos_service.specs.declared.answer.Value.{Value}
 use Rattle.pos_service.specs.declared.property.Property.{Property}
-use Rattle.pos_counter.specs.DiskUse.{IsUndone, SparesDisk, SparesFiles}
+use Rattle.pos_counter.specs.DiskUse.{ChangesTotalsAlone, IsUndone, SparesDisk, SparesFiles}
 use Rattle.pos_counter.specs.Totals.{TotalsPart, FilesCalled, asks_recovery}
-use Rattle.pos_counter.specs.Assembly.{over, machine_with, ArePartsSound}
-use Rattle.pos_counter.specs.Leaving.{part_of, Leaves, Stepped}
+use Rattle.pos_counter.specs.Assembly.{machine_with, ArePartsSound}
+use Rattle.pos_counter.specs.Leaving.{part_of, part_with, IsSettled, Leaves, Spared, Stepped}
 
 -- From some parts of a counter to others, the request gets this response, whatever the claims and totals, which have
 -- no part in it. The parts are sound again.
@@ -55,12 +55,21 @@ pub record Serves {D : Type 0} (bound : Ghosts D) (helds : List Held) (claims : 
   pub sound : ArePartsSound new_helds new_devices
   pub covers : length new_claims ≡ length claims
   pub places : length new_devices ≡ length devices
-  -- a request that spares the disk doesn't touch it
-  pub untouched : (left : List Standing) → SparesDisk (machine_with helds claims devices (part_of bound before left))
-      request → now.disk ≡ before.disk
-  -- nor does a call that isn't done, but after a fault of the disk, which turns the totals off, and but a recovery,
-  -- which finds them off
+  -- a request that spares the disk is a step whatever the disk is, and doesn't touch it
+  pub spared : (left : List Standing) (failures : ℕ)
+      → SparesDisk (machine_with helds claims devices (part_with before.totals left failures)) request
+      → Spared left failures (machine_with helds claims devices) before request response
+      (machine_with new_helds new_claims new_devices) now
+  -- nor does a call touch the disk that isn't done, but after a fault of it, which turns the totals off, and but a
+  -- recovery, which finds them off
   pub unchanged : IsUndone response → IsReady before.totals.mode → IsReady now.totals.mode → now.disk ≡ before.disk
+  -- a request that doesn't spare it is a step whatever the disk is too, or a call at Hard Totals that changes nothing
+  -- beside them
+  pub otherwise : (left : List Standing) (failures : ℕ)
+      → Spared left failures (machine_with helds claims devices) before request response
+      (machine_with new_helds new_claims new_devices) now
+      ⊎ ChangesTotalsAlone (machine_with helds claims devices (part_with before.totals left failures)) request
+      (machine_with new_helds new_claims new_devices (part_with now.totals left failures))
   pub kept : KeepsDisk bound before.disk now.disk
 
 -- A new control is made, which gets a place for its transaction, whatever the devices, the claims and what the disk may
@@ -68,10 +77,8 @@ pub record Serves {D : Type 0} (bound : Ghosts D) (helds : List Held) (claims : 
 pub record MakesControl {D : Type 0} (helds : List Held) (before : TotalsView D) (category : Category)
     (outcome : Result ℕ ControlFault) (new_helds : List Held) (now : TotalsView D) : Type 0 where
   pub step : (devices : List Device) (claims : List (Option ℕ)) (left : List Standing) (failures : ℕ) →
-      let old : TotalsPart = record { totals = before.totals; left = left; failures = failures } in
-      let new : TotalsPart = record { totals = now.totals; left = left; failures = failures } in
-      Step (over helds devices (record { claims = claims; totals = old })) (NewControl tt category) (made outcome)
-      (over new_helds devices (record { claims = claims; totals = new }))
+      Step (machine_with helds claims devices (part_with before.totals left failures)) (NewControl tt category)
+      (made outcome) (machine_with new_helds claims devices (part_with now.totals left failures))
   pub layout : now.totals.layout ≡ before.totals.layout
   pub mode : now.totals.mode ≡ before.totals.mode
   pub disk : now.disk ≡ before.disk
@@ -84,12 +91,22 @@ pub record FilesStepped {D : Type 0} (bound : Ghosts D) (left : List Standing) (
   pub answer : FilesCalled number asked (part_of bound before left) outcome (part_of bound now after)
   pub any_moment : LeavesOnly (bound.state before.disk) (bound.state now.disk) (StandsForEither left after)
 
+-- A call of the totals' own on an enabled control that spares the disk, whatever the disk is: it is answered for
+-- whatever the machine has of it, which stays.
+pub record FilesSpared (left : List Standing) (failures : ℕ) (before : Totals) (number : ℕ) (asked : Call)
+    (outcome : Result Answer NoMemory) (now : Totals) : Type 0 where
+  pub answer : FilesCalled number asked (part_with before left failures) outcome (part_with now left failures)
+  pub is_settled : IsSettled now left
+
 -- What the totals do with a call of their own on an enabled control.
 pub record CallsFiles {D : Type 0} (bound : Ghosts D) (before : TotalsView D) (number : ℕ) (asked : Call)
     (outcome : Result Answer NoMemory) (now : TotalsView D) : Type 0 where
   pub steps : (left : List Standing) → Leaves bound before left
       → FilesStepped bound left before number asked outcome now
-  -- a call that spares the disk doesn't touch it
+  -- a call that spares the disk is answered whatever the disk is, and doesn't touch it
+  pub spared : (left : List Standing) (failures : ℕ) → IsSettled before.totals left
+      → SparesFiles before.totals number (file_call asked)
+      → FilesSpared left failures before.totals number asked outcome now.totals
   pub untouched : SparesFiles before.totals number (file_call asked) → now.disk ≡ before.disk
   -- nor does one that isn't done, but after a fault of the disk
   pub unchanged : ¬ (IsDone outcome) → TurnsOff before.totals.mode now.totals.mode ⊎ (now.disk ≡ before.disk)

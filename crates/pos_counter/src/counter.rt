@@ -30,8 +30,9 @@ const FIRST_HANDLE: u64 = 1;
 /// The controls of all applications, the devices that they share, and the totals on a disk. It is ended by `shutdown`
 /// alone.
 ///
-/// Each call is a step of the device machine that the counter stands for, so each list of calls is a run of it. What is
-/// said of the totals, and of what a crash leaves, is said over an honest disk.
+/// Each call is a step of the device machine that the counter stands for, so each list of calls is a run of it. Of
+/// calls at Hard Totals that use the disk, and of what a crash leaves, this is said over an honest disk; all else is a
+/// step over any disk. docs/MODEL.md, "Over any disk".
 pub struct Counter<D: Disk, P> {
     desk: Desk,
     claims: Claims,
@@ -127,7 +128,9 @@ impl<D: Disk, P: Peripheral> Counter<D, P> {
     /// The answer is E_ILLEGAL where there is no control of this number, else the first refusal of the call's table
     /// that applies, else what the call gives. Want of memory changes nothing. A crash at any moment of the call leaves
     /// what may be left before it or after it. The disk is touched only by a change and a commit that nothing refuses,
-    /// where the change isn't buffered and the commit has changes, and by an enabling of Hard Totals that are off.
+    /// where the change isn't buffered and the commit has changes, and by an enabling of Hard Totals that are off. Over
+    /// any disk, honest or not, each other call is a step, and these change nothing beside the totals and their
+    /// control.
     pub fn call(&mut self, number: usize, call: &Call) -> Result<Answer, NoMemory>
         requires sound { IsCounterSound P.Peripheral self.old }
         ensures step { IsStep D.Disk P.Peripheral self.old (CallOf number call.now) (answered result) self.new }

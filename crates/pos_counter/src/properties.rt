@@ -5,7 +5,7 @@ ghost use Rattle.pos_store.specs.Standing.{Standing};
 ghost use Rattle.pos_counter.specs.Assembly.{ArePartsSound, machine_with};
 ghost use Rattle.pos_counter.specs.Serving.{Serves};
 ghost use Rattle.pos_counter.specs.KeptDevices.{devices_in};
-ghost use Rattle.pos_counter.specs.Leaving.{part_of};
+ghost use Rattle.pos_counter.specs.Leaving.{part_with};
 ghost use Rattle.pos_service.specs.Claims.{is_own};
 ghost use Rattle.pos_counter.specs.Machine.{holder_in, holder_of};
 ghost use Rattle.pos_counter.specs.Responses.{answered};
@@ -31,9 +31,9 @@ pub(crate) fn get<D: Disk, P: Peripheral>(
     property: Property,
 ) -> Result<Answer, NoMemory>
     requires in_range { number < length controls.now }
-    ensures { (left : List Standing) →
+    ensures { (left : List Standing) (failures : ℕ) →
         let devices = devices_in P.Peripheral devices.now in
-        let machine = machine_with controls.now claims.now devices (part_of D.Disk totals.now left) in
+        let machine = machine_with controls.now claims.now devices (part_with totals.now.totals left failures) in
         Step machine (CallOf number (call.Get property)) (answered result) machine }
 {
     let control = &controls[number];
@@ -50,10 +50,10 @@ fn find_facts<D: Disk, P: Peripheral>(
     totals: &Totals<D>,
     number: usize,
 ) -> Facts
-    ensures { (claims : List (Option ℕ)) (left : List Standing) →
+    ensures { (claims : List (Option ℕ)) (left : List Standing) (failures : ℕ) →
         let control = control.now.control in
         let devices = devices_in P.Peripheral devices.now in
-        let machine = machine_with [] claims devices (part_of D.Disk totals.now left) in
+        let machine = machine_with [] claims devices (part_with totals.now.totals left failures) in
         is_claimed ≡ is_own number (holder_of machine control) → result ≡ facts_of machine number control }
 {
     let device = control.device();

@@ -3,7 +3,8 @@
 use std::io;
 use thiserror::Error;
 
-/// Why a file can't serve as a disk, or not be formatted, moved to layout 2 or told of, with what the system says of it.
+/// Why a file can't serve as a disk, or not be formatted, moved to layout 2 or told of, with what the system says of
+/// it.
 #[derive(Clone, Copy, Debug, Error)]
 pub enum FileFault {
     /// No memory was found to open it, or to tell what it holds.

@@ -61,8 +61,9 @@ fn read_once<F: FileExt>(alloc: Global, file: &F) -> Result<Vec<u8>, FileFault>
     Ok(bytes)
 }
 
-/// The first 327,680 bytes of an open file, or all where it is shorter. It is read until two readings in turn are equal,
-/// so of a file that changes they are what it was between them, unless a byte was changed and changed back.
+/// The first 327,680 bytes of an open file, or all where it is shorter. It is read until two readings in turn are
+/// equal: of a file that changes they are what it was at some moment during the two, but for bytes that were changed
+/// and changed back.
 ///
 /// # Errors
 ///

@@ -4,8 +4,8 @@ use Rattle.pos_disk.specs.declared.device.Disk.{Ghosts as DiskGhosts}
 use Rattle.pos_service.specs.declared.peripheral.Peripheral.{Ghosts}
 use Rattle.pos_counter.specs.declared.counter.Counter.{Counter}
 use Rattle.pos_store.specs.Standing.{Standing}
-use Rattle.pos_counter.specs.Counters.{IsRun, RunsFrom}
-use Rattle.pos_counter.specs.Leaving.{Leaves}
+use Rattle.pos_counter.specs.Counters.{IsRun, RunsAnyhow, RunsFrom}
+use Rattle.pos_counter.specs.Leaving.{IsSettled, Leaves}
 use Rattle.pos_counter.specs.Steps.{Request, Response}
 use Rattle.pos_run.specs.declared.names.Names.{Names}
 use Rattle.pos_run.specs.declared.spares.Spares.{Spares}
@@ -112,12 +112,15 @@ CarriesOutEnd bound peripherals old session held before after result left new =
     ⊎ Finishes (IsRun bound peripherals) old session lines before.contents after.contents left new)
 
 -- from an old counter to a new one, a run; and for all that the disk may leave before it, a crash at any moment of the
--- run leaves what may be left before or after one of its steps, and one after the run what may be left after the last
+-- run leaves what may be left before or after one of its steps, and one after the run what may be left after the last;
+-- and whatever the disk is, each request that spares it is a step
 abbrev pub RunsThrough : {D P : Type 0} → DiskGhosts D → Ghosts P
     → Counter D P → List (Request × Response) → Counter D P → Type 0
 RunsThrough bound peripherals old steps new =
     IsRun bound peripherals old steps new
     × ((left : List Standing) → Leaves bound old.totals left → RunsFrom bound peripherals left old steps new)
+    × ((left : List Standing) (failures : ℕ) → IsSettled old.totals.totals left
+    → RunsAnyhow peripherals left failures old steps new)
 
 -- What a run of a script leaves of a counter, however it ended: what all lines that were carried out asked is one run,
 -- in a step of which a crash at any moment since the start lies.

@@ -6,7 +6,7 @@ use Rattle.pos_service.specs.declared.call.Call.TheVariants as call
 use Rattle.pos_service.specs.Claims.{claim_rows, holder_at, is_foreign}
 use Rattle.pos_totals.specs.TotalsClaims.{is_area_taken}
 use Rattle.pos_common.specs.Held.{Held}
-use Rattle.pos_counter.specs.Leaving.{part_of}
+use Rattle.pos_counter.specs.Leaving.{part_with}
 use Rattle.pos_counter.specs.Steps.{CallOf, Answered}
 use Rattle.pos_counter.proofs.Claiming.{are_totals, area_claim_settled, claim_area, claim_device, claimed_covers, covered_at}
 use Rattle.pos_counter.proofs.Lifts.{control_at}
@@ -38,7 +38,7 @@ returns-then-is_totals g c = λ devices sound.
     arranges_serve g.D.Disk view now now.totals hs hs cl cl devices (CallOf n (call.Claim c.args.timeout)) (Answered c.claim_area.result)
     (λ bytes honest since. g.met.D.Disk.only_now view.disk bytes honest since)
     c.claim_area.ensures.disk refl same sound refl
-    (λ left. claim_area hs cl devices (part_of g.D.Disk view left) n one c.args.timeout c.claim_area.result now.totals at is decided)
+    (λ left failures. claim_area hs cl devices (part_with view.totals left failures) n one c.args.timeout c.claim_area.result now.totals at is decided)
 
 pub returns : goal.returns
 returns g c = λ devices sound.
@@ -57,4 +57,4 @@ returns g c = λ devices sound.
     (λ bytes honest since. g.met.D.Disk.only_now view.disk bytes honest since)
     refl refl (λ left. refl) sound
     (claimed_covers (claim_rows one (is_foreign n (holder_at cl one.device)) c.args.timeout) c.claim_device.result cl dl one.device n decided)
-    (λ left. claim_device hs cl dl devices (part_of g.D.Disk view left) n one c.args.timeout c.claim_device.result at is decided)
+    (λ left failures. claim_device hs cl dl devices (part_with view.totals left failures) n one c.args.timeout c.claim_device.result at is decided)

@@ -8,7 +8,7 @@ use Rattle.pos_service.specs.declared.code.Code.TheVariants as code
 use Rattle.pos_totals.specs.TotalsClaims.{is_own_claim, without_control}
 use Rattle.pos_common.specs.Held.{Held}
 use Rattle.pos_counter.specs.Assembly.{machine_with}
-use Rattle.pos_counter.specs.Leaving.{part_of}
+use Rattle.pos_counter.specs.Leaving.{part_with}
 use Rattle.pos_counter.specs.Steps.{CallOf, Answered}
 use Rattle.pos_counter.specs.Totals.{is_totals}
 use Rattle.pos_counter.proofs.Claiming.{are_totals, close_area, close_device, close_refused, is_none_as, length_released}
@@ -25,7 +25,7 @@ returns-then-is_none g c = λ devices sound.
     let one = get_or hs n c.index-controls-number.result in
     looks_serve g.D.Disk view hs c.args.claims.now devices (CallOf n call.Close) (Answered (answer.Refused code.Closed 0))
     (λ bytes honest since. g.met.D.Disk.only_now view.disk bytes honest since) sound
-    (λ left. close_refused (machine_with hs c.args.claims.now devices (part_of g.D.Disk view left)) n one.control
+    (λ left failures. close_refused (machine_with hs c.args.claims.now devices (part_with view.totals left failures)) n one.control
     (control_at hs n c.index-controls-number.result c.requires)
     (is_none_as one.control.device c.device-device.result _ _ (sym c.device-device.ensures) c.is_none.ensures c.if-is_none.true))
 
@@ -44,7 +44,7 @@ returns-then-is_totals g c = λ devices sound.
     (CallOf n call.Close) (Answered c.close.result) (λ bytes honest since. g.met.D.Disk.only_now view.disk bytes honest since)
     c.drop_control.ensures.disk c.drop_control.ensures.totals
     (λ left. settled_claimed (is_own_claim n) None view.totals.layout view.totals.mode left) sound refl
-    (λ left. close_area hs cl devices (part_of g.D.Disk view left) n h.control h c.close.new.self c.close.result
+    (λ left failures. close_area hs cl devices (part_with view.totals left failures) n h.control h c.close.new.self c.close.result
     (control_at hs n c.index-controls-number-then-is_totals.result c.requires) is
     (is_none_as h.control.device c.device-device.result _ _ device c.is_none.ensures c.if-is_none.false) c.close.ensures)
 
@@ -62,7 +62,7 @@ returns g c = λ devices sound.
     arranges_serve g.D.Disk view view view.totals hs (set hs n c.close-2.new.self) cl c.release.new.self devices (CallOf n call.Close)
     (Answered c.close-2.result) (λ bytes honest since. g.met.D.Disk.only_now view.disk bytes honest since)
     refl refl (λ left. refl) sound (ap length c.release.ensures ∙ length_released cl c.device-device.result n)
-    (λ left. close_device hs cl c.release.new.self devices (part_of g.D.Disk view left) n h.control h c.close-2.new.self c.close-2.result
+    (λ left failures. close_device hs cl c.release.new.self devices (part_with view.totals left failures) n h.control h c.close-2.new.self c.close-2.result
     (control_at hs n c.index-controls-number-3.result c.requires) is
     (is_none_as h.control.device c.device-device.result _ _ device c.is_none.ensures c.if-is_none.false) c.close-2.ensures
     (c.release.ensures ∙ ap (λ o. released_by cl o n) (sym device)))

@@ -2,7 +2,7 @@ use Rattle.std.proofs.Common.{◌∙◌, None, get_or, refl, set, sym}
 use Rattle.std.proofs.lemmas.List.{get_or_default}
 use Rattle.pos_service.specs.declared.call.Call.TheVariants as call
 use Rattle.pos_service.specs.Claims.{holder_at, is_own, release_rows}
-use Rattle.pos_counter.specs.Leaving.{part_of}
+use Rattle.pos_counter.specs.Leaving.{part_with}
 use Rattle.pos_counter.specs.Steps.{CallOf, Answered}
 use Rattle.pos_counter.proofs.Claiming.{are_totals, area_release_settled, release_area, release_device, released_covers}
 use Rattle.pos_counter.proofs.Lifts.{control_at}
@@ -26,8 +26,8 @@ returns-then-is_totals g c = λ devices sound.
     arranges_serve g.D.Disk view now now.totals hs (set hs n c.release_area.new.control) cl cl devices (CallOf n call.Release)
     (Answered c.release_area.result) (λ bytes honest since. g.met.D.Disk.only_now view.disk bytes honest since)
     c.release_area.ensures.disk refl same sound refl
-    (λ left. release_area hs cl devices
-    (part_of g.D.Disk view left) n one h c.release_area.new.control c.release_area.result now.totals at is here c.release_area.ensures.answer)
+    (λ left failures. release_area hs cl devices
+    (part_with view.totals left failures) n one h c.release_area.new.control c.release_area.result now.totals at is here c.release_area.ensures.answer)
 
 pub returns : goal.returns
 returns g c = λ devices sound.
@@ -45,5 +45,5 @@ returns g c = λ devices sound.
     (Answered c.release_device.result) (λ bytes honest since. g.met.D.Disk.only_now view.disk bytes honest since)
     refl refl (λ left. refl) sound
     (released_covers (release_rows one (is_own n (holder_at cl one.device))) c.release_device.result cl dl one.device n _ _ c.release_device.ensures)
-    (λ left. release_device hs cl dl devices
-    (part_of g.D.Disk view left) n one h c.release_device.new.control c.release_device.result at is here c.release_device.ensures)
+    (λ left failures. release_device hs cl dl devices
+    (part_with view.totals left failures) n one h c.release_device.new.control c.release_device.result at is here c.release_device.ensures)

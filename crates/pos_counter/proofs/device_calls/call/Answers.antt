@@ -6,7 +6,7 @@ use Rattle.pos_service.specs.declared.call.Call.TheVariants as call
 use Rattle.std.specs.Prelude.{[]}
 use Rattle.pos_counter.specs.Serving.{Serves, ServesBeside}
 use Rattle.pos_counter.specs.KeptDevices.{devices_in}
-use Rattle.pos_counter.specs.Leaving.{part_of}
+use Rattle.pos_counter.specs.Leaving.{part_with}
 use Rattle.pos_counter.specs.Responses.{answered}
 use Rattle.pos_counter.specs.Steps.{CallOf, Answered}
 use Rattle.pos_counter.proofs.Claiming.{covered}
@@ -35,7 +35,7 @@ returns-in-Close-clause-serves g c =
 pub claim-requires-clause-covers : goal.claim-requires-clause-covers
 claim-requires-clause-covers g c =
     covered c.args.controls.now (devices_in g.P.Peripheral c.args.devices.now) c.args.claims.now
-    (record { claims = []; totals = part_of g.D.Disk c.args.totals.now [] }) c.requires.parts c.requires.covers
+    (record { claims = []; totals = part_with c.args.totals.now.totals [] 0 }) c.requires.parts c.requires.covers
 
 pub returns-in-Claim-clause-serves : goal.returns-in-Claim-clause-serves
 returns-in-Claim-clause-serves g c =

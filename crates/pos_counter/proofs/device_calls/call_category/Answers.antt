@@ -9,7 +9,7 @@ use Rattle.pos_common.proofs.CheckLemmas.{kept_out, let_through, lets_open, lets
 use Rattle.pos_counter.specs.Machine.{Shared, holder_in}
 use Rattle.pos_counter.specs.KeptDevices.{devices_in}
 use Rattle.pos_counter.specs.Assembly.{machine_with}
-use Rattle.pos_counter.specs.Leaving.{part_of}
+use Rattle.pos_counter.specs.Leaving.{part_with}
 use Rattle.pos_counter.specs.Responses.{answered}
 use Rattle.pos_counter.specs.Steps.{CallOf, Answered, category_rows}
 use Rattle.pos_counter.specs.Totals.{is_totals}
@@ -46,8 +46,8 @@ returns-in-Err-clause-serves g c =
     let refused = kept_out n _ _ one _ _ _ c.in-Err.code c.in-Err.is holder needs c.check.ensures in
     looks_serve g.D.Disk view hs cl ds (CallOf n q) (Answered (answer.Refused c.in-Err.code 0))
     (λ bytes honest since. g.met.D.Disk.only_now view.disk bytes honest since) c.requires.parts
-    (λ left.
-    let m = machine_with hs cl ds (part_of g.D.Disk view left) in
+    (λ left failures.
+    let m = machine_with hs cl ds (part_with view.totals left failures) in
     refused_step m n one q (answer.Refused c.in-Err.code 0) (control_at hs n d c.requires.in_range)
     (rw (own_refusals m n one q c.requires.own) (refused (category_rows one.category m n one q))))
 
@@ -78,7 +78,7 @@ returns-then-is_totals-clause-serves g c =
     (needs_of one.category q) _ c.in_default.field-0 c.in_default.is holder needs c.check.ensures in
     let is = are_totals one.category (sym c.is_totals.ensures ∙ c.if-is_totals.true) in
     files_serve g.D.Disk view c.call_files.new.totals hs cl ds n one q c.call_files.result c.requires.own (control_at hs n d c.requires.in_range) is
-    (λ left. lets) c.call_files.ensures c.requires.parts
+    (λ left failures. lets) c.call_files.ensures c.requires.parts
 
 pub unreachable-requires : goal.unreachable-requires
 unreachable-requires g c =
@@ -101,7 +101,7 @@ call_there-requires-clause-may g c =
     let q = c.args.call.now in
     let needs = c.needs.ensures ∙ ap (λ k. needs_of k q) c.category.ensures in
     let lets = let_through n _ _ one _ (needs_of one.category q) _ c.in_default.field-0 c.in_default.is refl needs c.check.ensures in
-    let shared : Shared = record { claims = c.args.claims.now; totals = part_of g.D.Disk c.args.totals.now [] } in
+    let shared : Shared = record { claims = c.args.claims.now; totals = part_with c.args.totals.now.totals [] 0 } in
     served_there hs ds shared n one c.in-Some.place q (c.requires.parts.machine shared) (control_at hs n d c.requires.in_range)
     (sym c.in-Some.ensures) (has_kind one.category (sym c.is_totals.ensures ∙ c.if-is_totals.false)) (lets_own n _ one (needs_of one.category q) (lets []))
 

@@ -4,7 +4,7 @@ use Rattle.pos_service.specs.Stations.{signs_in}
 use Rattle.pos_counter.specs.Machine.{device_at, kind_in, station_in}
 use Rattle.pos_counter.specs.KeptDevices.{devices_in}
 use Rattle.pos_counter.specs.Assembly.{machine_with}
-use Rattle.pos_counter.specs.Leaving.{part_of}
+use Rattle.pos_counter.specs.Leaving.{part_with}
 use Rattle.pos_counter.specs.Steps.{facts_of}
 use Rattle.pos_counter.proofs.properties.find_facts.Goals as goal
 
@@ -26,9 +26,9 @@ facts_same a b kind signs size files claimed transacting =
     { kind = b.kind; signs = b.signs; totals_size = b.totals_size; files = b.files; is_claimed = b.is_claimed; in_transaction = x } in f) transacting
 
 pub returns : goal.returns
-returns g c = λ claims left claimed.
+returns g c = λ claims left failures claimed.
     let ds = devices_in g.P.Peripheral c.args.devices.now in
-    facts_same _ (facts_of (machine_with [] claims ds (part_of g.D.Disk c.args.totals.now left)) c.args.number c.args.control.now.control)
+    facts_same _ (facts_of (machine_with [] claims ds (part_with c.args.totals.now.totals left failures)) c.args.number c.args.control.now.control)
     (c.kind_at.ensures ∙ ap (λ o. kind_in (device_at ds o)) c.device-device.ensures)
     (c.signs_at.ensures ∙ ap (λ o. signs_in (station_in (device_at ds o))) c.device-device.ensures)
     c.size.ensures c.find_file_facts.ensures

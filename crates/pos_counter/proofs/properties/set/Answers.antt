@@ -1,4 +1,4 @@
-use Rattle.std.proofs.Common.{◌≡◌, ◌∙◌, ◌&&◌, ℕ, List, [], Option, not, ap, get_or, set, subst, sym, false, refl}
+use Rattle.std.proofs.Common.{◌≡◌, ◌∙◌, inl, ◌&&◌, ℕ, List, [], Option, not, ap, get_or, set, subst, sym, false, refl}
 use Rattle.pos_totals.specs.HardTotals.{is_ready}
 use Rattle.pos_service.specs.declared.kind.Kind.{Kind}
 use Rattle.pos_service.specs.declared.signs.Signs.{Signs}
@@ -12,7 +12,7 @@ use Rattle.std.proofs.lemmas.List.{get_or_default}
 use Rattle.pos_service.specs.declared.call.Call.TheVariants as call
 use Rattle.pos_counter.specs.KeptDevices.{devices_in}
 use Rattle.pos_counter.specs.Assembly.{machine_with}
-use Rattle.pos_counter.specs.Leaving.{part_of}
+use Rattle.pos_counter.specs.Leaving.{part_with}
 use Rattle.pos_counter.specs.Steps.{CallOf}
 use Rattle.pos_counter.specs.Responses.{answered}
 use Rattle.pos_counter.proofs.Recovering.{plain_set}
@@ -44,15 +44,18 @@ returns g c = λ sound.
     let plain = subst (λ (k : Held). (asks_recovery k.control p v && not (is_ready view.totals.mode)) ≡ false) (sym same)
     (ap (λ b. asks_recovery (get_or hs n c.index-controls-number.result).control p v && not b) (sym c.is_ready.ensures) ∙ sym c.is_recovering.ensures
     ∙ c.if-is_recovering.false) in
-    let step = λ (left : List Standing). plain_set hs cl ds (part_of g.D.Disk view left) n c.set.new.self h p v c.set.result c.requires is plain turns in
-    let shared : Shared = record { claims = cl; totals = part_of g.D.Disk view [] } in
+    let step = λ (left : List Standing) (failures : ℕ).
+    plain_set hs cl ds (part_with view.totals left failures) n c.set.new.self h p v c.set.result c.requires is plain turns in
+    let shared : Shared = record { claims = cl; totals = part_with view.totals [] 0 } in
     record {
       steps = λ left leaves. rests_stepped g.D.Disk view (machine_with hs cl ds) (machine_with (set hs n c.set.new.self) cl ds) q
-          (answered c.set.result) left (λ bytes honest since. g.met.D.Disk.only_now view.disk bytes honest since) leaves (step left);
-      sound = stepped_sound hs (set hs n c.set.new.self) ds shared shared q (answered c.set.result) sound (step []);
+          (answered c.set.result) left (λ bytes honest since. g.met.D.Disk.only_now view.disk bytes honest since) leaves
+          (step left (g.D.Disk.state view.disk).failures);
+      sound = stepped_sound hs (set hs n c.set.new.self) ds shared shared q (answered c.set.result) sound (step [] 0);
       covers = refl;
       places = refl;
-      untouched = λ left spares. refl;
+      spared = λ left failures spares. record { disk = refl; step = λ is. step left failures; is_settled = λ is. is };
+      otherwise = λ left failures. inl (record { disk = refl; step = λ is. step left failures; is_settled = λ is. is });
       unchanged = λ undone was now. refl;
       kept = kept_disk g.D.Disk view.disk;
     }

@@ -11,7 +11,7 @@ use Rattle.pos_counter.specs.Machine.{device_at, station_in}
 use Rattle.pos_counter.specs.Responses.{answered}
 use Rattle.pos_counter.specs.Serving.{Serves}
 use Rattle.pos_counter.specs.Steps.{CallOf}
-use Rattle.pos_counter.proofs.Recovering.{asked_control, asks_there, done_set, failed_serves, recovered_serves}
+use Rattle.pos_counter.proofs.Recovering.{asked_control, asks_there, done_set, failed_serves, recovered_serves, starved_serves}
 use Rattle.pos_counter.proofs.properties.set_recovered.Goals as goal
 
 pub returns-in-Ok : goal.returns-in-Ok
@@ -46,3 +46,12 @@ returns-in-Ok-code g c = λ sound.
     failed_serves g.D.Disk c.args.totals.now c.recover.new.self there.off hs cl
     (devices_in g.P.Peripheral c.args.devices.now) sound n there.control c.args.property c.args.value.now there.at there.asks there.recovering
     c.in-Err.fault c.in-Ok-code.code c.in-Err.ensures c.in-Ok-code.ensures
+
+pub returns-in-Err-code : goal.returns-in-Err-code
+returns-in-Err-code g c = λ sound.
+    let hs = c.args.controls.now in
+    let n = c.args.number in
+    let there = asks_there hs n c.args.property c.args.value.now c.args.totals.now.totals.mode c.requires.recovers in
+    starved_serves g.D.Disk c.args.totals.now c.recover.new.self there.off hs c.args.claims.now
+    (devices_in g.P.Peripheral c.args.devices.now) sound n there.control c.args.property c.args.value.now there.at there.asks there.recovering
+    c.in-Err.fault c.in-Err.ensures c.in-Err-code.ensures

@@ -1,10 +1,11 @@
 use mir.Syntax.{w128}
 use mir.Val.{SFits}
-use Rattle.std.proofs.Common.{refl, sym, subst, inl, rules, Ok}
+use Rattle.std.proofs.Common.{refl, sym, subst, inl, inr, rules, Ok}
 use Rattle.std.proofs.lemmas.Int.{to_z-of_z}
 use Rattle.pos_service.specs.declared.call.Call.TheVariants as call
 use Rattle.pos_totals.specs.HardTotals.{Create, Delete, Rename, Write}
 use Rattle.pos_totals.specs.TotalsArrangements.{BeginTrans, ClaimFile, ReleaseFile, Rollback}
+use Rattle.pos_totals.specs.TotalsQuestions.{Find, Tells}
 use Rattle.pos_totals.specs.Changes.{Changes}
 use Rattle.pos_counter.specs.Serving.{CallsFiles}
 use Rattle.pos_counter.proofs.FileCalls.{arrangement_calls, change_calls, commit_calls, question_calls}
@@ -64,6 +65,15 @@ returns-in-Rename g c =
     subst (λ q. CallsFiles g.D.Disk view c.args.number q c.rename.result c.rename.new.self) (sym c.in-Rename.is)
     (change_calls g.D.Disk view c.rename.new.self c.args.number _ asked c.rename.result
     (λ bytes h since. g.met.D.Disk.only_now view.disk bytes h since) refl refl changes)
+
+pub returns-in-Find : goal.returns-in-Find
+returns-in-Find g c =
+    let view = c.args.totals.now in
+    let asked = call.Find c.in-Find.name in
+    let tells = subst (λ bytes. Tells view.totals c.args.number (Find bytes) c.find.result) c.as_slice-in-Find.ensures c.find.ensures in
+    subst (λ q. CallsFiles g.D.Disk view c.args.number q (Ok c.find.result) view) (sym c.in-Find.is)
+    (question_calls g.D.Disk view c.args.number _ asked (Ok c.find.result) (λ bytes h since. g.met.D.Disk.only_now view.disk bytes h since) refl
+    (inr (c.find.result, refl)) tells)
 
 pub returns-in-FindByIndex : goal.returns-in-FindByIndex
 returns-in-FindByIndex g c =

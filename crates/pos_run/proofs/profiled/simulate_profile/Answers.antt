@@ -1,5 +1,5 @@
-use Rattle.std.proofs.Common.{◌≡◌, ◌∙◌, ◌<◌, ◌≤◌, ◌∷◌, [], All, None, Some, get_or, length, option_map, ap, arith, subst, sym}
-use Rattle.std.proofs.lemmas.List.{map-append, take_all}
+use Rattle.std.proofs.Common.{◌≡◌, ◌∙◌, ◌<◌, ◌≤◌, All, None, Some, get_or, length, option_map, ap, arith, subst, sym}
+use Rattle.std.proofs.lemmas.List.{take_all}
 use Rattle.pos_service.specs.declared.peripheral.Peripheral.{Ghosts}
 use Rattle.pos_service.specs.Stations.{station_of}
 use Rattle.pos_profile.specs.declared.role.Role.TheVariants.{Device, Spare}
@@ -7,9 +7,9 @@ use Rattle.pos_counter.specs.Counters.{machine}
 use Rattle.pos_counter.specs.Steps.{Attach, Step}
 use Rattle.pos_run.specs.declared.wrapped.Wrapped.{Wrapped}
 use Rattle.pos_run.specs.Simulating.{simulated_all, simulated_for, wrapped_state}
-use Rattle.pos_run.specs.Spares.{IsInService, states_in}
+use Rattle.pos_run.specs.Spares.{IsInService}
 use Rattle.pos_run.proofs.Filling.{begins_partly, ends_whole, serves_more, skips}
-use Rattle.pos_run.proofs.Profiling.{all_serve, simulable, spares_more}
+use Rattle.pos_run.proofs.Profiling.{all_serve, simulable}
 use Rattle.pos_run.proofs.profiled.simulate_profile.Goals as goal
 
 -- the states of simulated peripherals

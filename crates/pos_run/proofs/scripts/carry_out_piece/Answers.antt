@@ -1,8 +1,8 @@
-use Rattle.std.proofs.Common.{◌++◌, ◌∷◌, [], ◌∙◌, refl, sym, subst, append-nil}
+use Rattle.std.proofs.Common.{◌++◌, ◌∷◌, [], refl, sym, subst, append-nil}
 use Rattle.std.proofs.KnownBytes.{Appends-nil}
 use Rattle.pos_counter.specs.Counters.{IsRun}
 use Rattle.pos_counter.proofs.Runs.{runs_join}
-use Rattle.pos_script.specs.LineBuffers.{Feeds, StandsFor}
+use Rattle.pos_script.specs.LineBuffers.{StandsFor}
 use Rattle.pos_run.specs.Carried.{session_of}
 use Rattle.pos_run.proofs.Finishing.{finishes_join, finishes_none, stops_join, stops_more}
 use Rattle.pos_run.proofs.PieceLemmas.{later, line_more, lines_all, no_more, none_yet, rest_none, split_then, stands_then}

@@ -4,7 +4,8 @@ use Rattle.pos_counter.proofs.counter.Counter.call.Goals as goal
 pub returns-clause-step : goal.returns-clause-step
 returns-clause-step g c = record {
   steps = c.call.ensures.serves.steps;
-  untouched = c.call.ensures.serves.untouched;
+  spared = c.call.ensures.serves.spared;
+  otherwise = c.call.ensures.serves.otherwise;
   unchanged = c.call.ensures.serves.unchanged;
   kept = c.call.ensures.serves.kept;
 }
