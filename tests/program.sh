@@ -263,7 +263,7 @@ untold 'files of a short file' abc.disk 'is shorter than a totals file, which ha
 untold 'files of no totals' zero.disk "isn't formatted: format it first, which makes totals without files"
 untold 'files that change' /dev/urandom 'changes while it is read: try again when no one writes it'
 damage='its totals are damaged at byte'
-untold 'files of a body that is none' damaged.disk "$damage 13: the current body is no list of files"
+untold 'files of a body that is longer than its files' damaged.disk "$damage 15: bytes of the current body are left over"
 # broken NAME PLACE BYTES MESSAGE: whether it tells so of a disk with a file in a record, and with these bytes there
 broken() {
   cp read.disk broken.disk
@@ -272,6 +272,7 @@ broken() {
   untold "$1" broken.disk "$damage $4"
 }
 broken 'a body that is too long' 9 '\000\001\000\000' '9: the length of the current body is above the longest'
+broken 'a body without its file' 14 '\001' '15: bytes of the current body are missing'
 broken 'two slots with one sequence' 32768 '\245\000\000\000\000\000\000\000\001' \
   '32769: both slots are open with the same sequence'
 broken 'a record that is too long' 16385 '\000\001' "16384: a record doesn't end within the log"

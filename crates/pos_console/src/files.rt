@@ -3,14 +3,29 @@ ghost use Rattle.std.specs.Prelude.{◌≡◌, [], Ok, IfErr, IfOk, OnOk};
 ghost use Rattle.std.specs.Io.KnownBytes.{Appends};
 ghost use Rattle.pos_run.specs.Streams.{answers_of, writing_of};
 ghost use Rattle.pos_console.specs.Program.{TellsBytes, TellsFile};
-ghost use Rattle.pos_console.specs.Telling.{IsBroken, IsTold, TellsBreak, words_of};
+ghost use Rattle.pos_console.specs.Telling.{IsBroken, IsTold, TellsBreak, words_of, words_of_flaw};
 
+use pos_dir::Flaw;
 use pos_program::{Fault, FileFault, NamedFiles};
 use pos_run::AnswerWriter;
 use pos_survey::{Rule, Survey, SurveyFault};
 use std::alloc::Global;
 use std::io;
 use std::io::Write;
+
+/// A rule that a body breaks, in words.
+fn words_of_flaw(flaw: Flaw) -> &'static str
+    ensures { result.now ≡ words_of_flaw flaw }
+{
+    match flaw {
+        Flaw::TooManyFiles => "the current body has too many files",
+        Flaw::TooManyBytes => "the files of the current body have too many bytes",
+        Flaw::BadName => "the current body has a bad name",
+        Flaw::NameTwice => "the current body has a name twice",
+        Flaw::BytesMissing => "bytes of the current body are missing",
+        Flaw::BytesLeft => "bytes of the current body are left over",
+    }
+}
 
 /// A rule that totals break, in words.
 fn words_of(rule: Rule) -> &'static str
@@ -19,7 +34,7 @@ fn words_of(rule: Rule) -> &'static str
     match rule {
         Rule::SameSequence => "both slots are open with the same sequence",
         Rule::LongBody => "the length of the current body is above the longest",
-        Rule::NoFiles => "the current body is no list of files",
+        Rule::NoFiles(flaw) => words_of_flaw(flaw),
         Rule::LongRecord => "a record doesn't end within the log",
         Rule::NoGroup => "a record is no group of changes",
         Rule::EmptyGroup => "a record has no changes",

@@ -7,28 +7,21 @@ use std::alloc::AllocError;
 use thiserror::Error;
 
 /// A rule that the bytes of a disk break: one of those of docs/DISK.md, "Opening and recovery", under Damaged.
-#[derive(Clone, Copy, Debug, PartialEq, Eq, Error)]
+#[derive(Clone, Copy, Debug, PartialEq, Eq)]
 pub enum Rule {
     /// Both slots of the disk's layout are open, with the same sequence.
-    #[error("two slots are open with the same sequence")]
     SameSequence,
     /// The length of the current body is above 16,371, by layout 2 above 81,907.
-    #[error("the body is too long")]
     LongBody,
     /// The current body isn't the spelling of a list of files, for this rule of the spelling.
-    #[error("the body spells no files: {0}")]
     NoFiles(Flaw),
     /// The log has an open gate whose record doesn't end within the slot, with the gate behind it.
-    #[error("a record of the log doesn't fit")]
     LongRecord,
     /// A record spells no group.
-    #[error("a record spells no group")]
     NoGroup,
     /// A record spells an empty group.
-    #[error("a record spells an empty group")]
     EmptyGroup,
     /// A record spells a group that isn't applicable, for this fault of its first change that isn't.
-    #[error("the group of a record isn't applicable: {0}")]
     NotApplicable(DirectoryFault),
 }
 
@@ -45,7 +38,7 @@ pub enum SurveyFault {
     #[error("the disk isn't formatted")]
     Unformatted,
     /// The bytes from this place on, counted from the first byte of the disk, break this rule.
-    #[error("the disk is damaged at byte {0}: {1}")]
+    #[error("the disk is damaged at byte {0}")]
     Damaged(u64, Rule),
 }
 
