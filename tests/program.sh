@@ -248,7 +248,7 @@ untold() {
 one=$(printf '1\nfile 41\nname A\nsize 4\nhex 00000000\ntext ....')
 cp till.disk read.disk
 chmod 444 read.disk
-tells 'files in a record, which may not be written' read.disk 1 0 1 16360 "$one"
+tells 'files in a record, which may not be written' read.disk 1 0 1 16364 "$one"
 "$program" migrate --disk till.disk
 tells 'files in an image of layout 2' till.disk 2 65536 0 49146 "$one"
 "$program" format --disk new.disk
@@ -278,7 +278,7 @@ broken 'two slots with one sequence' 32768 '\245\000\000\000\000\000\000\000\001
 broken 'a record that is too long' 16385 '\000\001' "16384: a record doesn't end within the log"
 broken 'a record that is no group' 16391 '\011' '16384: a record is no group of changes'
 broken 'a record without changes' 16385 '\000\000\000\002\000\000\000' '16384: a record has no changes'
-broken 'a record that does not fit' 16398 '\001' "16384: the changes of a record don't fit the files before it"
+broken 'a record that does not fit' 16394 '\001' "16384: the changes of a record don't fit the files before it"
 "$program" files --disk read.disk > /dev/full 2> err
 told 'an output that takes nothing of files: status' 5 $?
 told 'an output that takes nothing of files: message' "pos_console: the answers can't be written" "$(cat err)"
