@@ -92,7 +92,7 @@ fn readings_that_settle(rt: HostRuntime) -> Result<(), Fail> {
     assert!(rt; whole.len() == 327_680);
     let (reading, last) = (Cell::new(1), 7);
     let settled = read_settled(rt.alloc(), &RestlessFile { reading, last })?;
-    assert!(rt; settled == [7]);
+    assert!(rt; settled.as_slice() == [7].as_slice());
     let (reading, last) = (Cell::new(1), 8);
     let changed = read_settled(rt.alloc(), &RestlessFile { reading, last });
     assert!(rt; matches!(changed, Err(FileFault::Changes)));

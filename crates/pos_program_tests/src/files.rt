@@ -66,7 +66,7 @@ fn bytes_of_totals(rt: HostRuntime) -> Result<(), Fail> {
     let path = "bytes_of_totals";
     assert!(rt; matches!(read_totals(&rt, path), Err(FileFault::Unreadable(_))));
     fs::write(&rt, path, b"abc")?;
-    assert!(rt; read_totals(&rt, path).is_ok_and(|bytes| bytes == b"abc"));
+    assert!(rt; read_totals(&rt, path).is_ok_and(|bytes| bytes.as_slice() == b"abc".as_slice()));
     let ones = vec![in rt.alloc(); 1u8; 327_681]?;
     fs::write(&rt, path, ones.as_slice())?;
     assert!(rt; read_totals(&rt, path).is_ok_and(|bytes| bytes.len() == 327_680));
