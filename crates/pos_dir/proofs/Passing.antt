@@ -31,7 +31,8 @@ one_read_more [] text rest file after read more =
     let same : text ≡ rest = ap (λ (y : List File × List ℕ). y.1) (some_is ([], text) ([], rest) read) in
     rw (same, more) refl
 one_read_more (one ∷ files) text rest file after read more =
-    let a = bind_some (file_at text) (λ first. items_at file_at (length files) first.1 >>= λ others. Some (first.0 ∷ others.0, others.1)) (one ∷ files, rest) read in
+    let a = bind_some (file_at text) (λ first. items_at file_at (length files) first.1 >>= λ others. Some (first.0 ∷ others.0, others.1))
+    (one ∷ files, rest) read in
     let b = bind_some (items_at file_at (length files) a.0.1) (λ others. Some (a.0.0 ∷ others.0, others.1)) (one ∷ files, rest) a.2 in
     let same = some_is (a.0.0 ∷ b.0.0, b.0.1) (one ∷ files, rest) b.2 in
     let head : a.0.0 ≡ one = ap (λ (y : List File × List ℕ). get_or y.0 0 one) same in

@@ -52,7 +52,8 @@ IsRefused limits files text place other = ⊥
 
 -- Of the records of a log that begins at a place, the one at this place breaks this rule: the groups of those before it
 -- are applied, and its text is no group that is applicable then.
-pub record StopsAt (limits : Limits) (base : List File) (texts : List (List ℕ)) (first at : ℕ) (broken : Rule) : Type 0 where
+pub record StopsAt (limits : Limits) (base : List File) (texts : List (List ℕ)) (first at : ℕ) (broken : Rule)
+    : Type 0 where
   pub before : List (List ℕ)
   pub text : List ℕ
   pub behind : List (List ℕ)
