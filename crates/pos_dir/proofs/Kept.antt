@@ -56,7 +56,7 @@ has_name-append (f ∷ files) file name old new =
     let parts = or_parts (bytes_eq f.name name) (has_name files name) old in
     or_from (bytes_eq f.name name) (has_name (files ++ file ∷ []) name) parts.0 (has_name-append files file name parts.1 new)
 
-are_distinct-append : (files : List File) (file : File) → are_distinct files ≡ true → has_name files file.name ≡ false
+pub are_distinct-append : (files : List File) (file : File) → are_distinct files ≡ true → has_name files file.name ≡ false
     → are_distinct (files ++ file ∷ []) ≡ true
 are_distinct-append [] file distinct new = refl
 are_distinct-append (f ∷ files) file distinct new =

@@ -6,7 +6,7 @@ use Rattle.pos_dir.specs.declared.file.File.{File}
 use Rattle.pos_dir.specs.declared.flaw.Flaw.{Flaw}
 use Rattle.pos_dir.specs.declared.flaw.Flaw.TheVariants as flaw
 use Rattle.pos_dir.specs.declared.limits.Limits.{Limits}
-use Rattle.pos_dir.specs.Files.{is_name, are_distinct, total_size}
+use Rattle.pos_dir.specs.Files.{is_name, has_name, are_distinct, total_size}
 use Rattle.pos_dir.specs.Reading.{◌>>=◌, byte_at, part_at, number_at, file_at, items_at}
 use Rattle.pos_dir.specs.Spelling.{file_spelling}
 
@@ -29,12 +29,14 @@ pub record BeginWith (bytes : List ℕ) (count : ℕ) (files : List File) (rest 
 abbrev pub end_of_files : List File → ℕ
 end_of_files files = 2 + length (flat_map file_spelling files)
 
--- why these bytes don't begin with a file that has room behind others
+-- why these bytes don't begin with a file that has room, and a name of its own, behind others
 abbrev pub IsFileFlaw : ℕ → List File → List ℕ → Flaw → Type 0
 IsFileFlaw room files rest flaw.BytesMissing = (file_at rest ≡ None) × (has_bad_name rest ≡ false)
 IsFileFlaw room files rest flaw.BadName = has_bad_name rest ≡ true
 IsFileFlaw room files rest flaw.TooManyBytes =
     (file : File × List ℕ) × (file_at rest ≡ Some file) × (room < total_size files + length file.0.bytes)
+IsFileFlaw room files rest flaw.NameTwice =
+    (file : File × List ℕ) × (file_at rest ≡ Some file) × (has_name files file.0.name ≡ true)
 IsFileFlaw room files rest other = ⊥
 
 -- Of so many files that a text begins with, the first ones are read, and this rest is behind them; it has the flaw.
@@ -44,12 +46,14 @@ pub record StopsFor (count : ℕ) (text : List ℕ) (room : ℕ) (rest : List �
   pub fewer : length files < count
   pub why : IsFileFlaw room files rest broken
 
--- A text begins with so many files, for which there is room, and this rest is behind them.
+-- A text begins with so many files, for which there is room and of which no two have one name, and this rest is behind
+-- them.
 pub record Passes (count : ℕ) (text : List ℕ) (room : ℕ) (rest : List ℕ) : Type 0 where
   pub files : List File
   pub count_is : length files ≡ count
   pub read : items_at file_at (length files) text ≡ Some (files, rest)
   pub fits : total_size files ≤ room
+  pub distinct : are_distinct files ≡ true
 
 -- The file behind those before this place has the flaw.
 pub record HasFileFlaw (limits : Limits) (bytes : List ℕ) (at : ℕ) (broken : Flaw) : Type 0 where
@@ -69,12 +73,6 @@ pub record HasMore (bytes : List ℕ) (at : ℕ) : Type 0 where
   pub some : rest ≢ []
   pub place_is : at ≡ end_of_files files
 
--- There are as many files as their number says, and two of them have one name.
-pub record HasNameTwice (bytes : List ℕ) : Type 0 where
-  pub files : List File
-  pub begin : BeginWith bytes (length files) files []
-  pub twice : are_distinct files ≡ false
-
 -- the number of files is above the limit
 abbrev pub HasManyFiles : Limits → List ℕ → Type 0
 HasManyFiles limits bytes =
@@ -83,7 +81,6 @@ HasManyFiles limits bytes =
 -- the bytes break this rule of a directory's spelling at this place
 abbrev pub HasFlaw : Limits → List ℕ → ℕ → Flaw → Type 0
 HasFlaw limits bytes at flaw.TooManyFiles = (at ≡ 0) × HasManyFiles limits bytes
-HasFlaw limits bytes at flaw.NameTwice = (at ≡ 0) × HasNameTwice bytes
 HasFlaw limits bytes at flaw.BytesLeft = HasMore bytes at
 HasFlaw limits bytes at flaw.BytesMissing =
     ((at ≡ 0) × (number_at w16 bytes ≡ None)) ⊎ HasFileFlaw limits bytes at flaw.BytesMissing

@@ -66,7 +66,7 @@ fn skip_files(count: u16, bytes: &[u8], room: usize) -> Option<&[u8]>
 }
 
 /// Whether one of so many files has the name, where the bytes begin with so many.
-fn is_used(count: u16, bytes: &[u8], name: &[u8]) -> bool
+pub(crate) fn is_used(count: u16, bytes: &[u8], name: &[u8]) -> bool
     ensures { IfSome (items_at file_at count bytes.now) (λ files. result ≡ has_name files.0 name.now) }
 {
     let mut rest = bytes;

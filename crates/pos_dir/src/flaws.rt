@@ -6,7 +6,7 @@ ghost use Rattle.pos_dir.specs.Reading.{file_at};
 ghost use Rattle.pos_dir.specs.Flaws.{has_bad_name, HasFlaw, IsFileFlaw, Passes, StopsFor};
 
 use crate::fields::{read_byte, read_part, read_u16};
-use crate::files::read_file;
+use crate::files::{is_used, read_file};
 use crate::flaw::Flaw;
 use crate::limits::Limits;
 use crate::names::is_name;
@@ -34,20 +34,23 @@ fn tell_file(bytes: &[u8]) -> Flaw
     Flaw::BytesMissing
 }
 
-/// The bytes behind so many files, for which there is room, or those behind the first of them, and why the next one
-/// isn't there or has no room.
+/// The bytes behind so many files, for which there is room and of which no two have one name, or those behind the
+/// first of them, and why the next one isn't there, has no room, or has a name that one before it has.
 fn pass_files(count: u16, text: &[u8], room: usize) -> Result<&[u8], (&[u8], Flaw)>
     ensures passed { IfOk result (λ rest. Passes count text.now room rest.now) }
     ensures stopped { IfErr result (λ e. StopsFor count text.now room e.0.now e.1) }
 {
     let mut rest = text;
     let mut left = room;
-    for _ in 0..count {
+    for i in 0..count {
         let Some((file, after)) = read_file(rest) else {
             return Err((rest, tell_file(rest)));
         };
         if file.bytes.len() > left {
             return Err((rest, Flaw::TooManyBytes));
+        }
+        if is_used(i, text, file.name) {
+            return Err((rest, Flaw::NameTwice));
         }
         left -= file.bytes.len();
         rest = after;
@@ -56,8 +59,8 @@ fn pass_files(count: u16, text: &[u8], room: usize) -> Result<&[u8], (&[u8], Fla
 }
 
 /// The first rule that bytes break which spell no directory within the limits, and its place, counted from the first
-/// byte: where the file begins that isn't good, or what is left over; 0 of the number of files and of a name that two
-/// files have. docs/DISK.md, "The layouts".
+/// byte: where the file begins that isn't good, or what is left over; 0 of the number of files. docs/DISK.md, "The
+/// layouts".
 pub fn find_flaw(bytes: &[u8], limits: Limits) -> (usize, Flaw)
     requires { ¬ (IsBody limits bytes.now) }
     ensures flaw { HasFlaw limits bytes.now result.0 result.1 }
@@ -72,10 +75,10 @@ pub fn find_flaw(bytes: &[u8], limits: Limits) -> (usize, Flaw)
     match pass_files(count, text, limits.bytes as usize) {
         Err((rest, flaw)) => (bytes.len() - rest.len(), flaw),
         Ok(rest) => {
-            if !rest.is_empty() {
-                return (bytes.len() - rest.len(), Flaw::BytesLeft);
+            if rest.is_empty() {
+                unreachable!();
             }
-            (0, Flaw::NameTwice)
+            (bytes.len() - rest.len(), Flaw::BytesLeft)
         }
     }
 }

@@ -64,7 +64,7 @@ fn bodies_that_spell_no_files(rt: HostRuntime) -> Result<(), Fail> {
         (
             [0, 0, 0, 14],
             &[0, 2, 1, 0x41, 0, 0, 0, 0, 1, 0x41, 0, 0, 0, 0],
-            13,
+            21,
             Flaw::NameTwice,
         ),
     ];

@@ -1,7 +1,6 @@
 -- Where the bytes break a rule, they stand for damage.
-use Rattle.std.proofs.Common.{◌≡◌, ℕ, List, [], ◌∷◌, ◌++◌, length, map, refl, sym, ap, ◌∙◌, subst, arith}
+use Rattle.std.proofs.Common.{◌≡◌, ℕ, List, [], ◌∷◌, ◌++◌, refl, sym, ◌∙◌, subst, arith}
 use Rattle.pos_dir.proofs.Groups.{one_group_spelling}
-use Rattle.pos_dir.specs.Calls.{IsGroupText}
 use Rattle.pos_dir.specs.Files.{IsDirectory}
 use Rattle.pos_dir.specs.Spelling.{spelling}
 use Rattle.pos_dir.specs.declared.file.File.{File}
@@ -18,7 +17,7 @@ use Rattle.pos_store.proofs.Found.{one_end}
 use Rattle.pos_store.proofs.Recovered.{no_body_stands, no_log_stands, no_groups_stand}
 use Rattle.pos_store.proofs.Stepped.{refused_step}
 use Rattle.pos_store.specs.Layouts.{limits_of}
-use Rattle.pos_store.specs.Standing.{Damaged, StandsFor, IsStep, Applies}
+use Rattle.pos_store.specs.Standing.{IsStep, Applies}
 use Rattle.pos_survey.specs.Damages.{IsFlaw, StopsAt, StopsFor, HasNoFilesIn, HasLongIn, HasBase, HasBadRecord, IsDamage, Breaks, log_begins}
 use Rattle.pos_survey.specs.declared.fault.Rule.{Rule}
 use Rattle.pos_survey.specs.declared.fault.Rule.TheVariants as rule

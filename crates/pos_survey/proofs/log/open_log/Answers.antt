@@ -1,7 +1,5 @@
 use Rattle.std.proofs.Common.{◌≡◌, ℕ, List, map, Vec, Global, ap, sym, ◌∙◌, subst}
-use Rattle.pos_disk.specs.declared.memory.MemDisk.{MemDisk}
 use Rattle.pos_image.proofs.Logs.{log_here}
-use Rattle.pos_image.specs.Images.{View}
 use Rattle.pos_image.specs.Layout.{layout_of}
 use Rattle.pos_image.specs.Standing.{log_in, log_of}
 use Rattle.pos_image.specs.declared.slot.Slot.{Slot}

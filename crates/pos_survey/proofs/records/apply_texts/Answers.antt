@@ -1,6 +1,5 @@
 use Rattle.std.proofs.Common.{◌≡◌, ◌+◌, ℕ, List, [], ◌∷◌, ◌++◌, map, take, drop, get_or, length, Vec, Global, sym, ap, ◌∙◌, subst, arith}
 use Rattle.std.proofs.lemmas.List.{map_more}
-use Rattle.pos_dir.specs.declared.file.File.{File}
 use Rattle.pos_dir.specs.declared.limits.Limits.{Limits}
 use Rattle.pos_log.proofs.Holding.{spelling_length}
 use Rattle.pos_log.specs.Records.{spelling}

@@ -1,4 +1,4 @@
-use Rattle.std.proofs.Common.{◌≡◌, ℕ, List, length, map, Vec, Global, ap, ◌∙◌, subst, arith}
+use Rattle.std.proofs.Common.{ℕ, List, map, Vec, Global, ap, ◌∙◌, subst, arith}
 use Rattle.std.proofs.lemmas.List.{length-map}
 use Rattle.std.proofs.lemmas.Result.{err_from_is_err_and}
 use Rattle.pos_dir.specs.declared.limits.Limits.{Limits}
