@@ -1,4 +1,4 @@
-use Rattle.std.proofs.Common.{◌≡◌, ◌∙◌, [], ap}
+use Rattle.std.proofs.Common.{◌≡◌, ◌∙◌, [], ap, arith}
 use Rattle.pos_service.specs.declared.facts.Facts.{Facts}
 use Rattle.pos_service.specs.Stations.{signs_in}
 use Rattle.pos_counter.specs.Machine.{device_at, kind_in, station_in}
@@ -31,6 +31,6 @@ returns g c = λ claims left failures claimed.
     facts_same _ (facts_of (machine_with [] claims ds (part_with c.args.totals.now.totals left failures)) c.args.number c.args.control.now.control)
     (c.kind_at.ensures ∙ ap (λ o. kind_in (device_at ds o)) c.device-device.ensures)
     (c.signs_at.ensures ∙ ap (λ o. signs_in (station_in (device_at ds o))) c.device-device.ensures)
-    c.size.ensures c.find_file_facts.ensures
+    (omega (arith, c.size.ensures)) c.find_file_facts.ensures
     claimed
     c.in_transaction.ensures
