@@ -1,12 +1,6 @@
-<<<<<<< HEAD
 //! What the bytes of a totals disk hold, told to whoever looks after it: the layout, the current image, the records of
 //! its log and the files, or where the bytes break a rule of the disk, and which. docs/DISK.md; docs/CONSOLE.md, "What
 //! a totals file holds".
-=======
-//! What the bytes of a totals disk hold, told to whoever looks after it: the layout, the current image, the records
-//! of its log and the files, or where the bytes break a rule of the disk, and which. docs/DISK.md; docs/CONSOLE.md,
-//! "What a totals file holds".
->>>>>>> 69a6364
 #![tactic(auto)]
 
 mod fault;
