@@ -13,7 +13,7 @@ use Rattle.pos_script.specs.declared.reply.Reply.{Reply}
 use Rattle.pos_run.specs.Names.{ControlNames, names_of}
 use Rattle.pos_run.specs.Spares.{SpareStates, spares_in}
 use Rattle.pos_script.specs.declared.line_buffer.Line.{Line}
-use Rattle.pos_script.specs.LineBuffers.{IsHeld, IsLine, Kept, StandsFor}
+use Rattle.pos_script.specs.LineBuffers.{IsLine, Kept, StandsFor}
 use Rattle.pos_script.specs.Lines.{complete_lines, lines_of}
 use Rattle.pos_script.specs.Commands.{LineRequest}
 use Rattle.pos_script.specs.Text.{reply_text}
@@ -72,12 +72,12 @@ CarriesOutLines bound peripherals old session lines before after result left new
     (λ u. Finishes (IsRun bound peripherals) old session lines before after left new)
     (λ fault. Stops (IsRun bound peripherals) old session lines before after left new)
 
--- what is held of a line decides what becomes of it: the line is carried out, and written as far as it can be
-abbrev pub CarriesOutHeld : {D P E : Type 0} → DiskGhosts D → Ghosts P
-    → Counter D P → Session → Kept → Option (List ℕ) → Option (List ℕ) → Result (Unit {0}) E → Session
+-- what was read of a line decides what becomes of it: the line is carried out, and written as far as it can be
+abbrev pub CarriesOutPrinted : {D P E : Type 0} → DiskGhosts D → Ghosts P
+    → Counter D P → Session → Line → Option (List ℕ) → Option (List ℕ) → Result (Unit {0}) E → Session
     → Counter D P → Type 0
-CarriesOutHeld bound peripherals old session held before after result left new = (line : List ℕ) → IsHeld held line
-    → CarriesOutLines bound peripherals old session (line ∷ []) before after result left new
+CarriesOutPrinted bound peripherals old session line before after result left new = (bytes : List ℕ) → IsLine line bytes
+    → CarriesOutLines bound peripherals old session (bytes ∷ []) before after result left new
 
 -- behind what was read a piece ends lines, which are carried out; where they all are, what is held then stands for
 -- what is unfinished

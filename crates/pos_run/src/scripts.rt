@@ -1,6 +1,6 @@
 ghost use Rattle.std.specs.Prelude.{[]};
 ghost use Rattle.pos_counter.specs.Counters.{IsCounterSound, IsRun};
-ghost use Rattle.pos_run.specs.Carried.{CarriesOutEnd, CarriesOutHeld, CarriesOutLast, CarriesOutPiece, CarriesOutScript, session_of};
+ghost use Rattle.pos_run.specs.Carried.{CarriesOutEnd, CarriesOutLast, CarriesOutPiece, CarriesOutPrinted, CarriesOutScript, session_of};
 ghost use Rattle.pos_run.specs.Names.{ControlNames};
 ghost use Rattle.pos_run.specs.Running.{RunsScript};
 ghost use Rattle.pos_script.specs.LineBuffers.{StandsFor};
@@ -16,7 +16,7 @@ use crate::reading::{ReadFault, ScriptReader};
 use crate::spares::Spares;
 use pos_counter::Counter;
 use pos_disk::Disk;
-use pos_script::{LineBuffer, WriteFault, print_line};
+use pos_script::{Line, LineBuffer, WriteFault, print_line};
 use pos_service::Peripheral;
 use std::alloc::Global;
 use std::io::{Read, Write};
@@ -39,10 +39,10 @@ pub enum RunFault {
 /// How many bytes are read at once, at most.
 const PIECE: usize = 65_536;
 
-/// Carries out the line that is held, and writes what it prints.
-fn carry_out_held<W: Write, D: Disk, P: Peripheral + Ends>(
+/// Carries out a line, and writes what it prints.
+fn carry_out_and_print<W: Write, D: Disk, P: Peripheral + Ends>(
     alloc: Global,
-    held: &LineBuffer,
+    line: Line<'_>,
     writer: &mut W,
     counter: &mut Counter<D, P>,
     names: &mut Names,
@@ -50,13 +50,13 @@ fn carry_out_held<W: Write, D: Disk, P: Peripheral + Ends>(
 ) -> Result<(), WriteFault>
     requires sound { IsCounterSound P.Peripheral counter.old }
     requires spares { AreSparesSound P.Peripheral spares.old }
-    ensures line { CarriesOutHeld D.Disk P.Peripheral counter.old (session_of P.Peripheral names.old spares.old)
-        held.now (W.contents writer.old) (W.contents writer.new) result
+    ensures line { CarriesOutPrinted D.Disk P.Peripheral counter.old (session_of P.Peripheral names.old spares.old)
+        line.entry (W.contents writer.old) (W.contents writer.new) result
         (session_of P.Peripheral names.new spares.new) counter.new }
     ensures sound { IsCounterSound P.Peripheral counter.new }
     ensures spares { AreSparesSound P.Peripheral spares.new }
 {
-    let reply = carry_out_line(alloc, counter, names, spares, held.line());
+    let reply = carry_out_line(alloc, counter, names, spares, line);
     print_line(writer, reply)
 }
 
@@ -79,8 +79,9 @@ pub(crate) fn carry_out_piece<W: Write, D: Disk, P: Peripheral + Ends>(
     ensures spares { AreSparesSound P.Peripheral spares.new }
 {
     let mut left = piece;
-    while let Some(rest) = held.feed(left) {
-        let Ok(()) = carry_out_held(alloc, held, writer, counter, names, spares) else {
+    while let Some((ended, rest)) = held.feed(left) {
+        let line = held.ended_line(ended);
+        let Ok(()) = carry_out_and_print(alloc, line, writer, counter, names, spares) else {
             return Err(WriteFault);
         };
         held.clear();
@@ -109,7 +110,7 @@ pub(crate) fn carry_out_last<W: Write, D: Disk, P: Peripheral + Ends>(
     if held.is_empty() {
         return Ok(());
     }
-    carry_out_held(alloc, held, writer, counter, names, spares)
+    carry_out_and_print(alloc, held.line(), writer, counter, names, spares)
 }
 
 /// Carries out the last line of a script, if there is one, and hands on and flushes all that was printed.
