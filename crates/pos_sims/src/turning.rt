@@ -7,7 +7,7 @@ ghost use Rattle.pos_sims.specs.Rings.{IsAbove, IsBelow, StandsAt, blanked, show
 ghost use Rattle.pos_sims.specs.Windows.{SameSize, ShiftsToEnd, ShiftsToFront};
 
 use crate::grid::Grid;
-use crate::laying::{Manner, lay_text};
+use crate::laying::{Manner, lay_text, put_characters};
 use crate::ring::Ring;
 use crate::scrolling::{move_to_end, move_to_front};
 use pos_service::display_text::{Attribute, BLANK, Direction, DisplayCell, Place};
@@ -185,9 +185,10 @@ impl Ring {
 impl Grid for Ring {
     ghost shown = { λ ring. shown_on ring };
 
-    fn put_cell(&mut self, at: usize, cell: DisplayCell) {
-        let place = in_ring(at, self.start(), self.cells.len());
-        self.cells[place] = cell;
+    fn put_run(&mut self, place: Place, attribute: Attribute, characters: &[u8]) {
+        let at = place.row as usize * self.columns as usize + place.column as usize;
+        let first = in_ring(at, self.start(), self.cells.len());
+        put_characters(self.cells.as_mut_slice(), first, attribute, characters);
     }
 
     fn feed_row(&mut self) {
