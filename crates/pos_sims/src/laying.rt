@@ -97,6 +97,36 @@ fn lay_byte<W: Grid>(window: &mut W, manner: Manner, place: Place, byte: u8) -> 
     lay_run(window, manner, start, &[byte])
 }
 
+/// Whether a byte of a text is a character: neither a line feed nor a carriage return.
+fn is_character_byte(b: u8) -> bool
+    ensures { result ≡ is_character b }
+{
+    b != b'\n' && b != b'\r'
+}
+
+/// Whether all bytes are characters, all looked at together.
+fn are_characters(bytes: &[u8]) -> bool
+    ensures { result ≡ list_all is_character bytes.now }
+{
+    let mut all = true;
+    for byte in bytes {
+        all &= is_character_byte(*byte);
+    }
+    all
+}
+
+/// A place in a text before which all bytes are characters, found by eights.
+fn skip_eights(bytes: &[u8]) -> usize
+    ensures bound { result ≤ length bytes.now }
+    ensures printed { list_all is_character (take result bytes.now) ≡ true }
+{
+    let mut place = 0;
+    while bytes.len() - place >= 8 && are_characters(&bytes[place..place + 8]) {
+        place += 8;
+    }
+    place
+}
+
 /// How many characters stand at the front of a text, so many at most.
 fn count_characters(bytes: &[u8], most: usize) -> usize
     ensures bound { result ≤ length bytes.now }
@@ -105,8 +135,8 @@ fn count_characters(bytes: &[u8], most: usize) -> usize
     ensures end { result < most → result < length bytes.now → is_character (slice_index bytes.now result) ≡ false }
 {
     let most = most.min(bytes.len());
-    for place in 0..most {
-        if bytes[place] == b'\n' || bytes[place] == b'\r' {
+    for place in skip_eights(&bytes[..most])..most {
+        if !is_character_byte(bytes[place]) {
             return place;
         }
     }

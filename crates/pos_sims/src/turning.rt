@@ -1,5 +1,5 @@
-ghost use Rattle.std.specs.Prelude.{◌≡◌, ◌+◌, ◌*◌, ◌<◌, ◌≤◌, true, vec_len, IfOk};
-ghost use Rattle.pos_service.specs.Displays.{ShowsText, Scrolls, blank_display, is_cursor_place, most_units};
+ghost use Rattle.std.specs.Prelude.{◌≡◌, ◌+◌, ◌*◌, ◌<◌, ◌≤◌, true, length, replicate, vec_len, IfOk};
+ghost use Rattle.pos_service.specs.Displays.{ShowsText, Scrolls, blank, blank_display, is_cursor_place, most_units};
 ghost use Rattle.pos_service.specs.declared.kind.Kind.TheVariants as kind;
 ghost use Rattle.pos_service.specs.declared.plant.Form.TheVariants as form;
 ghost use Rattle.pos_service.specs.Peripherals.{IsInRange, IsFormOf};
@@ -13,6 +13,18 @@ use crate::scrolling::{move_to_end, move_to_front};
 use pos_service::display_text::{Attribute, BLANK, Direction, DisplayCell, Place};
 use pos_service::{Kind, NoMemory};
 use std::alloc::Global;
+
+/// A blank row of the longest.
+const BLANK_ROW: [DisplayCell; 80] = [BLANK; 80];
+
+/// Blanks cells, no more than the longest row has: copied at once, which is faster than one by one.
+fn blank_row(cells: &mut [DisplayCell])
+    requires { length cells.old ≤ 80 }
+    ensures { cells.new ≡ replicate (length cells.old) blank }
+{
+    let len = cells.len();
+    cells.copy_from_slice(&BLANK_ROW[..len]);
+}
 
 /// The row below a row of a ring of so many.
 fn below(row: u32, rows: u32) -> u32
@@ -111,7 +123,7 @@ impl Ring {
         ensures columns { self.new.columns ≡ self.old.columns }
     {
         let (start, columns) = (self.start(), self.columns as usize);
-        self.cells[start..start + columns].fill(BLANK);
+        blank_row(&mut self.cells[start..start + columns]);
     }
 
     /// Each row is the one that stood above it, and the first is blank.
