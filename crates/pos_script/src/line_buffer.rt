@@ -248,6 +248,7 @@ impl LineBuffer {
     /// Takes from a piece, which comes behind what was read, the bytes up to and with the first line feed, and gives
     /// the line that they end and what it leaves: then the line is held, if the piece doesn't have all of it, until the
     /// buffer is cleared for the next. Takes all of a piece without a line feed, and gives nothing.
+    #[inline(always)]
     pub fn feed<'a>(&mut self, piece: &'a [u8]) -> Option<(EndedLine<'a>, &'a [u8])>
         ensures lines { (read : List ℕ) → StandsFor self.old read
             → Feeds read piece.now (option_map (λ found. (found.0, found.1.now)) result) self.new }

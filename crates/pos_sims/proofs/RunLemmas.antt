@@ -105,7 +105,8 @@ text_on columns xs ys strip (suc n) some le =
 
 -- so much of a text, and bytes behind it
 pub text_further : (columns : ℕ) (start : Place) (bytes : List ℕ) (i n : ℕ) → 0 < columns → i + n ≤ length bytes
-    → text_from columns start (take (i + n) bytes) ≡ with_text columns [] (take n (take (length bytes - i) (drop i bytes))) (text_from columns start (take i bytes))
+    → text_from columns start (take (i + n) bytes)
+    ≡ with_text columns [] (take n (take (length bytes - i) (drop i bytes))) (text_from columns start (take i bytes))
 text_further columns start bytes i n some le =
     let so_far = text_from columns start (take i bytes) in
     ap (text_from columns start) (take-add i n bytes)
@@ -153,7 +154,8 @@ run_laid manner old cells strip place run within all room h (suc n) le =
     ∙ run_more at manner.attribute run cells n 0 long lt
     ∙ ap (λ xs. with_run_at at manner.attribute xs cells) (sym (take_next run n)) in
     let strip_is : with_text columns [] (b ∷ []) so_far ≡ with_text columns [] (take (suc n) run) strip =
-    sym (with_text_more columns (take n run) [] b strip within.some) ∙ ap (λ zs. with_text columns [] zs strip) (sym (take_next run n ∙ take_more run n 0 lt)) in
+    sym (with_text_more columns (take n run) [] b strip within.some)
+    ∙ ap (λ zs. with_text columns [] zs strip) (sym (take_next run n ∙ take_more run n 0 lt)) in
     subst (λ (k : ℕ). Follows manner old (with_text columns [] (take (suc n) run) strip)
     (with_run_at at manner.attribute (take (suc n) run) cells) (place_at place.row k))
     (let e : place.column + n + 1 ≡ place.column + suc n = omega arith in e)
@@ -232,7 +234,8 @@ ring_room rows columns first row column start count place long e f first_lt lt r
       | inr before ↦
           let past = later_row rows columns (first + row) column (omega (arith, room, some)) (omega (arith, before.0, e, f, sum)) in
           let r = first + row - rows in
-          let whole : (first + row) * columns ≡ r * columns + rows * columns = ap (λ n. n * columns) (let g : first + row ≡ r + rows = omega (arith, past) in g) ∙ two_products r rows columns in
+          let whole : (first + row) * columns ≡ r * columns + rows * columns =
+          ap (λ n. n * columns) (let g : first + row ≡ r + rows = omega (arith, past) in g) ∙ two_products r rows columns in
           omega (arith, before.0, before.1, e, f, sum, whole, row_room rows columns r column long (omega (arith, past, lt, first_lt)) room)
     ]
   where
@@ -240,7 +243,8 @@ ring_room rows columns first row column start count place long e f first_lt lt r
     two_products a b c = omega arith
 
 -- behind a cell in turn comes the one behind it in the ring, where that doesn't end
-pub next_stands : (at start count place long n : ℕ) → place + long ≤ count → n < long → StandsAt at start count place → StandsAt (at + n) start count (place + n)
+pub next_stands : (at start count place long n : ℕ) → place + long ≤ count → n < long → StandsAt at start count place →
+    StandsAt (at + n) start count (place + n)
 next_stands at start count place long n room lt stands = elim stands [
   | inl behind ↦ inl (omega (arith, behind.1, room, lt), omega (arith, behind.1))
   | inr before ↦ inr (omega (arith, before.0), omega (arith, before.0, before.1))

@@ -37,7 +37,8 @@ loop-ended-preserved g c =
             lines ++ line ∷ [],
             split_then read c.args.piece.now seen c.loop-ended.left.now split lines are taken c.in-Some.rest.now cut line ends,
             line_more read c.args.piece.now seen c.loop-ended.left.now split lines are taken c.in-Some.rest.now cut line ends,
-            finishes_join Runs (runs_join g.D.Disk g.P.Peripheral) _ _ lines _ _ _ _ done (line ∷ []) _ _ _ (c.in-Ok.ensures.line line (c.ended_line-line.ensures line is)),
+            finishes_join Runs (runs_join g.D.Disk g.P.Peripheral) _ _ lines _ _ _ _ done (line ∷ []) _ _ _
+                (c.in-Ok.ensures.line line (c.ended_line-line.ensures line is)),
             c.clear.ensures (read ++ (seen ++ taken))
                 (rest_none read c.args.piece.now seen c.loop-ended.left.now split lines are taken c.in-Some.rest.now cut line ends none),
           ),
@@ -53,7 +54,8 @@ returns-in_default-carry_out_and_print-clause-piece g c = λ read stands.
       (lines ++ line ∷ []) ++ more,
       lines_all read c.args.piece.now seen c.loop-ended.left.now split lines are taken c.in-Some.rest.now cut line ends,
       stops_more Runs _ _ (lines ++ line ∷ []) more _ _ _ _
-          (stops_join Runs (runs_join g.D.Disk g.P.Peripheral) _ _ lines _ _ _ _ done (line ∷ []) _ _ _ (c.in_default-carry_out_and_print.ensures.line line (c.ended_line-line.ensures line is))),
+          (stops_join Runs (runs_join g.D.Disk g.P.Peripheral) _ _ lines _ _ _ _ done (line ∷ []) _ _ _
+          (c.in_default-carry_out_and_print.ensures.line line (c.ended_line-line.ensures line is))),
       tt,
     )
 

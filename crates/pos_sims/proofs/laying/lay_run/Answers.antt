@@ -1,4 +1,3 @@
-use Rattle.std.proofs.Common.{◌∙◌, arith}
 use Rattle.pos_sims.proofs.RunLemmas.{run_here}
 use Rattle.pos_sims.proofs.laying.lay_run.Goals as goal
 

@@ -21,7 +21,8 @@ loop-done-preserved g c =
     let i = c.loop-done.done in
     let n = c.lay_front-count.result.1 in
     let so_far = text_from manner.columns c.args.start (take i bytes) in
-    let le : i + n ≤ length bytes = omega (arith, c.loop-done.invariant.done, c.lay_front-count.ensures.count.1, length-drop i bytes, ap length (take_rest bytes i)) in
+    let le : i + n ≤ length bytes =
+    omega (arith, c.loop-done.invariant.done, c.lay_front-count.ensures.count.1, length-drop i bytes, ap length (take_rest bytes i)) in
     record {
       follows = subst (λ (s : Strip). Follows manner (g.W.Grid.shown c.args.window.now).cells s
           (g.W.Grid.shown c.lay_front-count.new.window).cells c.lay_front-count.result.0)
