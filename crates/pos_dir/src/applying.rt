@@ -11,7 +11,7 @@ use crate::group::Group;
 use crate::laws::{is_directory, is_group};
 use crate::limits::Limits;
 use crate::outlines::check_group;
-use crate::steps::{Step, make_steps};
+use crate::supplying::{SuppliedChange, supply_changes};
 use crate::writing::{limit_body, put_directory};
 use std::alloc::Global;
 
@@ -84,19 +84,19 @@ fn apply_checked(
     ensures directory { IsDirectory limits files.new.items }
 {
     is_group(group);
-    let steps = make_steps(alloc, group)?;
+    let changes = supply_changes(alloc, group)?;
     files.reserve(limits.files as usize - files.len())?;
-    carry_out(limits, files, steps);
+    carry_out(limits, files, changes);
     Ok(())
 }
 
 /// Carries out changes that are applicable, where there is room for all files.
-fn carry_out(limits: Limits, files: &mut Vec<File>, steps: Vec<Step<'_>>)
-    requires applicable { IsOk (outcome_of_all limits files.old.items steps.items) }
+fn carry_out(limits: Limits, files: &mut Vec<File>, changes: Vec<SuppliedChange<'_>>)
+    requires applicable { IsOk (outcome_of_all limits files.old.items changes.items) }
     requires room { limits.files ≤ vec_capacity files.old }
-    ensures { outcome_of_all limits files.old.items steps.entry.items ≡ Ok files.new.items }
+    ensures { outcome_of_all limits files.old.items changes.entry.items ≡ Ok files.new.items }
 {
-    for step in steps {
-        step.carry_out(limits, files);
+    for change in changes {
+        change.carry_out(limits, files);
     }
 }

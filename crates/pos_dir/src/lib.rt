@@ -20,7 +20,7 @@ mod limits;
 mod names;
 mod outlines;
 mod reading;
-mod steps;
+mod supplying;
 mod writing;
 
 pub use applying::{apply_and_encode, apply_applicable, apply_group};

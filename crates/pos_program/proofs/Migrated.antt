@@ -8,7 +8,7 @@ use Rattle.pos_image.specs.declared.layout.Layout.{Layout}
 use Rattle.pos_image.specs.declared.layout.Layout.TheVariants.{Layout1, Layout2}
 use Rattle.pos_image.specs.Layout.{log_place}
 use Rattle.pos_store.specs.Migrations.{AnswersMigration, Migrates}
-use Rattle.pos_store.specs.Modes.{StoreState, StoreView, Off, Ready, WhenReady, settled}
+use Rattle.pos_store.specs.StoreViews.{StoreState, StoreView, Off, Ready, WhenReady, settled}
 use Rattle.pos_store.specs.Recoveries.{Recovers, RecoversOneOf}
 use Rattle.pos_store.specs.Standing.{Standing, Stands, IsOneOf, StandsFor, StandsForOneOf, StandsForEither, LeavesOneOf, Passes}
 use Rattle.pos_store.specs.declared.fault.StoreFault.{StoreFault}

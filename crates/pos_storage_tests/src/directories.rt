@@ -1,5 +1,5 @@
 // Spellings of files and of groups, their bounds, and refused growths.
-use crate::support::{BODY, GROUP};
+use crate::shared_disks::{BODY, GROUP};
 use pos_dir::{
     Change, Directory, DirectoryFault, Group, LAYOUT_1, LAYOUT_2, Limits, Name, apply_group,
     check_group, decode, decode_group, encode, encode_group,

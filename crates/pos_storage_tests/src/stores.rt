@@ -1,5 +1,5 @@
 // The files of a store: on the disk, after a stop at each call of it, and after refused growths.
-use crate::support::{BODY, FORMATTED, GROUP, SECOND, THIRD, bytes_of, disk_of, has};
+use crate::shared_disks::{BODY, FORMATTED, GROUP, SECOND, THIRD, bytes_of, disk_of, has};
 use pos_dir::{DirectoryFault, Group, decode_group};
 use pos_disk::{Disk, DiskFault, Fill, FuseDisk, MemDisk};
 use pos_image::{ImageFault, Layout};

@@ -19,7 +19,7 @@ use Rattle.pos_store.proofs.FilesOnDisk.{leaves_files, ready_with}
 use Rattle.pos_store.specs.Commits.{Commits, PutsDown, IsUnmade}
 use Rattle.pos_store.specs.Faults.{refusal}
 use Rattle.pos_store.specs.Layouts.{limits_of}
-use Rattle.pos_store.specs.Modes.{StoreView}
+use Rattle.pos_store.specs.StoreViews.{StoreView}
 use Rattle.pos_store.specs.Standing.{HoldsFiles}
 use Rattle.pos_store.specs.declared.fault.StoreFault.{StoreFault}
 use Rattle.pos_store.specs.declared.fault.StoreFault.TheVariants as fault

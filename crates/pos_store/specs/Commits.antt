@@ -13,7 +13,7 @@ use Rattle.pos_image.specs.declared.layout.Layout.{Layout}
 use Rattle.pos_image.specs.Layout.{log_place, slot_size}
 use Rattle.pos_log.specs.Records.{end_of}
 use Rattle.pos_store.specs.Layouts.{limits_of}
-use Rattle.pos_store.specs.Modes.{StoreState, StoreView, Off, Ready, settled}
+use Rattle.pos_store.specs.StoreViews.{StoreState, StoreView, Off, Ready, settled}
 use Rattle.pos_store.specs.Standing.{Standing, Stands, Passes}
 use Rattle.pos_store.specs.declared.draft.Draft.{Draft}
 use Rattle.pos_store.specs.declared.draft.Draft.TheVariants as draft

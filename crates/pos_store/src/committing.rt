@@ -5,11 +5,11 @@ ghost use Rattle.pos_image.specs.Layout.{layout_of};
 ghost use Rattle.pos_log.specs.Logs.{IsLogReady};
 ghost use Rattle.pos_store.specs.Commits.{Commits, IsDraft, IsUnmade};
 ghost use Rattle.pos_store.specs.Layouts.{limits_of};
-ghost use Rattle.pos_store.specs.Modes.{HasItsFiles, view_of};
+ghost use Rattle.pos_store.specs.StoreViews.{HasItsFiles, view_of};
 
+use crate::disk_or_log::{DiskOrLog, turn_off};
 use crate::draft::Draft;
 use crate::fault::{StoreFault, tell_directory};
-use crate::parts::{Parts, turn_off};
 use pos_dir::laws::is_group;
 use pos_dir::{
     Directory, Group, apply_and_encode, apply_applicable, check_group, encode_group, measure_group,
@@ -60,29 +60,29 @@ fn make_draft<D: Disk>(
 
 /// Commits a group: its record goes behind the current image where it fits, else a new image has the files after it.
 pub fn commit_group<D: Disk>(
-    parts: Parts<D>,
+    disk_or_log: DiskOrLog<D>,
     call: (Global, &Group),
-) -> (Parts<D>, Result<(), StoreFault>)
-    requires sound { HasItsFiles D.Disk parts }
+) -> (DiskOrLog<D>, Result<(), StoreFault>)
+    requires sound { HasItsFiles D.Disk disk_or_log }
     requires some { 0 < length call.1.now }
     ensures sound { HasItsFiles D.Disk result.0 }
-    ensures commits { Commits D.Disk (view_of parts) call.entry.1.now result.1 (view_of result.0) }
+    ensures commits { Commits D.Disk (view_of disk_or_log) call.entry.1.now result.1 (view_of result.0) }
 {
     let (alloc, group) = call;
     is_group(group);
-    let (mut log, mut directory) = match parts {
-        Parts::Off(disk, layout) => return (Parts::Off(disk, layout), Err(StoreFault::Off)),
-        Parts::Ready(log, directory) => (log, directory),
+    let (mut log, mut directory) = match disk_or_log {
+        DiskOrLog::Off(disk, layout) => return (DiskOrLog::Off(disk, layout), Err(StoreFault::Off)),
+        DiskOrLog::Ready(log, directory) => (log, directory),
     };
     match make_draft(alloc, &log, &mut directory, group) {
         Ok(Draft::Record(text)) => match log.append(&text) {
-            Ok(()) => (Parts::Ready(log, directory), Ok(())),
+            Ok(()) => (DiskOrLog::Ready(log, directory), Ok(())),
             Err(_) => (turn_off(log), Err(StoreFault::Device)),
         },
         Ok(Draft::Image(body)) => match log.renew(body) {
-            Ok(()) => (Parts::Ready(log, directory), Ok(())),
+            Ok(()) => (DiskOrLog::Ready(log, directory), Ok(())),
             Err(_) => (turn_off(log), Err(StoreFault::Device)),
         },
-        Err(fault) => (Parts::Ready(log, directory), Err(fault)),
+        Err(fault) => (DiskOrLog::Ready(log, directory), Err(fault)),
     }
 }

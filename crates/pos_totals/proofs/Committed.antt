@@ -23,8 +23,8 @@ use Rattle.pos_totals.specs.TotalsChanges.{after_changes, files_after_all, Done,
 use Rattle.pos_service.specs.Refusals.{first_refusal}
 use Rattle.pos_store.specs.Commits.{Commits, sequence_after}
 use Rattle.pos_store.specs.Layouts.{limits_of}
-use Rattle.pos_store.specs.Modes.{StoreState as State, LeavesItsFiles}
-use Rattle.pos_store.specs.Modes.{Off as StoreOff, Ready as StoreReady, StoreView}
+use Rattle.pos_store.specs.StoreViews.{StoreState as State, LeavesItsFiles}
+use Rattle.pos_store.specs.StoreViews.{Off as StoreOff, Ready as StoreReady, StoreView}
 use Rattle.pos_store.specs.declared.fault.StoreFault.{StoreFault}
 use Rattle.pos_store.specs.declared.fault.StoreFault.TheVariants as fault
 use Rattle.pos_totals.proofs.Buffered.{makes_all, outlines_after, tags_after, next_stays, held_at, held_with, holds_so, none_held, none_hold}

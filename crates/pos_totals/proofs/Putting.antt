@@ -22,8 +22,8 @@ use Rattle.pos_store.specs.Commits.{Commits, PutsDown, IsExhausted, fits_behind,
 use Rattle.pos_store.specs.Commits as store
 use Rattle.pos_store.specs.Layouts.{limits_of}
 use Rattle.pos_store.proofs.Passing.{stays, wider}
-use Rattle.pos_store.specs.Modes.{StoreState as State, LeavesItsFiles, settled as store_settled}
-use Rattle.pos_store.specs.Modes.{Off as StoreOff, Ready as StoreReady, StoreView}
+use Rattle.pos_store.specs.StoreViews.{StoreState as State, LeavesItsFiles, settled as store_settled}
+use Rattle.pos_store.specs.StoreViews.{Off as StoreOff, Ready as StoreReady, StoreView}
 use Rattle.pos_store.specs.Standing.{Standing, Stands, StandsFor, StandsForOneOf, LeavesOneOf, Passes}
 use Rattle.pos_store.specs.declared.fault.StoreFault.{StoreFault}
 use Rattle.pos_store.specs.declared.fault.StoreFault.TheVariants as fault

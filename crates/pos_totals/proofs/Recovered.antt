@@ -7,8 +7,8 @@ use Rattle.pos_disk.specs.declared.device.Disk.{Ghosts}
 use Rattle.pos_image.specs.declared.layout.Layout.{Layout}
 use Rattle.pos_image.specs.declared.layout.Layout.TheVariants.{Layout1}
 use Rattle.pos_totals.specs.HardTotals.{Ready, last_number}
-use Rattle.pos_store.specs.Modes.{StoreState as State, LeavesItsFiles}
-use Rattle.pos_store.specs.Modes.{Off as StoreOff, Ready as StoreReady, StoreView, mode_of as store_mode_of, files_of as store_files_of}
+use Rattle.pos_store.specs.StoreViews.{StoreState as State, LeavesItsFiles}
+use Rattle.pos_store.specs.StoreViews.{Off as StoreOff, Ready as StoreReady, StoreView, mode_of as store_mode_of, files_of as store_files_of}
 use Rattle.pos_store.proofs.Passing.{settles}
 use Rattle.pos_store.specs.Recoveries as store
 use Rattle.pos_store.specs.Standing.{Standing, Stands, StandsFor}

@@ -1,6 +1,6 @@
 //! A recovery of the files, from the disk to their handles.
 ghost use Rattle.std.specs.Prelude.{◌≡◌, Some, IsSome};
-ghost use Rattle.pos_store.specs.Modes.{Off, mode_of};
+ghost use Rattle.pos_store.specs.StoreViews.{Off, mode_of};
 ghost use Rattle.pos_totals.specs.Recoveries.{Recovers, told_as};
 ghost use Rattle.pos_totals.specs.Views.{IsSound, view_of};
 

@@ -12,7 +12,7 @@ use Rattle.pos_log.specs.Logs.{Appends, IsLogReady}
 use Rattle.pos_log.specs.declared.fault.LogFault.TheVariants as log
 use Rattle.pos_store.specs.Commits.{IsDraft, IsUnmade}
 use Rattle.pos_store.specs.Layouts.{limits_of}
-use Rattle.pos_store.specs.Modes.{HasItsFiles}
+use Rattle.pos_store.specs.StoreViews.{HasItsFiles}
 use Rattle.pos_store.specs.Standing.{HoldsFiles}
 use Rattle.pos_store.specs.declared.draft.Draft.{Draft}
 use Rattle.pos_store.specs.declared.draft.Draft.TheVariants as draft

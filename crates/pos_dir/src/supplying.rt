@@ -13,7 +13,7 @@ use std::marker::Model;
 
 /// What a change does, in memory of its own.
 #[derive(Drop)]
-enum Work<'a> {
+enum Supplied<'a> {
     Create {
         file: File,
     },
@@ -37,33 +37,33 @@ enum Work<'a> {
 
 /// A change that is ready to be carried out. Contracts see the change.
 #[derive(Drop)]
-pub(crate) struct Step<'a> {
-    work: Work<'a>,
+pub(crate) struct SuppliedChange<'a> {
+    supplied: Supplied<'a>,
 }
 
-impl<'a> Model for Step<'a> {
+impl<'a> Model for SuppliedChange<'a> {
     ghost use Rattle.pos_dir.specs.declared.change.Change.{Change};
 
     ghost Value = { Change };
 
-    ghost use Rattle.pos_dir.specs.Steps.{change_of_work, IsZeroed};
+    ghost use Rattle.pos_dir.specs.Supplies.{change_of_supplied, IsZeroed};
 
-    ghost view = { λ step. change_of_work step.work };
+    ghost view = { λ change. change_of_supplied change.supplied };
 
-    ghost invariant = { λ step. IsZeroed step.work };
+    ghost invariant = { λ change. IsZeroed change.supplied };
 }
 
-impl<'a> Step<'a> {
+impl<'a> SuppliedChange<'a> {
     /// The change, made ready.
     fn new(alloc: Global, change: &'a Change) -> Result<Self, DirectoryFault>
-        ensures { MatchResult result (λ step. step ≡ change.now) (λ fault. fault ≡ DirectoryFault.NoMemory) }
+        ensures { MatchResult result (λ supplied. supplied ≡ change.now) (λ fault. fault ≡ DirectoryFault.NoMemory) }
     {
-        let work = match change {
-            Change::Create { name, size } => Work::Create {
+        let supplied = match change {
+            Change::Create { name, size } => Supplied::Create {
                 file: make_file(alloc, name, *size)?,
             },
-            Change::Delete { index } => Work::Delete { index: *index },
-            Change::Rename { index, name } => Work::Rename {
+            Change::Delete { index } => Supplied::Delete { index: *index },
+            Change::Rename { index, name } => Supplied::Rename {
                 index: *index,
                 name: copy_name(alloc, name)?,
             },
@@ -71,17 +71,17 @@ impl<'a> Step<'a> {
                 index,
                 offset,
                 bytes,
-            } => Work::Write {
+            } => Supplied::Write {
                 index: *index,
                 offset: *offset,
                 bytes: bytes.as_slice(),
             },
-            Change::SetAll { index, value } => Work::SetAll {
+            Change::SetAll { index, value } => Supplied::SetAll {
                 index: *index,
                 value: *value,
             },
         };
-        Ok(Step { work })
+        Ok(SuppliedChange { supplied })
     }
 
     /// Carries the change out, which is applicable, where there is room for all files.
@@ -91,24 +91,24 @@ impl<'a> Step<'a> {
         ensures outcome { outcome limits files.old.items self.entry ≡ Ok files.new.items }
         ensures room { limits.files ≤ vec_capacity files.new }
     {
-        let Step { work } = self;
-        match work {
-            Work::Create { file } => {
+        let SuppliedChange { supplied } = self;
+        match supplied {
+            Supplied::Create { file } => {
                 prove!(files.len() < limits.files as usize);
                 files.push_reserved(file)
             }
-            Work::Delete { index } => {
+            Supplied::Delete { index } => {
                 let _removed = files.remove(index as usize);
             }
-            Work::Rename { index, name } => files[index as usize].name = name,
-            Work::Write {
+            Supplied::Rename { index, name } => files[index as usize].name = name,
+            Supplied::Write {
                 index,
                 offset,
                 bytes,
             } => files[index as usize]
                 .bytes
                 .overwrite(offset as usize, bytes),
-            Work::SetAll { index, value } => files[index as usize].bytes.fill(value),
+            Supplied::SetAll { index, value } => files[index as usize].bytes.fill(value),
         }
     }
 }
@@ -132,12 +132,15 @@ fn copy_name(alloc: Global, name: &Name) -> Result<Name, DirectoryFault>
 }
 
 /// The changes of a group, all made ready.
-pub(crate) fn make_steps(alloc: Global, group: &Group) -> Result<Vec<Step<'_>>, DirectoryFault>
-    ensures { MatchResult result (λ steps. steps.items ≡ group.now) (λ fault. fault ≡ DirectoryFault.NoMemory) }
+pub(crate) fn supply_changes(
+    alloc: Global,
+    group: &Group,
+) -> Result<Vec<SuppliedChange<'_>>, DirectoryFault>
+    ensures { MatchResult result (λ changes. changes.items ≡ group.now) (λ fault. fault ≡ DirectoryFault.NoMemory) }
 {
-    let mut steps = Vec::with_capacity(alloc, group.changes.len())?;
+    let mut changes = Vec::with_capacity(alloc, group.changes.len())?;
     for change in &group.changes {
-        steps.push_reserved(Step::new(alloc, change)?);
+        changes.push_reserved(SuppliedChange::new(alloc, change)?);
     }
-    Ok(steps)
+    Ok(changes)
 }
