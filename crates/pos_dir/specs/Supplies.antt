@@ -1,19 +1,19 @@
--- What a change that is ready stands for.
-use Rattle.std.specs.Prelude.{◌≡◌, length, replicate}
+-- What changes take of memory: a new file, or a new name.
+use Rattle.std.specs.Prelude.{◌≡◌, List, [], ◌∷◌, replicate, Option, Some, None}
 use Rattle.pos_dir.specs.declared.change.Change.{Change}
-use Rattle.pos_dir.specs.declared.change.Change.TheVariants as changes
-use Rattle.pos_dir.specs.declared.supplying.Supplied.{Supplied}
-use Rattle.pos_dir.specs.declared.supplying.Supplied.TheVariants.{Create, Delete, Rename, Write, SetAll}
+use Rattle.pos_dir.specs.declared.change.Change.TheVariants.{Create, Delete, Rename, Write, SetAll}
+use Rattle.pos_dir.specs.declared.supplying.Supply.{Supply}
+use Rattle.pos_dir.specs.declared.supplying.Supply.TheVariants.{NewFile, NewName}
 
--- the change
-abbrev pub change_of_supplied : Supplied → Change
-change_of_supplied (Create file) = changes.Create file.name (length file.bytes)
-change_of_supplied (Delete index) = changes.Delete index
-change_of_supplied (Rename index name) = changes.Rename index name
-change_of_supplied (Write index offset bytes) = changes.Write index offset bytes.now
-change_of_supplied (SetAll index value) = changes.SetAll index value
+-- what a change takes: the file of zero bytes that it adds, or the name that it gives
+abbrev pub supplies_of : Change → List Supply
+supplies_of (Create name size) = NewFile (record { name = name; bytes = replicate size 0 }) ∷ []
+supplies_of (Delete index) = []
+supplies_of (Rename index name) = NewName name ∷ []
+supplies_of (Write index offset bytes) = []
+supplies_of (SetAll index value) = []
 
--- a new file is all zero bytes
-abbrev pub IsZeroed : Supplied → Type 0
-IsZeroed (Create file) = file.bytes ≡ replicate (length file.bytes) 0
-IsZeroed supplied = Unit {0}
+-- it is all that a change takes
+abbrev pub IsSupplied : Change → Option Supply → Type 0
+IsSupplied change None = supplies_of change ≡ []
+IsSupplied change (Some supply) = supplies_of change ≡ supply ∷ []

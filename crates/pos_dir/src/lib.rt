@@ -6,7 +6,7 @@ mod applying;
 mod bytes;
 mod change;
 mod changes;
-mod copying;
+mod collecting;
 mod directory;
 mod fault;
 mod fields;
@@ -24,7 +24,7 @@ mod supplying;
 mod writing;
 
 pub use applying::{apply_and_encode, apply_applicable, apply_group};
-pub use bytes::{Bytes, Name};
+pub use bytes::{Bytes, LentBytes, Name};
 pub use change::Change;
 pub use directory::Directory;
 pub use fault::DirectoryFault;

@@ -1,120 +1,56 @@
-//! Changes with all memory that they take, so that carrying them out can't fail.
-ghost use Rattle.std.specs.Prelude.{◌≡◌, ◌≤◌, replicate, IsOk, Ok, MatchResult, vec_capacity};
+//! The memory that changes take, all of it made before the first is carried out, so that carrying them out can't fail.
+ghost use Rattle.std.specs.Prelude.{◌≡◌, ◌≤◌, ◌++◌, List, replicate, IsOk, Ok, MatchResult, vec_capacity};
+ghost use Rattle.std.specs.List.{flat_map};
+ghost use Rattle.std.specs.Vec.Iter.{into_iter_items};
+ghost use Rattle.pos_dir.specs.declared.supplying.Supply.{Supply};
 ghost use Rattle.pos_dir.specs.Changes.{outcome};
+ghost use Rattle.pos_dir.specs.Supplies.{supplies_of, IsSupplied};
 
-use crate::bytes::{Bytes, Name};
+use crate::bytes::{Bytes, LentBytes, Name};
 use crate::change::Change;
 use crate::fault::DirectoryFault;
 use crate::file::File;
 use crate::group::Group;
 use crate::limits::Limits;
 use std::alloc::Global;
-use std::marker::Model;
+use std::vec::IntoIter;
 
-/// What a change does, in memory of its own.
+/// What a change takes of memory.
 #[derive(Drop)]
-enum Supplied<'a> {
-    Create {
-        file: File,
-    },
-    Delete {
-        index: u16,
-    },
-    Rename {
-        index: u16,
-        name: Name,
-    },
-    Write {
-        index: u16,
-        offset: u32,
-        bytes: &'a [u8],
-    },
-    SetAll {
-        index: u16,
-        value: u8,
-    },
+pub(crate) enum Supply {
+    /// The file that it adds.
+    NewFile(File),
+    /// The name that it gives.
+    NewName(Name),
 }
 
-/// A change that is ready to be carried out. Contracts see the change.
-#[derive(Drop)]
-pub(crate) struct SuppliedChange<'a> {
-    supplied: Supplied<'a>,
-}
-
-impl<'a> Model for SuppliedChange<'a> {
-    ghost use Rattle.pos_dir.specs.declared.change.Change.{Change};
-
-    ghost Value = { Change };
-
-    ghost use Rattle.pos_dir.specs.Supplies.{change_of_supplied, IsZeroed};
-
-    ghost view = { λ change. change_of_supplied change.supplied };
-
-    ghost invariant = { λ change. IsZeroed change.supplied };
-}
-
-impl<'a> SuppliedChange<'a> {
-    /// The change, made ready.
-    fn new(alloc: Global, change: &'a Change) -> Result<Self, DirectoryFault>
-        ensures { MatchResult result (λ supplied. supplied ≡ change.now) (λ fault. fault ≡ DirectoryFault.NoMemory) }
-    {
-        let supplied = match change {
-            Change::Create { name, size } => Supplied::Create {
-                file: make_file(alloc, name, *size)?,
-            },
-            Change::Delete { index } => Supplied::Delete { index: *index },
-            Change::Rename { index, name } => Supplied::Rename {
-                index: *index,
-                name: copy_name(alloc, name)?,
-            },
-            Change::Write {
-                index,
-                offset,
-                bytes,
-            } => Supplied::Write {
-                index: *index,
-                offset: *offset,
-                bytes: bytes.as_slice(),
-            },
-            Change::SetAll { index, value } => Supplied::SetAll {
-                index: *index,
-                value: *value,
-            },
-        };
-        Ok(SuppliedChange { supplied })
-    }
-
-    /// Carries the change out, which is applicable, where there is room for all files.
-    pub(crate) fn carry_out(self, limits: Limits, files: &mut Vec<File>)
-        requires applicable { IsOk (outcome limits files.old.items self) }
-        requires room { limits.files ≤ vec_capacity files.old }
-        ensures outcome { outcome limits files.old.items self.entry ≡ Ok files.new.items }
-        ensures room { limits.files ≤ vec_capacity files.new }
-    {
-        let SuppliedChange { supplied } = self;
-        match supplied {
-            Supplied::Create { file } => {
-                prove!(files.len() < limits.files as usize);
-                files.push_reserved(file)
-            }
-            Supplied::Delete { index } => {
-                let _removed = files.remove(index as usize);
-            }
-            Supplied::Rename { index, name } => files[index as usize].name = name,
-            Supplied::Write {
-                index,
-                offset,
-                bytes,
-            } => files[index as usize]
-                .bytes
-                .overwrite(offset as usize, bytes),
-            Supplied::SetAll { index, value } => files[index as usize].bytes.fill(value),
+/// What the changes of a group take of memory, in their order.
+pub(crate) fn make_supplies(alloc: Global, group: &Group<'_>) -> Result<Vec<Supply>, DirectoryFault>
+    ensures { MatchResult result (λ supplies. supplies.items ≡ flat_map supplies_of group.now)
+        (λ fault. fault ≡ DirectoryFault.NoMemory) }
+{
+    let mut supplies = Vec::new(alloc);
+    for change in &group.changes {
+        if let Some(supply) = make_supply(alloc, change)? {
+            supplies.push(supply)?;
         }
+    }
+    Ok(supplies)
+}
+
+/// What a change takes of memory.
+fn make_supply(alloc: Global, change: &Change<'_>) -> Result<Option<Supply>, DirectoryFault>
+    ensures { MatchResult result (IsSupplied change.now) (λ fault. fault ≡ DirectoryFault.NoMemory) }
+{
+    match change {
+        Change::Create { name, size } => Ok(Some(Supply::NewFile(make_file(alloc, name, *size)?))),
+        Change::Rename { index: _, name } => Ok(Some(Supply::NewName(copy_name(alloc, name)?))),
+        _ => Ok(None),
     }
 }
 
 /// A file of zero bytes.
-fn make_file(alloc: Global, name: &Name, size: u32) -> Result<File, DirectoryFault>
+fn make_file(alloc: Global, name: &LentBytes<'_>, size: u32) -> Result<File, DirectoryFault>
     ensures { MatchResult result (λ file. file ≡ record { name = name.now; bytes = replicate size 0 })
         (λ fault. fault ≡ DirectoryFault.NoMemory) }
 {
@@ -125,22 +61,62 @@ fn make_file(alloc: Global, name: &Name, size: u32) -> Result<File, DirectoryFau
 }
 
 /// The same name in memory of its own.
-fn copy_name(alloc: Global, name: &Name) -> Result<Name, DirectoryFault>
+fn copy_name(alloc: Global, name: &LentBytes<'_>) -> Result<Name, DirectoryFault>
     ensures { MatchResult result (λ copy. copy ≡ name.now) (λ fault. fault ≡ DirectoryFault.NoMemory) }
 {
     Ok(Name::from_vec(Vec::from_slice(alloc, name.as_slice())?))
 }
 
-/// The changes of a group, all made ready.
-pub(crate) fn supply_changes(
-    alloc: Global,
-    group: &Group,
-) -> Result<Vec<SuppliedChange<'_>>, DirectoryFault>
-    ensures { MatchResult result (λ changes. changes.items ≡ group.now) (λ fault. fault ≡ DirectoryFault.NoMemory) }
+/// What a change takes, the first of what is left.
+pub(crate) fn take_supply(change: &Change<'_>, left: &mut IntoIter<Supply>) -> Option<Supply>
+    requires { (rest : List Supply) × (into_iter_items left.old ≡ supplies_of change.now ++ rest) }
+    ensures supplied { IsSupplied change.now result }
+    ensures left { (rest : List Supply) → into_iter_items left.old ≡ supplies_of change.now ++ rest
+        → into_iter_items left.new ≡ rest }
 {
-    let mut changes = Vec::with_capacity(alloc, group.changes.len())?;
-    for change in &group.changes {
-        changes.push_reserved(SuppliedChange::new(alloc, change)?);
+    match change {
+        Change::Create { .. } | Change::Rename { .. } => left.next(),
+        _ => None,
     }
-    Ok(changes)
+}
+
+/// Carries out a change that is applicable, with what it takes, where there is room for all files.
+pub(crate) fn carry_out_change(
+    limits: Limits,
+    files: &mut Vec<File>,
+    change: &Change<'_>,
+    supply: Option<Supply>,
+)
+    requires applicable { IsOk (outcome limits files.old.items change.now) }
+    requires supplied { IsSupplied change.now supply }
+    requires room { limits.files ≤ vec_capacity files.old }
+    ensures outcome { outcome limits files.old.items change.now ≡ Ok files.new.items }
+    ensures room { limits.files ≤ vec_capacity files.new }
+{
+    match change {
+        Change::Create { .. } => {
+            let Some(Supply::NewFile(file)) = supply else {
+                unreachable!()
+            };
+            prove!(files.len() < limits.files as usize);
+            files.push_reserved(file)
+        }
+        Change::Delete { index } => {
+            let _removed = files.remove(*index as usize);
+        }
+        Change::Rename { index, name: _ } => {
+            let Some(Supply::NewName(name)) = supply else {
+                unreachable!()
+            };
+            files[*index as usize].name = name
+        }
+        Change::Write {
+            index,
+            offset,
+            bytes,
+        } => files[*index as usize]
+            .bytes
+            .overwrite(*offset as usize, bytes.as_slice()),
+        Change::SetAll { index, value } => files[*index as usize].bytes.fill(*value),
+    }
 }
