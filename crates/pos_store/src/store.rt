@@ -36,7 +36,7 @@ impl<D: Disk> Store<D> {
     ghost use Rattle.pos_disk.specs.State.{IsAtRest};
     ghost use Rattle.pos_image.specs.declared.layout.Layout.TheVariants.{Layout1};
     ghost use Rattle.pos_store.specs.StoreViews.{Off, WhenReady, files_of, mode_of};
-    ghost use Rattle.pos_store.specs.Commits.{Commits};
+    ghost use Rattle.pos_store.specs.Commits.{Commits, IsApplicable};
     ghost use Rattle.pos_store.specs.Layouts.{limits_of};
     ghost use Rattle.pos_store.specs.Migrations.{Migrates};
     ghost use Rattle.pos_store.specs.Recoveries.{Recovers};
@@ -66,18 +66,19 @@ impl<D: Disk> Store<D> {
         replace_with(&mut self.disk_or_log, self.alloc, recover_files)
     }
 
-    /// Carries out all changes of a group, or none. At Ok they are on the disk: as a record behind the
+    /// Carries out all changes of a group, which is applicable to the files, or none; it isn't checked again
+    /// (`pos_dir::check_group` tells whether a group is applicable). At Ok they are on the disk: as a record behind the
     /// current image where it fits, which leaves the sequence, else in a new image. An append takes no
     /// time for the bytes of other files.
     ///
     /// # Errors
     ///
-    /// `Off` where the store is off, `Refused` with the fault of the first change that isn't
-    /// applicable, `NoMemory`, `Exhausted` where the group doesn't fit and the sequence is the last one:
+    /// `Off` where the store is off, `NoMemory`, `Exhausted` where the group doesn't fit and the sequence is the last one:
     /// nothing has changed, and the disk wasn't written. `Device` where the disk failed: the store is off, and the next
     /// recovery finds the files before the group or those after it.
-    pub fn commit(&mut self, group: &Group) -> Result<(), StoreFault>
-        requires { 0 < length group.now }
+    pub fn commit(&mut self, group: &Group<'_>) -> Result<(), StoreFault>
+        requires some { 0 < length group.now }
+        requires applicable { IsApplicable self.old.layout self.old.state group.now }
         ensures { Commits D.Disk self.old group.now result self.new }
     {
         replace_with(&mut self.disk_or_log, (self.alloc, group), commit_group)
