@@ -1,4 +1,5 @@
-ghost use Rattle.std.specs.Prelude.{◌≡◌, [], length, if◌then◌else◌};
+ghost use Rattle.std.specs.Prelude.{◌≡◌, [], length, slice_get, if◌then◌else◌};
+ghost use Rattle.std.specs.Option.{option_copied};
 ghost use Rattle.pos_dir.specs.declared.fault.DirectoryFault.TheVariants.{BadName};
 ghost use Rattle.pos_dir.specs.Files.{is_name};
 ghost use Rattle.pos_dir.specs.Changes.{flaw_of, HasWidths};
@@ -51,6 +52,13 @@ impl<'a> Group<'a> {
         ensures { result ≡ length self.now }
     {
         self.changes.len()
+    }
+
+    /// The first change, or None where there is none.
+    pub fn first(&self) -> Option<&Change<'a>>
+        ensures { option_copied result ≡ slice_get self.now 0 }
+    {
+        self.changes.get(0)
     }
 
     /// Adds a change behind the others. It is refused for a bad name (BadName), a Write of more
