@@ -1,4 +1,4 @@
-use Rattle.std.proofs.Common.{◌≡◌, ◌+◌, ⊎_elim, ℕ, List, Result, Ok, Err, MatchResult, IsErrOf, refl, sym, ap, subst, ◌∙◌, arith, rules}
+use Rattle.std.proofs.Common.{◌≡◌, ◌+◌, ⊎_elim, ℕ, List, Ok, Err, IsErrOf, refl, sym, ap, subst, ◌∙◌, arith, rules}
 use Rattle.pos_disk.proofs.Moments.{weaker}
 use Rattle.pos_dir.specs.Changes.{outcome_of_all}
 use Rattle.pos_dir.specs.Spelling.{group_spelling}
@@ -16,8 +16,6 @@ use Rattle.pos_store.specs.StoreViews.{HasItsFiles, view_of}
 use Rattle.pos_store.specs.Standing.{HoldsFiles}
 use Rattle.pos_store.specs.declared.disk_or_log.DiskOrLog.{DiskOrLog}
 use Rattle.pos_store.specs.declared.draft.Draft.TheVariants as draft
-use Rattle.pos_store.specs.declared.fault.StoreFault.{StoreFault}
-use Rattle.pos_store.specs.declared.fault.StoreFault.TheVariants as fault
 use Rattle.pos_store.proofs.Committed.{IsGiven, same_layout, fits_not, stays, rises, short, appending_stands, renewing_stands, failed_commits, appended_holds, appended_commits, renewed_holds, renewed_commits}
 use Rattle.pos_store.proofs.Drafted.{unmade_commits}
 use Rattle.pos_store.proofs.committing.commit_group.Given.{Over}
