@@ -16,8 +16,9 @@ use pos_disk::Disk;
 use pos_log::Log;
 use std::alloc::Global;
 
-// Applies a group that is applicable to the files, and makes what goes to the disk for it: its record where that fits behind the log, else
-// the body of a new image. The disk has no part in it, and all memory that the commit takes is taken here.
+// Applies a group that is applicable to the files, and makes what goes to the disk for it: its record where that fits
+// behind the log, else the body of a new image. The disk has no part in it, and all memory that the commit takes is
+// taken here.
 fn make_draft<D: Disk>(
     alloc: Global,
     log: &Log<D>,
@@ -29,8 +30,10 @@ fn make_draft<D: Disk>(
     requires applicable { IsOk (outcome_of_all directory.old.limits directory.old.files group.now) }
     ensures made { MatchResult result
         (λ draft. (outcome_of_all directory.old.limits directory.old.files group.now ≡ Ok directory.new.files)
-        × IsDraft (layout_of log.now.images.slot) log.now.tail group.now log.now.images.sequence directory.new.files draft)
-        (λ fault. IsUnmade (layout_of log.now.images.slot) log.now.tail group.now log.now.images.sequence fault) }
+        × IsDraft (layout_of log.now.images.slot) log.now.tail group.now log.now.images.sequence
+        directory.new.files draft)
+        (λ fault. IsUnmade (layout_of log.now.images.slot) log.now.tail group.now log.now.images.sequence
+        fault) }
     ensures limits { directory.new.limits ≡ directory.old.limits }
     ensures unchanged { OnErr result (directory.new ≡ directory.old) }
 {
@@ -52,7 +55,8 @@ fn make_draft<D: Disk>(
     }
 }
 
-/// Commits a group that is applicable: its record goes behind the current image where it fits, else a new image has the files after it.
+/// Commits a group that is applicable: its record goes behind the current image where it fits, else a new image has
+/// the files after it.
 pub fn commit_group<D: Disk>(
     disk_or_log: DiskOrLog<D>,
     call: (Global, &Group<'_>),

@@ -67,15 +67,15 @@ impl<D: Disk> Store<D> {
     }
 
     /// Carries out all changes of a group, which is applicable to the files, or none; it isn't checked again
-    /// (`pos_dir::check_group` tells whether a group is applicable). At Ok they are on the disk: as a record behind the
-    /// current image where it fits, which leaves the sequence, else in a new image. An append takes no
-    /// time for the bytes of other files.
+    /// (`pos_dir::check_group` tells whether a group is applicable). At Ok they are on the disk: as a record behind
+    /// the current image where it fits, which leaves the sequence, else in a new image. An append takes no time for
+    /// the bytes of other files.
     ///
     /// # Errors
     ///
-    /// `Off` where the store is off, `NoMemory`, `Exhausted` where the group doesn't fit and the sequence is the last one:
-    /// nothing has changed, and the disk wasn't written. `Device` where the disk failed: the store is off, and the next
-    /// recovery finds the files before the group or those after it.
+    /// `Off` where the store is off, `NoMemory`, `Exhausted` where the group doesn't fit and the sequence is the last
+    /// one: nothing has changed, and the disk wasn't written. `Device` where the disk failed: the store is off, and the
+    /// next recovery finds the files before the group or those after it.
     pub fn commit(&mut self, group: &Group<'_>) -> Result<(), StoreFault>
         requires some { 0 < length group.now }
         requires applicable { IsApplicable self.old.layout self.old.state group.now }

@@ -309,7 +309,8 @@ module _ {D : Type 0} (bound : Ghosts D) (disk : D)
       let some = inside_some (transaction_at holdings.transactions control) inside in
       let may = may_buffer (StoreReady files sequence) holdings control change made checks inside in
       let is : new ≡ (with_change some.0).transactions =
-      did.1.added ∙ ap (with_buffered holdings.transactions control) (same_asked change did.1.change made.handle made.change may.bufferable checks.1.asked did.1.asked)
+      did.1.added ∙ ap (with_buffered holdings.transactions control)
+      (same_asked change did.1.change made.handle made.change may.bufferable checks.1.asked did.1.asked)
       ∙ ap (λ (t : Option (List Change)). slice_set holdings.transactions control (option_map (λ b. b ++ change ∷ []) t)) some.1 in
       rw (is, did.0) (is_added some.0 some.1)
 

@@ -158,7 +158,8 @@ pub record PutsBuffer {D : Type 0} (bound : Ghosts D) (old : StoreView D) (files
   pub commits : Commits bound old group result new
 
 -- what becomes of a commit, by its table, and then by the store
-abbrev pub CommitsAt : {D : Type 0} → Ghosts D → StoreView D → Totals → ℕ → Result Commitment NoMemory → StoreView D → Type 0
+abbrev pub CommitsAt : {D : Type 0} → Ghosts D → StoreView D → Totals → ℕ → Result Commitment NoMemory
+    → StoreView D → Type 0
 CommitsAt bound old totals control (Ok (commitment.Refused refusal)) new =
     (first_refusal (refusals_of_commit totals control) ≡ Some refusal) × (new ≡ old)
 CommitsAt bound old totals control (Ok commitment.Nothing) new =

@@ -11,7 +11,8 @@ returns-in-Ok-Refused-clause-commits g c =
     let store = c.args.store.now in
     let did = subst (λ (r : Result Commitment NoMemory). CommitsAt g.D.Disk store (totals_of store.state c.args.holdings.now) c.args.control r
     c.commit_buffer.new.store) (c.in-Ok-Refused.is ∙ ap (λ (p : Commitment). Ok p) c.in-Ok-Refused.field-0-is) c.commit_buffer.ensures.commits in
-    rw did.1 (refuses g.D.Disk store.disk (λ h bytes left. g.met.D.Disk.only_now store.disk bytes h left) store.layout store.state c.args.holdings.now c.args.control
+    rw did.1 (refuses g.D.Disk store.disk
+    (λ h bytes left. g.met.D.Disk.only_now store.disk bytes h left) store.layout store.state c.args.holdings.now c.args.control
     c.commit_buffer.ensures.directory c.requires.sound c.leaves_its_files.ensures c.in-Ok-Refused.refusal did.0)
 
 pub returns-in-Ok-Nothing-clause-sound : goal.returns-in-Ok-Nothing-clause-sound
@@ -19,7 +20,8 @@ returns-in-Ok-Nothing-clause-sound g c =
     let store = c.args.store.now in
     let did = subst (λ (r : Result Commitment NoMemory). CommitsAt g.D.Disk store (totals_of store.state c.args.holdings.now) c.args.control r
     c.commit_buffer.new.store) (c.in-Ok-Nothing.is ∙ ap (λ (p : Commitment). Ok p) c.in-Ok-Nothing.field-0-is) c.commit_buffer.ensures.commits in
-    rw did.2 (ends g.D.Disk store.disk (λ h bytes left. g.met.D.Disk.only_now store.disk bytes h left) store.layout store.state c.args.holdings.now c.args.control
+    rw did.2 (ends g.D.Disk store.disk
+    (λ h bytes left. g.met.D.Disk.only_now store.disk bytes h left) store.layout store.state c.args.holdings.now c.args.control
     c.commit_buffer.ensures.directory c.requires.sound c.leaves_its_files.ensures did.0 did.1
     c.set.new.self c.set.ensures).1
 
@@ -28,7 +30,8 @@ returns-in-Ok-Nothing-clause-commits g c =
     let store = c.args.store.now in
     let did = subst (λ (r : Result Commitment NoMemory). CommitsAt g.D.Disk store (totals_of store.state c.args.holdings.now) c.args.control r
     c.commit_buffer.new.store) (c.in-Ok-Nothing.is ∙ ap (λ (p : Commitment). Ok p) c.in-Ok-Nothing.field-0-is) c.commit_buffer.ensures.commits in
-    rw did.2 (ends g.D.Disk store.disk (λ h bytes left. g.met.D.Disk.only_now store.disk bytes h left) store.layout store.state c.args.holdings.now c.args.control
+    rw did.2 (ends g.D.Disk store.disk
+    (λ h bytes left. g.met.D.Disk.only_now store.disk bytes h left) store.layout store.state c.args.holdings.now c.args.control
     c.commit_buffer.ensures.directory c.requires.sound c.leaves_its_files.ensures did.0 did.1
     c.set.new.self c.set.ensures).0
 
@@ -37,7 +40,8 @@ returns-in-Ok-Done-clause-sound g c =
     let store = c.args.store.now in
     let did = subst (λ (r : Result Commitment NoMemory). CommitsAt g.D.Disk store (totals_of store.state c.args.holdings.now) c.args.control r
     c.commit_buffer.new.store) (c.in-Ok-Done.is ∙ ap (λ (p : Commitment). Ok p) c.in-Ok-Done.field-0-is) c.commit_buffer.ensures.commits in
-    (store_committed g.D.Disk store.disk (λ h bytes left. g.met.D.Disk.only_now store.disk bytes h left) c.args.holdings.now c.args.control
+    (store_committed g.D.Disk store.disk
+    (λ h bytes left. g.met.D.Disk.only_now store.disk bytes h left) c.args.holdings.now c.args.control
     did.1.group store.layout store.state store.tail c.commit_buffer.new.store c.commit_buffer.ensures.directory c.requires.sound
     c.leaves_its_files.ensures did.0 did.1.gathered did.1.commits c.set-in-Ok-Done.new.self c.set-in-Ok-Done.ensures).1
 
@@ -46,7 +50,8 @@ returns-in-Ok-Done-clause-commits g c =
     let store = c.args.store.now in
     let did = subst (λ (r : Result Commitment NoMemory). CommitsAt g.D.Disk store (totals_of store.state c.args.holdings.now) c.args.control r
     c.commit_buffer.new.store) (c.in-Ok-Done.is ∙ ap (λ (p : Commitment). Ok p) c.in-Ok-Done.field-0-is) c.commit_buffer.ensures.commits in
-    (store_committed g.D.Disk store.disk (λ h bytes left. g.met.D.Disk.only_now store.disk bytes h left) c.args.holdings.now c.args.control
+    (store_committed g.D.Disk store.disk
+    (λ h bytes left. g.met.D.Disk.only_now store.disk bytes h left) c.args.holdings.now c.args.control
     did.1.group store.layout store.state store.tail c.commit_buffer.new.store c.commit_buffer.ensures.directory c.requires.sound
     c.leaves_its_files.ensures did.0 did.1.gathered did.1.commits c.set-in-Ok-Done.new.self c.set-in-Ok-Done.ensures).0
 
@@ -55,7 +60,8 @@ returns-in-Ok-Failed-clause-sound g c =
     let store = c.args.store.now in
     let did = subst (λ (r : Result Commitment NoMemory). CommitsAt g.D.Disk store (totals_of store.state c.args.holdings.now) c.args.control r
     c.commit_buffer.new.store) (c.in-Ok-Failed.is ∙ ap (λ (p : Commitment). Ok p) c.in-Ok-Failed.field-0-is) c.commit_buffer.ensures.commits in
-    rw c.end_at.ensures (store_failed g.D.Disk store.disk (λ h bytes left. g.met.D.Disk.only_now store.disk bytes h left) c.args.holdings.now c.args.control
+    rw c.end_at.ensures (store_failed g.D.Disk store.disk
+    (λ h bytes left. g.met.D.Disk.only_now store.disk bytes h left) c.args.holdings.now c.args.control
     did.1.group store.layout store.state store.tail c.commit_buffer.new.store c.in-Ok-Failed.fault c.commit_buffer.ensures.directory c.requires.sound
     c.leaves_its_files.ensures did.0 did.1.gathered did.1.commits).1
 
@@ -64,12 +70,14 @@ returns-in-Ok-Failed-clause-commits g c =
     let store = c.args.store.now in
     let did = subst (λ (r : Result Commitment NoMemory). CommitsAt g.D.Disk store (totals_of store.state c.args.holdings.now) c.args.control r
     c.commit_buffer.new.store) (c.in-Ok-Failed.is ∙ ap (λ (p : Commitment). Ok p) c.in-Ok-Failed.field-0-is) c.commit_buffer.ensures.commits in
-    rw (c.answer_fault.ensures, c.end_at.ensures) (store_failed g.D.Disk store.disk (λ h bytes left. g.met.D.Disk.only_now store.disk bytes h left) c.args.holdings.now c.args.control
+    rw (c.answer_fault.ensures, c.end_at.ensures) (store_failed g.D.Disk store.disk
+    (λ h bytes left. g.met.D.Disk.only_now store.disk bytes h left) c.args.holdings.now c.args.control
     did.1.group store.layout store.state store.tail c.commit_buffer.new.store c.in-Ok-Failed.fault c.commit_buffer.ensures.directory c.requires.sound
     c.leaves_its_files.ensures did.0 did.1.gathered did.1.commits).0
 
 pub returns-in-Err-clause-commits : goal.returns-in-Err-clause-commits
 returns-in-Err-clause-commits g c =
     let store = c.args.store.now in
-    rw c.in-Err.ensures.commits.1 (finds_none g.D.Disk store.disk (λ h bytes left. g.met.D.Disk.only_now store.disk bytes h left) store.layout store.state c.args.holdings.now c.args.control
+    rw c.in-Err.ensures.commits.1 (finds_none g.D.Disk store.disk
+    (λ h bytes left. g.met.D.Disk.only_now store.disk bytes h left) store.layout store.state c.args.holdings.now c.args.control
     c.commit_buffer.ensures.directory c.requires.sound c.leaves_its_files.ensures c.in-Err.ensures.commits.0 (record {}))
