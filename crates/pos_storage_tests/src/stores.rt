@@ -304,8 +304,13 @@ fn each_stop_of_a_migration(rt: HostRuntime) -> Result<(), Fail> {
 #[test]
 fn faults_are_told(rt: HostRuntime) -> Result<(), Fail> {
     let no_room = DirectoryFault::NoRoom;
-    let text = format!(in rt.alloc(); "{DiskFault}; {no_room}; {}; {}", StoreFault::Exhausted, ImageFault::TooSmall)?;
-    let wanted = "the disk failed; there is no room; the sequences have run out; the disk is too small";
+    let text = format!(in rt.alloc();
+        "{DiskFault}; {no_room}; {}; {}",
+        StoreFault::Exhausted,
+        ImageFault::TooSmall
+    )?;
+    let wanted =
+        "the disk failed; there is no room; the sequences have run out; the disk is too small";
     assert_eq!(rt; text.as_str(), wanted);
     Ok(())
 }
