@@ -124,7 +124,6 @@ module _ {D : Type 0} (bound : Ghosts D) (disk : D) where
         stays fault.NoMemory new answer (recovers.reading honest, one.passes.now)
     found_moves Layout1 is (Err fault.Device) new answer passes at_rest device = fails new answer.0 passes (device refl)
     found_moves Layout1 is (Err fault.Off) new answer passes at_rest device = absurd answer
-    found_moves Layout1 is (Err (fault.Refused refusal)) new answer passes at_rest device = absurd answer
     found_moves Layout1 is (Err fault.Exhausted) new answer passes at_rest device = absurd answer
     found_moves Layout1 is (Err fault.Unformatted) new answer passes at_rest device = absurd answer
     found_moves Layout1 is (Err fault.Damaged) new answer passes at_rest device = absurd answer
