@@ -32,7 +32,7 @@ use Rattle.pos_service.specs.Stations.{Effect}
 use Rattle.pos_totals.specs.TotalsCalls.{FileCall, Arranges, Asks, Commits, Makes, Nothing, file_call}
 use Rattle.pos_disk.specs.State.{Rises}
 use Rattle.pos_store.specs.Layouts.{limits_of}
-use Rattle.pos_store.specs.Modes.{Ready as StoreReady}
+use Rattle.pos_store.specs.StoreViews.{Ready as StoreReady}
 use Rattle.pos_store.specs.Standing.{Stands, IsOneOf}
 use Rattle.pos_totals.specs.Changes.{IsOneGroup, in_doubt}
 use Rattle.pos_totals.specs.Groups.{group_of}

@@ -14,7 +14,7 @@ use Rattle.pos_image.specs.declared.layout.Layout.{Layout}
 use Rattle.pos_totals.specs.HardTotals.{File, Mode, Off, Ready, next_sequences}
 use Rattle.pos_store.specs.Layouts.{limits_of}
 use Rattle.pos_store.specs.Standing.{Standing, Stands, IsOneOf}
-use Rattle.pos_store.specs.Modes.{Ready as StoreReady}
+use Rattle.pos_store.specs.StoreViews.{Ready as StoreReady}
 use Rattle.pos_totals.specs.Views.{plain, stored}
 use Rattle.pos_counter.specs.History.{Group, History, FilesEvent, GroupAccepted, GroupInDoubt, FilesFound, NothingDone, begun, listed, with_settled, without_doubt, after_groups, files_after, is_same, has_made, decided, told}
 use Rattle.pos_counter.specs.Prefixes.{BeginsWith, IsFiles, IsPrefix, LeavesPrefix, LeavesPrefixInside, StartsWith}

@@ -6,7 +6,7 @@ ghost use Rattle.pos_dir.specs.Files.{has_name, are_distinct};
 ghost use Rattle.pos_dir.specs.Reading.{file_at, items_at, end_within, directory_at, Locates};
 
 use crate::bytes::{Bytes, Name};
-use crate::copying::Item;
+use crate::collecting::Item;
 use crate::fault::DirectoryFault;
 use crate::fields::{read_name, read_text, read_u16};
 use crate::file::File;
@@ -40,10 +40,10 @@ fn copy_file(alloc: Global, text: &FileText<'_>) -> Result<File, DirectoryFault>
     })
 }
 
-impl Item for File {
+impl<'a> Item<'a> for File {
     ghost item_at = { file_at };
 
-    fn copy_first(alloc: Global, bytes: &[u8]) -> Result<(Self, &[u8]), DirectoryFault> {
+    fn read_first(alloc: Global, bytes: &'a [u8]) -> Result<(Self, &'a [u8]), DirectoryFault> {
         let Some((file, rest)) = read_file(bytes) else {
             unreachable!()
         };

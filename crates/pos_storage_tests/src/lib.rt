@@ -8,8 +8,8 @@ mod disks;
 #[cfg(test)]
 mod images;
 #[cfg(test)]
-mod stores;
+mod shared_disks;
 #[cfg(test)]
-mod support;
+mod stores;
 #[cfg(test)]
 mod surveys;

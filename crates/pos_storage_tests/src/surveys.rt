@@ -1,5 +1,5 @@
 // What is told of the bytes of a disk: the text of a whole one, and the rule that is broken, with its place.
-use crate::support::{FORMATTED, GROUP, SECOND, bytes_of, disk_of};
+use crate::shared_disks::{FORMATTED, GROUP, SECOND, bytes_of, disk_of};
 use pos_dir::{DirectoryFault, Flaw};
 use pos_survey::{Rule, Survey, SurveyFault};
 use std::alloc::Global;

@@ -9,8 +9,8 @@ use Rattle.pos_dir.specs.declared.file.File.{File as PlainFile}
 use Rattle.pos_image.specs.declared.layout.Layout.{Layout}
 use Rattle.pos_service.specs.Claims.{is_foreign, is_own}
 use Rattle.pos_totals.specs.TotalsClaims.{is_foreign_claim, foreign_area, is_area_taken}
-use Rattle.pos_store.specs.Modes.{StoreState as State}
-use Rattle.pos_store.specs.Modes.{Off as StoreOff, Ready as StoreReady}
+use Rattle.pos_store.specs.StoreViews.{StoreState as State}
+use Rattle.pos_store.specs.StoreViews.{Off as StoreOff, Ready as StoreReady}
 use Rattle.pos_totals.proofs.Grouped.{neither}
 use Rattle.pos_totals.proofs.Handled.{all_with, all_without}
 use Rattle.pos_totals.specs.Numbering.{given_after, tags_from}

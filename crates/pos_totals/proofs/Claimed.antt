@@ -13,8 +13,8 @@ use Rattle.pos_totals.specs.TotalsArrangements.{ClaimFile, ReleaseFile, claimed,
 use Rattle.pos_totals.specs.TotalsFiles.{is_called, with_each, has_file, is_foreign_file}
 use Rattle.pos_totals.specs.TotalsClaims.{is_own_claim, is_foreign_claim, foreign_area, without_control}
 use Rattle.pos_service.specs.Refusals.{first_refusal}
-use Rattle.pos_store.specs.Modes.{StoreState as State}
-use Rattle.pos_store.specs.Modes.{Off as StoreOff, Ready as StoreReady}
+use Rattle.pos_store.specs.StoreViews.{StoreState as State}
+use Rattle.pos_store.specs.StoreViews.{Off as StoreOff, Ready as StoreReady}
 use Rattle.pos_totals.proofs.Apart.{apart_claimed, apart_dropped, apart_released, apart_so}
 use Rattle.pos_totals.proofs.Buffered.{holds_so, held_with, none_held}
 use Rattle.pos_totals.proofs.Grouped.{neither, not_refused}

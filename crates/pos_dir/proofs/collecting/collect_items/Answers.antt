@@ -1,12 +1,14 @@
-use Rattle.std.proofs.Common.{sym}
+use Rattle.std.proofs.Common.{refl, sym}
 use Rattle.pos_dir.specs.Reading.{items_at}
 use Rattle.pos_dir.proofs.Items.{kept_more, must_read, kept_all}
-use Rattle.pos_dir.proofs.copying.copy_items.Goals as goal
+use Rattle.pos_dir.proofs.collecting.collect_items.Goals as goal
 
-pub copy_first-requires : goal.copy_first-requires
-copy_first-requires g c =
-    must_read g.T.Item.item_at c.loop.items.items c.args.count c.loop.counter c.loop.rest.now
-    (items_at g.T.Item.item_at c.args.count c.args.bytes.now) c.loop-test.true c.loop.invariant c.requires
+pub read_first-requires : goal.read_first-requires
+read_first-requires g c = λ k. (
+  (refl, tt),
+  must_read g.T.Item.item_at c.loop.items.items c.args.count c.loop.counter c.loop.rest.now
+      (items_at g.T.Item.item_at c.args.count c.args.bytes.now) c.loop-test.true c.loop.invariant c.requires,
+)
 
 pub loop-preserved : goal.loop-preserved
 loop-preserved g c =

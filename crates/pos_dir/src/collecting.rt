@@ -6,22 +6,22 @@ use crate::fault::DirectoryFault;
 use std::alloc::Global;
 
 /// What bytes spell one behind the other: files, or changes.
-pub(crate) trait Item: Drop + Sized {
+pub(crate) trait Item<'a>: Drop + Sized {
     /// The item at the front of bytes, and the bytes behind it.
     ghost item_at: { List ℕ → Option (Self × List ℕ) };
 
-    /// That item in memory of its own, and the bytes behind it.
-    fn copy_first(alloc: Global, bytes: &[u8]) -> Result<(Self, &[u8]), DirectoryFault>
+    /// That item, and the bytes behind it.
+    fn read_first(alloc: Global, bytes: &'a [u8]) -> Result<(Self, &'a [u8]), DirectoryFault>
         requires { IsSome (item_at bytes.now) }
         ensures { MatchResult result (λ x. item_at bytes.now ≡ Some (x.0, x.1.now))
             (λ fault. fault ≡ DirectoryFault.NoMemory) };
 }
 
-/// So many items in memory of their own.
-pub(crate) fn copy_items<T: Item>(
+/// So many items.
+pub(crate) fn collect_items<'a, T: Item<'a>>(
     alloc: Global,
     count: u16,
-    bytes: &[u8],
+    bytes: &'a [u8],
 ) -> Result<Vec<T>, DirectoryFault>
     requires { IsSome (items_at T.item_at count bytes.now) }
     ensures { MatchResult result (λ items. IfSome (items_at T.item_at count bytes.now) (λ x. items.items ≡ x.0))
@@ -30,7 +30,7 @@ pub(crate) fn copy_items<T: Item>(
     let mut items = Vec::with_capacity(alloc, count as usize)?;
     let mut rest = bytes;
     for _ in 0..count {
-        let (item, after) = T::copy_first(alloc, rest)?;
+        let (item, after) = T::read_first(alloc, rest)?;
         items.push(item)?;
         rest = after;
     }

@@ -8,8 +8,8 @@ use Rattle.pos_image.specs.Layout.{layout_of}
 use Rattle.pos_log.specs.Logs.{IsLogReady}
 use Rattle.pos_store.specs.Layouts.{limits_of}
 use Rattle.pos_store.specs.Standing.{Standing, Stands, HoldsFiles, LeavesOneOf}
-use Rattle.pos_store.specs.declared.parts.Parts.{Parts}
-use Rattle.pos_store.specs.declared.parts.Parts.TheVariants as parts
+use Rattle.pos_store.specs.declared.disk_or_log.DiskOrLog.{DiskOrLog}
+use Rattle.pos_store.specs.declared.disk_or_log.DiskOrLog.TheVariants as which
 use Rattle.pos_store.specs.declared.mode.Mode.{Mode}
 use Rattle.pos_store.specs.declared.mode.Mode.TheVariants as mode
 
@@ -58,9 +58,9 @@ LeavesItsFiles layout Off disk = ⊤
 LeavesItsFiles layout (Ready files sequence) disk = LeavesOneOf (Stands layout files sequence ∷ []) disk
 
 -- what the parts of a store mean
-abbrev pub view_of : {D : Type 0} → Parts D → StoreView D
-view_of (parts.Off disk layout) = record { disk = disk; layout = layout; state = Off; tail = 0 }
-view_of (parts.Ready log directory) = record {
+abbrev pub view_of : {D : Type 0} → DiskOrLog D → StoreView D
+view_of (which.Off disk layout) = record { disk = disk; layout = layout; state = Off; tail = 0 }
+view_of (which.Ready log directory) = record {
   disk = log.images.disk;
   layout = layout_of log.images.slot;
   state = Ready directory.files log.images.sequence;
@@ -68,9 +68,9 @@ view_of (parts.Ready log directory) = record {
 }
 
 -- where it is ready, so is its log, the disk holds the files, and the directory has the limits of its layout
-abbrev pub HasItsFiles : {D : Type 0} → Ghosts D → Parts D → Type 0
-HasItsFiles bound (parts.Off disk layout) = ⊤
-HasItsFiles bound (parts.Ready log directory) =
+abbrev pub HasItsFiles : {D : Type 0} → Ghosts D → DiskOrLog D → Type 0
+HasItsFiles bound (which.Off disk layout) = ⊤
+HasItsFiles bound (which.Ready log directory) =
     IsLogReady bound log
     × (bound.honest log.images.disk
     → HoldsFiles (layout_of log.images.slot) directory.files log.images.sequence
