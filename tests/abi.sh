@@ -67,6 +67,8 @@ tries() {
   told "$who: want of memory" "whole in the end, and nothing is left" "$("$work/program" 2>&1 | tail -n 1)"
   links "$who: short answers" "$abi/c/short.c" "$abi/heap.c" "$@"
   told "$who: short answers" "as they should be" "$("$work/program" 2>&1 | tail -n 1)"
+  links "$who: devices of the host's" "$abi/c/orders.c" "$abi/heap.c" "$@"
+  told "$who: devices of the host's" "as they should be" "$("$work/program" 2>&1 | tail -n 1)"
   links "$who: two threads" "$abi/c/threads.c" "$abi/heap.c" "$@"
   told "$who: two threads" "the same" "$("$work/program" 2>&1 | tail -n 1)"
 }
