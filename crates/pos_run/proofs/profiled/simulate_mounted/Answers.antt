@@ -6,4 +6,4 @@ use Rattle.pos_run.proofs.profiled.simulate_mounted.Goals as goal
 pub mount-requires : goal.mount-requires
 mount-requires g c =
     let simulated = sym (ap (option_map wrapped_state) c.in-Some.is) ∙ c.in_ok-simulation.ensures.state in
-    state_is_fresh c.args.entry.now (wrapped_state c.in-Some.simulation) simulated
+    record { fresh = state_is_fresh c.args.entry.now (wrapped_state c.in-Some.simulation) simulated }
