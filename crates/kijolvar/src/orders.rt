@@ -103,11 +103,7 @@ pub fn ask_keeping(
 
 /// Takes out the oldest line and writes it to `text`; one for which there is no room stays. `needed` says how many
 /// bytes it has, 0 where none is left. Answers ORDER, SHORT, or OK where none is left.
-pub fn tell_order(
-    lines: &mut VecDeque<Vec<u8>>,
-    text: &mut [u8],
-    needed: &mut usize,
-) -> u32
+pub fn tell_order(lines: &mut VecDeque<Vec<u8>>, text: &mut [u8], needed: &mut usize) -> u32
     ensures { TellsOrder (order_lines lines.old.items) text.old text.new needed.new result
         (order_lines lines.new.items) }
 {
