@@ -1,5 +1,4 @@
 //! The devices of a till.
-ghost use Rattle.std.specs.Prelude.{◌≡◌};
 ghost use Rattle.kijolvar.specs.Orders.{device_state};
 
 use crate::tray::{Post, Tray};
