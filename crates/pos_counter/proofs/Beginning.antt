@@ -15,10 +15,10 @@ use Rattle.pos_profile.specs.Categories.{is_totals}
 use Rattle.pos_profile.specs.Kinds.{kind_with}
 use Rattle.pos_profile.specs.Profiles.{is_refused_after, is_totals_entry}
 use Rattle.pos_profile.specs.Registries.{Device as Registered, HasKindInRange, IsServed, planned_of, vacant, vacant_devices}
-use Rattle.pos_counter.specs.Machine.{Device}
-use Rattle.pos_counter.specs.Assembly.{ArePartsSound}
+use Rattle.pos_counter.specs.Machine.{Device, machine_with}
 use Rattle.pos_counter.specs.KeptDevices.{device_of, devices_of, profile_devices, totals_devices}
-use Rattle.pos_counter.specs.Steps.{HasItsDevice, HasItsKind}
+use Rattle.pos_counter.specs.Steps.{HasItsDevice, HasItsKind, IsSound}
+use Rattle.pos_counter.specs.Totals.{TotalsPart}
 
 -- no entry behind earlier ones is refused
 abbrev pub AreKept : List (Option Entry) → List Entry → Type 0
@@ -100,8 +100,11 @@ kinds_hold (d ∷ list) totals kinds served =
     All-cons HasItsKind (device_of d) (devices_of list totals) (has_its_kind d kinds.0 served.0) (kinds_hold list totals kinds.1 served.1)
 
 -- no control over the devices of a sound registry is sound
-pub begins_sound : (list : List Registered) (totals : Option (List ℕ)) → AllByRecursion HasKindInRange list → AllByRecursion IsServed list
-    → ArePartsSound [] (devices_of list totals)
-begins_sound list totals kinds served = record {
-  machine = λ shared. record { kinds = kinds_hold list totals kinds served; places = All-nil (HasItsDevice (devices_of list totals)) };
+pub begins_sound : (list : List Registered) (totals : Option (List ℕ)) (cl : List (Option ℕ)) (part : TotalsPart)
+    → AllByRecursion HasKindInRange list → AllByRecursion IsServed list → length cl ≡ length (devices_of list totals)
+    → IsSound (machine_with [] cl (devices_of list totals) part)
+begins_sound list totals cl part kinds served covers = record {
+  kinds = kinds_hold list totals kinds served;
+  places = All-nil (HasItsDevice (devices_of list totals));
+  covers = covers;
 }

@@ -4,8 +4,10 @@ use Rattle.std.specs.Prelude.{slice_get, option_map, is_some, IfSome, IsSome}
 use Rattle.std.specs.List.{AllByRecursion}
 use Rattle.pos_service.specs.declared.input.Input.{Input}
 use Rattle.pos_service.specs.Peripherals.{PeripheralState, input_fits}
-use Rattle.pos_service.specs.Stations.{station_of}
+use Rattle.pos_service.specs.Stations.{Effect, station_of}
+use Rattle.pos_common.specs.Held.{Held, controls_of}
 use Rattle.pos_profile.specs.Registries.{Device as Registered, IsServed, standing_at, with_peripheral}
+use Rattle.pos_counter.specs.AtDevices.{IsDoneAt}
 use Rattle.pos_counter.specs.Machine.{Device, station_in}
 use Rattle.pos_counter.specs.Steps.{FindsFit}
 use Rattle.pos_counter.specs.KeptDevices.{device_of, devices_of}
@@ -40,7 +42,7 @@ devices_with (y ∷ list) totals zero d x at =
 devices_with (y ∷ list) totals (suc place) d x at = ap (λ ds. device_of y ∷ ds) (devices_with list totals place d x at)
 
 -- What is out at a place of a registry: what it is to the machine, and what the devices are once it is back.
-pub record IsOut (list : List Registered) (totals : Option (List ℕ)) (place : ℕ) (was : PeripheralState) : Type 0 where
+record IsOut (list : List Registered) (totals : Option (List ℕ)) (place : ℕ) (was : PeripheralState) : Type 0 where
   pub device : Device
   pub is_device : slice_get (devices_of list totals) place ≡ Some device
   pub is_attached : device.station ≡ Some (station_of was)
@@ -53,7 +55,7 @@ served_kind : (d : Registered) (was : PeripheralState) → IsServed d → Some w
 served_kind d was served is = sym
     (subst (λ (o : Option PeripheralState). IfSome o (λ state. (state.is_parked ≡ false) × (state.kind ≡ d.kind))) (sym is) served).1
 
-pub is_out : (list : List Registered) (totals : Option (List ℕ)) (place : ℕ) (was : PeripheralState) → AllByRecursion IsServed list
+is_out : (list : List Registered) (totals : Option (List ℕ)) (place : ℕ) (was : PeripheralState) → AllByRecursion IsServed list
     → Some was ≡ standing_at list place → IsOut list totals place was
 is_out [] totals zero was served is = cc
 is_out [] totals (suc place) was served is = cc
@@ -71,6 +73,24 @@ is_out (d ∷ list) totals (suc place) was served is =
       is_attached = rest.is_attached;
       kind = rest.kind;
       back = λ now. ap (λ ds. device_of d ∷ ds) (rest.back now);
+    }
+
+-- what is done with it, once it is back
+pub done_there : {hs gs : List Held} (list vacated new : List Registered) (totals : Option (List ℕ)) (place : ℕ) (was now : PeripheralState)
+    (Does : Effect) → AllByRecursion IsServed list → Some was ≡ standing_at list place → vacated ≡ with_peripheral list place None
+    → new ≡ with_peripheral vacated place (Some now) → Does (controls_of hs) (station_of was) (controls_of gs) (station_of now)
+    → IsDoneAt (devices_of list totals) place Does hs gs (devices_of new totals)
+done_there list vacated new totals place was now Does served is out back does =
+    let there = is_out list totals place was served is in
+    record {
+      device = there.device;
+      before = station_of was;
+      after = station_of now;
+      is_device = there.is_device;
+      is_attached = there.is_attached;
+      kind = there.kind;
+      does = does;
+      changed = ap (λ ds. devices_of ds totals) (back ∙ ap (λ ds. with_peripheral ds place (Some now)) out) ∙ there.back now;
     }
 
 -- a device whose peripheral isn't found has none

@@ -1,8 +1,9 @@
 -- Every step keeps the machine sound.
-use Rattle.std.proofs.Common.{◌≡◌, ℕ, ◌∷◌, inl, inr, zero, suc, List, [], Option, Some, None, Bool, true, false, cond, set, ap, sym, ◌∙◌, subst, refl, arith}
+use Rattle.std.proofs.Common.{◌≡◌, ℕ, ◌∷◌, inl, inr, zero, suc, List, [], Option, Some, None, Bool, true, false, cond, get_or, length, set, ap, sym, ◌∙◌, subst, refl, arith}
 use Rattle.std.specs.Bool.{MatchBool}
 use Rattle.std.specs.Prelude.{MatchOption, MatchResult, IfSome, IsTrue, All, Result, Ok, Err, ◌++◌, ◌||◌, slice_get, slice_set, is_some, is_none, option_map}
 use Rattle.std.proofs.lemmas.Bool.{eq-eqb, false≢true}
+use Rattle.std.proofs.lemmas.List.{length-set}
 use Rattle.std.proofs.lemmas.List.Elements.{All-cons, All-nil, All-push, All-set, All-weaker, All-map, All-get_or}
 use Rattle.std.proofs.lemmas.Option.{slice_get_within, get_or_from_slice_get, slice_get-map, MatchOption-at_some}
 use Rattle.pos_service.specs.declared.category.Category.{Category}
@@ -40,7 +41,7 @@ use Rattle.pos_service.specs.Deeds.{CarriedOut, ChangesOne, Does as CarriesOut, 
 use Rattle.pos_service.specs.Displays.{origin}
 use Rattle.pos_service.specs.Peripherals.{IsInRange, signs_of}
 use Rattle.pos_service.specs.PrinterCalls.{DueRequest, WorksAt, WorksOn, after_work, due_request_at}
-use Rattle.pos_service.specs.Claims.{after_release, holder_at, is_exclusive}
+use Rattle.pos_service.specs.Claims.{after_release, claimed_by, holder_at, is_exclusive, is_own, released_by}
 use Rattle.pos_service.specs.Stations.{Station, Effect, SameStation, TakesIn, reaction}
 use Rattle.pos_service.specs.Statuses.{heard_signs}
 use Rattle.pos_totals.specs.HardTotals.{with_control as with_place}
@@ -91,6 +92,7 @@ pub with_control_sound : (m : Machine) (n : ℕ) (c : Control) → HasItsDevice 
 with_control_sound m n c h s = record {
   kinds = s.kinds;
   places = All-set (HasItsDevice m.devices) m.controls n c h s.places;
+  covers = s.covers;
 }
 
 -- a decided call that changes its control keeps the machine sound where the new control has its device
@@ -225,6 +227,7 @@ on_station_sound m m' at Does keeps o s =
       kinds = All-set HasItsKind m.devices o.place (with_after o.device o.after) (here.0, kind ∙ ap Some (sym kept.kind)) s.kinds;
       places = All-weaker (HasItsDevice m.devices) (HasItsDevice (set m.devices o.place (with_after o.device o.after)))
           (seat_stays m.devices o.place o.device o.after o.is_device) o.controls (kept.seats s.places);
+      covers = s.covers ∙ sym (length-set m.devices o.place (with_after o.device o.after));
     })
 
 failed_keeps : (ds : List Device) (old : List Control) (before : Station) (new : List Control) (after : Station) → LineFailed old before new after
@@ -405,7 +408,7 @@ served_by ds c before stands h = by c.device stands.kind h
 
 -- totals that have changed leave all else as it was
 other_totals : (m m' : Machine) → m' ≡ record m { totals = m'.totals } → IsSound m → IsSound m'
-other_totals m m' e s = subst IsSound (sym e) (record { kinds = s.kinds; places = s.places })
+other_totals m m' e s = subst IsSound (sym e) (record { kinds = s.kinds; places = s.places; covers = s.covers })
 
 -- what a category's call does keeps the machine sound
 category_sound : (k : Category) (m m' : Machine) (n : ℕ) (c : Control) (own : Call) (r : Answer) → slice_get m.controls n ≡ Some c
@@ -429,27 +432,39 @@ set_sound m m' n c p v r false may e h s =
     (with_control_sound m n (after_set (signs_at m c) c p v) (set_seat m.devices (signs_at m c) c p v may (seated m n c s e)) s)
 set_sound m m' n c p v r true may e (inl h) s =
     let there = with_control_sound m n (after_set (signs_at m c) c p v) (set_seat m.devices (signs_at m c) c p v may (seated m n c s e)) s in
-    same_machine _ m' h.2 (record { kinds = there.kinds; places = there.places })
+    same_machine _ m' h.2 (record { kinds = there.kinds; places = there.places; covers = there.covers })
 set_sound m m' n c p v r true may e (inr h) s = other_totals m m' h.1 s
 
--- claims that have changed leave all else as it was
-other_claims : (m : Machine) (claims : List (Option ℕ)) → IsSound m → IsSound (record m { claims = claims })
-other_claims m claims s = record { kinds = s.kinds; places = s.places }
+-- other claims for the same devices leave all else as it was
+other_claims : (m : Machine) (claims : List (Option ℕ)) → length claims ≡ length m.claims → IsSound m → IsSound (record m { claims = claims })
+other_claims m claims same s = record { kinds = s.kinds; places = s.places; covers = same ∙ s.covers }
 
 other_part : (m : Machine) (part : TotalsPart) → IsSound m → IsSound (record m { totals = part })
-other_part m part s = record { kinds = s.kinds; places = s.places }
+other_part m part s = record { kinds = s.kinds; places = s.places; covers = s.covers }
+
+length_released : (cl : List (Option ℕ)) (o : Option ℕ) (n : ℕ) → length (released_by cl o n) ≡ length cl
+length_released cl None n = refl
+length_released cl (Some place) n = by (is_own n (get_or cl place None))
+  where
+    by : (b : Bool) → length (cond b (set cl place None) cl) ≡ length cl
+    by true = length-set cl place None
+    by false = refl
+
+length_claimed : (cl : List (Option ℕ)) (o : Option ℕ) (n : ℕ) → length (claimed_by cl o n) ≡ length cl
+length_claimed cl None n = refl
+length_claimed cl (Some place) n = length-set cl place (Some n)
 
 claimed_sound : (k : Category) (m : Machine) (n : ℕ) (c : Control) → IsSound m → IsSound (claimed k m n c)
 claimed_sound category.HardTotals m n c s = other_part m _ s
-claimed_sound k m n c s = other_claims m _ s
+claimed_sound k m n c s = other_claims m _ (length_claimed m.claims c.device n) s
 
 released_sound : (k : Category) (m : Machine) (n : ℕ) (c : Control) → IsSound m → IsSound (released k m n c)
 released_sound category.HardTotals m n c s = other_part m _ s
-released_sound k m n c s = other_claims m _ s
+released_sound k m n c s = other_claims m _ (length_released m.claims c.device n) s
 
 dropped_sound : (k : Category) (m : Machine) (n : ℕ) (c : Control) → IsSound m → IsSound (dropped k m n c)
 dropped_sound category.HardTotals m n c s = other_part m _ s
-dropped_sound k m n c s = other_claims m _ s
+dropped_sound k m n c s = other_claims m _ (length_released m.claims c.device n) s
 
 -- a control that has released its device still has it open
 released_seat : (ds : List Device) (k : Category) (c : Control) → HasItsDevice ds c → HasItsDevice ds (after_release k c)
@@ -499,6 +514,7 @@ attached_sound m m' name station o s =
       kinds = All-set HasItsKind m.devices o.place (with_after o.device station) (here.0, o.kind) s.kinds;
       places = All-weaker (HasItsDevice m.devices) (HasItsDevice (set m.devices o.place (with_after o.device station)))
           (seat_stays m.devices o.place o.device station o.is_device) m.controls s.places;
+      covers = s.covers ∙ sym (length-set m.devices o.place (with_after o.device station));
     })
 
 -- a device without its peripheral
@@ -539,6 +555,7 @@ detached_sound m m' name station o s =
     same_machine _ m' o.machine (record {
       kinds = All-set HasItsKind m.devices o.place (emptied o.device) (here.0, tt) s.kinds;
       places = seats_elsewhere m.devices o.place o.device m.controls o.is_closed s.places;
+      covers = s.covers ∙ sym (length-set m.devices o.place (emptied o.device));
     })
 
 -- every step from a sound machine leads to a sound one
@@ -547,6 +564,7 @@ step_sound m m' (NewControl u category) (Made number) h s =
     same_machine (record (with_totals m (with_place m.totals.totals)) { controls = m.controls ++ new_control category ∷ [] }) m' h.2 (record {
       kinds = s.kinds;
       places = All-push (HasItsDevice m.devices) m.controls (new_control category) s.places tt;
+      covers = s.covers;
     })
 step_sound m m' (NewControl u category) Full h s = same_machine m m' h.1 s
 step_sound m m' (NewControl u category) OutOfMemory h s = same_machine m m' h.1 s

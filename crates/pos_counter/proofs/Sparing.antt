@@ -24,7 +24,7 @@ use Rattle.pos_counter.specs.Machine.{Machine, holder_of}
 use Rattle.pos_counter.specs.Sparing.{AllSpare, RunSparing, StepSparing}
 use Rattle.pos_counter.specs.Steps.{CallOf, Request, Response, Run, Step, category_rows, refusals}
 use Rattle.pos_counter.specs.Totals.{TotalsPart, is_enabling, is_totals, settled}
-use Rattle.pos_counter.proofs.FileCalls.{settled_twice}
+use Rattle.pos_counter.proofs.Serving.{settled_twice}
 use Rattle.pos_counter.proofs.Lifts.{match_at_some, match_weaker}
 
 -- ---- runs

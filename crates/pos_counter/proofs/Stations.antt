@@ -1,7 +1,6 @@
 -- What is done at a device, and the steps that it makes.
-use Rattle.std.proofs.Common.{◌≡◌, ℕ, inl, inr, [], ◌∷◌, zero, suc, List, Option, Some, None, Result, Ok, Err, Bool, true, false, set, length, ap, sym, ◌∙◌, subst, refl}
+use Rattle.std.proofs.Common.{◌≡◌, ℕ, inl, inr, [], ◌∷◌, zero, suc, List, Option, Some, None, Result, Ok, Err, Bool, true, false, set, ap, sym, ◌∙◌, subst, refl}
 use Rattle.std.specs.Prelude.{slice_get, is_some, is_none, ◌||◌, IfSome, IsSome, IsTrue}
-use Rattle.std.proofs.lemmas.List.{length-set}
 use Rattle.std.proofs.lemmas.Option.{MatchOption-at_some}
 use Rattle.pos_service.specs.declared.answer.Answer.{Answer}
 use Rattle.pos_service.specs.declared.call.Call.{Call}
@@ -20,28 +19,27 @@ use Rattle.pos_service.specs.PrinterCalls.{WorksAt, due_request_at}
 use Rattle.pos_service.specs.Refusals.{Row, first_refusal}
 use Rattle.pos_service.specs.Stations.{Station, Effect, SameStation}
 use Rattle.pos_common.specs.Held.{Held, controls_of}
-use Rattle.pos_counter.specs.Machine.{Device, Machine, Shared, station_in, station_named, device_at, holder_of, kind_in, kind_of, place_of}
-use Rattle.pos_counter.specs.Assembly.{over}
+use Rattle.pos_counter.specs.Machine.{Device, Machine, machine_with, station_in, station_named, device_at, holder_of, kind_in, kind_of, place_of}
 use Rattle.pos_counter.specs.AtDevices.{CallsAt, CallsFor, IsDoneAt, MayBeCalled}
 use Rattle.pos_counter.specs.Responses.{answered}
 use Rattle.pos_counter.specs.Steps.{OnStation, Step, CallOf, Answered, Does, DeviceDoes, CategoryDoes, category_rows, device_rows, refusals, takes_memory, FindsFit, FindsWork, IsPlaceOn, IsSound}
-use Rattle.pos_counter.specs.Totals.{is_totals}
+use Rattle.pos_counter.specs.Totals.{TotalsPart, is_totals}
 use Rattle.pos_counter.proofs.Lifts.{match_cases, match_at_some, match_by, match_weaker}
 use Rattle.pos_counter.proofs.Sound.{seated, Served}
 
 -- what stands at the device that a name finds
-pub named : (hs : List Held) (ds : List Device) (shared : Shared) (name : List ℕ) (place : ℕ) → Some place ≡ place_of ds name
-    → station_named (over hs ds shared) name ≡ station_in (device_at ds (Some place))
-named hs ds shared name place finds = ap (λ o. station_in (device_at ds o)) (sym finds)
+pub named : (m : Machine) (name : List ℕ) (place : ℕ) → Some place ≡ place_of m.devices name
+    → station_named m name ≡ station_in (device_at m.devices (Some place))
+named m name place finds = ap (λ o. station_in (device_at m.devices o)) (sym finds)
 
 -- a name that finds no device finds no station
-pub unnamed : (hs : List Held) (ds : List Device) (shared : Shared) (name : List ℕ) → None ≡ place_of ds name → station_named (over hs ds shared) name ≡ None
-unnamed hs ds shared name finds = ap (λ o. station_in (device_at ds o)) (sym finds)
+pub unnamed : (m : Machine) (name : List ℕ) → None ≡ place_of m.devices name → station_named m name ≡ None
+unnamed m name finds = ap (λ o. station_in (device_at m.devices o)) (sym finds)
 
 -- what is done with what stands at a place is done at the device's station
-pub on_station : (hs gs : List Held) (ds es : List Device) (shared : Shared) (place : ℕ) (o : Option ℕ) (Does : ℕ → Effect) → o ≡ Some place
-    → IsDoneAt ds place (Does place) hs gs es → OnStation (over hs ds shared) o Does (over gs es shared)
-on_station hs gs ds es shared place o Does is done = record {
+pub on_station : (hs gs : List Held) (ds es : List Device) (cl : List (Option ℕ)) (part : TotalsPart) (place : ℕ) (o : Option ℕ) (Does : ℕ → Effect)
+    → o ≡ Some place → IsDoneAt ds place (Does place) hs gs es → OnStation (machine_with hs cl ds part) o Does (machine_with gs cl es part)
+on_station hs gs ds es cl part place o Does is done = record {
   place = place;
   device = done.device;
   before = done.before;
@@ -51,12 +49,8 @@ on_station hs gs ds es shared place o Does is done = record {
   is_device = done.is_device;
   is_attached = done.is_attached;
   does = done.does;
-  machine = ap (λ xs. over gs xs shared) done.changed;
+  machine = ap (λ xs. machine_with gs cl xs part) done.changed;
 }
-
--- there are as many devices as before
-pub done_places : {Does : Effect} {hs gs : List Held} {ds es : List Device} {place : ℕ} → IsDoneAt ds place Does hs gs es → length es ≡ length ds
-done_places {ds = ds} {place = place} done = ap length done.changed ∙ length-set ds place _
 
 -- a device whose station is as it was
 same_device : (ds : List Device) (place : ℕ) (d : Device) (before after : Station) → slice_get ds place ≡ Some d → d.station ≡ Some before
@@ -68,20 +62,19 @@ same_device (x ∷ ds) zero d before after at is same =
 same_device (x ∷ ds) (suc place) d before after at is same = ap (λ (xs : List Device). x ∷ xs) (same_device ds place d before after at is same)
 
 -- what did nothing leaves the machine as it was
-pub unchanged : (hs gs : List Held) (ds es : List Device) (shared : Shared) (place : ℕ) (d : Device) (before after : Station)
+pub unchanged : (hs gs : List Held) (ds es : List Device) (cl : List (Option ℕ)) (part : TotalsPart) (place : ℕ) (d : Device) (before after : Station)
     → slice_get ds place ≡ Some d → d.station ≡ Some before → es ≡ set ds place (record d { station = Some after })
-    → SameStation (controls_of hs) before (controls_of gs) after → over gs es shared ≡ over hs ds shared
-unchanged hs gs ds es shared place d before after at is changed same =
-    ap (λ (cs : List Control). let m : Machine = record { controls = cs; devices = es; claims = shared.claims; totals = shared.totals } in m) same.controls
-    ∙ ap (λ xs. over hs xs shared) (changed ∙ same_device ds place d before after at is same.station)
+    → SameStation (controls_of hs) before (controls_of gs) after → machine_with gs cl es part ≡ machine_with hs cl ds part
+unchanged hs gs ds es cl part place d before after at is changed same =
+    ap (λ (cs : List Control). let m : Machine = record { controls = cs; devices = es; claims = cl; totals = part } in m) same.controls
+    ∙ ap (λ xs. machine_with hs cl xs part) (changed ∙ same_device ds place d before after at is same.station)
 
 -- an open control's device has a peripheral, where its category serves no device without one, and may be called
-pub served_there : (hs : List Held) (ds : List Device) (shared : Shared) (n : ℕ) (c : Control) (place : ℕ) (asked : Call)
-    → IsSound (over hs ds shared) → slice_get (controls_of hs) n ≡ Some c → c.device ≡ Some place → serves c.category None ≡ false
-    → has_call c.category asked ≡ true → MayBeCalled ds place asked (controls_of hs) n
-served_there hs ds shared n c place asked sound at is peripheral has =
-    let seat = subst (λ (o : Option ℕ). IfSome o (λ k. Served c.category c.cursor.place (slice_get ds k))) is (seated (over hs ds shared) n c sound at) in
-    elim (match_cases (slice_get ds place) _ _ seat) [
+pub served_there : (m : Machine) (n : ℕ) (c : Control) (place : ℕ) (asked : Call) → IsSound m → slice_get m.controls n ≡ Some c
+    → c.device ≡ Some place → serves c.category None ≡ false → has_call c.category asked ≡ true → MayBeCalled m.devices place asked m.controls n
+served_there m n c place asked sound at is peripheral has =
+    let seat = subst (λ (o : Option ℕ). IfSome o (λ k. Served c.category c.cursor.place (slice_get m.devices k))) is (seated m n c sound at) in
+    elim (match_cases (slice_get m.devices place) _ _ seat) [
       | inl x ↦ absurd x.1
       | inr x ↦ by x.0 x.1 x.2.0 x.2.1 x.2.2
     ]
@@ -91,8 +84,8 @@ served_there hs ds shared n c place asked sound at is peripheral has =
     stands (Some k) None served attached = cc
     stands (Some k) (Some s) served attached = refl
 
-    by : (d : Device) → slice_get ds place ≡ Some d → serves c.category d.kind ≡ true → IsTrue (is_none d.kind || is_some d.station)
-        → IsPlaceOn d.kind c.cursor.place → MayBeCalled ds place asked (controls_of hs) n
+    by : (d : Device) → slice_get m.devices place ≡ Some d → serves c.category d.kind ≡ true → IsTrue (is_none d.kind || is_some d.station)
+        → IsPlaceOn d.kind c.cursor.place → MayBeCalled m.devices place asked m.controls n
     by d there served attached on = record {
       attached = subst (λ (o : Option Device). IsSome (station_in o)) (sym there) (stands d.kind d.station served attached);
       may = match_at_some _ c _ _ at (record {
@@ -103,10 +96,9 @@ served_there hs ds shared n c place asked sound at is peripheral has =
     }
 
 -- a name finds a device whose peripheral has an input, or hasn't
-pub finds_fit : (hs : List Held) (ds : List Device) (shared : Shared) (name : List ℕ) (place : ℕ) (given : Input) (fits : Bool)
-    → Some place ≡ place_of ds name → FindsFit (station_in (device_at ds (Some place))) given fits
-    → FindsFit (station_named (over hs ds shared) name) given fits
-finds_fit hs ds shared name place given fits finds fit = subst (λ o. FindsFit o given fits) (sym (named hs ds shared name place finds)) fit
+pub finds_fit : (m : Machine) (name : List ℕ) (place : ℕ) (given : Input) (fits : Bool) → Some place ≡ place_of m.devices name
+    → FindsFit (station_in (device_at m.devices (Some place))) given fits → FindsFit (station_named m name) given fits
+finds_fit m name place given fits finds fit = subst (λ o. FindsFit o given fits) (sym (named m name place finds)) fit
 
 -- where work finds no memory, there is a request that is to be done, and nothing has changed
 wants_work : (holder : Option ℕ) (place : ℕ) (want : NoMemory) (old : List Control) (before : Station) (new : List Control) (after : Station)
@@ -117,19 +109,19 @@ wants_work holder place want old before new after h = elim (match_cases (due_req
 ]
 
 -- so a name finds such a request, and the machine is as it was
-pub want_finds_work : (hs gs : List Held) (ds es : List Device) (shared : Shared) (name : List ℕ) (place : ℕ) (want : NoMemory)
-    → Some place ≡ place_of ds name → IsDoneAt ds place (WorksAt (holder_at shared.claims (Some place)) place (Err want)) hs gs es
-    → FindsWork (over hs ds shared) name × (over gs es shared ≡ over hs ds shared)
-want_finds_work hs gs ds es shared name place want finds done =
-    let wants = wants_work (holder_at shared.claims (Some place)) place want (controls_of hs) done.before (controls_of gs) done.after done.does in (
+pub want_finds_work : (hs gs : List Held) (ds es : List Device) (cl : List (Option ℕ)) (part : TotalsPart) (name : List ℕ) (place : ℕ) (want : NoMemory)
+    → Some place ≡ place_of ds name → IsDoneAt ds place (WorksAt (holder_at cl (Some place)) place (Err want)) hs gs es
+    → FindsWork (machine_with hs cl ds part) name × (machine_with gs cl es part ≡ machine_with hs cl ds part)
+want_finds_work hs gs ds es cl part name place want finds done =
+    let wants = wants_work (holder_at cl (Some place)) place want (controls_of hs) done.before (controls_of gs) done.after done.does in (
       record {
         place = place;
         before = done.before;
         is_at = sym finds;
-        is_attached = named hs ds shared name place finds ∙ ap station_in done.is_device ∙ done.is_attached;
+        is_attached = named (machine_with hs cl ds part) name place finds ∙ ap station_in done.is_device ∙ done.is_attached;
         work = wants.0;
       },
-      unchanged hs gs ds es shared place done.device done.before done.after done.is_device done.is_attached done.changed wants.1,
+      unchanged hs gs ds es cl part place done.device done.before done.after done.is_device done.is_attached done.changed wants.1,
     )
 
 -- what a call of a category's own is answered first, and what it does
@@ -189,18 +181,18 @@ does_at_device category.HardTotals m m' n c asked r is h = cc
 does_at_device k m m' n c asked r is h = h
 
 -- a call of a category's own that its control may make, at its device's station, is a step
-pub device_step : (hs gs : List Held) (ds es : List Device) (shared : Shared) (n place : ℕ) (c : Control) (asked : Call) (r : Result Answer NoMemory)
-    → is_common asked ≡ false → slice_get (controls_of hs) n ≡ Some c → is_totals c.category ≡ false → c.device ≡ Some place
-    → IsLet (over hs ds shared) n c asked
-    → IsDoneAt ds place (CallsAt n asked place r) hs gs es → Step (over hs ds shared) (CallOf n asked) (answered r) (over gs es shared)
-device_step hs gs ds es shared n place c asked r own at is device lets done =
+pub device_step : (hs gs : List Held) (ds es : List Device) (cl : List (Option ℕ)) (part : TotalsPart) (n place : ℕ) (c : Control) (asked : Call)
+    (r : Result Answer NoMemory) → is_common asked ≡ false → slice_get (controls_of hs) n ≡ Some c → is_totals c.category ≡ false → c.device ≡ Some place
+    → IsLet (machine_with hs cl ds part) n c asked
+    → IsDoneAt ds place (CallsAt n asked place r) hs gs es → Step (machine_with hs cl ds part) (CallOf n asked) (answered r) (machine_with gs cl es part)
+device_step hs gs ds es cl part n place c asked r own at is device lets done =
     by_outcome r (MatchOption-at_some ⊥ (λ control. CallsFor n asked place r control (controls_of hs) done.before (controls_of gs) done.after) c at done.does)
   where
     m : Machine
-    m = over hs ds shared
+    m = machine_with hs cl ds part
 
     m' : Machine
-    m' = over gs es shared
+    m' = machine_with gs cl es part
 
     rows : List Row
     rows = device_rows c.category (Some done.before.kind) c asked
@@ -215,12 +207,12 @@ device_step hs gs ds es shared n place c asked r own at is device lets done =
         ∙ ap (λ at. first_refusal (device_rows c.category at c asked)) kind
 
     same : SameStation (controls_of hs) done.before (controls_of gs) done.after → m' ≡ m
-    same s = unchanged hs gs ds es shared place done.device done.before done.after done.is_device done.is_attached done.changed s
+    same s = unchanged hs gs ds es cl part place done.device done.before done.after done.is_device done.is_attached done.changed s
 
     at_station : (result : Answer)
         → DeviceDoes c.category (Some done.before.kind) n c asked result place (controls_of hs) done.before (controls_of gs) done.after
         → OnStation m c.device (DeviceDoes c.category (kind_of m c) n c asked result) m'
-    at_station result does = on_station hs gs ds es shared place c.device (DeviceDoes c.category (kind_of m c) n c asked result) device (record {
+    at_station result does = on_station hs gs ds es cl part place c.device (DeviceDoes c.category (kind_of m c) n c asked result) device (record {
       device = done.device;
       before = done.before;
       after = done.after;

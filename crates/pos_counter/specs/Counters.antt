@@ -8,21 +8,20 @@ use Rattle.pos_store.specs.Standing.{Standing, StandsForOneOf}
 use Rattle.pos_totals.specs.Views.{IsReady}
 use Rattle.pos_disk.specs.Keeps.{KeepsDisk}
 use Rattle.pos_counter.specs.declared.counter.Counter.{Counter}
-use Rattle.pos_counter.specs.Machine.{Machine}
+use Rattle.pos_counter.specs.Machine.{Machine, machine_with}
 use Rattle.pos_counter.specs.KeptDevices.{devices_in, profile_devices, AreDevicesSound}
-use Rattle.pos_counter.specs.Assembly.{machine_with, ArePartsSound}
 use Rattle.pos_counter.specs.Leaving.{part_of, part_with, IsSettled, Leaves, Spared, Stepped}
 use Rattle.pos_counter.specs.DiskUse.{ChangesTotalsAlone, IsUndone, SparesDisk}
 use Rattle.pos_image.specs.declared.layout.Layout.TheVariants.{Layout1}
 use Rattle.pos_profile.specs.declared.entry.Entry.{Entry}
-use Rattle.pos_counter.specs.Steps.{Request, Response, Step, Run}
+use Rattle.pos_counter.specs.Steps.{Request, Response, IsSound, Step, Run}
 use Rattle.pos_counter.specs.Sparing.{AllSpare, RunSparing}
 use Rattle.pos_counter.specs.Totals.{TotalsPart}
 
 -- the machine that a counter stands for, by what its totals are
 abbrev pub machine : {D P : Type 0} → Ghosts P → Counter D P → TotalsPart → Machine
 machine peripherals counter part =
-    machine_with counter.desk counter.claims (devices_in peripherals counter.devices) part
+    machine_with counter.controls.items counter.claims (devices_in peripherals counter.devices) part
 
 -- A counter as it begins over the devices of a profile and a disk: no control, each device vacant and held by nobody,
 -- totals that are off and have the layout of a new disk.
@@ -107,8 +106,13 @@ pub record Stays {D P : Type 0} (peripherals : Ghosts P) (old new : Counter D P)
   pub machine : (part : TotalsPart) → machine peripherals new part ≡ machine peripherals old part
   pub totals : new.totals ≡ old.totals
 
--- What is true of every counter: its parts are sound, its devices are, and there is a claim for each of them.
+-- What is true of every counter: its machine is sound, and its devices are.
 pub record IsCounterSound {D P : Type 0} (peripherals : Ghosts P) (counter : Counter D P) : Type 0 where
-  pub parts : ArePartsSound counter.desk (devices_in peripherals counter.devices)
+  pub machine : (part : TotalsPart) → IsSound (machine peripherals counter part)
   pub devices : AreDevicesSound peripherals counter.devices
-  pub covers : length counter.claims ≡ length (devices_in peripherals counter.devices)
+
+-- From a sound counter to a new one, a step: the request gets this response, and the new counter is sound.
+pub record Serves {D P : Type 0} (bound : DiskGhosts D) (peripherals : Ghosts P)
+    (old : Counter D P) (request : Request) (response : Response) (new : Counter D P) : Type 0 where
+  pub step : IsStep bound peripherals old request response new
+  pub sound : IsCounterSound peripherals new

@@ -11,6 +11,7 @@ use Rattle.pos_service.specs.Claims.{holder_at}
 use Rattle.pos_service.specs.Controls.{Control}
 use Rattle.pos_totals.specs.HardTotals.{Totals}
 use Rattle.pos_service.specs.Stations.{Station, signs_in}
+use Rattle.pos_common.specs.Held.{Held, controls_of}
 use Rattle.pos_counter.specs.Totals.{TotalsPart}
 
 -- a device of the profile: of a kind, and without a station where no peripheral is attached
@@ -19,17 +20,22 @@ pub record Device : Type 0 where
   pub kind : Option Kind
   pub station : Option Station
 
--- What the controls share beside the devices: the claims, which name the control that holds each device by the devices'
--- places, and the totals, which know who holds their own (the area).
-pub record Shared : Type 0 where
-  pub claims : List (Option ℕ)
-  pub totals : TotalsPart
-
+-- Controls, devices, the claims, which name the control that holds each device by the devices' places, and the totals,
+-- which know who holds their own (the area).
 pub record Machine : Type 0 where
   pub controls : List Control
   pub devices : List Device
   pub claims : List (Option ℕ)
   pub totals : TotalsPart
+
+-- the machine of the controls, claims and devices that a counter keeps, over any totals
+abbrev pub machine_with : List Held → List (Option ℕ) → List Device → TotalsPart → Machine
+machine_with helds claims devices part = record {
+  controls = controls_of helds;
+  devices = devices;
+  claims = claims;
+  totals = part;
+}
 
 -- the place, from this one on, of the first device with a name
 abbrev pub place_from : ℕ → List ℕ → List Device → Option ℕ

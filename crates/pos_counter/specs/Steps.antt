@@ -363,3 +363,5 @@ HasItsDevice devices control =
 pub record IsSound (machine : Machine) : Type 0 where
   pub kinds : All HasItsKind machine.devices
   pub places : All (HasItsDevice machine.devices) machine.controls
+  -- there is a claim for each device
+  pub covers : length machine.claims ≡ length machine.devices

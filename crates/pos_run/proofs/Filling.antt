@@ -20,7 +20,7 @@ use Rattle.pos_service.specs.Peripherals.{PeripheralState}
 use Rattle.pos_service.specs.Stations.{Station, station_of}
 use Rattle.pos_counter.specs.Machine.{Device, Machine, device_at, kind_in, kind_named, place_from, place_of, station_in, station_named, with_standing}
 use Rattle.pos_counter.specs.KeptDevices.{device_of, profile_devices, totals_devices, totals_name}
-use Rattle.pos_counter.specs.Assembly.{machine_with}
+use Rattle.pos_counter.specs.Machine.{machine_with}
 use Rattle.pos_counter.specs.Steps.{Response, Step, Attach, Attached, NotAttached, Made, Full, Answered, TakenIn, NoDevice, WrongInput, Delivered, Shown, Worked, Detached, NotDetached, OutOfMemory}
 use Rattle.pos_counter.specs.Totals.{TotalsPart}
 use Rattle.pos_run.specs.Running.{begun_with, device_with}

@@ -10,7 +10,7 @@ use Rattle.pos_service.specs.Peripherals.{PeripheralState}
 use Rattle.pos_service.specs.Stations.{station_of}
 use Rattle.pos_store.specs.Standing.{Standing}
 use Rattle.pos_totals.specs.Views.{TotalsView}
-use Rattle.pos_counter.specs.Assembly.{machine_with}
+use Rattle.pos_counter.specs.Machine.{machine_with}
 use Rattle.pos_counter.specs.Totals.{TotalsPart}
 use Rattle.pos_counter.specs.Steps.{Request, Response}
 use Rattle.pos_run.specs.declared.reading.ReadState.{ReadState}
