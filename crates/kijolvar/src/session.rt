@@ -28,7 +28,7 @@ use std::marker::Model;
 pub struct Session {
     alloc: Global,
     kept: Kept,
-    held: LineBuffer,
+    buffer: LineBuffer,
     tray: Tray,
     errands: Option<Errands>,
 }
@@ -102,7 +102,7 @@ impl Session {
         ensures begins { IfOk result (λ till. Begins ⟦<Device as Peripheral>⟧ profile disk till) }
         ensures settlement { IfOk result (λ till. IsNone errands ↔ (till.settlement ≡ InMemory)) }
     {
-        let Ok(held) = LineBuffer::new(alloc) else {
+        let Ok(buffer) = LineBuffer::new(alloc) else {
             return Err(NoMemory);
         };
         let tray = Tray::new(alloc)?;
@@ -120,7 +120,7 @@ impl Session {
         Ok(Session {
             alloc,
             kept,
-            held,
+            buffer,
             tray,
             errands,
         })
@@ -142,7 +142,7 @@ impl Session {
         self.kept.outcome = carry_out_lines(
             self.alloc,
             lines,
-            &mut self.held,
+            &mut self.buffer,
             &mut self.kept.answer,
             &mut self.kept.counter,
             &mut self.kept.names,
@@ -213,7 +213,7 @@ impl Drop for Session {
         let Session {
             alloc: _,
             kept,
-            held: _,
+            buffer: _,
             tray: _,
             errands: _,
         } = self;

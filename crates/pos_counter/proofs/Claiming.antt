@@ -1,5 +1,6 @@
 -- Claims, releases and closes as steps of the machine.
-use Rattle.std.proofs.Common.{◌≡◌, ◌∙◌, ◌<◌, ◌∷◌, [], ℕ, ℤ, List, Option, Some, None, Bool, true, false, inl, inr, get_or, set, length, ap, sym, subst, refl, arith}
+use Rattle.std.proofs.Common.{◌≡◌, ◌∙◌, ◌<◌, ◌∷◌, [], ℕ, ℤ, List, Option, Some, None, Bool, true, false, inl, inr, get_or, set, length, ap, sym, subst, refl}
+use Rattle.std.proofs.Common.{arith}
 use Rattle.std.specs.Prelude.{IfSome, MatchOption, slice_get, is_none, is_some, not}
 use Rattle.std.proofs.lemmas.List.{map-set, set-get_or}
 use Rattle.std.proofs.lemmas.Option.{slice_get_within}
@@ -17,7 +18,7 @@ use Rattle.pos_store.specs.Standing.{Standing}
 use Rattle.pos_totals.specs.HardTotals.{Totals}
 use Rattle.pos_totals.specs.TotalsClaims.{is_area_taken, without_control}
 use Rattle.pos_service.specs.Refusals.{Row, Decided, first_refusal, when}
-use Rattle.pos_common.specs.Held.{Held, TurnsInto, controls_of}
+use Rattle.pos_common.specs.KeptControls.{KeptControl, TurnsInto, controls_of}
 use Rattle.pos_counter.specs.Machine.{Device, Machine, machine_with, holder_in, with_control}
 use Rattle.pos_counter.specs.Steps.{CallOf, Answered, Step, claimed, dropped, released, is_taken, refusals, IsSound}
 use Rattle.pos_counter.specs.Totals.{TotalsPart, is_totals, settled}
@@ -37,11 +38,11 @@ covered m n c sound at = by_place c.device (seated m n c sound at)
     ]
 
 -- the machine with one control in the place of another, and other claims
-pub claims_machine : (hs : List Held) (cl dl : List (Option ℕ)) (ds : List Device) (n : ℕ) (g : Held) (c : Control) (part : TotalsPart)
+pub claims_machine : (hs : List KeptControl) (cl dl : List (Option ℕ)) (ds : List Device) (n : ℕ) (g : KeptControl) (c : Control) (part : TotalsPart)
     → g.control ≡ c → machine_with (set hs n g) dl ds part ≡ record (with_control (machine_with hs cl ds part) n c) { claims = dl }
 claims_machine hs cl dl ds n g c part e =
     ap (λ (cs : List Control). let m : Machine = record { controls = cs; devices = ds; claims = dl; totals = part } in m)
-    (map-set (λ (h : Held). h.control) hs n g ∙ ap (set (controls_of hs) n) e)
+    (map-set (λ (h : KeptControl). h.control) hs n g ∙ ap (set (controls_of hs) n) e)
 
 -- a claim of the area or its release leaves the mode
 pub area_claim_settled : (rows : List Row) (r : Answer) (old new : Totals) (area : Option ℕ)
@@ -116,13 +117,14 @@ close_refused m n c at closed =
     })
 
 -- what a decided call does where nothing refuses it
-done_by : (rows : List Row) (r : Answer) (h g : Held) (c : Control) → first_refusal rows ≡ None → TurnsInto rows r h g c
+done_by : (rows : List Row) (r : Answer) (h g : KeptControl) (c : Control) → first_refusal rows ≡ None → TurnsInto rows r h g c
     → (r ≡ answer.Done value.Empty) × (g.control ≡ c)
 done_by rows r h g c none turns =
     subst (λ o. MatchOption o ((r ≡ answer.Done value.Empty) × (g.control ≡ c)) (λ refusal. (r ≡ refusal) × (g ≡ h))) none turns.outcome
 
 -- a close of a control of a device with a peripheral frees what it holds
-pub close_device : (hs : List Held) (cl dl : List (Option ℕ)) (ds : List Device) (part : TotalsPart) (n : ℕ) (c : Control) (h g : Held) (r : Answer)
+pub close_device : (hs : List KeptControl) (cl dl : List (Option ℕ)) (ds : List Device) (part : TotalsPart) (n : ℕ) (c : Control) (h g : KeptControl)
+    (r : Answer)
     → slice_get (controls_of hs) n ≡ Some c → is_totals c.category ≡ false → is_none c.device ≡ false → TurnsInto (close_rows c) r h g (closed c)
     → dl ≡ released_by cl c.device n
     → Step (machine_with hs cl ds part) (CallOf n call.Close) (Answered r) (machine_with (set hs n g) dl ds part)
@@ -140,7 +142,7 @@ close_device hs cl dl ds part n c h g r at is there turns free =
     })
 
 -- a close of a control of Hard Totals frees what it holds, and drops its transaction
-pub close_area : (hs : List Held) (cl : List (Option ℕ)) (ds : List Device) (part : TotalsPart) (n : ℕ) (c : Control) (h g : Held) (r : Answer)
+pub close_area : (hs : List KeptControl) (cl : List (Option ℕ)) (ds : List Device) (part : TotalsPart) (n : ℕ) (c : Control) (h g : KeptControl) (r : Answer)
     → slice_get (controls_of hs) n ≡ Some c → c.category ≡ category.HardTotals → is_none c.device ≡ false → TurnsInto (close_rows c) r h g (closed c)
     → Step (machine_with hs cl ds part) (CallOf n call.Close) (Answered r)
     (machine_with (set hs n g) cl ds (record part { totals = without_control part.totals n }))
@@ -160,7 +162,7 @@ close_area hs cl ds part n c h g r at is there turns =
 -- ---- claim and release
 
 -- a claim of a device with a peripheral
-pub claim_device : (hs : List Held) (cl dl : List (Option ℕ)) (ds : List Device) (part : TotalsPart) (n : ℕ) (c : Control) (timeout : ℤ) (r : Answer)
+pub claim_device : (hs : List KeptControl) (cl dl : List (Option ℕ)) (ds : List Device) (part : TotalsPart) (n : ℕ) (c : Control) (timeout : ℤ) (r : Answer)
     → slice_get (controls_of hs) n ≡ Some c → is_totals c.category ≡ false
     → Decided (claim_rows c (is_foreign n (holder_at cl c.device)) timeout) r (dl ≡ cl) ((r ≡ answer.Done value.Empty) × (dl ≡ claimed_by cl c.device n))
     → Step (machine_with hs cl ds part) (CallOf n (call.Claim timeout)) (Answered r) (machine_with hs dl ds part)
@@ -176,7 +178,8 @@ claim_device hs cl dl ds part n c timeout r at is d =
     })
 
 -- a release of a device with a peripheral
-pub release_device : (hs : List Held) (cl dl : List (Option ℕ)) (ds : List Device) (part : TotalsPart) (n : ℕ) (c : Control) (h g : Held) (r : Answer)
+pub release_device : (hs : List KeptControl) (cl dl : List (Option ℕ)) (ds : List Device) (part : TotalsPart) (n : ℕ) (c : Control) (h g : KeptControl)
+    (r : Answer)
     → slice_get (controls_of hs) n ≡ Some c → is_totals c.category ≡ false → h ≡ get_or hs n h
     → Decided (release_rows c (is_own n (holder_at cl c.device))) r ((g ≡ h) × (dl ≡ cl))
     ((r ≡ answer.Done value.Empty) × (g.control ≡ after_release c.category c) × (dl ≡ released_by cl c.device n))
@@ -195,14 +198,14 @@ release_device hs cl dl ds part n c h g r at is here d =
           ))
           (λ refusal y. (
             y.0,
-            ap (λ (ks : List Held). machine_with ks dl ds part) (ap (set hs n) (y.1.0 ∙ here) ∙ set-get_or hs n h)
+            ap (λ (ks : List KeptControl). machine_with ks dl ds part) (ap (set hs n) (y.1.0 ∙ here) ∙ set-get_or hs n h)
                 ∙ ap (λ claims. let o : Machine = record m { claims = claims } in o) y.1.1,
           ))
           d.outcome);
     })
 
 -- a claim of the area
-pub claim_area : (hs : List Held) (cl : List (Option ℕ)) (ds : List Device) (part : TotalsPart) (n : ℕ) (c : Control) (timeout : ℤ) (r : Answer)
+pub claim_area : (hs : List KeptControl) (cl : List (Option ℕ)) (ds : List Device) (part : TotalsPart) (n : ℕ) (c : Control) (timeout : ℤ) (r : Answer)
     (totals : Totals)
     → slice_get (controls_of hs) n ≡ Some c → c.category ≡ category.HardTotals
     → Decided (claim_rows c (is_area_taken part.totals n) timeout) r (totals ≡ part.totals)
@@ -226,7 +229,7 @@ claim_area hs cl ds part n c timeout r totals at is d =
     over_totals t = machine_with hs cl ds (record part { totals = t })
 
 -- a release of the area
-pub release_area : (hs : List Held) (cl : List (Option ℕ)) (ds : List Device) (part : TotalsPart) (n : ℕ) (c : Control) (h g : Held) (r : Answer)
+pub release_area : (hs : List KeptControl) (cl : List (Option ℕ)) (ds : List Device) (part : TotalsPart) (n : ℕ) (c : Control) (h g : KeptControl) (r : Answer)
     (totals : Totals)
     → slice_get (controls_of hs) n ≡ Some c → c.category ≡ category.HardTotals → h ≡ get_or hs n h
     → Decided (release_rows c (is_own n part.totals.area)) r ((g ≡ h) × (totals ≡ part.totals))
@@ -249,7 +252,7 @@ release_area hs cl ds part n c h g r totals at is here d =
           ))
           (λ refusal y. (
             y.0,
-            ap (λ (ks : List Held). machine_with ks cl ds now) (ap (set hs n) (y.1.0 ∙ here) ∙ set-get_or hs n h)
+            ap (λ (ks : List KeptControl). machine_with ks cl ds now) (ap (set hs n) (y.1.0 ∙ here) ∙ set-get_or hs n h)
                 ∙ ap (λ (t : Totals). machine_with hs cl ds (record part { totals = t })) y.1.1,
           ))
           d.outcome);

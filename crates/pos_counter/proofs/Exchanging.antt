@@ -3,15 +3,15 @@ use Rattle.std.proofs.Common.{◌≡◌, ◌∙◌, ℕ, ◌+◌, ◌<◌, ◌�
 use Rattle.std.specs.Prelude.{◌||◌, IfErr, IsSome, slice_get, option_map, option_and_then}
 use Rattle.std.proofs.lemmas.List.{drop_all, drop_more}
 use Rattle.pos_service.specs.Peripherals.{PeripheralState}
-use Rattle.pos_service.specs.Stations.{station_of}
-use Rattle.pos_common.specs.Held.{Held, controls_of}
+use Rattle.pos_service.specs.Hardware.{hardware_of}
+use Rattle.pos_common.specs.KeptControls.{KeptControl, controls_of}
 use Rattle.pos_service.specs.declared.exchange_fault.AttachFault.{AttachFault}
 use Rattle.pos_service.specs.declared.exchange_fault.AttachFault.TheVariants as attach
 use Rattle.pos_service.specs.declared.exchange_fault.DetachFault.{DetachFault}
 use Rattle.pos_service.specs.declared.exchange_fault.DetachFault.TheVariants as detach
 use Rattle.pos_profile.specs.Places.{place_of as registered_place}
 use Rattle.pos_profile.specs.Registries.{Device as Registered, Attaches, Detaches, IsNamed, names_of, standing_at}
-use Rattle.pos_counter.specs.Machine.{machine_with, device_at, kind_in, place_of, station_in}
+use Rattle.pos_counter.specs.Machine.{machine_with, device_at, kind_in, place_of, hardware_in}
 use Rattle.pos_counter.specs.Totals.{TotalsPart}
 use Rattle.pos_counter.specs.KeptDevices.{device_of, devices_of}
 use Rattle.pos_counter.specs.Responses.{attached, detached}
@@ -26,18 +26,18 @@ named_device list totals name d is =
     ap (device_at (devices_of list totals)) (found_first name list totals is.place is.found) ∙ registered_there list totals is.place d is.at
 
 -- whether a control has a device open: the next one has it, or not
-pub open_next : (place : ℕ) (hs : List Held) (i : ℕ) (h : Held) (b : Bool) → i < length hs → h ≡ get_or hs i h → has_open place h.control ≡ b
+pub open_next : (place : ℕ) (hs : List KeptControl) (i : ℕ) (h : KeptControl) (b : Bool) → i < length hs → h ≡ get_or hs i h → has_open place h.control ≡ b
     → is_open_at place (controls_of (drop i hs)) ≡ (b || is_open_at place (controls_of (drop (i + 1) hs)))
 open_next place hs i h b lt is has =
     ap (λ xs. is_open_at place (controls_of xs)) (drop_more hs i h lt)
-    ∙ ap (λ (x : Held). has_open place x.control || is_open_at place (controls_of (drop (i + 1) hs))) (sym is)
+    ∙ ap (λ (x : KeptControl). has_open place x.control || is_open_at place (controls_of (drop (i + 1) hs))) (sym is)
     ∙ ap (λ a. a || is_open_at place (controls_of (drop (i + 1) hs))) has
 
 -- and behind the last none has
-pub open_end : (place : ℕ) (hs : List Held) (i : ℕ) → length hs ≤ i → is_open_at place (controls_of (drop i hs)) ≡ false
+pub open_end : (place : ℕ) (hs : List KeptControl) (i : ℕ) → length hs ≤ i → is_open_at place (controls_of (drop i hs)) ≡ false
 open_end place hs i le = ap (λ xs. is_open_at place (controls_of xs)) (drop_all i hs le)
 
-module _ (hs : List Held) (list new : List Registered) (totals : Option (List ℕ)) (name : List ℕ) (cl : List (Option ℕ)) (part : TotalsPart) where
+module _ (hs : List KeptControl) (list new : List Registered) (totals : Option (List ℕ)) (name : List ℕ) (cl : List (Option ℕ)) (part : TotalsPart) where
   -- nothing has changed
   same_devices : new ≡ list → devices_of new totals ≡ devices_of list totals
   same_devices is = ap (λ xs. devices_of xs totals) is
@@ -57,7 +57,7 @@ module _ (hs : List Held) (list new : List Registered) (totals : Option (List �
 
   pub attach_step : {B : Type 0} (state : B → PeripheralState) (peripheral : B) (result : Result (Unit {0}) (AttachFault × B))
       → IfErr result (λ refusal. refusal.1 ≡ peripheral) → Attaches list name (state peripheral) result new
-      → Step (machine_with hs cl (devices_of list totals) part) (Attach name (station_of (state peripheral))) (attached state result)
+      → Step (machine_with hs cl (devices_of list totals) part) (Attach name (hardware_of (state peripheral))) (attached state result)
       (machine_with hs cl (devices_of new totals) part)
   attach_step state peripheral (Ok u) back h =
       let changed = ap (λ xs. devices_of xs totals) h.served ∙ devices_with list totals h.place h.may.device (Some (state peripheral)) h.may.at in
@@ -66,15 +66,15 @@ module _ (hs : List Held) (list new : List Registered) (totals : Option (List �
         device = device_of h.may.device;
         is_at = found_first name list totals h.place h.found;
         is_device = registered_there list totals h.place h.may.device h.may.at;
-        is_vacant = ap (option_map station_of) h.may.vacant;
+        is_vacant = ap (option_map hardware_of) h.may.vacant;
         kind = ap Some (sym h.may.kind);
         machine = ap (λ xs. machine_with hs cl xs part) changed;
       }
   attach_step state peripheral (Err (attach.Unknown, given)) back h =
-      (kind_last name list totals h.0, ap (λ b. station_of (state b)) back, same_machine h.1)
+      (kind_last name list totals h.0, ap (λ b. hardware_of (state b)) back, same_machine h.1)
   attach_step state peripheral (Err (attach.InUse, given)) back h = (
-    subst IsSome (sym (ap station_in (named_device list totals name h.0.device h.0.named) ∙ ap (option_map station_of) h.0.served)) refl,
-    ap (λ b. station_of (state b)) back,
+    subst IsSome (sym (ap hardware_in (named_device list totals name h.0.device h.0.named) ∙ ap (option_map hardware_of) h.0.served)) refl,
+    ap (λ b. hardware_of (state b)) back,
     same_machine h.1,
   )
   attach_step state peripheral (Err (attach.KindDiffers, given)) back h =
@@ -82,10 +82,10 @@ module _ (hs : List Held) (list new : List Registered) (totals : Option (List �
         record {
           kind = h.0.device.kind;
           named = ap kind_in there;
-          is_vacant = ap station_in there ∙ ap (option_map station_of) h.0.vacant;
+          is_vacant = ap hardware_in there ∙ ap (option_map hardware_of) h.0.vacant;
           differs = h.0.kind;
         },
-        ap (λ b. station_of (state b)) back,
+        ap (λ b. hardware_of (state b)) back,
         same_machine h.1,
       )
 
@@ -101,7 +101,7 @@ module _ (hs : List Held) (list new : List Registered) (totals : Option (List �
         device = device_of d.0;
         is_at = found_first name list totals h.0.place h.0.found;
         is_device = registered_there list totals h.0.place d.0 d.1;
-        is_attached = ap (option_map station_of) d.2 ∙ ap (λ s. Some (station_of s)) (sym h.0.parked);
+        is_attached = ap (option_map hardware_of) d.2 ∙ ap (λ s. Some (hardware_of s)) (sym h.0.parked);
         is_closed = sym (told h.0.place h.0.found) ∙ h.1;
         machine = ap (λ xs. machine_with hs cl xs part) changed;
       }
@@ -109,7 +109,7 @@ module _ (hs : List Held) (list new : List Registered) (totals : Option (List �
       (kind_last name list totals h.0, same_machine h.1)
   detach_step state is_open (Err detach.Vacant) told h =
       let there = named_device list totals name h.0.device h.0.named in (
-        (subst IsSome (sym (ap kind_in there)) refl, ap station_in there ∙ ap (option_map station_of) h.0.vacant),
+        (subst IsSome (sym (ap kind_in there)) refl, ap hardware_in there ∙ ap (option_map hardware_of) h.0.vacant),
         same_machine h.1,
       )
   detach_step state is_open (Err detach.InUse) told h =
@@ -117,7 +117,7 @@ module _ (hs : List Held) (list new : List Registered) (totals : Option (List �
         record {
           place = named.place;
           is_at = found_first name list totals named.place named.found;
-          is_attached = subst IsSome (sym (ap station_in (named_device list totals name h.0.device named) ∙ ap (option_map station_of) h.0.served)) refl;
+          is_attached = subst IsSome (sym (ap hardware_in (named_device list totals name h.0.device named) ∙ ap (option_map hardware_of) h.0.served)) refl;
           is_open = sym (told named.place named.found) ∙ h.1;
         },
         same_machine h.2,

@@ -4,7 +4,7 @@ pub mod Deeds
 pub mod DeviceLists
 pub mod Cursors
 pub mod Sound
-pub mod Stations
+pub mod Hardware
 pub mod Runs
 pub mod Parking
 pub mod Serving

@@ -1,5 +1,6 @@
 -- Setting a property as a step of the machine, where it recovers the totals and where it doesn't.
-use Rattle.std.proofs.Common.{◌≡◌, ◌⊎◌, inl, inr, ℕ, List, [], ◌∷◌, Option, Some, None, Result, Ok, Err, Bool, true, false, not, ◌&&◌, set, get_or, length, ◌<◌, refl, sym, ap, ◌∙◌, subst}
+use Rattle.std.proofs.Common.{◌≡◌, ◌⊎◌, inl, inr, ℕ, List, [], ◌∷◌, Option, Some, None, Result, Ok, Err, Bool, true, false, not, ◌&&◌, set, get_or, length, ◌<◌}
+use Rattle.std.proofs.Common.{refl, sym, ap, ◌∙◌, subst}
 use Rattle.std.specs.Bool.{MatchBool}
 use Rattle.std.specs.Prelude.{◌||◌, MatchOption, IsErrOf, IsSome, IsTrue, is_some, is_none, slice_get, ⊤}
 use Rattle.std.proofs.lemmas.List.{map-set, set-get_or}
@@ -22,17 +23,17 @@ use Rattle.pos_service.specs.declared.signs.Signs.{Signs}
 use Rattle.pos_service.specs.Needs.{needs_holder, needs_no_other}
 use Rattle.pos_service.specs.Properties.{set_rows, after_set, needs_to_set, takes, tells_power}
 use Rattle.pos_service.specs.Controls.{Control, reports_power}
-use Rattle.pos_service.specs.Stations.{signs_in}
+use Rattle.pos_service.specs.Hardware.{signs_in}
 use Rattle.pos_totals.specs.HardTotals.{Mode, Off, Ready, Totals, is_ready}
 use Rattle.pos_service.specs.Claims.{is_foreign}
 use Rattle.pos_service.specs.Refusals.{Row, first_refusal, when}
-use Rattle.pos_common.specs.Held.{Held, SetsTo, controls_of}
+use Rattle.pos_common.specs.KeptControls.{KeptControl, SetsTo, controls_of}
 use Rattle.pos_store.specs.Standing.{Standing, LeavesOneOf}
 use Rattle.pos_totals.specs.declared.fault.RecoveryFault.{RecoveryFault}
 use Rattle.pos_totals.specs.declared.fault.RecoveryFault.TheVariants as fault
 use Rattle.pos_totals.specs.Recoveries.{Recovers as DiskRecovers, RecoversOneOf, FindsFiles, ReadsAs, code_of}
 use Rattle.pos_totals.specs.Views.{TotalsView, IsReady, WhenOff}
-use Rattle.pos_counter.specs.Machine.{Device, Machine, machine_with, device_at, holder_in, holder_of, kind_in, kind_of, signs_at, station_in, with_control}
+use Rattle.pos_counter.specs.Machine.{Device, Machine, machine_with, device_at, holder_in, holder_of, kind_in, kind_of, signs_at, hardware_in, with_control}
 use Rattle.pos_counter.specs.DiskUse.{ChangesTotalsAlone, SparesDisk, after_enabling}
 use Rattle.pos_counter.specs.Leaving.{part_of, part_with, Leaves}
 use Rattle.pos_counter.specs.Responses.{answered}
@@ -111,22 +112,23 @@ enabling_taken at c p v e =
     subst (λ q. takes at q v ≡ true) (sym asks.0) (subst (λ u. takes at property.DeviceEnabled u ≡ true) (sym asks.1) refl)
 
 -- a control that is as it was leaves the machine so
-same_control : (hs : List Held) (ds : List Device) (cl : List (Option ℕ)) (part : TotalsPart) (n : ℕ) (g h : Held) → h ≡ get_or hs n h → g.control ≡ h.control
+same_control : (hs : List KeptControl) (ds : List Device) (cl : List (Option ℕ)) (part : TotalsPart) (n : ℕ) (g h : KeptControl) → h ≡ get_or hs n h
+    → g.control ≡ h.control
     → machine_with (set hs n g) cl ds part ≡ machine_with hs cl ds part
 same_control hs ds cl part n g h is same =
-    over_same _ _ ds cl part (map-set (λ (k : Held). k.control) hs n g ∙ ap (set (controls_of hs) n) same
-    ∙ sym (map-set (λ (k : Held). k.control) hs n h) ∙ ap controls_of (ap (set hs n) is ∙ set-get_or hs n h))
+    over_same _ _ ds cl part (map-set (λ (k : KeptControl). k.control) hs n g ∙ ap (set (controls_of hs) n) same
+    ∙ sym (map-set (λ (k : KeptControl). k.control) hs n h) ∙ ap controls_of (ap (set hs n) is ∙ set-get_or hs n h))
 
 -- a property is set, or finds no memory, and nothing is recovered
-pub plain_set : (hs : List Held) (cl : List (Option ℕ)) (ds : List Device) (part : TotalsPart) (n : ℕ) (g h : Held) (p : Property) (v : Value)
+pub plain_set : (hs : List KeptControl) (cl : List (Option ℕ)) (ds : List Device) (part : TotalsPart) (n : ℕ) (g h : KeptControl) (p : Property) (v : Value)
     (r : Result Answer NoMemory) → n < length hs → h ≡ get_or hs n h → recovers part h.control p v ≡ false
     → SetsTo (set_rows n (holder_in h.control.category cl part.totals.area h.control.device)
     (kind_in (device_at ds h.control.device)) h.control p v) (tells_power h.control p v) r h g
-    (after_set (signs_in (station_in (device_at ds h.control.device))) h.control p v)
+    (after_set (signs_in (hardware_in (device_at ds h.control.device))) h.control p v)
     → Step (machine_with hs cl ds part) (CallOf n (call.Set p v)) (answered r) (machine_with (set hs n g) cl ds part)
 plain_set hs cl ds part n g h p v (Ok r) lt is plain turns =
     let rows = set_rows n (holder_in h.control.category cl part.totals.area h.control.device) (kind_in (device_at ds h.control.device)) h.control p v in
-    let signs = signs_in (station_in (device_at ds h.control.device)) in
+    let signs = signs_in (hardware_in (device_at ds h.control.device)) in
     let d = decided_at hs ds cl part n g h rows r _ (after_set signs h.control p v) is turns in
     match_at_some _ h.control _ _ (kept_at hs n h lt is) (record {
       outcome = match_weaker (first_refusal rows) _ _ _ _
@@ -399,14 +401,14 @@ module _ {D P : Type 0} (bound : DiskGhosts D) (peripherals : Ghosts P) (old new
 -- ---- what a function that recovers knows
 
 -- the control that is to be enabled
-pub record Asking (hs : List Held) (n : ℕ) (p : Property) (v : Value) (mode : Mode) : Type 0 where
+pub record Asking (hs : List KeptControl) (n : ℕ) (p : Property) (v : Value) (mode : Mode) : Type 0 where
   pub control : Control
   pub at : slice_get (controls_of hs) n ≡ Some control
   pub asks : asks_recovery control p v ≡ true
   pub recovering : (asks_recovery control p v && not (is_ready mode)) ≡ true
   pub off : mode ≡ Off
 
-pub asks_there : (hs : List Held) (n : ℕ) (p : Property) (v : Value) (mode : Mode) → IsRecovering hs n p v mode → Asking hs n p v mode
+pub asks_there : (hs : List KeptControl) (n : ℕ) (p : Property) (v : Value) (mode : Mode) → IsRecovering hs n p v mode → Asking hs n p v mode
 asks_there hs n p v mode h =
     elim (match_cases (slice_get (controls_of hs) n) _ _ h) [
       | inl x ↦ absurd x.1
@@ -430,7 +432,7 @@ silent c p v e tells =
     never true k notified e t = cc
 
 -- the control is the one that is to be enabled
-pub asked_control : (hs : List Held) (n : ℕ) (h : Held) (c : Control) → n < length hs → h ≡ get_or hs n h → slice_get (controls_of hs) n ≡ Some c
+pub asked_control : (hs : List KeptControl) (n : ℕ) (h : KeptControl) (c : Control) → n < length hs → h ≡ get_or hs n h → slice_get (controls_of hs) n ≡ Some c
     → h.control ≡ c
 asked_control hs n h c lt is at = some_same h.control c (sym (kept_at hs n h lt is) ∙ at)
   where
@@ -438,7 +440,7 @@ asked_control hs n h c lt is at = some_same h.control c (sym (kept_at hs n h lt 
     some_same a b e = cc
 
 -- nothing refuses to set the property, nor does it want memory
-pub done_set : (n : ℕ) (holder : Option ℕ) (kind : Option Kind) (s : Signs) (h g : Held) (c : Control) (p : Property) (v : Value)
+pub done_set : (n : ℕ) (holder : Option ℕ) (kind : Option Kind) (s : Signs) (h g : KeptControl) (c : Control) (p : Property) (v : Value)
     (r : Result Answer NoMemory) → h.control ≡ c → asks_recovery c p v ≡ true
     → SetsTo (set_rows n holder kind h.control p v) (tells_power h.control p v) r h g (after_set s h.control p v)
     → (r ≡ Ok (answer.Done value.Empty)) × (g.control ≡ after_set s c p v)

@@ -14,7 +14,7 @@ use Rattle.pos_service.specs.Controls.{Control}
 use Rattle.pos_totals.specs.HardTotals.{Mode, Off, Ready}
 use Rattle.pos_service.specs.Refusals.{first_refusal}
 use Rattle.pos_totals.specs.TotalsCalls.{file_call, file_rows}
-use Rattle.pos_common.specs.Held.{controls_of}
+use Rattle.pos_common.specs.KeptControls.{controls_of}
 use Rattle.pos_store.specs.Standing.{Standing}
 use Rattle.pos_totals.specs.Changes.{IsDone}
 use Rattle.pos_totals.specs.Views.{IsReady, TotalsView, TurnsOff}
@@ -30,7 +30,7 @@ use Rattle.pos_counter.specs.History.{changes_asked}
 use Rattle.pos_counter.specs.Totals.{TotalsPart, FilesCalled}
 use Rattle.pos_counter.proofs.Lifts.{match_at_some, match_by, match_weaker}
 use Rattle.pos_counter.proofs.Serving.{OnlyNow, quiet_serves}
-use Rattle.pos_counter.proofs.Stations.{IsLet, let_refusals, own_does, own_takes}
+use Rattle.pos_counter.proofs.Hardware.{IsLet, let_refusals, own_does, own_takes}
 
 -- behind the check of an open control of Hard Totals, the totals' refusals decide
 totals_refusals : (m : Machine) (n : ℕ) (c : Control) (asked : Call) → is_common asked ≡ false → c.category ≡ category.HardTotals → IsLet m n c asked

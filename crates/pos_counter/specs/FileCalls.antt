@@ -5,7 +5,7 @@ use Rattle.pos_service.specs.declared.call.Call.{Call}
 use Rattle.pos_service.specs.declared.memory.NoMemory.{NoMemory}
 use Rattle.pos_totals.specs.HardTotals.{Mode, is_ready}
 use Rattle.pos_totals.specs.TotalsCalls.{file_call}
-use Rattle.pos_common.specs.Held.{Held, controls_of}
+use Rattle.pos_common.specs.KeptControls.{KeptControl, controls_of}
 use Rattle.pos_disk.specs.State.{LeavesOnly}
 use Rattle.pos_disk.specs.declared.device.Disk.{Ghosts}
 use Rattle.pos_store.specs.Standing.{Standing, StandsForEither}
@@ -52,7 +52,7 @@ CallsFiles bound before number asked outcome now =
     IsQuiet before number asked outcome now ⊎ PutsThere bound before number asked outcome now
 
 -- setting the property of the control that a number has recovers totals of this mode
-abbrev pub IsRecovering : List Held → ℕ → Property → Value → Mode → Type 0
+abbrev pub IsRecovering : List KeptControl → ℕ → Property → Value → Mode → Type 0
 IsRecovering helds number p v mode =
     MatchOption (slice_get (controls_of helds) number) ⊥
     (λ control. (asks_recovery control p v && not (is_ready mode)) ≡ true)

@@ -3,8 +3,8 @@ ghost use Rattle.std.specs.Prelude.{◌≡◌, ◌<◌, false, MatchOption, Some
 ghost use Rattle.pos_service.specs.Calls.{is_common};
 ghost use Rattle.pos_service.specs.Deeds.{DeedFits, Plans};
 ghost use Rattle.pos_service.specs.Peripherals.{IsInRange};
-ghost use Rattle.pos_service.specs.Stations.{station_of, StaysInService};
-ghost use Rattle.pos_common.specs.Held.{controls_of};
+ghost use Rattle.pos_service.specs.Hardware.{hardware_of, StaysInService};
+ghost use Rattle.pos_common.specs.KeptControls.{controls_of};
 ghost use Rattle.pos_counter.specs.KeptDevices.{AreDevicesSound, devices_in};
 ghost use Rattle.pos_counter.specs.AtDevices.{CallsAt, IsDoneAt, MayBeCalled, MayCall};
 ghost use Rattle.pos_counter.specs.Counters.{IsStep, IsCounterSound, Serves};
@@ -117,8 +117,8 @@ fn call_device<P: Peripheral>(
     requires may { let kind = (P.Peripheral.state peripheral.old).kind in
         MatchOption (slice_get (controls_of controls.old) number) ⊥ (MayCall (Some kind) call.now) }
     ensures called { let state = P.Peripheral.state in CallsAt number call.now place result
-        (controls_of controls.old) (station_of (state peripheral.old))
-        (controls_of controls.new) (station_of (state peripheral.new)) }
+        (controls_of controls.old) (hardware_of (state peripheral.old))
+        (controls_of controls.new) (hardware_of (state peripheral.new)) }
     ensures in_service { let state = P.Peripheral.state in
         StaysInService (state peripheral.old) (state peripheral.new) }
 {

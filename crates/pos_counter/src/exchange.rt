@@ -1,7 +1,7 @@
 //! The exchange of peripherals: which are attached, and which are detached.
 ghost use Rattle.std.specs.Prelude.{◌≡◌, ℕ, Some, false, true, IfErr, IfOk};
-ghost use Rattle.pos_service.specs.Stations.{station_of};
-ghost use Rattle.pos_common.specs.Held.{controls_of};
+ghost use Rattle.pos_service.specs.Hardware.{hardware_of};
+ghost use Rattle.pos_common.specs.KeptControls.{controls_of};
 ghost use Rattle.pos_profile.specs.Places.{place_of};
 ghost use Rattle.pos_profile.specs.Registries.{devices as registered, names_of};
 ghost use Rattle.pos_counter.specs.KeptDevices.{AreDevicesSound};
@@ -25,7 +25,7 @@ impl<D: Disk, P: Peripheral> Counter<D, P> {
         requires sound { IsCounterSound P.Peripheral self.old }
         requires unparked { (P.Peripheral.state peripheral).is_parked ≡ false }
         ensures step { IsStepBeside P.Peripheral self.old
-            (Attach name.now (station_of (P.Peripheral.state peripheral)))
+            (Attach name.now (hardware_of (P.Peripheral.state peripheral)))
             (attached P.Peripheral.state result) self.new }
         ensures handed_back { IfErr result (λ refusal. refusal.1 ≡ peripheral) }
         ensures sound { IsCounterSound P.Peripheral self.new }

@@ -1,6 +1,6 @@
 //! What happens at devices, and what they are physically.
 ghost use Rattle.std.specs.Prelude.{◌<◌, Some};
-ghost use Rattle.pos_service.specs.Stations.{TakenAt};
+ghost use Rattle.pos_service.specs.Hardware.{TakenAt};
 ghost use Rattle.pos_counter.specs.KeptDevices.{AreDevicesSound, devices_in};
 ghost use Rattle.pos_counter.specs.AtDevices.{FitsAt, IsDoneAt};
 ghost use Rattle.pos_counter.specs.Counters.{IsStepBeside, IsCounterSound};

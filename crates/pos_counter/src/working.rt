@@ -2,8 +2,8 @@
 ghost use Rattle.std.specs.Prelude.{◌≡◌, Some, false};
 ghost use Rattle.pos_service.specs.Claims.{holder_at};
 ghost use Rattle.pos_service.specs.PrinterCalls.{WorksAt};
-ghost use Rattle.pos_service.specs.Stations.{station_of, StaysInService};
-ghost use Rattle.pos_common.specs.Held.{controls_of};
+ghost use Rattle.pos_service.specs.Hardware.{hardware_of, StaysInService};
+ghost use Rattle.pos_common.specs.KeptControls.{controls_of};
 ghost use Rattle.pos_counter.specs.KeptDevices.{AreDevicesSound, devices_in};
 ghost use Rattle.pos_counter.specs.AtDevices.{IsAttachedAt, IsDoneAt};
 ghost use Rattle.pos_counter.specs.Counters.{IsStepBeside, IsCounterSound};
@@ -79,8 +79,8 @@ fn work_at<P: Peripheral>(
     requires unparked { (P.Peripheral.state peripheral.old).is_parked ≡ false }
     ensures worked { let state = P.Peripheral.state in
         WorksAt (holder_at claims.now (Some place)) place result
-        (controls_of controls.old) (station_of (state peripheral.old))
-        (controls_of controls.new) (station_of (state peripheral.new)) }
+        (controls_of controls.old) (hardware_of (state peripheral.old))
+        (controls_of controls.new) (hardware_of (state peripheral.new)) }
     ensures in_service { let state = P.Peripheral.state in
         StaysInService (state peripheral.old) (state peripheral.new) }
 {

@@ -1,6 +1,7 @@
 //! Images on a disk, by one of two layouts, of which one is the current one at every moment.
 #![tactic(auto)]
 
+mod disk_calls;
 mod fault;
 mod finding;
 mod formatting;
@@ -10,7 +11,6 @@ mod layout;
 mod reading;
 mod slot;
 mod spans;
-mod steps;
 
 pub use fault::ImageFault;
 pub use images::Images;

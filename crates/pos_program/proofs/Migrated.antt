@@ -43,7 +43,8 @@ module _ {D : Type 0} (bound : Ghosts D) (disk : D) where
         → StandsForEither candidates (map moved candidates) bytes
     found_or_moved bytes stands =
         ⊎_elim (λ was. inl (among candidates (Stands layout files sequence) bytes one.found was))
-        (λ rest. ⊎_elim (λ is. inr (among (map moved candidates) (Stands Layout2 files 1) bytes (one_moved candidates (Stands layout files sequence) one.found) is))
+        (λ rest. ⊎_elim (λ is. inr (among (map moved candidates) (Stands Layout2 files 1) bytes (one_moved candidates
+        (Stands layout files sequence) one.found) is))
         (λ no. absurd no) rest) stands
 
     -- a crash at any moment of both calls, where one of the migration leaves these

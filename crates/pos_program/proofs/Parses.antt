@@ -68,7 +68,8 @@ help_not_memory error help = λ memory. let bad : DisplayHelp ≡ OutOfMemory = 
 
 -- why the words of a command ask for nothing, where `clap` finds a fault in them
 failed : (words : List Text) (error : Error) (fault : ChoiceFault)
-    → Names (codes "run") words ⊎ ((command : Text) × NamesDisk command × Names command words) → TellsWhy error fault → (kind_of error ≢ OutOfMemory → HasFault words (kind_of error)) → Chooses words (Err fault)
+    → Names (codes "run") words ⊎ ((command : Text) × NamesDisk command × Names command words) → TellsWhy error fault → (kind_of error ≢ OutOfMemory
+    → HasFault words (kind_of error)) → Chooses words (Err fault)
 failed words error Help names why has = inr (subst (HasFault words) why (has (help_not_memory error why)))
 failed words error (Unknown first) names why has = absurd why
 failed words error (Refused told) names why has = subst (λ (e : Error). HasFault words (kind_of e)) (sym why.0) (has why.1)

@@ -1,5 +1,6 @@
 -- The entries of a profile, what is simulated for them in its wrappers, and the spares.
-use Rattle.std.proofs.Common.{◌≡◌, ◌∙◌, ◌<◌, ◌≤◌, ◌+◌, ◌-◌, ◌^◌, ◌∷◌, ◌++◌, [], ℕ, Bool, true, false, List, Option, Some, None, All, IfSome, get_or, length, min, take, refl, sym, ap, subst, arith}
+use Rattle.std.proofs.Common.{◌≡◌, ◌∙◌, ◌<◌, ◌≤◌, ◌+◌, ◌-◌, ◌^◌, ◌∷◌, ◌++◌, [], ℕ, Bool, true, false, List, Option, Some, None, All, IfSome, get_or, length}
+use Rattle.std.proofs.Common.{min, take, refl, sym, ap, subst, arith}
 use Rattle.std.proofs.lemmas.List.{map-append, take_more}
 use Rattle.std.proofs.lemmas.List.Elements.{All-map}
 use Rattle.std.proofs.lemmas.Option.{none-some, same_Some}
@@ -17,7 +18,8 @@ use Rattle.pos_profile.specs.OptionalKeys.{has_option}
 use Rattle.pos_profile.specs.Soundness.{IsInItsRange, IsSoundEntry}
 use Rattle.pos_run.specs.declared.simulation.Simulation.{Simulation}
 use Rattle.pos_run.specs.declared.wrapped.Wrapped.{Wrapped}
-use Rattle.pos_run.specs.Simulating.{HoldsOnlyIf, IsDeviceFor, IsSimulable, IsSimulatedFor, simulated_all, simulated_for, simulated_with, state_of, wrapped_by, wrapped_state}
+use Rattle.pos_run.specs.Simulating.{HoldsOnlyIf, IsDeviceFor, IsSimulable, IsSimulatedFor, simulated_all, simulated_for, simulated_with, state_of, wrapped_by}
+use Rattle.pos_run.specs.Simulating.{wrapped_state}
 use Rattle.pos_run.specs.Spares.{IsInService}
 
 module _ (entries : List Entry) (i : ℕ) (entry : Entry) (lt : i < length entries) (is : entry ≡ get_or entries i entry) where

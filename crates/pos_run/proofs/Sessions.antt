@@ -9,7 +9,8 @@ use Rattle.pos_script.specs.Commands.{LineRequest, asked_by, request_of_words}
 use Rattle.pos_script.specs.Text.{response_text}
 use Rattle.pos_run.specs.Names.{ControlNames}
 use Rattle.pos_run.specs.Spares.{SpareStates}
-use Rattle.pos_run.specs.Transcript.{Leads, Session, Outcome, RequestBecomes, AskingBecomes, ReadingBecomes, LineBecomes, CarriesOut, request_of, session_after, gives_name, rebuke, session_with, passed_over, turned_down, responded}
+use Rattle.pos_run.specs.Transcript.{Leads, Session, Outcome, RequestBecomes, AskingBecomes, ReadingBecomes, LineBecomes, CarriesOut, request_of, session_after}
+use Rattle.pos_run.specs.Transcript.{gives_name, rebuke, session_with, passed_over, turned_down, responded}
 
 -- an unknown control, or a name in use
 pub asks_none : {C : Type 0} (Runs : Leads C) (state : C) (session : Session) (asking : LineRequest) → request_of session asking ≡ None

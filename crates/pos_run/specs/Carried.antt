@@ -84,26 +84,26 @@ CarriesOutPrinted bound peripherals old session line before after result left ne
 abbrev pub CarriesOutPiece : {D P E : Type 0} → DiskGhosts D → Ghosts P
     → Counter D P → Session → Kept → List ℕ → Option (List ℕ) → Option (List ℕ) → Result (Unit {0}) E → Kept → Session
     → Counter D P → Type 0
-CarriesOutPiece bound peripherals old session held piece before after result held_after left new =
-    (read : List ℕ) → StandsFor held read
+CarriesOutPiece bound peripherals old session buffered piece before after result buffered_after left new =
+    (read : List ℕ) → StandsFor buffered read
     → (lines : List (List ℕ)) × (complete_lines (read ++ piece) ≡ complete_lines read ++ lines)
     × CarriesOutLines bound peripherals old session lines before after result left new
-    × OnOk result (StandsFor held_after (read ++ piece))
+    × OnOk result (StandsFor buffered_after (read ++ piece))
 
 -- at the end of what was read its last line is carried out, if there is one
 abbrev pub CarriesOutLast : {D P E : Type 0} → DiskGhosts D → Ghosts P
     → Counter D P → Session → Kept → Option (List ℕ) → Option (List ℕ) → Result (Unit {0}) E → Session
     → Counter D P → Type 0
-CarriesOutLast bound peripherals old session held before after result left new =
-    (read : List ℕ) → StandsFor held read
+CarriesOutLast bound peripherals old session buffered before after result left new =
+    (read : List ℕ) → StandsFor buffered read
     → (lines : List (List ℕ)) × (lines_of read ≡ complete_lines read ++ lines)
     × CarriesOutLines bound peripherals old session lines before after result left new
 
 -- likewise, and all that was printed is handed on, or could not be
 abbrev pub CarriesOutEnd : {D P E : Type 0} → DiskGhosts D → Ghosts P
     → Counter D P → Session → Kept → Writing → Writing → Result (Unit {0}) E → Session → Counter D P → Type 0
-CarriesOutEnd bound peripherals old session held before after result left new =
-    (read : List ℕ) → StandsFor held read
+CarriesOutEnd bound peripherals old session buffered before after result left new =
+    (read : List ℕ) → StandsFor buffered read
     → (lines : List (List ℕ)) × (lines_of read ≡ complete_lines read ++ lines)
     × MatchResult result
     (λ u. Finishes (IsRun bound peripherals) old session lines before.contents after.contents left new

@@ -64,7 +64,7 @@ fn carry_out_and_print<W: Write, D: Disk, P: Peripheral + Ends>(
 pub(crate) fn carry_out_piece<W: Write, D: Disk, P: Peripheral + Ends>(
     alloc: Global,
     piece: &[u8],
-    held: &mut LineBuffer,
+    buffer: &mut LineBuffer,
     writer: &mut W,
     counter: &mut Counter<D, P>,
     names: &mut Names,
@@ -73,18 +73,18 @@ pub(crate) fn carry_out_piece<W: Write, D: Disk, P: Peripheral + Ends>(
     requires sound { IsCounterSound P.Peripheral counter.old }
     requires spares { AreSparesSound P.Peripheral spares.old }
     ensures piece { CarriesOutPiece D.Disk P.Peripheral counter.old (session_of P.Peripheral names.old spares.old)
-        held.old piece.now (W.contents writer.old) (W.contents writer.new) result held.new
+        buffer.old piece.now (W.contents writer.old) (W.contents writer.new) result buffer.new
         (session_of P.Peripheral names.new spares.new) counter.new }
     ensures sound { IsCounterSound P.Peripheral counter.new }
     ensures spares { AreSparesSound P.Peripheral spares.new }
 {
     let mut left = piece;
-    while let Some((ended, rest)) = held.feed(left) {
-        let line = held.ended_line(ended);
+    while let Some((ended, rest)) = buffer.feed(left) {
+        let line = buffer.ended_line(ended);
         let Ok(()) = carry_out_and_print(alloc, line, writer, counter, names, spares) else {
             return Err(WriteFault);
         };
-        held.clear();
+        buffer.clear();
         left = rest;
     }
     Ok(())
@@ -93,7 +93,7 @@ pub(crate) fn carry_out_piece<W: Write, D: Disk, P: Peripheral + Ends>(
 /// Carries out the last line of a script, which its end ends, if there is one, and writes what it prints.
 pub(crate) fn carry_out_last<W: Write, D: Disk, P: Peripheral + Ends>(
     alloc: Global,
-    held: &LineBuffer,
+    buffer: &LineBuffer,
     writer: &mut W,
     counter: &mut Counter<D, P>,
     names: &mut Names,
@@ -102,21 +102,21 @@ pub(crate) fn carry_out_last<W: Write, D: Disk, P: Peripheral + Ends>(
     requires sound { IsCounterSound P.Peripheral counter.old }
     requires spares { AreSparesSound P.Peripheral spares.old }
     ensures last { CarriesOutLast D.Disk P.Peripheral counter.old (session_of P.Peripheral names.old spares.old)
-        held.now (W.contents writer.old) (W.contents writer.new) result
+        buffer.now (W.contents writer.old) (W.contents writer.new) result
         (session_of P.Peripheral names.new spares.new) counter.new }
     ensures sound { IsCounterSound P.Peripheral counter.new }
     ensures spares { AreSparesSound P.Peripheral spares.new }
 {
-    if held.is_empty() {
+    if buffer.is_empty() {
         return Ok(());
     }
-    carry_out_and_print(alloc, held.line(), writer, counter, names, spares)
+    carry_out_and_print(alloc, buffer.line(), writer, counter, names, spares)
 }
 
 /// Carries out the last line of a script, if there is one, and hands on and flushes all that was printed.
 fn carry_out_end<W: Write, D: Disk, P: Peripheral + Ends>(
     alloc: Global,
-    held: &LineBuffer,
+    buffer: &LineBuffer,
     writer: &mut AnswerWriter<W>,
     counter: &mut Counter<D, P>,
     names: &mut Names,
@@ -125,12 +125,12 @@ fn carry_out_end<W: Write, D: Disk, P: Peripheral + Ends>(
     requires sound { IsCounterSound P.Peripheral counter.old }
     requires spares { AreSparesSound P.Peripheral spares.old }
     ensures end { CarriesOutEnd D.Disk P.Peripheral counter.old (session_of P.Peripheral names.old spares.old)
-        held.now (writing_of W.contents writer.old) (writing_of W.contents writer.new) result
+        buffer.now (writing_of W.contents writer.old) (writing_of W.contents writer.new) result
         (session_of P.Peripheral names.new spares.new) counter.new }
     ensures sound { IsCounterSound P.Peripheral counter.new }
     ensures spares { AreSparesSound P.Peripheral spares.new }
 {
-    let Ok(()) = carry_out_last(alloc, held, writer, counter, names, spares) else {
+    let Ok(()) = carry_out_last(alloc, buffer, writer, counter, names, spares) else {
         return Err(WriteFault);
     };
     match writer.flush() {
@@ -143,14 +143,14 @@ fn carry_out_end<W: Write, D: Disk, P: Peripheral + Ends>(
 /// each read, and at the end.
 fn carry_out_script<R: Read, W: Write, D: Disk, P: Peripheral + Ends>(
     alloc: Global,
-    held: &mut LineBuffer,
+    buffer: &mut LineBuffer,
     reader: &mut ScriptReader<R>,
     writer: &mut AnswerWriter<W>,
     counter: &mut Counter<D, P>,
     names: &mut Names,
     spares: &mut Spares<P>,
 ) -> Result<(), RunFault>
-    requires empty { StandsFor held.old [] }
+    requires empty { StandsFor buffer.old [] }
     requires sound { IsCounterSound P.Peripheral counter.old }
     requires spares { AreSparesSound P.Peripheral spares.old }
     ensures script { RunsScript (IsRun D.Disk P.Peripheral) counter.old
@@ -169,13 +169,20 @@ fn carry_out_script<R: Read, W: Write, D: Disk, P: Peripheral + Ends>(
             return Err(RunFault::Read);
         };
         if count == 0 {
-            return match carry_out_end(alloc, held, writer, counter, names, spares) {
+            return match carry_out_end(alloc, buffer, writer, counter, names, spares) {
                 Ok(()) => Ok(()),
                 Err(WriteFault) => Err(RunFault::Write),
             };
         }
-        let Ok(()) = carry_out_piece(alloc, &piece[..count], held, writer, counter, names, spares)
-        else {
+        let Ok(()) = carry_out_piece(
+            alloc,
+            &piece[..count],
+            buffer,
+            writer,
+            counter,
+            names,
+            spares,
+        ) else {
             return Err(RunFault::Write);
         };
     }
@@ -205,11 +212,17 @@ pub fn run<R: Read, W: Write, D: Disk, P: Peripheral + Ends>(
     ensures sound { IsCounterSound P.Peripheral counter.new }
     ensures spares { AreSparesSound P.Peripheral spares.new }
 {
-    let Ok(mut held) = LineBuffer::new(alloc) else {
+    let Ok(mut buffer) = LineBuffer::new(alloc) else {
         return Err(RunFault::NoMemory);
     };
     let mut names = Names::new(alloc);
     carry_out_script(
-        alloc, &mut held, reader, writer, counter, &mut names, spares,
+        alloc,
+        &mut buffer,
+        reader,
+        writer,
+        counter,
+        &mut names,
+        spares,
     )
 }

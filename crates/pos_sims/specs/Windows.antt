@@ -1,5 +1,6 @@
 -- A text on a display's window, as it is laid character by character.
-use Rattle.std.specs.Prelude.{◌≡◌, ℕ, ◌+◌, ◌-◌, ◌*◌, ◌%◌, ◌≤◌, ◌<◌, ◌&&◌, ◌++◌, ◌==◌, Bool, not, List, [], length, take, drop, map, get_or, nat_lt, nat_le, if◌then◌else◌}
+use Rattle.std.specs.Prelude.{◌≡◌, ℕ, ◌+◌, ◌-◌, ◌*◌, ◌%◌, ◌≤◌, ◌<◌, ◌&&◌, ◌++◌, ◌==◌, Bool, not, List, [], length, take, drop, map, get_or, nat_lt, nat_le}
+use Rattle.std.specs.Prelude.{if◌then◌else◌}
 use Rattle.pos_service.specs.declared.display_text.Attribute.{Attribute}
 use Rattle.pos_service.specs.declared.display_text.DisplayCell.{DisplayCell}
 use Rattle.pos_service.specs.declared.display_text.Place.{Place}

@@ -1,5 +1,6 @@
 -- What a change of the totals did, by what its table says and by what the store did.
-use Rattle.std.proofs.Common.{◌≡◌, ◌∙◌, inl, inr, ⊎_elim, ◌⊎◌, ℕ, ◌+◌, ℤ, pos, negsuc, ◌^◌, ◌<◌, ◌≤◌, Bool, true, false, not, ◌&&◌, ◌||◌, cond, List, [], ◌∷◌, ◌++◌, length, Option, Some, None, Result, Ok, Err, MatchOption, IfSome, refl, sym, ap, subst, arith}
+use Rattle.std.proofs.Common.{◌≡◌, ◌∙◌, inl, inr, ⊎_elim, ◌⊎◌, ℕ, ◌+◌, ℤ, pos, negsuc, ◌^◌, ◌<◌, ◌≤◌, Bool, true, false, not, ◌&&◌, ◌||◌, cond, List, [], ◌∷◌}
+use Rattle.std.proofs.Common.{◌++◌, length, Option, Some, None, Result, Ok, Err, MatchOption, IfSome, refl, sym, ap, subst, arith}
 use Rattle.std.specs.Prelude.{slice_set, nat_eq, nat_lt, nat_le, is_none, is_some}
 use Rattle.std.specs.List.{find, AllByRecursion}
 use Rattle.std.specs.Option.{option_map}
@@ -19,10 +20,12 @@ use Rattle.pos_service.specs.declared.answer.Value.TheVariants as value
 use Rattle.pos_service.specs.declared.code.Code.TheVariants as code
 use Rattle.pos_service.specs.declared.memory.NoMemory.{NoMemory}
 use Rattle.pos_service.specs.Claims.{is_foreign}
-use Rattle.pos_totals.specs.HardTotals.{File, Off, Ready, Totals, Change, Create, Delete, Write, SetAll, last_number, totals_limits, after_disk_fault, transaction_at, with_transaction}
+use Rattle.pos_totals.specs.HardTotals.{File, Off, Ready, Totals, Change, Create, Delete, Write, SetAll, last_number, totals_limits, after_disk_fault}
+use Rattle.pos_totals.specs.HardTotals.{transaction_at, with_transaction}
 use Rattle.pos_totals.specs.TotalsFiles.{is_name, is_named, is_called, has_file, has_room, free_data, is_foreign_file, is_range_of}
 use Rattle.pos_service.specs.Numbers.{is_natural, is_up_to}
-use Rattle.pos_totals.specs.TotalsChanges.{is_create, change_rows, refusals_of_change, group_by_change, number_rows, files_after, next_after, after_changes, given_by, spent_by, cost_of, cost_of_all, is_over, Changed, DoesChange, Done, RunsOut}
+use Rattle.pos_totals.specs.TotalsChanges.{is_create, change_rows, refusals_of_change, group_by_change, number_rows, files_after, next_after, after_changes}
+use Rattle.pos_totals.specs.TotalsChanges.{given_by, spent_by, cost_of, cost_of_all, is_over, Changed, DoesChange, Done, RunsOut}
 use Rattle.pos_totals.specs.TotalsClaims.{is_foreign_claim}
 use Rattle.pos_service.specs.Refusals.{first_refusal, Decided}
 use Rattle.pos_store.specs.Commits.{Commits, IsApplicable, sequence_after}
@@ -39,13 +42,16 @@ use Rattle.pos_totals.proofs.Largest.{most_bytes, most_files}
 use Rattle.pos_totals.proofs.Pairs.{plain_of, tags_in, numbers_in, called_again}
 use Rattle.pos_totals.proofs.Outlined.{found_has}
 use Rattle.pos_totals.proofs.Places.{found_inside}
-use Rattle.pos_totals.proofs.Putting.{open_table, closed_table, follows, their_files, leaves_found, sound_as, view_at, sound_files, idles, rests, group_applies, put_down, put_group, doubt_group}
-use Rattle.pos_totals.specs.Buffers.{IsGiven, IsBuffered, IsAsked, is_bufferable, cost_of_made, HasLeft, MayBuffer, Buffers, HaveBuffers, transactions_after, with_buffered}
+use Rattle.pos_totals.proofs.Putting.{open_table, closed_table, follows, their_files, leaves_found, sound_as, view_at, sound_files, idles, rests, group_applies}
+use Rattle.pos_totals.proofs.Putting.{put_down, put_group, doubt_group}
+use Rattle.pos_totals.specs.Buffers.{IsGiven, IsBuffered, IsAsked, is_bufferable, cost_of_made, HasLeft, MayBuffer, Buffers, HaveBuffers, transactions_after}
+use Rattle.pos_totals.specs.Buffers.{with_buffered}
 use Rattle.pos_totals.specs.Changes.{Changes, HasFailed, IsOneGroup}
 use Rattle.pos_totals.specs.Checks.{ChecksAt, Passes, answer_of}
 use Rattle.pos_totals.specs.Groups.{file_change, group_of}
 use Rattle.pos_totals.specs.Numbering.{lacks, HasPlace, given_after, following, value_after}
-use Rattle.pos_totals.specs.Views.{TotalsView, plain, tag_of, tags_of, handles_of, totals_of, view_of, with_tags, AreDistinct, AreHandles, HasDirectory, HasItsFiles, IsSound}
+use Rattle.pos_totals.specs.Views.{TotalsView, plain, tag_of, tags_of, handles_of, totals_of, view_of, with_tags, AreDistinct, AreHandles, HasDirectory}
+use Rattle.pos_totals.specs.Views.{HasItsFiles, IsSound}
 use Rattle.pos_totals.specs.declared.handles.Tag.{Tag}
 use Rattle.pos_totals.specs.declared.holdings.Holdings.{Holdings}
 use Rattle.pos_totals.specs.declared.request.Checked.{Checked}

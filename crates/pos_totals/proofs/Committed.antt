@@ -1,5 +1,6 @@
 -- What a commit did, by what its table says and by what the store did.
-use Rattle.std.proofs.Common.{◌≡◌, ◌∙◌, inl, inr, ⊎_elim, ◌⊎◌, ℕ, zero, suc, true, false, cond, List, [], ◌∷◌, length, Option, Some, None, Ok, Err, refl, sym, ap, subst, arith}
+use Rattle.std.proofs.Common.{◌≡◌, ◌∙◌, inl, inr, ⊎_elim, ◌⊎◌, ℕ, zero, suc, true, false, cond, List, [], ◌∷◌, length, Option, Some, None, Ok, Err, refl, sym}
+use Rattle.std.proofs.Common.{ap, subst, arith}
 use Rattle.std.specs.Prelude.{nat_eq, is_none, slice_set}
 use Rattle.std.specs.List.{list_any, AllByRecursion}
 use Rattle.std.proofs.lemmas.Bool.{eq-eqb}
@@ -17,7 +18,8 @@ use Rattle.pos_service.specs.declared.code.Code.TheVariants as code
 use Rattle.pos_service.specs.declared.memory.NoMemory.{NoMemory}
 use Rattle.pos_service.specs.Claims.{is_foreign}
 use Rattle.pos_totals.specs.TotalsRows.{while_ready}
-use Rattle.pos_totals.specs.HardTotals.{files_of, File, Mode, Off, Ready, Totals, Change, last_number, changes_in, transaction_at, transaction_of, with_transaction, without_transactions, after_disk_fault}
+use Rattle.pos_totals.specs.HardTotals.{files_of, File, Mode, Off, Ready, Totals, Change, last_number, changes_in, transaction_at, transaction_of}
+use Rattle.pos_totals.specs.HardTotals.{with_transaction, without_transactions, after_disk_fault}
 use Rattle.pos_totals.specs.TotalsCommits.{is_of_none, is_of_foreign, commit_rows, refusals_of_commit, group_by_commit, DoesCommit, Committed}
 use Rattle.pos_totals.specs.TotalsChanges.{after_changes, files_after_all, Done, RunsOut}
 use Rattle.pos_service.specs.Refusals.{first_refusal}
@@ -32,12 +34,14 @@ use Rattle.pos_totals.proofs.Changed.{committed_found, refused_holdings}
 use Rattle.pos_totals.proofs.Grouped.{not_refused}
 use Rattle.pos_totals.proofs.Outlined.{same_buffered}
 use Rattle.pos_totals.proofs.Pairs.{tags_in, called_again}
-use Rattle.pos_totals.proofs.Putting.{open_table, closed_table, follows, their_files, leaves_found, sound_as, view_at, sound_files, idles, rests, group_applies, put_down, put_group, doubt_group}
+use Rattle.pos_totals.proofs.Putting.{open_table, closed_table, follows, their_files, leaves_found, sound_as, view_at, sound_files, idles, rests, group_applies}
+use Rattle.pos_totals.proofs.Putting.{put_down, put_group, doubt_group}
 use Rattle.pos_totals.specs.Buffers.{IsBuffered}
 use Rattle.pos_totals.specs.Changes.{CommitsBuffer, HasFailed, IsOneGroup}
 use Rattle.pos_totals.specs.Checks.{answer_of, Gathers}
 use Rattle.pos_totals.specs.Groups.{group_of}
-use Rattle.pos_totals.specs.Views.{TotalsView, plain, plain_file, tag_of, tags_of, mode_of, totals_of, view_of, with_tags, HasDirectory, IsSound, LeavesTheirFiles}
+use Rattle.pos_totals.specs.Views.{TotalsView, plain, plain_file, tag_of, tags_of, mode_of, totals_of, view_of, with_tags, HasDirectory, IsSound}
+use Rattle.pos_totals.specs.Views.{LeavesTheirFiles}
 use Rattle.pos_totals.specs.declared.handles.Tag.{Tag}
 use Rattle.pos_totals.specs.declared.holdings.Holdings.{Holdings}
 

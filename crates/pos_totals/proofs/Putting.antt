@@ -1,5 +1,6 @@
 -- A group that is put on the disk: what the store did, and what it says of the totals.
-use Rattle.std.proofs.Common.{◌≡◌, ◌⊎◌, inl, inr, ⊎_elim, ℕ, ◌+◌, Bool, true, false, cond, List, [], ◌∷◌, map, Option, Some, None, Result, Ok, Err, IsErrOf, MatchOption, MatchResult, refl, sym, ap, subst, arith}
+use Rattle.std.proofs.Common.{◌≡◌, ◌⊎◌, inl, inr, ⊎_elim, ℕ, ◌+◌, Bool, true, false, cond, List, [], ◌∷◌, map, Option, Some, None, Result, Ok, Err, IsErrOf}
+use Rattle.std.proofs.Common.{MatchOption, MatchResult, refl, sym, ap, subst, arith}
 use Rattle.std.specs.Prelude.{nat_eq, IsOk}
 use Rattle.std.proofs.lemmas.Bool.{eqb-true}
 use Rattle.pos_dir.specs.Changes.{outcome_of_all}
@@ -30,7 +31,8 @@ use Rattle.pos_store.specs.declared.fault.StoreFault.TheVariants as fault
 use Rattle.pos_totals.proofs.Pairs.{plain_of, numbers_in}
 use Rattle.pos_totals.specs.Changes.{PutsGroup, IsOneGroup, IsDone, before_or_after, in_doubt, left_after, settled}
 use Rattle.pos_totals.specs.Groups.{group_of}
-use Rattle.pos_totals.specs.Views.{TotalsView, plain, stored, handles_of, mode_of, totals_of, view_of, with_tags, AreDistinct, AreHandles, HasHandles, HasLayout, IsSound, TurnsOff, WhenOff, LeavesTheirFiles}
+use Rattle.pos_totals.specs.Views.{TotalsView, plain, stored, handles_of, mode_of, totals_of, view_of, with_tags, AreDistinct, AreHandles, HasHandles}
+use Rattle.pos_totals.specs.Views.{HasLayout, IsSound, TurnsOff, WhenOff, LeavesTheirFiles}
 use Rattle.pos_totals.specs.declared.handles.Tag.{Tag}
 use Rattle.pos_totals.specs.declared.holdings.Holdings.{Holdings}
 

@@ -1,5 +1,6 @@
 -- What a recovery of the totals did, by what the store found and the handles that were left.
-use Rattle.std.proofs.Common.{◌≡◌, ◌∙◌, ◌↔◌, inl, inr, ⊎_elim, ◌≤◌, ◌<◌, ◌+◌, ℕ, List, true, false, length, Some, Result, Ok, Err, IsErrOf, refl, sym, ap, subst, arith}
+use Rattle.std.proofs.Common.{◌≡◌, ◌∙◌, ◌↔◌, inl, inr, ⊎_elim, ◌≤◌, ◌<◌, ◌+◌, ℕ, List, true, false, length, Some, Result, Ok, Err, IsErrOf, refl, sym, ap}
+use Rattle.std.proofs.Common.{subst, arith}
 use Rattle.std.specs.Prelude.{is_some}
 use Rattle.std.proofs.lemmas.Option.{same_Some}
 use Rattle.pos_dir.specs.declared.file.File.{File as PlainFile}

@@ -1,6 +1,6 @@
 use Rattle.std.proofs.Common.{◌≡◌, ◌∙◌, ◌∷◌, [], ◌<◌, ◌≤◌, All, None, Some, get_or, length, map, option_map, ap, arith, subst, sym}
 use Rattle.std.proofs.lemmas.List.{map-append, take_all}
-use Rattle.pos_service.specs.Stations.{station_of}
+use Rattle.pos_service.specs.Hardware.{hardware_of}
 use Rattle.pos_profile.specs.declared.role.Role.TheVariants.{Device, Spare}
 use Rattle.pos_counter.specs.Counters.{machine}
 use Rattle.pos_counter.specs.Steps.{Attach, Step}
@@ -56,7 +56,7 @@ loop-entry-preserved g c =
       totals = step.1.totals ∙ c.loop-entry.invariant.totals;
       served = λ part. serves_more devices i entry lt is part (machine g.P.Peripheral old part) (machine g.P.Peripheral new part) state step.0 some
           (c.is_profile.ensures.names i) (c.loop-entry.invariant.served part)
-          (subst (λ name. Step (machine g.P.Peripheral old part) (Attach name (station_of state)) step.0 (machine g.P.Peripheral new part)) c.as_bytes.ensures
+          (subst (λ name. Step (machine g.P.Peripheral old part) (Attach name (hardware_of state)) step.0 (machine g.P.Peripheral new part)) c.as_bytes.ensures
           (step.1.step part));
     }
 

@@ -20,7 +20,7 @@ loop-ended-init g c =
         none_yet read,
         finishes_none (IsRun g.D.Disk g.P.Peripheral) c.args.counter.now (session_of g.P.Peripheral c.args.names.now c.args.spares.now) refl contents
             (Appends-nil contents),
-        subst (StandsFor c.args.held.now) (sym (append-nil read)) stands,
+        subst (StandsFor c.args.buffer.now) (sym (append-nil read)) stands,
       ),
     )
 

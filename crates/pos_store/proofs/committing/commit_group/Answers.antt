@@ -16,7 +16,8 @@ use Rattle.pos_store.specs.StoreViews.{HasItsFiles, view_of}
 use Rattle.pos_store.specs.Standing.{HoldsFiles}
 use Rattle.pos_store.specs.declared.disk_or_log.DiskOrLog.{DiskOrLog}
 use Rattle.pos_store.specs.declared.draft.Draft.TheVariants as draft
-use Rattle.pos_store.proofs.Committed.{IsGiven, same_layout, fits_not, stays, rises, short, appending_stands, renewing_stands, failed_commits, appended_holds, appended_commits, renewed_holds, renewed_commits}
+use Rattle.pos_store.proofs.Committed.{IsGiven, same_layout, fits_not, stays, rises, short, appending_stands, renewing_stands, failed_commits, appended_holds}
+use Rattle.pos_store.proofs.Committed.{appended_commits, renewed_holds, renewed_commits}
 use Rattle.pos_store.proofs.Drafted.{unmade_commits}
 use Rattle.pos_store.proofs.committing.commit_group.Given.{Over}
 use Rattle.pos_store.proofs.committing.commit_group.Goals.{After-append, After-renew}

@@ -17,7 +17,7 @@ use Rattle.pos_counter.specs.Totals.{is_totals}
 use Rattle.pos_counter.proofs.Claiming.{are_totals}
 use Rattle.pos_counter.proofs.Lifts.{kept_at}
 use Rattle.pos_counter.proofs.Serving.{quiet_serves}
-use Rattle.pos_counter.proofs.Stations.{device_step, own_refusals, refused_step, served_there}
+use Rattle.pos_counter.proofs.Hardware.{device_step, own_refusals, refused_step, served_there}
 use Rattle.pos_counter.proofs.TotalsSteps.{files_serve}
 use Rattle.pos_counter.proofs.counter.Counter.call_category.Goals as goal
 

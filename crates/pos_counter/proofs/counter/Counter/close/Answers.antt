@@ -1,7 +1,7 @@
 use Rattle.std.proofs.Common.{◌∙◌, None, ap, sym, refl}
 use Rattle.pos_totals.specs.TotalsClaims.{is_own_claim, without_control}
 use Rattle.pos_service.specs.Claims.{released_by}
-use Rattle.pos_common.specs.Held.{Held}
+use Rattle.pos_common.specs.KeptControls.{KeptControl}
 use Rattle.pos_counter.specs.Counters.{machine}
 use Rattle.pos_counter.specs.KeptDevices.{devices_in}
 use Rattle.pos_counter.specs.Leaving.{part_with}
@@ -30,8 +30,8 @@ returns-then-is_totals g c =
     let n = c.args.number in
     let h = c.index_mut.result.now in
     let same = kept_same hs n h c.index-control.result.now c.requires.in_range c.index_mut.ensures.value c.index-control.ensures in
-    let device = ap (λ (k : Held). k.control.device) same ∙ sym c.device-device.ensures in
-    let is = are_totals h.control.category (ap (λ (k : Held). is_totals k.control.category) same ∙ sym c.is_totals.ensures ∙ c.if-is_totals.true) in
+    let device = ap (λ (k : KeptControl). k.control.device) same ∙ sym c.device-device.ensures in
+    let is = are_totals h.control.category (ap (λ (k : KeptControl). is_totals k.control.category) same ∙ sym c.is_totals.ensures ∙ c.if-is_totals.true) in
     quiet_serves g.D.Disk g.P.Peripheral old _ _ _ (without_control old.totals.totals n)
     (λ bytes honest since. g.met.D.Disk.only_now old.totals.disk bytes honest since) c.drop_control.ensures.disk c.drop_control.ensures.totals
     (λ left. settled_claimed (is_own_claim n) None old.totals.totals.layout old.totals.totals.mode left) c.requires.sound c.requires.sound.devices
@@ -46,8 +46,8 @@ returns g c =
     let n = c.args.number in
     let h = c.index_mut-2.result.now in
     let same = kept_same hs n h c.index-control.result.now c.requires.in_range c.index_mut-2.ensures.value c.index-control.ensures in
-    let device = ap (λ (k : Held). k.control.device) same ∙ sym c.device-device.ensures in
-    let is = ap (λ (k : Held). is_totals k.control.category) same ∙ sym c.is_totals.ensures ∙ c.if-is_totals.false in
+    let device = ap (λ (k : KeptControl). k.control.device) same ∙ sym c.device-device.ensures in
+    let is = ap (λ (k : KeptControl). is_totals k.control.category) same ∙ sym c.is_totals.ensures ∙ c.if-is_totals.false in
     quiet_serves g.D.Disk g.P.Peripheral old _ _ _ old.totals.totals (λ bytes honest since. g.met.D.Disk.only_now old.totals.disk bytes honest since)
     refl refl (λ left. refl) c.requires.sound c.requires.sound.devices
     (λ left failures so. close_device hs old.claims c.release.new.self (devices_in g.P.Peripheral old.devices) (part_with old.totals.totals left failures) n

@@ -1,5 +1,5 @@
 use Rattle.std.proofs.Common.{◌≡◌, ◌∙◌, ◌++◌, ◌∷◌, ◌<◌, [], List, ap, length, refl, subst, sym, arith}
-use Rattle.pos_common.specs.Held.{Held}
+use Rattle.pos_common.specs.KeptControls.{KeptControl}
 use Rattle.pos_totals.specs.HardTotals.{with_control}
 use Rattle.pos_counter.specs.KeptDevices.{devices_in}
 use Rattle.pos_counter.specs.Leaving.{part_with}
@@ -13,7 +13,7 @@ pub returns-then-is_err-clause-sound : goal.returns-then-is_err-clause-sound
 returns-then-is_err-clause-sound g c =
     let old = c.args.self.now in
     record {
-      machine = λ part. subst (λ (hs : List Held). IsSound (machine_with hs old.claims (devices_in g.P.Peripheral old.devices) part))
+      machine = λ part. subst (λ (hs : List KeptControl). IsSound (machine_with hs old.claims (devices_in g.P.Peripheral old.devices) part))
           (sym c.reserve.ensures.items) (c.requires.sound.machine part);
       devices = c.requires.sound.devices;
     }
@@ -24,7 +24,7 @@ returns-in-Ok-clause-step g c =
     let hs = old.controls.items in
     let many : c.len-number.result ≡ length hs = omega (arith, c.len-number.ensures, old.controls.ok.0) in
     let room : c.len-number.result < most_controls = omega arith in
-    let items = c.push_reserved.ensures.items ∙ ap (λ (ks : List Held). ks ++ c.new.result ∷ []) c.reserve.ensures.items in
+    let items = c.push_reserved.ensures.items ∙ ap (λ (ks : List KeptControl). ks ++ c.new.result ∷ []) c.reserve.ensures.items in
     quiet_step g.D.Disk g.P.Peripheral old _ _ _ (with_control old.totals.totals)
     (λ bytes honest since. g.met.D.Disk.only_now old.totals.disk bytes honest since) c.add_control.ensures.disk c.in-Ok.ensures.ok (λ left. refl)
     (λ left failures so. made_step hs c.push_reserved.new.self.items old.claims (devices_in g.P.Peripheral old.devices)
@@ -37,7 +37,7 @@ returns-in-Ok-clause-sound g c =
     let many : c.len-number.result ≡ length hs = omega (arith, c.len-number.ensures, old.controls.ok.0) in
     let room : c.len-number.result < most_controls = omega arith in
     let part = part_with old.totals.totals [] 0 in
-    let items = c.push_reserved.ensures.items ∙ ap (λ (ks : List Held). ks ++ c.new.result ∷ []) c.reserve.ensures.items in
+    let items = c.push_reserved.ensures.items ∙ ap (λ (ks : List KeptControl). ks ++ c.new.result ∷ []) c.reserve.ensures.items in
     still_sound g.P.Peripheral old _ (NewControl tt c.args.category) (Made c.len-number.result) part (record part { totals = with_control part.totals })
     c.requires.sound c.requires.sound.devices
     (made_step hs c.push_reserved.new.self.items old.claims (devices_in g.P.Peripheral old.devices) part c.args.category c.new.result
@@ -47,7 +47,7 @@ pub returns-in-Err-clause-sound : goal.returns-in-Err-clause-sound
 returns-in-Err-clause-sound g c =
     let old = c.args.self.now in
     record {
-      machine = λ part. subst (λ (hs : List Held). IsSound (machine_with hs old.claims (devices_in g.P.Peripheral old.devices) part))
+      machine = λ part. subst (λ (hs : List KeptControl). IsSound (machine_with hs old.claims (devices_in g.P.Peripheral old.devices) part))
           (sym c.reserve.ensures.items) (c.requires.sound.machine part);
       devices = c.requires.sound.devices;
     }

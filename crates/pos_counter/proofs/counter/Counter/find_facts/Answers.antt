@@ -1,7 +1,7 @@
 use Rattle.std.proofs.Common.{◌≡◌, ◌∙◌, ap, arith}
 use Rattle.pos_service.specs.declared.facts.Facts.{Facts}
-use Rattle.pos_service.specs.Stations.{signs_in}
-use Rattle.pos_counter.specs.Machine.{device_at, kind_in, station_in}
+use Rattle.pos_service.specs.Hardware.{signs_in}
+use Rattle.pos_counter.specs.Machine.{device_at, kind_in, hardware_in}
 use Rattle.pos_counter.specs.KeptDevices.{devices_in}
 use Rattle.pos_counter.specs.Counters.{machine}
 use Rattle.pos_counter.specs.Leaving.{part_with}
@@ -31,5 +31,5 @@ returns g c = λ left failures claimed.
     facts_same _ (facts_of (machine g.P.Peripheral c.args.self.now (part_with c.args.self.now.totals.totals left failures)) c.args.number
     c.args.control.now.control)
     (c.kind_at.ensures ∙ ap (λ o. kind_in (device_at ds o)) c.device-device.ensures)
-    (c.signs_at.ensures ∙ ap (λ o. signs_in (station_in (device_at ds o))) c.device-device.ensures)
+    (c.signs_at.ensures ∙ ap (λ o. signs_in (hardware_in (device_at ds o))) c.device-device.ensures)
     (omega (arith, c.size.ensures)) c.find_file_facts.ensures claimed c.in_transaction.ensures

@@ -1,7 +1,7 @@
 use Rattle.std.proofs.Common.{◌≡◌, ◌∙◌, ap, subst}
 use Rattle.pos_service.specs.Claims.{is_own}
 use Rattle.pos_service.specs.Properties.{property_of, get_rows}
-use Rattle.pos_common.specs.Held.{Gets}
+use Rattle.pos_common.specs.KeptControls.{Gets}
 use Rattle.pos_counter.specs.Counters.{machine}
 use Rattle.pos_counter.specs.Leaving.{part_with}
 use Rattle.pos_counter.specs.Machine.{holder_in, holder_of}

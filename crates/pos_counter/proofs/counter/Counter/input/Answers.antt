@@ -1,14 +1,14 @@
 use Rattle.std.proofs.Common.{◌∙◌, Ok, ap, refl, sym, true, false, arith, length, subst, Err}
 use Rattle.std.proofs.lemmas.List.{with_items_is}
 use Rattle.pos_service.specs.Peripherals.{input_fits}
-use Rattle.pos_service.specs.Stations.{TakenAt}
+use Rattle.pos_service.specs.Hardware.{TakenAt}
 use Rattle.pos_profile.specs.Registries.{devices as registered}
 use Rattle.pos_counter.specs.AtDevices.{IsDoneAt}
 use Rattle.pos_counter.specs.Counters.{machine}
 use Rattle.pos_counter.specs.KeptDevices.{devices_in}
 use Rattle.pos_counter.proofs.DeviceLists.{found_fit, missing_there}
 use Rattle.pos_counter.proofs.Serving.{beside_sound}
-use Rattle.pos_counter.proofs.Stations.{finds_fit, named, on_station, unchanged, unnamed}
+use Rattle.pos_counter.proofs.Hardware.{finds_fit, named, on_hardware, unchanged, unnamed}
 use Rattle.pos_counter.proofs.counter.Counter.input.Goals as goal
 
 pub returns-in_default-clause-step : goal.returns-in_default-clause-step
@@ -56,7 +56,7 @@ returns-in-Ok-clause-step g c =
     let kept = with_items_is old.controls c.input_there.new.controls
     (omega (arith, c.input_there.auto.controls, ap length c.deref_mut.ensures.value, old.controls.ok.0)) in
     record {
-      step = λ part. on_station old.controls.items _ ds es old.claims part c.in-Some.place _ (λ place. TakenAt c.args.input.now place (Ok tt))
+      step = λ part. on_hardware old.controls.items _ ds es old.claims part c.in-Some.place _ (λ place. TakenAt c.args.input.now place (Ok tt))
           (sym c.in-Some.ensures) (subst (λ gs. IsDoneAt ds c.in-Some.place (TakenAt c.args.input.now c.in-Some.place (Ok tt)) old.controls.items gs es)
           (sym kept) (rw c.deref_mut.ensures.value at c.in-Ok.ensures.done));
       totals = refl;

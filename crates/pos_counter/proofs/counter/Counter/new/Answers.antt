@@ -1,6 +1,6 @@
 use Rattle.std.proofs.Common.{◌≡◌, ◌∙◌, ℕ, List, [], Option, None, ap, length, replicate, subst, sym, refl}
 use Rattle.std.proofs.lemmas.List.{length-replicate}
-use Rattle.pos_common.specs.Held.{Held}
+use Rattle.pos_common.specs.KeptControls.{KeptControl}
 use Rattle.pos_profile.specs.Registries.{devices as registered}
 use Rattle.pos_counter.specs.Machine.{Device, machine_with}
 use Rattle.pos_counter.specs.KeptDevices.{devices_in, profile_devices}
@@ -15,7 +15,7 @@ returns-in-Ok-new-clause-begins g c =
     let claims = c.in-Ok.ensures ∙ ap (λ n. replicate n None) (ap length c.devices.ensures ∙ sym count) in
     record {
       machine = λ part.
-          ap (λ (hs : List Held). machine_with hs c.in-Ok.claims (devices_in g.P.Peripheral c.in-Ok-new.devices) part) c.new-in-Ok-new.ensures.items
+          ap (λ (hs : List KeptControl). machine_with hs c.in-Ok.claims (devices_in g.P.Peripheral c.in-Ok-new.devices) part) c.new-in-Ok-new.ensures.items
           ∙ ap (λ (cl : List (Option ℕ)). machine_with [] cl (devices_in g.P.Peripheral c.in-Ok-new.devices) part) claims
           ∙ ap (λ (ds : List Device). machine_with [] (replicate (length (profile_devices entries)) None) ds part) c.in-Ok-new.ensures.vacant;
       totals = c.new-in-Ok-new-2.ensures;
@@ -30,7 +30,7 @@ returns-in-Ok-new-clause-sound g c =
     let covers = ap length c.in-Ok.ensures ∙ length-replicate (length c.devices.result.now) None ∙ ap length c.devices.ensures ∙ sym count
     ∙ ap length (sym c.in-Ok-new.ensures.vacant) in
     record {
-      machine = λ part. subst (λ (hs : List Held). IsSound (machine_with hs c.in-Ok.claims (devices_in g.P.Peripheral devices) part))
+      machine = λ part. subst (λ (hs : List KeptControl). IsSound (machine_with hs c.in-Ok.claims (devices_in g.P.Peripheral devices) part))
           (sym c.new-in-Ok-new.ensures.items)
           (begins_sound (registered g.P.Peripheral devices.registry) devices.totals c.in-Ok.claims part sound.registry.kinds sound.registry.served covers);
       devices = sound;

@@ -2,12 +2,12 @@ use Rattle.std.proofs.Common.{◌≡◌, ◌∙◌, ◌&&◌, ℕ, Option, not, 
 use Rattle.pos_service.specs.declared.kind.Kind.{Kind}
 use Rattle.pos_service.specs.declared.signs.Signs.{Signs}
 use Rattle.pos_service.specs.Properties.{after_set, set_rows, tells_power}
-use Rattle.pos_service.specs.Stations.{signs_in}
-use Rattle.pos_common.specs.Held.{Held, SetsTo}
+use Rattle.pos_service.specs.Hardware.{signs_in}
+use Rattle.pos_common.specs.KeptControls.{KeptControl, SetsTo}
 use Rattle.pos_totals.specs.HardTotals.{is_ready}
 use Rattle.pos_counter.specs.KeptDevices.{devices_in}
 use Rattle.pos_counter.specs.Leaving.{part_with}
-use Rattle.pos_counter.specs.Machine.{device_at, holder_in, kind_in, station_in}
+use Rattle.pos_counter.specs.Machine.{device_at, holder_in, kind_in, hardware_in}
 use Rattle.pos_counter.specs.Totals.{asks_recovery}
 use Rattle.pos_counter.proofs.Lifts.{kept_at, kept_same, match_at_some}
 use Rattle.pos_counter.proofs.Recovering.{plain_set}
@@ -36,14 +36,14 @@ returns g c =
     let same = kept_same hs n c.index.result.now h c.requires.in_range c.index.ensures is in
     let holder = c.find_holder-holder.ensures ∙ ap (λ o. holder_in h.control.category old.claims o h.control.device) c.area.ensures in
     let kind = c.kind_at-kind.ensures ∙ ap (λ o. kind_in (device_at ds o)) c.device-device.ensures in
-    let signs = c.signs_at-signs.ensures ∙ ap (λ o. signs_in (station_in (device_at ds o))) c.device-device.ensures in
+    let signs = c.signs_at-signs.ensures ∙ ap (λ o. signs_in (hardware_in (device_at ds o))) c.device-device.ensures in
     let To = λ (o : Option ℕ) (at : Option Kind) (s : Signs). SetsTo (set_rows n o at h.control p v) (tells_power h.control p v)
     c.set.result h c.set.new.self (after_set s h.control p v) in
     let held = subst (λ o. To o c.kind_at-kind.result c.signs_at-signs.result) holder c.set.ensures in
     let at_kind = subst (λ at. To (holder_in h.control.category old.claims view.totals.area h.control.device) at c.signs_at-signs.result) kind held in
     let turns = subst (λ s. To (holder_in h.control.category old.claims view.totals.area h.control.device) (kind_in (device_at ds h.control.device)) s)
     signs at_kind in
-    let plain = subst (λ (k : Held). (asks_recovery k.control p v && not (is_ready view.totals.mode)) ≡ false) same
+    let plain = subst (λ (k : KeptControl). (asks_recovery k.control p v && not (is_ready view.totals.mode)) ≡ false) same
     (ap (λ b. asks_recovery c.index.result.now.control p v && not b) (sym c.is_ready.ensures) ∙ sym c.is_recovering.ensures ∙ c.if-is_recovering.false) in
     quiet_serves g.D.Disk g.P.Peripheral old _ _ _ view.totals (λ bytes honest since. g.met.D.Disk.only_now view.disk bytes honest since)
     refl refl (λ left. refl) c.requires.sound c.requires.sound.devices

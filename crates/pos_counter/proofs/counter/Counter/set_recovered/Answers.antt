@@ -1,9 +1,9 @@
 use Rattle.std.proofs.Common.{◌∙◌, ap, refl}
 use Rattle.pos_service.specs.Controls.{Control}
 use Rattle.pos_service.specs.Properties.{after_set}
-use Rattle.pos_service.specs.Stations.{signs_in}
+use Rattle.pos_service.specs.Hardware.{signs_in}
 use Rattle.pos_counter.specs.KeptDevices.{devices_in}
-use Rattle.pos_counter.specs.Machine.{device_at, station_in}
+use Rattle.pos_counter.specs.Machine.{device_at, hardware_in}
 use Rattle.pos_counter.proofs.Lifts.{set_machine}
 use Rattle.pos_counter.proofs.Recovering.{asked_control, asks_there, done_set, failed_serves, recovered_serves, starved_serves}
 use Rattle.pos_counter.proofs.counter.Counter.set_recovered.Goals as goal
@@ -23,7 +23,7 @@ returns-in-Ok g c =
     c.set.result same there.asks c.set.ensures in
     let first = asked_control hs n c.index-control.result.now there.control c.requires.in_range c.index-control.ensures there.at in
     let signs = c.signs_at-signs.ensures
-    ∙ ap (λ o. signs_in (station_in (device_at ds o))) (c.device-device.ensures ∙ ap (λ (k : Control). k.device) first) in
+    ∙ ap (λ o. signs_in (hardware_in (device_at ds o))) (c.device-device.ensures ∙ ap (λ (k : Control). k.device) first) in
     recovered_serves g.D.Disk g.P.Peripheral old _ there.off c.requires.sound c.requires.sound.devices n there.control p v there.at there.asks
     there.recovering c.set.result done.0 c.in-Ok.ensures
     (λ part. set_machine hs old.claims ds part n c.set.new.self _ (done.1 ∙ ap (λ s. after_set s there.control p v) signs))

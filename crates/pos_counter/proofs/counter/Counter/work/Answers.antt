@@ -8,7 +8,7 @@ use Rattle.pos_counter.specs.Counters.{machine}
 use Rattle.pos_counter.specs.KeptDevices.{devices_in}
 use Rattle.pos_counter.proofs.DeviceLists.{attached_there, vacant_there}
 use Rattle.pos_counter.proofs.Serving.{beside_sound}
-use Rattle.pos_counter.proofs.Stations.{named, on_station, unnamed, want_finds_work}
+use Rattle.pos_counter.proofs.Hardware.{named, on_hardware, unnamed, want_finds_work}
 use Rattle.pos_counter.proofs.counter.Counter.work.Goals as goal
 
 pub returns-in_default-clause-step : goal.returns-in_default-clause-step
@@ -42,7 +42,7 @@ returns-in-Ok-clause-step g c =
     let kept = with_items_is old.controls c.work_there.new.controls
     (omega (arith, c.work_there.auto.controls, ap length c.deref_mut.ensures.value, old.controls.ok.0)) in
     record {
-      step = λ part. on_station old.controls.items _ ds es old.claims part place _
+      step = λ part. on_hardware old.controls.items _ ds es old.claims part place _
           (λ place. WorksAt (holder_at old.claims (Some place)) place (Ok c.in-Ok.worked)) (sym c.in-Some.ensures)
           (subst (λ gs. IsDoneAt ds place (WorksAt (holder_at old.claims (Some place)) place (Ok c.in-Ok.worked)) old.controls.items gs es) (sym kept)
           (rw c.deref_mut.ensures.value at c.in-Ok.ensures.done));

@@ -3,9 +3,9 @@ use Rattle.pos_disk.specs.State.{DiskState, splice}
 use Rattle.pos_image.specs.Layout.{start, layout_of, log_place, slot_size}
 use Rattle.pos_image.proofs.Places.{places}
 use Rattle.pos_image.proofs.Staged.{IsRun, run_start, run_write, run_sync, fields_written, where_ok}
-use Rattle.pos_image.proofs.steps.write_image.Given.{Over}
-use Rattle.pos_image.proofs.steps.write_image.Goals.{After-write, After-write-2, After-write-3, After-sync}
-use Rattle.pos_image.proofs.steps.write_image.Goals as goal
+use Rattle.pos_image.proofs.disk_calls.write_image.Given.{Over}
+use Rattle.pos_image.proofs.disk_calls.write_image.Goals.{After-write, After-write-2, After-write-3, After-sync}
+use Rattle.pos_image.proofs.disk_calls.write_image.Goals as goal
 
 module _ (g : Over) (c : After-write g) where
   abbrev s0 : DiskState

@@ -14,12 +14,12 @@ use Rattle.pos_service.specs.Controls.{Control, listens, if_listening, read as r
 use Rattle.pos_service.specs.Refusals.{Row, Decided, first_refusal}
 
 -- the machine's control, and how many events there is room for
-pub record Held : Type 0 where
+pub record KeptControl : Type 0 where
   pub control : Control
   pub spare : ℕ
 
 -- the machine's controls
-abbrev pub controls_of : List Held → List Control
+abbrev pub controls_of : List KeptControl → List Control
 controls_of helds = map (λ held. held.control) helds
 
 -- a change of a device's signs has at most so many events: drawer, cover, paper, power
@@ -39,7 +39,7 @@ abbrev pub work_events : ℕ
 work_events = 5
 
 -- a control that has the device at a place open and enabled has room for so many events
-abbrev pub HasRoom : ℕ → ℕ → Held → Type 0
+abbrev pub HasRoom : ℕ → ℕ → KeptControl → Type 0
 HasRoom place count held = IsTrue (listens place held.control) → count ≤ held.spare
 
 -- There is a copy of a scan for each control that has the device at a place open and enabled.
@@ -55,20 +55,20 @@ HasCopies other place controls copies = ⊤
 
 -- A control has read one of the copies of a scan, where it has the device at a place open and enabled; the others are
 -- left.
-pub record ReadsCopy (scan : Scan) (place : ℕ) (old new : Held) (copies left : List Scan) : Type 0 where
+pub record ReadsCopy (scan : Scan) (place : ℕ) (old new : KeptControl) (copies left : List Scan) : Type 0 where
   pub read : new.control ≡ if_listening place (read_by scan) old.control
   pub each : All (λ copy. copy ≡ scan) left
   pub most : length copies ≤ length left + count_by (listens place) (old.control ∷ [])
 
 -- A call on a control is answered by its table, which changes nothing; where nothing refuses it, it succeeds, and the
 -- control is this one.
-abbrev pub TurnsInto : List Row → Answer → Held → Held → Control → Type 0
+abbrev pub TurnsInto : List Row → Answer → KeptControl → KeptControl → Control → Type 0
 TurnsInto rows result old new control =
     Decided rows result (new ≡ old) ((result ≡ answer.Done value.Empty) × (new.control ≡ control))
 
 -- A property is set as its table says, and the control is this one then. Memory is wanted for the event of the device's
 -- power alone, where there is one, and only behind the table; then the control is as it was.
-abbrev pub SetsTo : List Row → Bool → Result Answer NoMemory → Held → Held → Control → Type 0
+abbrev pub SetsTo : List Row → Bool → Result Answer NoMemory → KeptControl → KeptControl → Control → Type 0
 SetsTo rows tells outcome old new control = MatchResult outcome
     (λ result. TurnsInto rows result old new control)
     (λ want. IsTrue tells × (first_refusal rows ≡ None) × (new.control ≡ old.control))

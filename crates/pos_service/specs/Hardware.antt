@@ -14,28 +14,28 @@ use Rattle.pos_service.specs.Peripherals.{PeripheralState, Takes, input_fits, si
 use Rattle.pos_service.specs.Statuses.{heard_signs}
 
 -- what stands at a device: what it is, what it is physically, and how often its line has failed
-pub record Station : Type 0 where
+pub record Hardware : Type 0 where
   pub kind : Kind
   pub plant : Plant
   pub failures : ℕ
 
 -- what a peripheral is to the machine
-abbrev pub station_of : PeripheralState → Station
-station_of state = record { kind = state.kind; plant = state.plant; failures = state.failures }
+abbrev pub hardware_of : PeripheralState → Hardware
+hardware_of state = record { kind = state.kind; plant = state.plant; failures = state.failures }
 
 -- the signs at a device: where it has no peripheral, that it is on, and else each false or good
-abbrev pub signs_in : Option Station → Signs
+abbrev pub signs_in : Option Hardware → Signs
 signs_in None = record { powered = true; drawer_open = false; cover_open = false; paper = paper.Good }
-signs_in (Some station) = signs_of station.kind station.plant
+signs_in (Some hardware) = signs_of hardware.kind hardware.plant
 
--- Controls and station are as they were.
-pub record SameStation (old : List Control) (before : Station) (new : List Control) (after : Station) : Type 0 where
+-- Controls and hardware are as they were.
+pub record SameHardware (old : List Control) (before : Hardware) (new : List Control) (after : Hardware) : Type 0 where
   pub controls : new ≡ old
-  pub station : after ≡ before
+  pub hardware : after ≡ before
 
--- what something does to all controls and a station
+-- what something does to all controls and hardware
 abbrev pub Effect : Type 1
-Effect = List Control → Station → List Control → Station → Type 0
+Effect = List Control → Hardware → List Control → Hardware → Type 0
 
 -- A peripheral is in service, and of the kind that it was.
 pub record StaysInService (old new : PeripheralState) : Type 0 where
@@ -53,11 +53,11 @@ reaction i taken.Fault was is control = failed control
 
 -- An input is taken in some way, which may change the plant, and each control that listens does what it does then.
 pub record TakesIn (input : Input) (place : ℕ)
-    (old : List Control) (before : Station) (new : List Control) (after : Station) : Type 0 where
+    (old : List Control) (before : Hardware) (new : List Control) (after : Hardware) : Type 0 where
   pub taken : Taken
   pub fits : input_fits before.kind input ≡ true
   pub plant : Takes input before.plant taken after.plant
-  pub station : after ≡ record before { plant = after.plant }
+  pub hardware : after ≡ record before { plant = after.plant }
   pub controls : new ≡ all_listening place
       (reaction input taken (signs_of before.kind before.plant) (signs_of after.kind after.plant)) old
 
@@ -65,4 +65,4 @@ pub record TakesIn (input : Input) (place : ℕ)
 abbrev pub TakenAt : Input → ℕ → Result (Unit {0}) NoMemory → Effect
 TakenAt input place outcome old before new after = MatchResult outcome
     (λ done. TakesIn input place old before new after)
-    (λ want. SameStation old before new after)
+    (λ want. SameHardware old before new after)

@@ -5,7 +5,7 @@ use Rattle.pos_disk.specs.Within.{SameBut}
 use Rattle.pos_disk.proofs.Moments.{followed_by, weaker}
 use Rattle.pos_image.specs.Layout.{is_open}
 use Rattle.pos_image.proofs.Staged.{closing_stages, writing_stages}
-use Rattle.pos_image.proofs.steps.place_image.Goals as goal
+use Rattle.pos_image.proofs.disk_calls.place_image.Goals as goal
 
 pub returns-clause-any_moment : goal.returns-clause-any_moment
 returns-clause-any_moment g c honest =

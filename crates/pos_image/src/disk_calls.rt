@@ -4,8 +4,8 @@ ghost use Rattle.byteorder.specs.Endian.{big_bytes};
 ghost use Rattle.pos_disk.specs.State.{IsAtRest, HasCause};
 ghost use Rattle.pos_disk.specs.Keeps.{KeepsDisk};
 ghost use Rattle.pos_image.specs.Layout.{disk_size, longest, is_open, start, layout_of};
-ghost use Rattle.pos_image.specs.Steps.{IsWritten, Keeps, CrashKeeps, ClosesGate, CrashClosing, KeepsGate, CrashKeepsGate};
-ghost use Rattle.pos_image.specs.Steps.{HasNoLog, KeepsBeside, Stages, CrashStages};
+ghost use Rattle.pos_image.specs.DiskCalls.{IsWritten, Keeps, CrashKeeps, ClosesGate, CrashClosing, KeepsGate, CrashKeepsGate};
+ghost use Rattle.pos_image.specs.DiskCalls.{HasNoLog, KeepsBeside, Stages, CrashStages};
 ghost use Rattle.pos_image.specs.Slots.{HasFields};
 
 use crate::layout::{BODY, CLOSED, SEQUENCE};
