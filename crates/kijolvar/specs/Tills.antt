@@ -136,8 +136,8 @@ pub record HandsOut (old : Kept) (before after : List ℕ) (needed code : ℕ) (
   pub tells : TellsOrder waiting before after needed code (order_lines new.orders.items)
   pub stays : new ≡ record old { orders = new.orders }
 
--- what a host that asks for the next order is told, by how it stands to the disk: an order, or nothing while errands are
--- left or one failed
+-- what a host that asks for the next order is told, by how it stands to the disk: an order, or nothing while errands
+-- are left or one failed
 abbrev pub NextOrderBy : Settlement → (old : Kept) (before after : List ℕ) (needed_before needed code : ℕ) (new : Kept)
     → Type 0
 NextOrderBy InMemory old before after needed_before needed code new = HandsOut old before after needed code new

@@ -47,7 +47,8 @@ pub record PutsThere {D : Type 0} (bound : Ghosts D) (before : TotalsView D) (nu
   pub kept : KeepsDisk bound before.disk now.disk
 
 -- what the totals do with a call of their own on an enabled control
-abbrev pub CallsFiles : {D : Type 0} → Ghosts D → TotalsView D → ℕ → Call → Result Answer NoMemory → TotalsView D → Type 0
+abbrev pub CallsFiles : {D : Type 0} → Ghosts D → TotalsView D → ℕ → Call → Result Answer NoMemory → TotalsView D
+    → Type 0
 CallsFiles bound before number asked outcome now =
     IsQuiet before number asked outcome now ⊎ PutsThere bound before number asked outcome now
 

@@ -23,8 +23,8 @@ fn write_rest<W: Write>(writer: &mut W, bytes: &[u8]) -> Result<(), WriteFault>
     Ok(())
 }
 
-/// Writes all bytes, and stops at the first write that fails or takes none. Most often one write takes them all: so that
-/// is looked at first, in place where it is asked.
+/// Writes all bytes, and stops at the first write that fails or takes none. Most often one write takes them all: so
+/// that is looked at first, in place where it is asked.
 #[inline(always)]
 pub fn write_bytes<W: Write>(writer: &mut W, bytes: &[u8]) -> Result<(), WriteFault>
     ensures { Writes (W.contents writer.old) (W.contents writer.new) bytes.now result }

@@ -73,8 +73,8 @@ fn lay_run<W: Grid>(window: &mut W, manner: Manner, place: Place, characters: &[
     }
 }
 
-/// One byte of a text for which there is no room in the row: a line feed, a carriage return, or a character right of the
-/// last column, which goes to the next row first.
+/// One byte of a text for which there is no room in the row: a line feed, a carriage return, or a character right of
+/// the last column, which goes to the next row first.
 fn lay_byte<W: Grid>(window: &mut W, manner: Manner, place: Place, byte: u8) -> Place
     requires within { IsWithin manner (W.Grid.shown window.old).cells place }
     requires size { IsOfManner manner (W.Grid.shown window.old) }
