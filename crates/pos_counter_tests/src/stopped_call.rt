@@ -1,6 +1,6 @@
 //! Stops of one call over copies of a disk, crashes behind them, and what new counters find.
+use crate::counters::told;
 use crate::rows::{BEFORE, Row, look_lines, look_text};
-use crate::support::told;
 use crate::torn::Loose;
 use pos_disk::{Fill, FuseDisk, MemDisk};
 use pos_profile::Profile;
@@ -131,7 +131,7 @@ fn tell(text: &[u8], before: &str, after: &str) -> Result<Found, Fail> {
 
 /// A call, and the disk of which each stop has a copy.
 #[derive(Drop)]
-pub struct Bench {
+pub struct StoppedCall {
     alloc: Global,
     profile: Profile,
     disk: MemDisk,
@@ -142,12 +142,12 @@ pub struct Bench {
     after: String,
 }
 
-impl Bench {
+impl StoppedCall {
     pub fn new(alloc: Global, disk: MemDisk, row: Row) -> Result<Self, Fail> {
         let look = look_lines(alloc, 1)?;
         let before = look_text(alloc, BEFORE, 1)?;
         let after = look_text(alloc, row.after, 1)?;
-        Ok(Bench {
+        Ok(StoppedCall {
             alloc,
             profile: Profile::built(alloc)?,
             disk,
