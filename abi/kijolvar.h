@@ -48,6 +48,10 @@ enum {
     KIJOLVAR_WRITE = 10,
     /* The errand makes what was written stay. */
     KIJOLVAR_SYNC = 11,
+    /* An order is told. */
+    KIJOLVAR_ORDER = 12,
+    /* No device of the name has orders. */
+    KIJOLVAR_NO_DEVICE = 13,
 };
 
 /* The result codes of the standard, which stand in answers. */
@@ -204,7 +208,25 @@ uint32_t kijolvar_next_errand(kijolvar_till till, void **out, uint64_t *at, uint
    till is what is written to out from then on. */
 void kijolvar_errand_failed(kijolvar_till till, void **out);
 
-/* Ends a till, its totals at rest. Errands that are left are dropped. */
+/* Says that the host has the device of this name: from now on each order that the device carries out is kept for the
+   host, which gives it to its hardware (kijolvar_next_order), while the simulated device answers in its place. What
+   happens at the hardware the host says by input lines. A host may say it once more. The till is what is written to
+   out from then on.
+
+   Answers OK; or NO_DEVICE where the profile has no device of the name, or it is one of Hard Totals, or NO_MEMORY, and
+   nothing changes. */
+uint32_t kijolvar_host(kijolvar_till till, void **out, const uint8_t *name, size_t name_len);
+
+/* Takes out the oldest order of the devices that the host has, and writes to text the line that tells it (the
+   device's name, the order's word, its arguments; abi/README.md), and to needed how many bytes it has. The till is
+   what is written to out from then on.
+
+   Answers ORDER; or OK where none is left: needed is 0; or SHORT where text has less room than needed says: the
+   order stays the next one, and nothing else is written; or ERRANDS while errands are left, or DISK_FAILED where one
+   failed: nothing is written. */
+uint32_t kijolvar_next_order(kijolvar_till till, void **out, uint8_t *text, size_t text_len, size_t *needed);
+
+/* Ends a till, its totals at rest. Errands and orders that are left are dropped. */
 void kijolvar_close(kijolvar_till till);
 
 #ifdef __cplusplus

@@ -1,8 +1,9 @@
 #!/usr/bin/env bash
 # Scrolls a plain line display and one whose rows are a ring, each of 8 rows of 80 columns, by a hundred thousand
 # scrollText of a row, and by as many displayText in the last row, of a line feed alone and of one with eleven characters
-# behind it, three times, and prints the microseconds that each takes; where valgrind is installed also how many
-# instructions an order takes. Usage: bench/ring.sh. It needs rt; a run proves the crates.
+# behind it, and shows as many texts of forty characters, three times, and prints the microseconds that each takes; where
+# valgrind is installed also how many instructions an order takes. Usage: bench/ring.sh. It needs rt; a run proves the
+# crates.
 set -eu
 top=$(cd "$(dirname "$0")/.." && pwd)
 work=$(mktemp -d)
@@ -37,4 +38,6 @@ if command -v valgrind > /dev/null; then
   instructions 4 'ring, line feed'
   instructions 5 'plain, line'
   instructions 6 'ring, line'
+  instructions 7 'plain, forty'
+  instructions 8 'ring, forty'
 fi

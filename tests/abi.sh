@@ -67,6 +67,8 @@ tries() {
   told "$who: want of memory" "whole in the end, and nothing is left" "$("$work/program" 2>&1 | tail -n 1)"
   links "$who: short answers" "$abi/c/short.c" "$abi/heap.c" "$@"
   told "$who: short answers" "as they should be" "$("$work/program" 2>&1 | tail -n 1)"
+  links "$who: devices of the host's" "$abi/c/orders.c" "$abi/heap.c" "$@"
+  told "$who: devices of the host's" "as they should be" "$("$work/program" 2>&1 | tail -n 1)"
   links "$who: two threads" "$abi/c/threads.c" "$abi/heap.c" "$@"
   told "$who: two threads" "the same" "$("$work/program" 2>&1 | tail -n 1)"
 }
@@ -91,7 +93,7 @@ runs "the shared object" gcc -shared -o "$work/libkijolvar.so" -Wl,--whole-archi
   -Wl,--no-whole-archive
 export PYTHONDONTWRITEBYTECODE=1
 sells "the sale in Python" python3 -W error "$abi/python/sale.py" "$work/libkijolvar.so"
-told "files, and tills that are killed" "33 passed, 0 failed" \
+told "files, and tills that are killed" "53 passed, 0 failed" \
   "$(python3 -W error "$top/tests/abi_files.py" "$work/libkijolvar.so" 2>&1 | tail -n 1)"
 
 (cd "$top/crates/kijolvar" && rt lib --backend rattle > "$work/lib" 2>&1)

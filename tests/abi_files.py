@@ -1,6 +1,7 @@
 #!/usr/bin/env python3
-"""Tries the library over files: which it formats and opens, what a till answers while errands are left or after one failed, a
-crash behind and within each errand, and a till that is killed while it writes totals, twenty times.
+"""Tries the library over files: which it formats and opens, what a till answers while errands are left or after one failed, when
+a host is told its devices' orders, a crash behind and within each errand, and a till that is killed while it writes totals,
+twenty times.
 Usage: abi_files.py libkijolvar.so. Its last line is 'N passed, M failed'."""
 import ctypes
 import os
@@ -16,7 +17,8 @@ TOP = pathlib.Path(__file__).resolve().parent.parent
 sys.path.insert(0, str(TOP / "abi/python"))
 
 from standard import (KIJOLVAR_BAD_PROFILE, KIJOLVAR_DISK_FAILED, KIJOLVAR_DISK_LENGTH, KIJOLVAR_ERRANDS, KIJOLVAR_FORMATTED,
-                      KIJOLVAR_OK, KIJOLVAR_SHORT, KIJOLVAR_SYNC, KIJOLVAR_TOO_SMALL, KIJOLVAR_UNDONE, KIJOLVAR_WRITE)
+                      KIJOLVAR_NO_DEVICE, KIJOLVAR_OK, KIJOLVAR_ORDER, KIJOLVAR_SHORT, KIJOLVAR_SYNC, KIJOLVAR_TOO_SMALL,
+                      KIJOLVAR_UNDONE, KIJOLVAR_WRITE)
 from till import Fault, Raw, Till, load, totals_file
 
 ROUNDS = 20
@@ -111,6 +113,23 @@ class Host:
         code = self.call(name, *words, text, 64, ctypes.byref(needed))
         return (code, text.raw[:needed.value].decode()) if code == KIJOLVAR_OK else (code, (text.raw == b"x" * 64, needed.value))
 
+    def host(self, device):
+        """Says that the host has a device."""
+        return self.call("kijolvar_host", device.encode(), len(device))
+
+    def order(self, room=64):
+        """The next order: its code, its length, and what is written."""
+        text, needed = ctypes.create_string_buffer(b"x" * room, room), ctypes.c_size_t(99)
+        code = self.call("kijolvar_next_order", text, room, ctypes.byref(needed))
+        return code, needed.value, text.raw[:needed.value if code == KIJOLVAR_ORDER else room].decode()
+
+    def orders(self):
+        """All orders that are left."""
+        found = []
+        while (order := self.order(1024))[0] == KIJOLVAR_ORDER:
+            found.append(order[2])
+        return found if order[:2] == (KIJOLVAR_OK, 0) else order
+
     def errand(self, room=KIJOLVAR_DISK_LENGTH):
         """The next errand: its code, its place and its bytes."""
         at, count, kept = ctypes.c_uint64(7), ctypes.c_size_t(99), ctypes.create_string_buffer(b"x" * room, room)
@@ -178,6 +197,48 @@ def errands(library):
     code = library.kijolvar_carry_out(Raw(at.value), ctypes.byref(at), b"new d CashDrawer", 16, text, 64, ctypes.byref(needed))
     told("a till in memory has no errands that fail", (KIJOLVAR_OK, b"ok\n"), (code, text.raw[:needed.value]))
     library.kijolvar_close(Raw(at.value))
+
+
+def orders(library):
+    """Which orders a host is told, and when."""
+    host = Host(library, bytes(KIJOLVAR_DISK_LENGTH), "kijolvar_format_file")
+    told("no order while errands are left", (KIJOLVAR_ERRANDS, 99, "x" * 64), host.order())
+    host.settle()
+    told("none at first", [], host.orders())
+    told("devices that have no orders", [KIJOLVAR_NO_DEVICE] * 3, [host.host(name) for name in ("t1", "d2", "")])
+    controls = [("d", "CashDrawer", "d1"), ("p", "LineDisplay", "p1"), ("r", "POSPrinter", "r1")]
+    host.run(OPENING + "".join(f"new {name} {category}\nopen {name} {device}\nclaim {name} 0\nset {name} DeviceEnabled true\n"
+                               for name, category, device in controls))
+    host.run("call d openDrawer")
+    told("the host has devices", [KIJOLVAR_OK] * 4, [host.host(name) for name in ("d1", "p1", "r1", "d1")])
+    told("what was ordered before isn't told", [], host.orders())
+    host.run("call p displayText 342e3530 0\ncall d openDrawer\ncall r printNormal 2 41420a\ncall r cutPaper 100")
+    wanted = ["p1 displayTextAt 0 0 342e3530 0", "d1 openDrawer", "r1 print 41420a", "r1 cutPaper 100"]
+    told("the orders of three devices, in order", wanted, host.orders())
+    told("each once", [], host.orders())
+    host.run("call r printNormal 2 -\ncall p displayText - 0\ncall p scrollText 1 2\ncall p clearText")
+    told("orders without a text", ["r1 print -", "p1 displayTextAt 0 4 - 0", "p1 scrollText 1 2", "p1 clearText"], host.orders())
+    told("a change and an order", KIJOLVAR_ERRANDS, host.carry_out("call t create 41 8 false\ncall d openDrawer")[0])
+    told("the order waits for what is to be in the file", (KIJOLVAR_ERRANDS, 99, "x" * 64), host.order())
+    host.settle()
+    told("then it is told", ["d1 openDrawer"], host.orders())
+    host.run("call d openDrawer\ncall p clearText")
+    told("one that is longer than its room stays", (KIJOLVAR_SHORT, 13, "x" * 12), host.order(12))
+    told("and stays", (KIJOLVAR_SHORT, 13, ""), host.order(0))
+    host.run("call r cutPaper 0")
+    told("before those that come behind it", ["d1 openDrawer", "p1 clearText", "r1 cutPaper 0"], host.orders())
+    host.run("input p1 power off\ncall p clearText\ninput r1 cover open\ncall r cutPaper 100\ncall r printNormal 3 41")
+    told("what isn't carried out isn't told", [], host.orders())
+    host.run("input r1 cover closed\nset r AsyncMode true\ncall r printNormal 2 41420a")
+    told("what waits isn't told", [], host.orders())
+    host.run("work r1")
+    told("until it is done", ["r1 print 41420a"], host.orders())
+    host.run("release d\nclose d\ndetach d1\nattach d1 1\nopen d d1\nset d DeviceEnabled true\ncall d openDrawer")
+    told("a spare's orders aren't", [], host.orders())
+    told("a change and an order", KIJOLVAR_ERRANDS, host.carry_out("call t write 1 0 0000000000000001\nset r AsyncMode false\ncall r cutPaper 0")[0])
+    host.call("kijolvar_errand_failed")
+    told("after an errand failed no order is told", (KIJOLVAR_DISK_FAILED, 99, "x" * 64), host.order())
+    host.close()
 
 
 def crashes(library):
@@ -251,6 +312,7 @@ def main():
     with tempfile.TemporaryDirectory() as folder:
         files(library, folder)
         errands(library)
+        orders(library)
         crashes(library)
         failures(library, folder)
         kills(library, folder, sys.argv[1:2])

@@ -55,7 +55,7 @@ first_bytes() {
   head -c "$2" "$1" | od -An -tx1 | tr -d ' \n'
 }
 
-usage='give no words, `run --profile FILE --disk FILE`, `format --disk FILE` or `migrate --disk FILE`'
+usage='give no words, `run --profile FILE --disk FILE`, `format --disk FILE`, `migrate --disk FILE` or `files --disk FILE`'
 
 profile() {
   cat <<'PROFILE'
@@ -108,6 +108,10 @@ refuses_words 'an option twice' "error: the argument '--disk <disk>' cannot be u
   format --disk d --disk d
 refuses_words 'an option of another command' "error: unexpected argument '--profile' found" \
   format --disk d --profile p
+refuses_words 'files without a disk' "$missing --disk <disk>" files
+refuses_words 'files of two disks' "error: the argument '--disk <disk>' cannot be used multiple times" \
+  files --disk d --disk d
+refuses_words 'files of a profile' "error: unexpected argument '--profile' found" files --disk d --profile p
 told 'no file is made for words that ask for nothing' '' "$(ls | grep -v -x -e script -e out -e err)"
 
 # --- no words: the built-in profile over a disk in memory
@@ -226,6 +230,58 @@ printf abc > short.disk
 ends 'a run over a short file' 0 '' run --profile sound.toml --disk short.disk
 told 'a short file is no hardware' "$(printf 'ok\nok\nrefused InUse\nok\nok\nerr 107')" "$(cat out)"
 told 'a run keeps a short file' abc "$(cat short.disk)"
+
+# --- what a file holds
+# tells NAME DISK LAYOUT SLOT RECORDS ROOM FILES: whether the program tells so of a disk, which stays as it is
+tells() {
+  cp "$2" kept
+  ends "$1" 0 '' files --disk "$2"
+  told "$1: output" "$(printf 'layout %s\nslot %s\nsequence 1\nrecords %s\nroom %s\nfiles %s' "$3" "$4" "$5" "$6" "$7")" \
+    "$(cat out)"
+  told "$1: it is only read" same "$(cmp -s "$2" kept && echo same)"
+}
+# untold NAME DISK MESSAGE: whether it refuses to tell of a disk so
+untold() {
+  ends "$1" 4 "pos_console: $2: $3" files --disk "$2"
+  told "$1: output" '' "$(cat out)"
+}
+one=$(printf '1\nfile 41\nname A\nsize 4\nhex 00000000\ntext ....')
+cp till.disk read.disk
+chmod 444 read.disk
+tells 'files in a record, which may not be written' read.disk 1 0 1 16364 "$one"
+"$program" migrate --disk till.disk
+tells 'files in an image of layout 2' till.disk 2 65536 0 49146 "$one"
+"$program" format --disk new.disk
+tells 'files of a formatted disk' new.disk 1 0 0 16378 0
+"$program" migrate --disk new.disk
+tells 'no files of layout 2' new.disk 2 65536 0 49146 0
+head -c 400000 /dev/zero > zero.disk
+untold 'files of no file' none.disk "can't be read: No such file or directory (os error 2)"
+told 'no file is made to be told of' '' "$(ls none.disk 2> /dev/null)"
+untold 'files of a folder' . "can't be read: Is a directory (os error 21)"
+untold 'files of a short file' abc.disk 'is shorter than a totals file, which has 327680 bytes'
+untold 'files of no totals' zero.disk "isn't formatted: format it first, which makes totals without files"
+untold 'files that change' /dev/urandom 'changes while it is read: try again when no one writes it'
+damage='its totals are damaged at byte'
+untold 'files of a body that is longer than its files' damaged.disk "$damage 15: bytes of the current body are left over"
+# broken NAME PLACE BYTES MESSAGE: whether it tells so of a disk with a file in a record, and with these bytes there
+broken() {
+  cp read.disk broken.disk
+  chmod 644 broken.disk
+  printf "$3" | dd of=broken.disk bs=1 seek="$2" conv=notrunc 2> /dev/null
+  untold "$1" broken.disk "$damage $4"
+}
+broken 'a body that is too long' 9 '\000\001\000\000' '9: the length of the current body is above the longest'
+broken 'a body without its file' 14 '\001' '15: bytes of the current body are missing'
+broken 'two slots with one sequence' 32768 '\245\000\000\000\000\000\000\000\001' \
+  '32769: both slots are open with the same sequence'
+broken 'a record that is too long' 16385 '\000\001' "16384: a record doesn't end within the log"
+broken 'a record that is no group' 16391 '\011' '16384: a record is no group of changes'
+broken 'a record without changes' 16385 '\000\000\000\002\000\000\000' '16384: a record has no changes'
+broken 'a record that does not fit' 16394 '\001' "16384: the changes of a record don't fit the files before it"
+"$program" files --disk read.disk > /dev/full 2> err
+told 'an output that takes nothing of files: status' 5 $?
+told 'an output that takes nothing of files: message' "pos_console: the answers can't be written" "$(cat err)"
 
 # --- faults of a run
 printf 'new a CashDrawer\n' > script

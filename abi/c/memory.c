@@ -1,5 +1,6 @@
-/* Want of memory at each allocation in turn, over a small day with totals in memory and one with totals in a file: each
-   answer is a code or a line of docs/CONSOLE.md, nothing is left, and the file opens again. */
+/* Want of memory at each allocation in turn, over a small day with totals in memory and one with totals in a file, and a
+   drawer of the host's: each answer is a code or a line of docs/CONSOLE.md, the drawer's order is told where it was opened,
+   nothing is left, and the file opens again. */
 #include "kijolvar.h"
 #include <stdbool.h>
 #include <stdio.h>
@@ -54,6 +55,23 @@ static uint32_t settle(kijolvar_till *till) {
     }
 }
 
+/* Whether a line of an answer, counted from 0, says that all went well. */
+static bool is_ok(const uint8_t *text, size_t count, int line) {
+    size_t at = 0;
+    for (; at < count && line > 0; at++) line -= text[at] == '\n';
+    return count - at >= 3 && memcmp(text + at, "ok\n", 3) == 0;
+}
+
+/* Whether the drawer's order is told, once, or none is. */
+static bool tells(kijolvar_till *till, bool is_opened) {
+    static const char order[] = "d1 openDrawer";
+    uint8_t text[64];
+    size_t needed = 77;
+    uint32_t code = kijolvar_next_order(*till, &till->at, text, sizeof text, &needed);
+    if (!is_opened) return code == KIJOLVAR_OK && needed == 0;
+    return code == KIJOLVAR_ORDER && needed == strlen(order) && memcmp(text, order, needed) == 0 && tells(till, false);
+}
+
 /* A till over totals in memory or in the file, which may be a new one. */
 static uint32_t begin(kijolvar_till *till, bool in_file, bool is_new) {
     if (!in_file) return kijolvar_open(NULL, 0, &till->at);
@@ -90,10 +108,12 @@ static bool day(long count, bool in_file) {
     if (code == KIJOLVAR_OK) {
         code = settle(&till);
         is_formatted = in_file && code == KIJOLVAR_OK;
+        if (code == KIJOLVAR_OK) code = kijolvar_host(till, &till.at, (const uint8_t *)"d1", 2);
         if (code == KIJOLVAR_OK)
             code = kijolvar_carry_out(till, &till.at, (const uint8_t *)lines, strlen(lines), text, sizeof text, &needed);
         if (code == KIJOLVAR_ERRANDS && (code = settle(&till)) == KIJOLVAR_OK)
             code = kijolvar_answer(till, &till.at, text, sizeof text, &needed);
+        if (code == KIJOLVAR_OK && !tells(&till, is_ok(text, needed, 3))) exit(printf("another order where %ld came\n", count));
         kijolvar_close(till);
     } else if (till.at != NULL) {
         exit(printf("a till was written at code %u\n", code));

@@ -129,6 +129,27 @@ static inline int till_pump(till *self, const char *control, void (*listen)(till
     }
 }
 
+/* Says that the host has the device of this name: its orders come by till_next_order from then on. */
+static inline uint32_t till_host(till *self, const char *device) {
+    return kijolvar_host(self->till, &self->till.at, (const uint8_t *)device, strlen(device));
+}
+
+/* Takes out the oldest order of the devices that the host has: KIJOLVAR_ORDER, and its line is in self->text; or KIJOLVAR_OK
+   where none is left. */
+static inline uint32_t till_next_order(till *self) {
+    size_t needed = 0;
+    uint32_t code = kijolvar_next_order(self->till, &self->till.at, (uint8_t *)self->text, self->room - 1, &needed);
+    if (code == KIJOLVAR_SHORT) {
+        char *text = realloc(self->text, needed + 1);
+        if (text == NULL) return self->text[0] = 0, KIJOLVAR_NO_MEMORY;
+        self->text = text;
+        self->room = needed + 1;
+        code = kijolvar_next_order(self->till, &self->till.at, (uint8_t *)text, needed, &needed);
+    }
+    self->text[code == KIJOLVAR_ORDER ? needed : 0] = 0;
+    return code;
+}
+
 /* A control of a category on a device, opened and enabled, claimed first where the category's devices are claimed. */
 static inline int till_control(till *self, const char *control, const char *category, const char *device) {
     char line[192];

@@ -15,6 +15,8 @@ KIJOLVAR_FORMATTED = 8
 KIJOLVAR_TOO_SMALL = 9
 KIJOLVAR_WRITE = 10
 KIJOLVAR_SYNC = 11
+KIJOLVAR_ORDER = 12
+KIJOLVAR_NO_DEVICE = 13
 
 # The result codes of the standard, which stand in answers.
 E_SUCCESS = 0

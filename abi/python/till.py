@@ -3,8 +3,8 @@ import ctypes
 import fcntl
 import os
 
-from standard import (DISP_DT_NORMAL, KIJOLVAR_DISK_FAILED, KIJOLVAR_DISK_LENGTH, KIJOLVAR_ERRANDS, KIJOLVAR_OK, KIJOLVAR_SHORT,
-                      KIJOLVAR_SYNC, KIJOLVAR_VERSION, KIJOLVAR_WRITE, PTR_S_RECEIPT)
+from standard import (DISP_DT_NORMAL, KIJOLVAR_DISK_FAILED, KIJOLVAR_DISK_LENGTH, KIJOLVAR_ERRANDS, KIJOLVAR_OK, KIJOLVAR_ORDER,
+                      KIJOLVAR_SHORT, KIJOLVAR_SYNC, KIJOLVAR_VERSION, KIJOLVAR_WRITE, PTR_S_RECEIPT)
 
 
 class Fault(Exception):
@@ -34,6 +34,8 @@ def load(path):
     library.kijolvar_carry_out.argtypes = [Raw, out, text, size, text, size, needed]
     library.kijolvar_carry_out.restype = number
     library.kijolvar_answer.argtypes, library.kijolvar_answer.restype = [Raw, out, text, size, needed], number
+    library.kijolvar_host.argtypes, library.kijolvar_host.restype = [Raw, out, text, size], number
+    library.kijolvar_next_order.argtypes, library.kijolvar_next_order.restype = [Raw, out, text, size, needed], number
     library.kijolvar_close.argtypes, library.kijolvar_close.restype = [Raw], None
     return library
 
@@ -144,6 +146,27 @@ class Till:
             if not text.startswith("event "):
                 raise Fault(text)
             listen(text[len("event "):])
+
+    def host(self, device):
+        """Says that the host has the device of this name: its orders come by `orders` from then on."""
+        given = device.encode()
+        code = self._call(self._library.kijolvar_host, given, len(given))
+        if code != KIJOLVAR_OK:
+            raise Fault(f"library {code}")
+
+    def orders(self):
+        """The orders of the devices that the host has, oldest first; each is taken out as it is given."""
+        room, needed = ctypes.create_string_buffer(256), ctypes.c_size_t()
+        while True:
+            code = self._call(self._library.kijolvar_next_order, room, len(room), ctypes.byref(needed))
+            if code == KIJOLVAR_OK:
+                return
+            if code == KIJOLVAR_SHORT:
+                room = ctypes.create_string_buffer(needed.value)
+            elif code == KIJOLVAR_ORDER:
+                yield room.raw[: needed.value].decode()
+            else:
+                raise Fault(f"library {code}")
 
     def control(self, name, category, device):
         """A control of a category on a device, opened, claimed and enabled."""

@@ -15,6 +15,8 @@ pub const KIJOLVAR_FORMATTED: u32 = 8;
 pub const KIJOLVAR_TOO_SMALL: u32 = 9;
 pub const KIJOLVAR_WRITE: u32 = 10;
 pub const KIJOLVAR_SYNC: u32 = 11;
+pub const KIJOLVAR_ORDER: u32 = 12;
+pub const KIJOLVAR_NO_DEVICE: u32 = 13;
 
 // The result codes of the standard, which stand in answers.
 pub const E_SUCCESS: u32 = 0;

@@ -4,8 +4,8 @@
 pub mod standard;
 
 use self::standard::{
-    DISP_DT_NORMAL, KIJOLVAR_DISK_FAILED, KIJOLVAR_DISK_LENGTH, KIJOLVAR_ERRANDS, KIJOLVAR_OK, KIJOLVAR_SHORT, KIJOLVAR_SYNC,
-    KIJOLVAR_VERSION, KIJOLVAR_WRITE, PTR_S_RECEIPT,
+    DISP_DT_NORMAL, KIJOLVAR_DISK_FAILED, KIJOLVAR_DISK_LENGTH, KIJOLVAR_ERRANDS, KIJOLVAR_OK, KIJOLVAR_ORDER, KIJOLVAR_SHORT,
+    KIJOLVAR_SYNC, KIJOLVAR_VERSION, KIJOLVAR_WRITE, PTR_S_RECEIPT,
 };
 use std::ffi::c_void;
 use std::fmt;
@@ -36,6 +36,8 @@ unsafe extern "C" {
         needed: *mut usize,
     ) -> u32;
     fn kijolvar_answer(till: Raw, out: *mut *mut c_void, text: *mut u8, text_len: usize, needed: *mut usize) -> u32;
+    fn kijolvar_host(till: Raw, out: *mut *mut c_void, name: *const u8, name_len: usize) -> u32;
+    fn kijolvar_next_order(till: Raw, out: *mut *mut c_void, text: *mut u8, text_len: usize, needed: *mut usize) -> u32;
     fn kijolvar_close(till: Raw);
 }
 
@@ -198,6 +200,36 @@ impl<'a> Till<'a> {
                 Some(event) => listen(self, event),
                 None if text == "none\n" => return Ok(()),
                 None => return Err(Fault::Refused(text)),
+            }
+        }
+    }
+
+    /// Says that the host has the device of this name: its orders come by `next_order` from then on.
+    pub fn host(&mut self, device: &str) -> Result<(), Fault> {
+        // SAFETY: the pointer is the one that was handed out last, and the name is lent for the call.
+        match unsafe { kijolvar_host(self.at, &mut self.at.0, device.as_ptr(), device.len()) } {
+            KIJOLVAR_OK => Ok(()),
+            code => Err(Fault::Library(code)),
+        }
+    }
+
+    /// The oldest order of the devices that the host has, which is taken out; none where none is left.
+    pub fn next_order(&mut self) -> Result<Option<String>, Fault> {
+        let (mut text, mut needed) = (vec![0u8; 256], 0);
+        loop {
+            // SAFETY: the pointer is the one that was handed out last, and the buffers are apart.
+            let code = unsafe {
+                kijolvar_next_order(self.at, &mut self.at.0, text.as_mut_ptr(), text.len(), &mut needed)
+            };
+            match code {
+                KIJOLVAR_SHORT => text.resize(needed, 0),
+                KIJOLVAR_ORDER => {
+                    text.truncate(needed);
+                    let refused = |_| Fault::Refused("an order that is no text".to_string());
+                    return String::from_utf8(text).map(Some).map_err(refused);
+                }
+                KIJOLVAR_OK => return Ok(None),
+                _ => return Err(Fault::Library(code)),
             }
         }
     }

@@ -49,6 +49,14 @@ write = 10
 abbrev pub sync : ℕ
 sync = 11
 
+-- an order is told
+abbrev pub order_told : ℕ
+order_told = 12
+
+-- no device of the name has orders
+abbrev pub no_device : ℕ
+no_device = 13
+
 -- the code of an answer, by whether the room holds it
 abbrev pub told : Bool → ℕ
 told true = ok

@@ -1,4 +1,6 @@
 pub mod Codes
 pub mod Errands
+pub mod Orders
+pub mod Hosting
 pub mod Tills
 pub mod Profiles

@@ -11,30 +11,33 @@ use Rattle.pos_profile.specs.Entries.{Contents}
 use Rattle.pos_counter.specs.Counters.{machine}
 use Rattle.pos_counter.specs.Totals.{TotalsPart}
 use Rattle.pos_script.specs.Lines.{lines_of}
-use Rattle.pos_run.specs.declared.wrapped.Wrapped.{Wrapped}
 use Rattle.pos_run.specs.Carried.{CarriesOutLines, session_of}
 use Rattle.pos_run.specs.Running.{begun_with, off_over}
 use Rattle.pos_run.specs.Simulating.{simulated_all, simulated_devices}
 use Rattle.pos_run.specs.Transcript.{Session, begun_session}
+use Rattle.kijolvar.specs.declared.device.Device.{Device}
 use Rattle.kijolvar.specs.declared.kept.Kept.{Kept}
 use Rattle.kijolvar.specs.declared.till_disk.TillDisk.{TillDisk}
 use Rattle.kijolvar.specs.declared.settlement.Settlement.{Settlement}
 use Rattle.kijolvar.specs.declared.settlement.Settlement.TheVariants.{InMemory, Settled, Owed, Failed}
+use Rattle.kijolvar.specs.Orders.{Refills, TellsOrder, order_lines}
 use Rattle.kijolvar.specs.Codes.{IsErrandCode, carried, disk_failed, errands_left, ok, undone}
 
 -- what the lines of a till have: the names of its controls, and its spares
-abbrev pub session_in : Ghosts Wrapped → Kept → Session
+abbrev pub session_in : Ghosts Device → Kept → Session
 session_in peripherals till = session_of peripherals till.names till.spares
 
 -- A new till over a disk: the devices of a profile, each served by what is simulated for it, its spares, no control,
--- and totals that are off.
-pub record Begins (peripherals : Ghosts Wrapped) (contents : Contents) (disk : TillDisk) (till : Kept) : Type 0 where
+-- totals that are off, and no order.
+pub record Begins (peripherals : Ghosts Device) (contents : Contents) (disk : TillDisk) (till : Kept) : Type 0 where
+  pub profile : till.profile ≡ contents
   pub served : (part : TotalsPart)
       → machine peripherals till.counter part ≡ begun_with (simulated_devices contents.devices) part
   pub totals : till.counter.totals ≡ off_over disk
   pub session : session_in peripherals till ≡ begun_session (simulated_all contents.spares)
   pub answer : till.answer.items ≡ []
   pub outcome : till.outcome ≡ Ok tt
+  pub orders : till.orders.items ≡ []
 
 -- A disk that was formatted: at rest, with no files by layout 1, and sequence 1.
 pub record IsNewDisk (disk : Memory) : Type 0 where
@@ -42,12 +45,15 @@ pub record IsNewDisk (disk : Memory) : Type 0 where
   pub image : HasNewImage Layout1 no_files 1 (state_of disk).reading
 
 -- The lines of a text are carried out in order, and the new answer is what they print; or, where there was no memory
--- for that, they are as far as it is there, and it is a front. What is in memory alone stays there.
-pub record CarriesOut (bound : DiskGhosts TillDisk) (peripherals : Ghosts Wrapped) (old : Kept)
+-- for that, they are as far as it is there, and it is a front. What is in memory alone stays there, and the orders that
+-- wait already stay too.
+pub record CarriesOut (bound : DiskGhosts TillDisk) (peripherals : Ghosts Device) (old : Kept)
     (text : List ℕ) (new : Kept) : Type 0 where
   pub lines : CarriesOutLines bound peripherals old.counter (session_in peripherals old) (lines_of text) (Some [])
       (Some new.answer.items) new.outcome (session_in peripherals new) new.counter
   pub in_memory : old.settlement ≡ InMemory → new.settlement ≡ InMemory
+  pub profile : new.profile ≡ old.profile
+  pub orders : new.orders ≡ old.orders
 
 -- The front of an answer that there is room for is written, what stands behind it in the room stays, and how long the
 -- answer is is told.
@@ -80,18 +86,18 @@ abbrev pub HandsOver : (till : Kept) (before after : List ℕ) (needed_before ne
 HandsOver till = HandsOverBy till.settlement till
 
 -- the lines of a text are carried out, and their answer is handed over
-pub record Served (bound : DiskGhosts TillDisk) (peripherals : Ghosts Wrapped) (old : Kept)
+pub record Served (bound : DiskGhosts TillDisk) (peripherals : Ghosts Device) (old : Kept)
     (text before after : List ℕ) (needed_before needed code : ℕ) (new : Kept) : Type 0 where
   pub carries : CarriesOut bound peripherals old text new
   pub hands_over : HandsOver new before after needed_before needed code
 
--- nothing is carried out, and the code says why
+-- nothing is carried out or told, and the code says why
 pub record Undone (old : Kept) (before after : List ℕ) (needed_before needed code why : ℕ) (new : Kept) : Type 0 where
   pub stays : new ≡ old
   pub tells : TellsNothing before after needed_before needed code why
 
 -- what a call with lines leaves, by how the till's host stands to its disk
-abbrev pub AnswersBy : Settlement → DiskGhosts TillDisk → Ghosts Wrapped → (old : Kept)
+abbrev pub AnswersBy : Settlement → DiskGhosts TillDisk → Ghosts Device → (old : Kept)
     (text before after : List ℕ) (needed_before needed code : ℕ) (new : Kept) → Type 0
 AnswersBy InMemory bound peripherals old text before after needed_before needed code new =
     Served bound peripherals old text before after needed_before needed code new
@@ -102,7 +108,7 @@ AnswersBy Owed bound peripherals old text before after needed_before needed code
 AnswersBy Failed bound peripherals old text before after needed_before needed code new =
     Undone old before after needed_before needed code disk_failed new
 
-abbrev pub Answers : DiskGhosts TillDisk → Ghosts Wrapped → (old : Kept)
+abbrev pub Answers : DiskGhosts TillDisk → Ghosts Device → (old : Kept)
     (text before after : List ℕ) (needed_before needed code : ℕ) (new : Kept) → Type 0
 Answers bound peripherals old = AnswersBy old.settlement bound peripherals old
 
@@ -121,3 +127,25 @@ pub record Fails (old new : Kept) : Type 0 where
   pub stays : new ≡ record old { settlement = new.settlement }
   pub failed : old.settlement ≢ InMemory → new.settlement ≡ Failed
   pub in_memory : old.settlement ≡ InMemory → new.settlement ≡ InMemory
+
+-- The oldest of the orders that wait is told, or of those that devices have kept since where none waits, and nothing
+-- else changes.
+pub record HandsOut (old : Kept) (before after : List ℕ) (needed code : ℕ) (new : Kept) : Type 0 where
+  pub waiting : List (List ℕ)
+  pub those : Refills (order_lines old.orders.items) waiting
+  pub tells : TellsOrder waiting before after needed code (order_lines new.orders.items)
+  pub stays : new ≡ record old { orders = new.orders }
+
+-- what a host that asks for the next order is told, by how it stands to the disk: an order, or nothing while errands
+-- are left or one failed
+abbrev pub NextOrderBy : Settlement → (old : Kept) (before after : List ℕ) (needed_before needed code : ℕ) (new : Kept)
+    → Type 0
+NextOrderBy InMemory old before after needed_before needed code new = HandsOut old before after needed code new
+NextOrderBy Settled old before after needed_before needed code new = HandsOut old before after needed code new
+NextOrderBy Owed old before after needed_before needed code new =
+    Undone old before after needed_before needed code errands_left new
+NextOrderBy Failed old before after needed_before needed code new =
+    Undone old before after needed_before needed code disk_failed new
+
+abbrev pub NextOrder : (old : Kept) (before after : List ℕ) (needed_before needed code : ℕ) (new : Kept) → Type 0
+NextOrder old = NextOrderBy old.settlement old

@@ -40,6 +40,12 @@ pub const WRITE: u32 = 10;
 /// The errand makes what was written stay.
 pub const SYNC: u32 = 11;
 
+/// An order is told.
+pub const ORDER: u32 = 12;
+
+/// No device of the name has orders.
+pub const NO_DEVICE: u32 = 13;
+
 /// The code of lines that were carried out, by whether the room holds their answer.
 pub fn code_of(outcome: Result<(), WriteFault>, holds: bool) -> u32
     ensures { result ≡ carried outcome holds }

@@ -1,17 +1,22 @@
+use crate::device::Device;
 use crate::settlement::Settlement;
 use crate::till_disk::TillDisk;
 use pos_counter::Counter;
-use pos_run::{Names, Spares, Wrapped};
+use pos_profile::Profile;
+use pos_run::{Names, Spares};
 use pos_script::WriteFault;
+use std::collections::VecDeque;
 
-/// What a till is between two calls: its counter, whose peripherals are simulated, over a disk, the names and the
-/// spares of its lines, the answer to the lines that it was given last and whether there was memory for all of it, and
-/// whether what they wrote to the disk is where it has to stay.
+/// What a till is between two calls: its profile, its counter of simulated devices over a disk, the names and the
+/// spares of its lines, the answer to the lines that it was given last and whether there was memory for all of it,
+/// whether what they wrote to the disk is where it has to stay, and the lines of the orders that its host is told next.
 pub struct Kept {
-    pub counter: Counter<TillDisk, Wrapped>,
+    pub profile: Profile,
+    pub counter: Counter<TillDisk, Device>,
     pub names: Names,
-    pub spares: Spares<Wrapped>,
+    pub spares: Spares<Device>,
     pub answer: Vec<u8>,
     pub outcome: Result<(), WriteFault>,
     pub settlement: Settlement,
+    pub orders: VecDeque<Vec<u8>>,
 }

@@ -7,28 +7,33 @@ ghost use Rattle.pos_profile.specs.Entries.{Contents};
 ghost use Rattle.kijolvar.specs.Codes.{IsFormatCode, no_memory, ok, too_small};
 ghost use Rattle.pos_image.specs.Layout.{disk_size};
 ghost use Rattle.kijolvar.specs.Profiles.{Gives};
-ghost use Rattle.kijolvar.specs.Tills.{Answers, Begins, Fails, GoesOn, HandsOver, IsNewDisk};
+ghost use Rattle.kijolvar.specs.Hosting.{IsHostCode};
+ghost use Rattle.kijolvar.specs.Tills.{Answers, Begins, Fails, GoesOn, HandsOver, IsNewDisk, NextOrder};
 ghost use Rattle.kijolvar.specs.declared.settlement.Settlement.TheVariants.{InMemory};
 ghost use Rattle.kijolvar.specs.declared.till.Till.{Till};
 ghost use Rattle.kijolvar.specs.declared.till_disk.TillDisk.{TillDisk};
 
 mod codes;
+mod device;
 mod disk;
 mod errands;
+mod hosting;
 mod kept;
 mod loose;
+mod orders;
 mod session;
 mod settlement;
 mod telling;
 mod till;
 mod till_disk;
+mod tray;
 
 use codes::{BAD_PROFILE, DISK_FAILED, NO_MEMORY, OK, TOO_SMALL, UNDONE};
+use device::Device;
 use disk::{SIZE, disk_of, format_disk, zero_disk};
 use errands::Errands;
 use pos_disk::Disk;
 use pos_profile::{Profile, ProfileFault};
-use pos_run::Wrapped;
 use pos_service::{NoMemory, Peripheral};
 use session::Session;
 use settlement::Settlement;
@@ -76,11 +81,11 @@ fn leave(session: Box<Session>, out: &mut *mut u8)
 /// A new session of a profile over a disk.
 fn begin(
     alloc: Global,
-    profile: &Profile,
+    profile: Profile,
     disk: TillDisk,
     errands: Option<Errands>,
 ) -> Result<Box<Session>, NoMemory>
-    ensures begins { IfOk result (λ session. Begins ⟦<Wrapped as Peripheral>⟧ profile.now disk session.value) }
+    ensures begins { IfOk result (λ session. Begins ⟦<Device as Peripheral>⟧ profile disk session.value) }
     ensures settlement { IfOk result (λ session. IsNone errands ↔ (session.value.settlement ≡ InMemory)) }
 {
     let session = Session::new(alloc, profile, disk, errands)?;
@@ -121,7 +126,7 @@ fn new_disk(alloc: Global) -> Result<TillDisk, u32>
 pub extern "C" fn kijolvar_open(alloc: Global, profile: &[u8], out: &mut *mut u8) -> u32
     ensures opened { result ≡ ok → (contents : Contents) × (disk : TillDisk) × (kept : Till)
         × Gives profile.now (Ok contents) × IsNewDisk disk.memory × (out.new ≡ kept.at)
-        × Begins ⟦<Wrapped as Peripheral>⟧ contents disk kept.session × (kept.session.settlement ≡ InMemory) }
+        × Begins ⟦<Device as Peripheral>⟧ contents disk kept.session × (kept.session.settlement ≡ InMemory) }
     ensures refused { result ≢ ok → (out.new ≡ out.old) × Gives profile.now (Err result) }
 {
     let profile = match read_profile(alloc, profile) {
@@ -131,7 +136,7 @@ pub extern "C" fn kijolvar_open(alloc: Global, profile: &[u8], out: &mut *mut u8
     let Ok(disk) = new_disk(alloc) else {
         return NO_MEMORY;
     };
-    let Ok(session) = begin(alloc, &profile, disk, None) else {
+    let Ok(session) = begin(alloc, profile, disk, None) else {
         return NO_MEMORY;
     };
     leave(session, out);
@@ -154,7 +159,7 @@ pub extern "C" fn kijolvar_open_file(
 ) -> u32
     ensures opened { result ≡ ok → (contents : Contents) × (disk : TillDisk) × (kept : Till)
         × Gives profile.now (Ok contents) × (disk.memory ≡ fresh bytes.now) × (out.new ≡ kept.at)
-        × Begins ⟦<Wrapped as Peripheral>⟧ contents disk kept.session × (kept.session.settlement ≢ InMemory) }
+        × Begins ⟦<Device as Peripheral>⟧ contents disk kept.session × (kept.session.settlement ≢ InMemory) }
     ensures refused { result ≢ ok → (out.new ≡ out.old) × (Gives profile.now (Err result) ⊎ (result ≡ too_small)) }
     ensures small { result ≡ too_small → length bytes.now < disk_size }
 {
@@ -168,7 +173,7 @@ pub extern "C" fn kijolvar_open_file(
     let Ok((disk, errands)) = disk_in_file(alloc, bytes) else {
         return NO_MEMORY;
     };
-    let Ok(session) = begin(alloc, &profile, disk, Some(errands)) else {
+    let Ok(session) = begin(alloc, profile, disk, Some(errands)) else {
         return NO_MEMORY;
     };
     leave(session, out);
@@ -189,7 +194,7 @@ pub extern "C" fn kijolvar_format_file(
 ) -> u32
     ensures opened { result ≡ ok → (contents : Contents) × (disk : TillDisk) × (kept : Till)
         × Gives profile.now (Ok contents) × IsNewDisk disk.memory × (out.new ≡ kept.at)
-        × Begins ⟦<Wrapped as Peripheral>⟧ contents disk kept.session × (kept.session.settlement ≢ InMemory) }
+        × Begins ⟦<Device as Peripheral>⟧ contents disk kept.session × (kept.session.settlement ≢ InMemory) }
     ensures refused { result ≢ ok → (out.new ≡ out.old) × (Gives profile.now (Err result) ⊎ IsFormatCode result) }
 {
     let profile = match read_profile(alloc, profile) {
@@ -203,7 +208,7 @@ pub extern "C" fn kijolvar_format_file(
         Ok(formatted) => formatted,
         Err(code) => return code,
     };
-    let Ok(session) = begin(alloc, &profile, disk, Some(errands)) else {
+    let Ok(session) = begin(alloc, profile, disk, Some(errands)) else {
         return NO_MEMORY;
     };
     leave(session, out);
@@ -212,7 +217,7 @@ pub extern "C" fn kijolvar_format_file(
 
 /// Carries out lines and hands their answer over, where no errand is left and none failed.
 fn serve(session: &mut Session, lines: &[u8], text: &mut [u8], needed: &mut usize) -> u32
-    ensures { Answers ⟦<TillDisk as Disk>⟧ ⟦<Wrapped as Peripheral>⟧ session.old lines.now text.old text.new needed.old
+    ensures { Answers ⟦<TillDisk as Disk>⟧ ⟦<Device as Peripheral>⟧ session.old lines.now text.old text.new needed.old
         needed.new result session.new }
 {
     match session.settlement() {
@@ -246,7 +251,7 @@ pub extern "C" fn kijolvar_carry_out(
     needed: &mut usize,
 ) -> u32
     ensures { (kept : Till) × (out.new ≡ kept.at)
-        × Answers ⟦<TillDisk as Disk>⟧ ⟦<Wrapped as Peripheral>⟧ till.session lines.now text.old text.new needed.old
+        × Answers ⟦<TillDisk as Disk>⟧ ⟦<Device as Peripheral>⟧ till.session lines.now text.old text.new needed.old
         needed.new result kept.session }
 {
     let mut session = take(till);
@@ -310,7 +315,48 @@ pub extern "C" fn kijolvar_errand_failed(till: Till, out: &mut *mut u8)
     leave(session, out);
 }
 
-/// Ends a till, its totals at rest. Errands that are left are dropped.
+/// Says that the host has the device of this name: from now on each order that the device carries out is kept for the
+/// host, which gives it to its hardware (`kijolvar_next_order`), while the simulated device answers in its place. What
+/// happens at the hardware the host says by `input` lines. A host may say it once more. The till is what is written to
+/// `out` from then on.
+///
+/// Answers OK; or NO_DEVICE where the profile has no device of the name, or it is one of Hard Totals, or NO_MEMORY, and
+/// nothing changes.
+#[unsafe(no_mangle)]
+pub extern "C" fn kijolvar_host(till: Till, out: &mut *mut u8, name: &[u8]) -> u32
+    ensures till { (kept : Till) × (out.new ≡ kept.at) × (kept.session ≡ till.session) }
+    ensures code { IsHostCode till.session.profile.devices name.now result }
+{
+    let session = take(till);
+    let code = session.host(name);
+    leave(session, out);
+    code
+}
+
+/// Takes out the oldest order of the devices that the host has, and writes to `text` the line that tells it (the
+/// device's name, the order's word, its arguments; abi/README.md), and to `needed` how many bytes it has. The till is
+/// what is written to `out` from then on.
+///
+/// Answers ORDER; or OK where none is left: `needed` is 0; or SHORT where `text` has less room than `needed` says: the
+/// order stays the next one, and nothing else is written; or ERRANDS while errands are left, or DISK_FAILED where one
+/// failed: nothing is written.
+#[unsafe(no_mangle)]
+pub extern "C" fn kijolvar_next_order(
+    till: Till,
+    out: &mut *mut u8,
+    text: &mut [u8],
+    needed: &mut usize,
+) -> u32
+    ensures { (kept : Till) × (out.new ≡ kept.at)
+        × NextOrder till.session text.old text.new needed.old needed.new result kept.session }
+{
+    let mut session = take(till);
+    let code = session.next_order(text, needed);
+    leave(session, out);
+    code
+}
+
+/// Ends a till, its totals at rest. Errands and orders that are left are dropped.
 #[unsafe(no_mangle)]
 pub extern "C" fn kijolvar_close(till: Till) {
     drop(take(till));

@@ -1,29 +1,35 @@
 //! What is behind a till's pointer.
 ghost use Rattle.std.specs.Prelude.{◌≡◌, ◌≢◌, ◌↔◌, IfOk, IsNone};
 ghost use Rattle.kijolvar.specs.Codes.{IsErrandCode, ok};
-ghost use Rattle.kijolvar.specs.Tills.{Begins, CarriesOut, Fails, GoesOn, HandsOver};
+ghost use Rattle.kijolvar.specs.Hosting.{IsHostCode};
+ghost use Rattle.kijolvar.specs.Tills.{Begins, CarriesOut, Fails, GoesOn, HandsOver, NextOrder};
 ghost use Rattle.kijolvar.specs.declared.settlement.Settlement.TheVariants.{InMemory, Settled};
 
 use crate::codes::{DISK_FAILED, ERRANDS, OK, code_of};
+use crate::device::Device;
 use crate::errands::Errands;
+use crate::hosting::{host_device, next_order};
 use crate::kept::Kept;
 use crate::settlement::Settlement;
 use crate::telling::tell;
 use crate::till_disk::TillDisk;
+use crate::tray::Tray;
 use pos_disk::Disk;
 use pos_profile::Profile;
-use pos_run::{Names, Wrapped, carry_out_lines, end_counter, simulate_profile};
+use pos_run::{Names, carry_out_lines, end_counter, simulate_profile};
 use pos_script::{LineBuffer, WriteFault};
 use pos_service::{NoMemory, Peripheral};
 use std::alloc::Global;
+use std::collections::VecDeque;
 use std::marker::Model;
 
-/// A till that the library keeps between calls, with room for a line, and the errands of its host, where its disk is in
-/// a file. Its counter and its spares are sound.
+/// A till that the library keeps between calls, with room for a line, what its devices have for its host, and the
+/// errands of its host, where its disk is in a file. Its counter and its spares are sound.
 pub struct Session {
     alloc: Global,
     kept: Kept,
-    held: LineBuffer,
+    buffer: LineBuffer,
+    tray: Tray,
     errands: Option<Errands>,
 }
 
@@ -39,8 +45,8 @@ impl Model for Session {
 
     ghost view = { λ s. s.kept };
 
-    ghost invariant = { λ s. IsCounterSound ⟦<Wrapped as Peripheral>⟧ s.kept.counter
-        × AreSparesSound ⟦<Wrapped as Peripheral>⟧ s.kept.spares };
+    ghost invariant = { λ s. IsCounterSound ⟦<Device as Peripheral>⟧ s.kept.counter
+        × AreSparesSound ⟦<Device as Peripheral>⟧ s.kept.spares };
 }
 
 // How a new till's host stands to its disk.
@@ -89,29 +95,33 @@ impl Session {
     /// A till of a profile over a disk, which adds to the errands, if there are any. Want of memory ends the disk.
     pub fn new(
         alloc: Global,
-        profile: &Profile,
+        profile: Profile,
         disk: TillDisk,
         errands: Option<Errands>,
     ) -> Result<Session, NoMemory>
-        ensures begins { IfOk result (λ till. Begins ⟦<Wrapped as Peripheral>⟧ profile.now disk till) }
+        ensures begins { IfOk result (λ till. Begins ⟦<Device as Peripheral>⟧ profile disk till) }
         ensures settlement { IfOk result (λ till. IsNone errands ↔ (till.settlement ≡ InMemory)) }
     {
-        let Ok(held) = LineBuffer::new(alloc) else {
+        let Ok(buffer) = LineBuffer::new(alloc) else {
             return Err(NoMemory);
         };
-        let (counter, spares) = simulate_profile(alloc, profile, disk)?;
+        let tray = Tray::new(alloc)?;
+        let (counter, spares) = simulate_profile(alloc, &profile, disk, &tray)?;
         let kept = Kept {
+            profile,
             counter,
             names: Names::new(alloc),
             spares,
             answer: Vec::new(alloc),
             outcome: Ok(()),
             settlement: first_settlement(&errands),
+            orders: VecDeque::new(alloc),
         };
         Ok(Session {
             alloc,
             kept,
-            held,
+            buffer,
+            tray,
             errands,
         })
     }
@@ -126,13 +136,13 @@ impl Session {
     /// Carries out the lines of a text, and keeps what they print as the answer. Where there is no memory for what a
     /// line prints, that line was carried out, and no later one, and a front of the answer is kept.
     pub fn carry_out(&mut self, lines: &[u8])
-        ensures { CarriesOut ⟦<TillDisk as Disk>⟧ ⟦<Wrapped as Peripheral>⟧ self.old lines.now self.new }
+        ensures { CarriesOut ⟦<TillDisk as Disk>⟧ ⟦<Device as Peripheral>⟧ self.old lines.now self.new }
     {
         self.kept.answer.clear();
         self.kept.outcome = carry_out_lines(
             self.alloc,
             lines,
-            &mut self.held,
+            &mut self.buffer,
             &mut self.kept.answer,
             &mut self.kept.counter,
             &mut self.kept.names,
@@ -172,6 +182,22 @@ impl Session {
         }
     }
 
+    /// Keeps the orders of the device of a name for the host from now on. Answers OK; or NO_DEVICE where no device of
+    /// the name may have a peripheral, or NO_MEMORY, and nothing changes.
+    pub fn host(&self, name: &[u8]) -> u32
+        ensures { IsHostCode self.now.profile.devices name.now result }
+    {
+        host_device(&self.kept.profile, &self.tray, name)
+    }
+
+    /// Tells the next order of the devices that the host has, where no errand is left and none failed. Answers ORDER,
+    /// SHORT, or OK where none is left, ERRANDS or DISK_FAILED.
+    pub fn next_order(&mut self, text: &mut [u8], needed: &mut usize) -> u32
+        ensures { NextOrder self.old text.old text.new needed.old needed.new result self.new }
+    {
+        next_order(&mut self.kept, &self.tray, text, needed)
+    }
+
     /// Takes it as said that an errand failed.
     pub fn fail(&mut self)
         ensures { Fails self.old self.new }
@@ -187,16 +213,19 @@ impl Drop for Session {
         let Session {
             alloc: _,
             kept,
-            held: _,
+            buffer: _,
+            tray: _,
             errands: _,
         } = self;
         let Kept {
+            profile: _,
             counter,
             names: _,
             spares,
             answer: _,
             outcome: _,
             settlement: _,
+            orders: _,
         } = kept;
         end_counter(counter);
         drop(spares.into_peripherals());

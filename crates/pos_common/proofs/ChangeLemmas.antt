@@ -4,13 +4,13 @@ use Rattle.std.specs.Prelude.{MatchOption, slice_get, slice_set}
 use Rattle.std.proofs.lemmas.List.{length-map, map-set}
 use Rattle.std.proofs.lemmas.Option.{slice_get-get_or}
 use Rattle.pos_service.specs.Controls.{Control}
-use Rattle.pos_common.specs.Held.{Held, controls_of}
-use Rattle.pos_common.proofs.HeldLemmas.{control_at}
+use Rattle.pos_common.specs.KeptControls.{KeptControl, controls_of}
+use Rattle.pos_common.proofs.KeptLemmas.{control_at}
 
 -- a held control that has changed is a change of the machine's control there
-pub changed_at : (f : Control → Control) (hs : List Held) (i : ℕ) (d g : Held) → i < length hs → g.control ≡ f (get_or hs i d).control
+pub changed_at : (f : Control → Control) (hs : List KeptControl) (i : ℕ) (d g : KeptControl) → i < length hs → g.control ≡ f (get_or hs i d).control
     → MatchOption (slice_get (controls_of hs) i) ⊥ (λ control. controls_of (set hs i g) ≡ slice_set (controls_of hs) i (f control))
 changed_at f hs i d g lt s =
-    let within : i < length (controls_of hs) = omega (arith, length-map hs (λ (h : Held). h.control)) in
+    let within : i < length (controls_of hs) = omega (arith, length-map hs (λ (h : KeptControl). h.control)) in
     rw (slice_get-get_or (controls_of hs) i d.control within)
-    (map-set (λ (h : Held). h.control) hs i g ∙ ap (set (controls_of hs) i) (s ∙ ap f (control_at hs i d d.control lt)))
+    (map-set (λ (h : KeptControl). h.control) hs i g ∙ ap (set (controls_of hs) i) (s ∙ ap f (control_at hs i d d.control lt)))

@@ -14,7 +14,7 @@ use Rattle.pos_service.specs.Claims.{is_foreign}
 use Rattle.pos_service.specs.Needs.{needs_holder, needs_no_other, table}
 use Rattle.pos_service.specs.Refusals.{Row, Decided, first_refusal, when}
 use Rattle.pos_common.specs.Checks.{Checks}
-use Rattle.pos_common.specs.Held.{Held, Gets, SetsTo}
+use Rattle.pos_common.specs.KeptControls.{KeptControl, Gets, SetsTo}
 
 -- a table that refuses
 pub refused : (rows : List Row) (refusal : Answer) (Same Done : Type 0) → first_refusal rows ≡ Some refusal → Same → Decided rows refusal Same Done
@@ -32,7 +32,7 @@ gets_by_rest rows rest p v (Ok result) is gets = decided_by_rest rows rest resul
 gets_by_rest rows rest p v (Err want) is gets = (gets.0, is ∙ gets.1)
 
 -- a property is set so
-pub sets_by_rest : (rows rest : List Row) (tells : Bool) (outcome : Result Answer NoMemory) (old new : Held) (control : Control)
+pub sets_by_rest : (rows rest : List Row) (tells : Bool) (outcome : Result Answer NoMemory) (old new : KeptControl) (control : Control)
     → first_refusal rows ≡ first_refusal rest → SetsTo rest tells outcome old new control → SetsTo rows tells outcome old new control
 sets_by_rest rows rest tells (Ok result) old new control is sets = decided_by_rest rows rest result _ _ is sets
 sets_by_rest rows rest tells (Err want) old new control is sets = (sets.0, is ∙ sets.1, sets.2)

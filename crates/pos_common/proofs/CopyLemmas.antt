@@ -1,13 +1,14 @@
 -- Copies of a scan, counted over the controls that listen.
-use Rattle.std.proofs.Common.{◌≡◌, ◌∙◌, ℕ, ◌+◌, ◌<◌, ◌≤◌, true, false, cond, List, [], ◌∷◌, ◌++◌, All, length, get_or, set, take, drop, arith, length-append, ap, sym, subst}
+use Rattle.std.proofs.Common.{◌≡◌, ◌∙◌, ℕ, ◌+◌, ◌<◌, ◌≤◌, true, false, cond, List, [], ◌∷◌, ◌++◌, All, length, get_or, set, take, drop, arith, length-append}
+use Rattle.std.proofs.Common.{ap, sym, subst}
 use Rattle.std.specs.Prelude.{count_by}
 use Rattle.std.proofs.lemmas.List.{drop_more, length-map, map-set, drop-set-lt}
 use Rattle.std.proofs.lemmas.List.Elements.{All-push}
 use Rattle.std.proofs.lemmas.List.Sums.{count_by_more_yes, count_by_more_no, sum_by-append}
 use Rattle.pos_service.specs.declared.scan.Scan.{Scan}
 use Rattle.pos_service.specs.Controls.{Control, listens}
-use Rattle.pos_common.specs.Held.{Held, AreCopies, controls_of}
-use Rattle.pos_common.proofs.HeldLemmas.{control_at}
+use Rattle.pos_common.specs.KeptControls.{KeptControl, AreCopies, controls_of}
+use Rattle.pos_common.proofs.KeptLemmas.{control_at}
 
 -- one more copy is enough for one more control that listens
 pub copies_more : (scan copy : Scan) (place : ℕ) (cs : List Control) (copies : List Scan) (i : ℕ) (d : Control) → i < length cs
@@ -50,21 +51,21 @@ copies_left scan place cs copies left i d lt few all are = record {
 }
 
 -- copies for the held controls from a place on are copies for the one there
-pub copies_at : (scan : Scan) (place : ℕ) (hs : List Held) (copies : List Scan) (i : ℕ) (d : Held) → i < length hs
+pub copies_at : (scan : Scan) (place : ℕ) (hs : List KeptControl) (copies : List Scan) (i : ℕ) (d : KeptControl) → i < length hs
     → AreCopies scan place (drop i (controls_of hs)) copies → AreCopies scan place ((get_or hs i d).control ∷ []) copies
 copies_at scan place hs copies i d lt are =
-    let within : i < length (controls_of hs) = omega (arith, length-map hs (λ (h : Held). h.control)) in
+    let within : i < length (controls_of hs) = omega (arith, length-map hs (λ (h : KeptControl). h.control)) in
     subst (λ (c : Control). AreCopies scan place (c ∷ []) copies) (sym (control_at hs i d d.control lt))
     (copies_next scan place (controls_of hs) copies i d.control within are)
 
 -- those that it leaves are copies for the held controls behind it, once it has changed
-pub copies_behind : (scan : Scan) (place : ℕ) (hs : List Held) (copies left : List Scan) (i : ℕ) (d g : Held) → i < length hs
+pub copies_behind : (scan : Scan) (place : ℕ) (hs : List KeptControl) (copies left : List Scan) (i : ℕ) (d g : KeptControl) → i < length hs
     → length copies ≤ length left + count_by (listens place) ((get_or hs i d).control ∷ []) → All (λ c. c ≡ scan) left
     → AreCopies scan place (drop i (controls_of hs)) copies → AreCopies scan place (drop (i + 1) (controls_of (set hs i g))) left
 copies_behind scan place hs copies left i d g lt few all are =
-    let within : i < length (controls_of hs) = omega (arith, length-map hs (λ (h : Held). h.control)) in
+    let within : i < length (controls_of hs) = omega (arith, length-map hs (λ (h : KeptControl). h.control)) in
     let few_here = subst (λ (c : Control). length copies ≤ length left + count_by (listens place) (c ∷ [])) (control_at hs i d d.control lt) few in
     let behind : drop (i + 1) (controls_of (set hs i g)) ≡ drop (i + 1) (controls_of hs) =
-    ap (drop (i + 1)) (map-set (λ (h : Held). h.control) hs i g) ∙ drop-set-lt (i + 1) (controls_of hs) i g.control (omega arith) in
+    ap (drop (i + 1)) (map-set (λ (h : KeptControl). h.control) hs i g) ∙ drop-set-lt (i + 1) (controls_of hs) i g.control (omega arith) in
     subst (λ (cs : List Control). AreCopies scan place cs left) (sym behind)
     (copies_left scan place (controls_of hs) copies left i d.control within few_here all are)

@@ -9,8 +9,8 @@ use Rattle.pos_service.specs.declared.plant.Plant.{Plant}
 use Rattle.pos_service.specs.declared.scan.Scan.{Scan}
 use Rattle.pos_service.specs.Controls.{Control, read, all_listening}
 use Rattle.pos_service.specs.Peripherals.{PeripheralState, Fed, Receives, Takes, TakesWhile, input_fits, signs_of}
-use Rattle.pos_service.specs.Stations.{TakesIn, reaction, station_of}
-use Rattle.pos_common.specs.Held.{AreCopies, HasCopies}
+use Rattle.pos_service.specs.Hardware.{TakesIn, reaction, hardware_of}
+use Rattle.pos_common.specs.KeptControls.{AreCopies, HasCopies}
 
 -- something follows of an input that is a scan
 abbrev OfScan : Input → Type 0 → Type 0
@@ -37,11 +37,11 @@ scans other p q Goal goal h = scans_while p.powered other p q Goal goal h
 pub scan_taken : (before after : PeripheralState) (i : Input) (place : ℕ) (old mid new : List Control) (copies : List Scan)
     → input_fits before.kind i ≡ true → Fed before i (Ok taken.Scan) after → mid ≡ old → HasCopies i place mid copies
     → ((scan : Scan) → AreCopies scan place mid copies → new ≡ all_listening place (read scan) mid)
-    → TakesIn i place old (station_of before) new (station_of after)
+    → TakesIn i place old (hardware_of before) new (hardware_of after)
 scan_taken before after i place old mid new copies fits fed same has all =
     scans i before.plant after.plant _ by fed.answer
   where
-    by : (number : ℕ) (bytes label : List ℕ) → i ≡ input.Scan number bytes label → TakesIn i place old (station_of before) new (station_of after)
+    by : (number : ℕ) (bytes label : List ℕ) → i ≡ input.Scan number bytes label → TakesIn i place old (hardware_of before) new (hardware_of after)
     by number bytes label is =
         let scan : Scan = record { kind = number; bytes = bytes; label = label } in
         let was = signs_of before.kind before.plant in
@@ -51,7 +51,7 @@ scan_taken before after i place old mid new copies fits fed same has all =
           taken = taken.Scan;
           fits = fits;
           plant = fed.answer;
-          station = rw (fed.kind, fed.failures) refl;
+          hardware = rw (fed.kind, fed.failures) refl;
           controls = subst (λ (j : Input). new ≡ all_listening place (reaction j taken.Scan was is_now) old) (sym is)
               (read_now ∙ ap (all_listening place (read scan)) same);
         }

@@ -10,36 +10,36 @@ use Rattle.pos_service.specs.declared.deed.Deed.TheVariants as deed
 use Rattle.pos_service.specs.Controls.{Control, queued}
 use Rattle.pos_service.specs.Deeds.{id_rows, may_want, Does, QueuesOrder}
 use Rattle.pos_service.specs.Refusals.{first_refusal}
-use Rattle.pos_service.specs.Stations.{Station, SameStation}
-use Rattle.pos_common.specs.Held.{Held, controls_of, TurnsInto}
+use Rattle.pos_service.specs.Hardware.{Hardware, SameHardware}
+use Rattle.pos_common.specs.KeptControls.{KeptControl, controls_of, TurnsInto}
 use Rattle.pos_common.proofs.ChangeLemmas.{changed_at}
-use Rattle.pos_common.proofs.HeldLemmas.{control_at, same_control}
+use Rattle.pos_common.proofs.KeptLemmas.{control_at, same_control}
 
 weaker : {A : Type 0} (o : Option A) (P R : Type 0) (Q S : A → Type 0) → (P → R) → ((x : A) → Q x → S x) → MatchOption o P Q → MatchOption o R S
 weaker None P R Q S f g h = f h
 weaker (Some x) P R Q S f g h = g x h
 
 -- what a held control says of a request is what the machine's control does
-pub says_at : (given : Order) (hs : List Held) (i : ℕ) (d g : Held) (outcome : Result Answer NoMemory) (at : Station) → i < length hs
+pub says_at : (given : Order) (hs : List KeptControl) (i : ℕ) (d g : KeptControl) (outcome : Result Answer NoMemory) (at : Hardware) → i < length hs
     → MatchResult outcome (λ result. TurnsInto (id_rows (get_or hs i d).control) result (get_or hs i d) g (queued given (get_or hs i d).control))
     (λ want. g ≡ get_or hs i d)
     → MatchResult outcome (λ result. QueuesOrder given i result (controls_of hs) at (controls_of (set hs i g)) at)
-    (λ want. SameStation (controls_of hs) at (controls_of (set hs i g)) at)
+    (λ want. SameHardware (controls_of hs) at (controls_of (set hs i g)) at)
 says_at given hs i d g (Ok result) at lt turns =
-    let within : i < length (controls_of hs) = omega (arith, length-map hs (λ (x : Held). x.control)) in
+    let within : i < length (controls_of hs) = omega (arith, length-map hs (λ (x : KeptControl). x.control)) in
     rw (slice_get-get_or (controls_of hs) i d.control within, ← control_at hs i d d.control lt)
     (record {
       outcome = weaker (first_refusal (id_rows (get_or hs i d).control)) _ _ _ _
-          (λ done. record { done = done.0; controls = changed_at (queued given) hs i d g lt done.1; station = refl })
-          (λ refusal same. (same.0, record { controls = same_control hs i d g lt (ap (λ (h : Held). h.control) same.1); station = refl }))
+          (λ done. record { done = done.0; controls = changed_at (queued given) hs i d g lt done.1; hardware = refl })
+          (λ refusal same. (same.0, record { controls = same_control hs i d g lt (ap (λ (h : KeptControl). h.control) same.1); hardware = refl }))
           turns.outcome;
     })
-says_at given hs i d g (Err want) at lt same = record { controls = same_control hs i d g lt (ap (λ (h : Held). h.control) same); station = refl }
+says_at given hs i d g (Err want) at lt same = record { controls = same_control hs i d g lt (ap (λ (h : KeptControl). h.control) same); hardware = refl }
 
 -- as what a call comes to
-pub queued_of : (given : Order) (number place : ℕ) (outcome : Result Answer NoMemory) (old new : List Control) (at : Station)
-    → MatchResult outcome (λ result. QueuesOrder given number result old at new at) (λ want. SameStation old at new at)
+pub queued_of : (given : Order) (number place : ℕ) (outcome : Result Answer NoMemory) (old new : List Control) (at : Hardware)
+    → MatchResult outcome (λ result. QueuesOrder given number result old at new at) (λ want. SameHardware old at new at)
     → MatchResult outcome (λ result. Does (deed.Queues given) number place result old at new at)
-    (λ want. IsTrue (may_want (deed.Queues given)) × SameStation old at new at)
+    (λ want. IsTrue (may_want (deed.Queues given)) × SameHardware old at new at)
 queued_of given number place (Ok result) old new at h = h
 queued_of given number place (Err want) old new at h = (refl, h)

@@ -4,7 +4,7 @@ use Rattle.std.specs.Prelude.{IsTrue}
 use Rattle.pos_service.specs.declared.signs.Signs.{Signs}
 use Rattle.pos_service.specs.Controls.{Control, if_listening, listens}
 use Rattle.pos_service.specs.Statuses.{heard_signs}
-use Rattle.pos_common.specs.Held.{Held, HasRoom, sign_events}
+use Rattle.pos_common.specs.KeptControls.{KeptControl, HasRoom, sign_events}
 
 -- a control listens as it did, whether or not it has heard
 still_listens : (b : Bool) (place : ℕ) (was is : Signs) (c : Control) → listens place (cond b (heard_signs was is c) c) ≡ listens place c
@@ -12,7 +12,7 @@ still_listens true place was is c = refl
 still_listens false place was is c = refl
 
 -- what is left of the room of a control that has heard a change of signs
-pub room_left : (place count : ℕ) (was is : Signs) (old new : Held) → new.control ≡ if_listening place (heard_signs was is) old.control
+pub room_left : (place count : ℕ) (was is : Signs) (old new : KeptControl) → new.control ≡ if_listening place (heard_signs was is) old.control
     → old.spare ≤ new.spare + sign_events → HasRoom place (sign_events + count) old → HasRoom place count new
 room_left place count was is old new heard spare room = λ l.
     let same : listens place new.control ≡ listens place old.control =

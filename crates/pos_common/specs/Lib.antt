@@ -1,2 +1,2 @@
 pub mod Checks
-pub mod Held
+pub mod KeptControls

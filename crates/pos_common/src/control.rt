@@ -32,9 +32,9 @@ pub struct Control {
 }
 
 impl Model for Control {
-    ghost use Rattle.pos_common.specs.Held.{Held};
+    ghost use Rattle.pos_common.specs.KeptControls.{KeptControl};
 
-    ghost Value = { Held };
+    ghost Value = { KeptControl };
 
     ghost view = { λ a. record {
       control = record {

@@ -2,7 +2,7 @@ ghost use Rattle.std.specs.Prelude.{◌≡◌, [], ◌∷◌, ℕ, ◌+◌, All,
 ghost use Rattle.pos_service.specs.declared.scan.Scan.{Scan};
 ghost use Rattle.pos_service.specs.Controls.{all_listening, read, failed};
 ghost use Rattle.pos_service.specs.Statuses.{heard_signs};
-ghost use Rattle.pos_common.specs.Held.{HasRoom, AreCopies, ReadsCopy, controls_of, sign_events, scan_events, fault_events};
+ghost use Rattle.pos_common.specs.KeptControls.{HasRoom, AreCopies, ReadsCopy, controls_of, sign_events, scan_events, fault_events};
 
 use crate::control::Control;
 use pos_service::{Bytes, NoMemory, Scan, Signs};

@@ -2,8 +2,8 @@
 ghost use Rattle.std.specs.Prelude.{◌≡◌, ◌<◌, false, true, IsTrue, MatchResult, length};
 ghost use Rattle.pos_service.specs.Deeds.{ChangesOne, DeedFits, Does, GivesOne, GivesOrder, Ordered, OrdersBy, QueuesOrder, changed, may_want};
 ghost use Rattle.pos_service.specs.Peripherals.{PrintersTake, order_fits};
-ghost use Rattle.pos_service.specs.Stations.{SameStation, Station, StaysInService, station_of};
-ghost use Rattle.pos_common.specs.Held.{controls_of};
+ghost use Rattle.pos_service.specs.Hardware.{SameHardware, Hardware, StaysInService, hardware_of};
+ghost use Rattle.pos_common.specs.KeptControls.{controls_of};
 
 use crate::control::{Control, SIGN_EVENTS};
 use crate::controls::{hear_all, room_all};
@@ -26,10 +26,10 @@ pub fn carry_out<P: Peripheral>(
     requires unparked { (P.Peripheral.state peripheral.old).is_parked ≡ false }
     requires fits { DeedFits (P.Peripheral.state peripheral.old).kind deed }
     ensures done { let state = P.Peripheral.state in MatchResult result
-        (λ answer. Does deed number place answer (controls_of controls.old) (station_of (state peripheral.old))
-        (controls_of controls.new) (station_of (state peripheral.new)))
-        (λ _. IsTrue (may_want deed) × SameStation (controls_of controls.old) (station_of (state peripheral.old))
-        (controls_of controls.new) (station_of (state peripheral.new))) }
+        (λ answer. Does deed number place answer (controls_of controls.old) (hardware_of (state peripheral.old))
+        (controls_of controls.new) (hardware_of (state peripheral.new)))
+        (λ _. IsTrue (may_want deed) × SameHardware (controls_of controls.old) (hardware_of (state peripheral.old))
+        (controls_of controls.new) (hardware_of (state peripheral.new))) }
     ensures orders { let state = P.Peripheral.state in
         OrdersBy deed result (state peripheral.old).orders (state peripheral.new).orders }
     ensures in_service { let state = P.Peripheral.state in
@@ -59,9 +59,9 @@ fn change_one(controls: &mut [Control], number: usize, change: Change)
 fn queue(controls: &mut [Control], number: usize, order: Order) -> Result<Answer, NoMemory>
     requires within { number < length controls.old }
     requires fits { PrintersTake order }
-    ensures { (at : Station) → MatchResult result
+    ensures { (at : Hardware) → MatchResult result
         (λ answer. QueuesOrder order number answer (controls_of controls.old) at (controls_of controls.new) at)
-        (λ _. SameStation (controls_of controls.old) at (controls_of controls.new) at) }
+        (λ _. SameHardware (controls_of controls.old) at (controls_of controls.new) at) }
 {
     controls[number].queue(order)
 }
@@ -83,10 +83,10 @@ fn give<P: Peripheral>(
     requires fits { order_fits (P.Peripheral.state peripheral.old).kind order.now ≡ true }
     ensures done { let state = P.Peripheral.state in MatchResult result
         (λ answer. GivesOrder order.now change number place answer
-        (controls_of controls.old) (station_of (state peripheral.old))
-        (controls_of controls.new) (station_of (state peripheral.new)))
-        (λ _. SameStation (controls_of controls.old) (station_of (state peripheral.old))
-        (controls_of controls.new) (station_of (state peripheral.new))) }
+        (controls_of controls.old) (hardware_of (state peripheral.old))
+        (controls_of controls.new) (hardware_of (state peripheral.new)))
+        (λ _. SameHardware (controls_of controls.old) (hardware_of (state peripheral.old))
+        (controls_of controls.new) (hardware_of (state peripheral.new))) }
     ensures orders { let state = P.Peripheral.state in
         GivesOne result (state peripheral.old).orders (state peripheral.new).orders }
     ensures in_service { let state = P.Peripheral.state in
@@ -112,10 +112,10 @@ fn ask<P: Peripheral>(
     requires unparked { (P.Peripheral.state peripheral.old).is_parked ≡ false }
     requires fits { order_fits (P.Peripheral.state peripheral.old).kind order.now ≡ true }
     ensures asked { let state = P.Peripheral.state in MatchResult result
-        (λ said. Ordered order.now place said (controls_of controls.old) (station_of (state peripheral.old))
-        (controls_of controls.new) (station_of (state peripheral.new)))
-        (λ _. SameStation (controls_of controls.old) (station_of (state peripheral.old))
-        (controls_of controls.new) (station_of (state peripheral.new))) }
+        (λ said. Ordered order.now place said (controls_of controls.old) (hardware_of (state peripheral.old))
+        (controls_of controls.new) (hardware_of (state peripheral.new)))
+        (λ _. SameHardware (controls_of controls.old) (hardware_of (state peripheral.old))
+        (controls_of controls.new) (hardware_of (state peripheral.new))) }
     ensures places { length controls.new ≡ length controls.old }
     ensures orders { let state = P.Peripheral.state in
         GivesOne result (state peripheral.old).orders (state peripheral.new).orders }

@@ -1,8 +1,8 @@
 //! What happens at a device from outside.
 ghost use Rattle.std.specs.Prelude.{◌≡◌, false, true, IfOk};
 ghost use Rattle.pos_service.specs.Peripherals.{input_fits};
-ghost use Rattle.pos_service.specs.Stations.{StaysInService, TakenAt, station_of};
-ghost use Rattle.pos_common.specs.Held.{HasCopies, controls_of};
+ghost use Rattle.pos_service.specs.Hardware.{StaysInService, TakenAt, hardware_of};
+ghost use Rattle.pos_common.specs.KeptControls.{HasCopies, controls_of};
 
 use crate::control::{Control, INPUT_EVENTS};
 use crate::controls::{copy_for_all, fail_all, hear_all, read_all, room_all};
@@ -26,8 +26,8 @@ pub fn take_input<P: Peripheral>(
     requires unparked { (P.Peripheral.state peripheral.old).is_parked ≡ false }
     requires fits { input_fits (P.Peripheral.state peripheral.old).kind input.now ≡ true }
     ensures taken { let state = P.Peripheral.state in
-        TakenAt input.now place result (controls_of controls.old) (station_of (state peripheral.old))
-        (controls_of controls.new) (station_of (state peripheral.new)) }
+        TakenAt input.now place result (controls_of controls.old) (hardware_of (state peripheral.old))
+        (controls_of controls.new) (hardware_of (state peripheral.new)) }
     ensures in_service { let state = P.Peripheral.state in
         StaysInService (state peripheral.old) (state peripheral.new) }
 {

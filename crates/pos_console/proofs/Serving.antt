@@ -9,6 +9,7 @@ use Rattle.pos_profile.specs.Built.{built}
 use Rattle.pos_profile.specs.Entries.{Contents}
 use Rattle.pos_store.specs.Standing.{LeavesOneOf, Stands, StandsForOneOf}
 use Rattle.pos_store.proofs.FilesOnDisk.{new_standing}
+use Rattle.pos_counter.specs.Steps.{Run}
 use Rattle.pos_run.specs.declared.scripts.RunFault.{RunFault}
 use Rattle.pos_run.specs.Running.{new_totals}
 use Rattle.pos_run.specs.Simulating.{FindsNoMemory, ProfileLeaves, RunsOverProfile}
@@ -41,8 +42,9 @@ served_nothing streams result (same, (reader, writer)) =
 pub serves_built : (contents : Contents) (disk : Memory) (streams : Streams) (result : Result (Unit {0}) RunFault) → contents ≡ built
     → IsNewDisk disk → ProfileLeaves contents (Unit {0}) (state_of disk) streams result → Serves streams result
 serves_built contents disk streams result is new serves =
-    from_start (subst (λ (c : Contents). ProfileLeaves c (Unit {0}) (state_of disk) streams result) is serves (Stands Layout1 [] 1 ∷ []) tt (new_disk_leaves disk new))
+    from_start ((subst (λ (c : Contents). ProfileLeaves c (Unit {0}) (state_of disk) streams result) is serves).0 (Stands Layout1 [] 1 ∷ []) tt
+    (new_disk_leaves disk new))
   where
-    from_start : FindsNoMemory streams result ⊎ RunsOverProfile built (new_totals (Stands Layout1 [] 1 ∷ []) 0) streams result → Serves streams result
+    from_start : FindsNoMemory streams result ⊎ RunsOverProfile Run built (new_totals (Stands Layout1 [] 1 ∷ []) 0) streams result → Serves streams result
     from_start (inl none) = served_nothing streams result none
     from_start (inr over) = record { end = over.end; left = over.left; run = over.run }

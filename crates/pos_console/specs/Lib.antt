@@ -1,2 +1,3 @@
 pub mod Program
 pub mod Serving
+pub mod Telling

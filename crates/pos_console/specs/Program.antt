@@ -1,5 +1,6 @@
 -- What the program does for its words, and how it ends (docs/CONSOLE.md, "The program").
-use Rattle.std.specs.Prelude.{◌≡◌, ℕ, List, Result, Ok, Err, Vec, map}
+use Rattle.std.specs.Prelude.{◌≡◌, ℕ, List, [], Result, Ok, Err, Vec, map}
+use Rattle.std.specs.Io.KnownBytes.{Appends}
 use Rattle.pos_disk.specs.declared.device.Disk.{Ghosts as DiskGhosts}
 use Rattle.pos_profile.specs.Entries.{Contents}
 use Rattle.pos_program.specs.Choices.{Chooses}
@@ -11,12 +12,13 @@ use Rattle.pos_program.specs.declared.fault.Fault.TheVariants as fault
 use Rattle.pos_program.specs.declared.file_fault.FileFault.{FileFault}
 use Rattle.pos_program.specs.declared.named_files.NamedFiles.{Ghosts}
 use Rattle.pos_program.specs.declared.words.Task.{Task}
-use Rattle.pos_program.specs.declared.words.Task.TheVariants.{Demo, Run, Format, Migrate}
+use Rattle.pos_program.specs.declared.words.Task.TheVariants.{Demo, Run, Format, Migrate, Files}
 use Rattle.pos_run.specs.declared.scripts.RunFault.{RunFault}
 use Rattle.pos_run.specs.declared.scripts.RunFault.TheVariants as run
 use Rattle.pos_run.specs.Simulating.{ProfileLeaves}
-use Rattle.pos_run.specs.Streams.{AreUntouched, Streams}
+use Rattle.pos_run.specs.Streams.{AreUntouched, Streams, Writing}
 use Rattle.pos_console.specs.Serving.{Serves}
+use Rattle.pos_console.specs.Telling.{IsBroken, IsTold}
 
 -- what the end of a run is to the program
 abbrev pub fault_of_run : Result (Unit {0}) RunFault → Result (Unit {0}) Fault
@@ -59,6 +61,22 @@ abbrev pub MigratesFile : {F D : Type 0} → Ghosts F D → F → List ℕ → R
 MigratesFile files them path result =
     (answer : Result (Unit {0}) FileFault) × files.migrates them path answer × EndsAtDisk path answer result
 
+-- what it tells of the bytes that reading the totals in the file at a path gave, by how its writer stood before, and
+-- after: their survey's text, all of which is handed on; or why there is none, and then nothing is written
+abbrev pub TellsBytes : List ℕ → Result (List ℕ) FileFault → Writing → Writing → Result (Unit {0}) Fault → Type 0
+TellsBytes path (Ok bytes) old new (Ok u) =
+    (new.held ≡ []) × ((text : List ℕ) × IsTold bytes text × Appends old.contents new.contents text)
+TellsBytes path (Ok bytes) old new (Err fault.Write) = (text : List ℕ) × IsTold bytes text
+TellsBytes path (Ok bytes) old new (Err (fault.Disk at cause)) =
+    (at.now ≡ path) × IsBroken bytes cause × (new ≡ old)
+TellsBytes path (Ok bytes) old new (Err other) = ⊥
+TellsBytes path (Err cause) old new result = EndsAtDisk path (Err cause) result × (new ≡ old)
+
+-- it tells what the totals file at a path holds
+abbrev pub TellsFile : {F D : Type 0} → Ghosts F D → F → List ℕ → Writing → Writing → Result (Unit {0}) Fault → Type 0
+TellsFile files them path old new result =
+    (read : Result (List ℕ) FileFault) × files.gives_totals them path read × TellsBytes path read old new result
+
 -- what it does for a task, over these files: by how its reader and its writer stood before, and after
 abbrev pub Does : {F D : Type 0} → Ghosts F D → DiskGhosts D → F → Task → Streams → Result (Unit {0}) Fault
     → Type 0
@@ -69,6 +87,9 @@ Does files disks them (Format disk) streams result =
     FormatsFile files them disk.now result × AreUntouched streams
 Does files disks them (Migrate disk) streams result =
     MigratesFile files them disk.now result × AreUntouched streams
+Does files disks them (Files disk) streams result =
+    TellsFile files them disk.now streams.writer streams.writer_after result
+    × (streams.reader_after ≡ streams.reader)
 
 -- what it does for what the words ask for: nothing where they ask for nothing
 abbrev pub DoesChosen : {F D : Type 0} → Ghosts F D → DiskGhosts D → F → Result Task ChoiceFault → Streams

@@ -23,7 +23,7 @@ use Rattle.pos_run.specs.Running.{RunsScript, begun_with, device_with, new_total
 
 -- the device of Hard Totals, which has no peripheral
 abbrev pub totals_device : Device
-totals_device = record { name = codes "t1"; kind = None; station = None }
+totals_device = record { name = codes "t1"; kind = None; hardware = None }
 
 -- the devices of the built profile, served by the program's peripherals: a closed drawer, a scanner, a blank display
 -- of 2 rows of 4 columns, and a printer of 8 characters a line with 5 lines of paper, which are near their end at 2

@@ -1,9 +1,10 @@
 //! The program: it runs a script of requests to the devices of a shop counter, which it reads from standard input, and
-//! writes what each line prints to standard output; or it formats a disk for one, or moves it to layout 2
-//! (docs/CONSOLE.md).
+//! writes what each line prints to standard output; or it formats a disk for one, moves it to layout 2, or
+//! tells what it holds (docs/CONSOLE.md).
 #![tactic(auto)]
 
 mod disk;
+mod files;
 mod program;
 mod scripts;
 

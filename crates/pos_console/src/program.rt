@@ -6,6 +6,7 @@ ghost use Rattle.pos_run.specs.Streams.{streams_of};
 ghost use Rattle.pos_console.specs.Program.{Does, DoesAsAsked, EndsAtDisk, FormatsFile, MigratesFile, Performs, RunsFiles};
 ghost use Rattle.pos_console.specs.Program.{fault_of_run};
 
+use crate::files::tell_file;
 use crate::scripts::serve_built;
 use pos_disk::Disk;
 use pos_program::{ChoiceFault, Fault, FileFault, NamedFiles, Task, choice, open_run, status_of};
@@ -83,6 +84,7 @@ fn carry_out<'a, F: NamedFiles, R: Read, W: Write>(
         Task::Run { profile, disk } => run_files(alloc, files, reader, writer, profile, disk),
         Task::Format { disk } => format(files, disk),
         Task::Migrate { disk } => migrate(files, disk),
+        Task::Files { disk } => tell_file(alloc, files, writer, disk),
     }
 }
 

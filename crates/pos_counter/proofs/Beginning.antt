@@ -9,16 +9,16 @@ use Rattle.std.proofs.lemmas.List.Folds.{list_any-append}
 use Rattle.pos_service.specs.declared.category.Category.{Category}
 use Rattle.pos_service.specs.declared.category.Category.TheVariants as category
 use Rattle.pos_service.specs.Peripherals.{PeripheralState}
-use Rattle.pos_service.specs.Stations.{Station, station_of}
+use Rattle.pos_service.specs.Hardware.{Hardware, hardware_of}
 use Rattle.pos_profile.specs.declared.entry.Entry.{Entry}
 use Rattle.pos_profile.specs.Categories.{is_totals}
 use Rattle.pos_profile.specs.Kinds.{kind_with}
 use Rattle.pos_profile.specs.Profiles.{is_refused_after, is_totals_entry}
 use Rattle.pos_profile.specs.Registries.{Device as Registered, HasKindInRange, IsServed, planned_of, vacant, vacant_devices}
-use Rattle.pos_counter.specs.Machine.{Device}
-use Rattle.pos_counter.specs.Assembly.{ArePartsSound}
+use Rattle.pos_counter.specs.Machine.{Device, machine_with}
 use Rattle.pos_counter.specs.KeptDevices.{device_of, devices_of, profile_devices, totals_devices}
-use Rattle.pos_counter.specs.Steps.{HasItsDevice, HasItsKind}
+use Rattle.pos_counter.specs.Steps.{HasItsDevice, HasItsKind, IsSound}
+use Rattle.pos_counter.specs.Totals.{TotalsPart}
 
 -- no entry behind earlier ones is refused
 abbrev pub AreKept : List (Option Entry) → List Entry → Type 0
@@ -80,7 +80,7 @@ count_devices earlier (e ∷ es) none kept =
     by category.LineDisplay last more = ap suc (more refl)
     by category.PosPrinter last more = ap suc (more refl)
     by category.HardTotals last more =
-        let t : Device = record { name = e.name; kind = None; station = None } in
+        let t : Device = record { name = e.name; kind = None; hardware = None } in
         omega (arith, length_push (map device_of (vacant_devices es)) t, length-map (vacant_devices es) device_of, last refl)
 
 -- a device of a sound registry is of a kind in range, and so is its peripheral
@@ -88,20 +88,23 @@ has_its_kind : (d : Registered) → HasKindInRange d → IsServed d → HasItsKi
 has_its_kind d range served = (range, by d.peripheral served)
   where
     by : (o : Option PeripheralState) → IfSome o (λ state. (state.is_parked ≡ false) × (state.kind ≡ d.kind))
-        → IfSome (option_map station_of o) (λ (station : Station). Some d.kind ≡ Some station.kind)
+        → IfSome (option_map hardware_of o) (λ (hardware : Hardware). Some d.kind ≡ Some hardware.kind)
     by None h = tt
     by (Some state) h = ap Some (sym h.1)
 
 kinds_hold : (list : List Registered) (totals : Option (List ℕ)) → AllByRecursion HasKindInRange list → AllByRecursion IsServed list
     → All HasItsKind (devices_of list totals)
 kinds_hold [] None kinds served = All-nil HasItsKind
-kinds_hold [] (Some name) kinds served = All-cons HasItsKind (record { name = name; kind = None; station = None }) [] (tt, tt) (All-nil HasItsKind)
+kinds_hold [] (Some name) kinds served = All-cons HasItsKind (record { name = name; kind = None; hardware = None }) [] (tt, tt) (All-nil HasItsKind)
 kinds_hold (d ∷ list) totals kinds served =
     All-cons HasItsKind (device_of d) (devices_of list totals) (has_its_kind d kinds.0 served.0) (kinds_hold list totals kinds.1 served.1)
 
 -- no control over the devices of a sound registry is sound
-pub begins_sound : (list : List Registered) (totals : Option (List ℕ)) → AllByRecursion HasKindInRange list → AllByRecursion IsServed list
-    → ArePartsSound [] (devices_of list totals)
-begins_sound list totals kinds served = record {
-  machine = λ shared. record { kinds = kinds_hold list totals kinds served; places = All-nil (HasItsDevice (devices_of list totals)) };
+pub begins_sound : (list : List Registered) (totals : Option (List ℕ)) (cl : List (Option ℕ)) (part : TotalsPart)
+    → AllByRecursion HasKindInRange list → AllByRecursion IsServed list → length cl ≡ length (devices_of list totals)
+    → IsSound (machine_with [] cl (devices_of list totals) part)
+begins_sound list totals cl part kinds served covers = record {
+  kinds = kinds_hold list totals kinds served;
+  places = All-nil (HasItsDevice (devices_of list totals));
+  covers = covers;
 }

@@ -1,9 +1,9 @@
 -- Claims, releases and closes as steps of the machine.
-use Rattle.std.proofs.Common.{◌≡◌, ◌∙◌, ◌<◌, ◌∷◌, [], ℕ, ℤ, List, Option, Some, None, Bool, true, false, inl, inr, cond, get_or, set, length, ap, sym, subst, refl, arith}
+use Rattle.std.proofs.Common.{◌≡◌, ◌∙◌, ◌<◌, ◌∷◌, [], ℕ, ℤ, List, Option, Some, None, Bool, true, false, inl, inr, get_or, set, length, ap, sym, subst, refl}
+use Rattle.std.proofs.Common.{arith}
 use Rattle.std.specs.Prelude.{IfSome, MatchOption, slice_get, is_none, is_some, not}
-use Rattle.std.proofs.lemmas.List.{map-set, length-set, set-get_or}
-use Rattle.std.proofs.lemmas.List.Elements.{All-get_or, All-weaker}
-use Rattle.std.proofs.lemmas.Option.{slice_get_within, get_or_from_slice_get}
+use Rattle.std.proofs.lemmas.List.{map-set, set-get_or}
+use Rattle.std.proofs.lemmas.Option.{slice_get_within}
 use Rattle.pos_service.specs.declared.answer.Answer.{Answer}
 use Rattle.pos_service.specs.declared.answer.Answer.TheVariants as answer
 use Rattle.pos_service.specs.declared.answer.Value.TheVariants as value
@@ -18,65 +18,31 @@ use Rattle.pos_store.specs.Standing.{Standing}
 use Rattle.pos_totals.specs.HardTotals.{Totals}
 use Rattle.pos_totals.specs.TotalsClaims.{is_area_taken, without_control}
 use Rattle.pos_service.specs.Refusals.{Row, Decided, first_refusal, when}
-use Rattle.pos_common.specs.Held.{Held, TurnsInto, controls_of}
-use Rattle.pos_counter.specs.Machine.{Device, Machine, Shared, holder_in, with_control}
-use Rattle.pos_counter.specs.Assembly.{machine_with, AreCovered, ArePartsSound}
-use Rattle.pos_counter.specs.Steps.{CallOf, Answered, Step, claimed, dropped, released, is_taken, refusals, HasItsDevice}
+use Rattle.pos_common.specs.KeptControls.{KeptControl, TurnsInto, controls_of}
+use Rattle.pos_counter.specs.Machine.{Device, Machine, machine_with, holder_in, with_control}
+use Rattle.pos_counter.specs.Steps.{CallOf, Answered, Step, claimed, dropped, released, is_taken, refusals, IsSound}
 use Rattle.pos_counter.specs.Totals.{TotalsPart, is_totals, settled}
 use Rattle.pos_counter.proofs.Lifts.{match_at_some, match_at_none, match_by, match_cases, match_weaker}
-use Rattle.pos_counter.proofs.Sound.{Served}
+use Rattle.pos_counter.proofs.Sound.{seated, Served}
 
--- where there is a claim for each device, the device of each open control has one
-pub covered : (hs : List Held) (ds : List Device) (cl : List (Option ℕ)) (shared : Shared) → ArePartsSound hs ds → length cl ≡ length ds → AreCovered hs cl
-covered hs ds cl shared sound covers =
-    All-weaker (HasItsDevice ds) (λ control. IfSome control.device (λ place. place < length cl))
-    (λ control seat. by_place control control.device seat) (controls_of hs) (sound.machine shared).places
+-- the device of an open control has a claim
+pub covered : (m : Machine) (n : ℕ) (c : Control) → IsSound m → slice_get m.controls n ≡ Some c → IfSome c.device (λ place. place < length m.claims)
+covered m n c sound at = by_place c.device (seated m n c sound at)
   where
-    within : (control : Control) (place : ℕ) → Served control.category control.cursor.place (slice_get ds place) → place < length cl
-    within control place served = elim (match_cases (slice_get ds place) _ _ served) [
+    by_place : (o : Option ℕ) → IfSome o (λ place. Served c.category c.cursor.place (slice_get m.devices place))
+        → IfSome o (λ place. place < length m.claims)
+    by_place None seat = tt
+    by_place (Some place) seat = elim (match_cases (slice_get m.devices place) _ _ seat) [
       | inl x ↦ absurd x.1
-      | inr x ↦ let there = slice_get_within ds place x.0 x.1 in omega (arith, there, covers)
+      | inr x ↦ let there = slice_get_within m.devices place x.0 x.1 in omega (arith, there, sound.covers)
     ]
 
-    by_place : (control : Control) (o : Option ℕ) → IfSome o (λ place. Served control.category control.cursor.place (slice_get ds place))
-        → IfSome o (λ place. place < length cl)
-    by_place control None seat = tt
-    by_place control (Some place) seat = within control place seat
-
 -- the machine with one control in the place of another, and other claims
-pub claims_machine : (hs : List Held) (cl dl : List (Option ℕ)) (ds : List Device) (n : ℕ) (g : Held) (c : Control) (part : TotalsPart)
+pub claims_machine : (hs : List KeptControl) (cl dl : List (Option ℕ)) (ds : List Device) (n : ℕ) (g : KeptControl) (c : Control) (part : TotalsPart)
     → g.control ≡ c → machine_with (set hs n g) dl ds part ≡ record (with_control (machine_with hs cl ds part) n c) { claims = dl }
 claims_machine hs cl dl ds n g c part e =
     ap (λ (cs : List Control). let m : Machine = record { controls = cs; devices = ds; claims = dl; totals = part } in m)
-    (map-set (λ (h : Held). h.control) hs n g ∙ ap (set (controls_of hs) n) e)
-
--- there is a claim for each device still
-pub length_released : (cl : List (Option ℕ)) (o : Option ℕ) (n : ℕ) → length (released_by cl o n) ≡ length cl
-length_released cl None n = refl
-length_released cl (Some place) n = by (is_own n (get_or cl place None))
-  where
-    by : (b : Bool) → length (cond b (set cl place None) cl) ≡ length cl
-    by true = length-set cl place None
-    by false = refl
-
-pub length_claimed : (cl : List (Option ℕ)) (o : Option ℕ) (n : ℕ) → length (claimed_by cl o n) ≡ length cl
-length_claimed cl None n = refl
-length_claimed cl (Some place) n = length-set cl place (Some n)
-
--- a claim or a release that is decided on leaves a claim for each device
-pub claimed_covers : (rows : List Row) (r : Answer) (cl dl : List (Option ℕ)) (o : Option ℕ) (n : ℕ)
-    → Decided rows r (dl ≡ cl) ((r ≡ answer.Done value.Empty) × (dl ≡ claimed_by cl o n)) → length dl ≡ length cl
-claimed_covers rows r cl dl o n d = elim (match_cases (first_refusal rows) _ _ d.outcome) [
-  | inl x ↦ ap length x.1.1 ∙ length_claimed cl o n
-  | inr x ↦ ap length x.2.1
-]
-
-pub released_covers : (rows : List Row) (r : Answer) (cl dl : List (Option ℕ)) (o : Option ℕ) (n : ℕ) (Same Turns : Type 0)
-    → Decided rows r (Same × (dl ≡ cl)) ((r ≡ answer.Done value.Empty) × Turns × (dl ≡ released_by cl o n)) → length dl ≡ length cl
-released_covers rows r cl dl o n Same Turns d = elim (match_cases (first_refusal rows) _ _ d.outcome) [
-  | inl x ↦ ap length x.1.2 ∙ length_released cl o n
-  | inr x ↦ ap length x.2.1.1
-]
+    (map-set (λ (h : KeptControl). h.control) hs n g ∙ ap (set (controls_of hs) n) e)
 
 -- a claim of the area or its release leaves the mode
 pub area_claim_settled : (rows : List Row) (r : Answer) (old new : Totals) (area : Option ℕ)
@@ -94,13 +60,6 @@ area_release_settled rows r old new area Same Turns d left = elim (match_cases (
   | inl x ↦ ap (λ (t : Totals). settled t.layout t.mode left) x.1.2
   | inr x ↦ ap (λ (t : Totals). settled t.layout t.mode left) x.2.1.1
 ]
-
--- the device of a control that is open has a claim
-pub covered_at : (hs : List Held) (cl : List (Option ℕ)) (n : ℕ) (c : Control) → slice_get (controls_of hs) n ≡ Some c → AreCovered hs cl
-    → IfSome c.device (λ place. place < length cl)
-covered_at hs cl n c at all =
-    let Covered : Control → Type 0 = λ control. IfSome control.device (λ place. place < length cl) in
-    subst Covered (get_or_from_slice_get (controls_of hs) n c c at) (All-get_or Covered (controls_of hs) n c (slice_get_within (controls_of hs) n c at) all)
 
 -- what is no device with a peripheral is Hard Totals
 pub are_totals : (k : Category) → is_totals k ≡ true → k ≡ category.HardTotals
@@ -158,13 +117,14 @@ close_refused m n c at closed =
     })
 
 -- what a decided call does where nothing refuses it
-done_by : (rows : List Row) (r : Answer) (h g : Held) (c : Control) → first_refusal rows ≡ None → TurnsInto rows r h g c
+done_by : (rows : List Row) (r : Answer) (h g : KeptControl) (c : Control) → first_refusal rows ≡ None → TurnsInto rows r h g c
     → (r ≡ answer.Done value.Empty) × (g.control ≡ c)
 done_by rows r h g c none turns =
     subst (λ o. MatchOption o ((r ≡ answer.Done value.Empty) × (g.control ≡ c)) (λ refusal. (r ≡ refusal) × (g ≡ h))) none turns.outcome
 
 -- a close of a control of a device with a peripheral frees what it holds
-pub close_device : (hs : List Held) (cl dl : List (Option ℕ)) (ds : List Device) (part : TotalsPart) (n : ℕ) (c : Control) (h g : Held) (r : Answer)
+pub close_device : (hs : List KeptControl) (cl dl : List (Option ℕ)) (ds : List Device) (part : TotalsPart) (n : ℕ) (c : Control) (h g : KeptControl)
+    (r : Answer)
     → slice_get (controls_of hs) n ≡ Some c → is_totals c.category ≡ false → is_none c.device ≡ false → TurnsInto (close_rows c) r h g (closed c)
     → dl ≡ released_by cl c.device n
     → Step (machine_with hs cl ds part) (CallOf n call.Close) (Answered r) (machine_with (set hs n g) dl ds part)
@@ -182,7 +142,7 @@ close_device hs cl dl ds part n c h g r at is there turns free =
     })
 
 -- a close of a control of Hard Totals frees what it holds, and drops its transaction
-pub close_area : (hs : List Held) (cl : List (Option ℕ)) (ds : List Device) (part : TotalsPart) (n : ℕ) (c : Control) (h g : Held) (r : Answer)
+pub close_area : (hs : List KeptControl) (cl : List (Option ℕ)) (ds : List Device) (part : TotalsPart) (n : ℕ) (c : Control) (h g : KeptControl) (r : Answer)
     → slice_get (controls_of hs) n ≡ Some c → c.category ≡ category.HardTotals → is_none c.device ≡ false → TurnsInto (close_rows c) r h g (closed c)
     → Step (machine_with hs cl ds part) (CallOf n call.Close) (Answered r)
     (machine_with (set hs n g) cl ds (record part { totals = without_control part.totals n }))
@@ -202,7 +162,7 @@ close_area hs cl ds part n c h g r at is there turns =
 -- ---- claim and release
 
 -- a claim of a device with a peripheral
-pub claim_device : (hs : List Held) (cl dl : List (Option ℕ)) (ds : List Device) (part : TotalsPart) (n : ℕ) (c : Control) (timeout : ℤ) (r : Answer)
+pub claim_device : (hs : List KeptControl) (cl dl : List (Option ℕ)) (ds : List Device) (part : TotalsPart) (n : ℕ) (c : Control) (timeout : ℤ) (r : Answer)
     → slice_get (controls_of hs) n ≡ Some c → is_totals c.category ≡ false
     → Decided (claim_rows c (is_foreign n (holder_at cl c.device)) timeout) r (dl ≡ cl) ((r ≡ answer.Done value.Empty) × (dl ≡ claimed_by cl c.device n))
     → Step (machine_with hs cl ds part) (CallOf n (call.Claim timeout)) (Answered r) (machine_with hs dl ds part)
@@ -218,7 +178,8 @@ claim_device hs cl dl ds part n c timeout r at is d =
     })
 
 -- a release of a device with a peripheral
-pub release_device : (hs : List Held) (cl dl : List (Option ℕ)) (ds : List Device) (part : TotalsPart) (n : ℕ) (c : Control) (h g : Held) (r : Answer)
+pub release_device : (hs : List KeptControl) (cl dl : List (Option ℕ)) (ds : List Device) (part : TotalsPart) (n : ℕ) (c : Control) (h g : KeptControl)
+    (r : Answer)
     → slice_get (controls_of hs) n ≡ Some c → is_totals c.category ≡ false → h ≡ get_or hs n h
     → Decided (release_rows c (is_own n (holder_at cl c.device))) r ((g ≡ h) × (dl ≡ cl))
     ((r ≡ answer.Done value.Empty) × (g.control ≡ after_release c.category c) × (dl ≡ released_by cl c.device n))
@@ -237,14 +198,14 @@ release_device hs cl dl ds part n c h g r at is here d =
           ))
           (λ refusal y. (
             y.0,
-            ap (λ (ks : List Held). machine_with ks dl ds part) (ap (set hs n) (y.1.0 ∙ here) ∙ set-get_or hs n h)
+            ap (λ (ks : List KeptControl). machine_with ks dl ds part) (ap (set hs n) (y.1.0 ∙ here) ∙ set-get_or hs n h)
                 ∙ ap (λ claims. let o : Machine = record m { claims = claims } in o) y.1.1,
           ))
           d.outcome);
     })
 
 -- a claim of the area
-pub claim_area : (hs : List Held) (cl : List (Option ℕ)) (ds : List Device) (part : TotalsPart) (n : ℕ) (c : Control) (timeout : ℤ) (r : Answer)
+pub claim_area : (hs : List KeptControl) (cl : List (Option ℕ)) (ds : List Device) (part : TotalsPart) (n : ℕ) (c : Control) (timeout : ℤ) (r : Answer)
     (totals : Totals)
     → slice_get (controls_of hs) n ≡ Some c → c.category ≡ category.HardTotals
     → Decided (claim_rows c (is_area_taken part.totals n) timeout) r (totals ≡ part.totals)
@@ -268,7 +229,7 @@ claim_area hs cl ds part n c timeout r totals at is d =
     over_totals t = machine_with hs cl ds (record part { totals = t })
 
 -- a release of the area
-pub release_area : (hs : List Held) (cl : List (Option ℕ)) (ds : List Device) (part : TotalsPart) (n : ℕ) (c : Control) (h g : Held) (r : Answer)
+pub release_area : (hs : List KeptControl) (cl : List (Option ℕ)) (ds : List Device) (part : TotalsPart) (n : ℕ) (c : Control) (h g : KeptControl) (r : Answer)
     (totals : Totals)
     → slice_get (controls_of hs) n ≡ Some c → c.category ≡ category.HardTotals → h ≡ get_or hs n h
     → Decided (release_rows c (is_own n part.totals.area)) r ((g ≡ h) × (totals ≡ part.totals))
@@ -291,7 +252,7 @@ release_area hs cl ds part n c h g r totals at is here d =
           ))
           (λ refusal y. (
             y.0,
-            ap (λ (ks : List Held). machine_with ks cl ds now) (ap (set hs n) (y.1.0 ∙ here) ∙ set-get_or hs n h)
+            ap (λ (ks : List KeptControl). machine_with ks cl ds now) (ap (set hs n) (y.1.0 ∙ here) ∙ set-get_or hs n h)
                 ∙ ap (λ (t : Totals). machine_with hs cl ds (record part { totals = t })) y.1.1,
           ))
           d.outcome);

@@ -1,5 +1,6 @@
 -- Where the calls of a display and its properties leave a cursor: at a place of the display.
-use Rattle.std.proofs.Common.{◌≡◌, ◌∷◌, ◌++◌, ◌+◌, ◌-◌, ◌%◌, ◌<◌, ◌≤◌, ℕ, ℤ, pos, negsuc, nat_abs, List, [], Option, Some, None, Bool, true, false, not, cond, length, nat_lt, nat_le, arith, refl}
+use Rattle.std.proofs.Common.{◌≡◌, ◌∷◌, ◌++◌, ◌+◌, ◌-◌, ◌%◌, ◌<◌, ◌≤◌, ℕ, ℤ, pos, negsuc, nat_abs, List, [], Option, Some, None, Bool, true, false, not, cond}
+use Rattle.std.proofs.Common.{length, nat_lt, nat_le, arith, refl}
 use Rattle.std.specs.List.{AllByRecursion}
 use Rattle.std.specs.Prelude.{IfSome, ◌==◌}
 use Rattle.std.proofs.lemmas.Bool.{and_from, and_parts}

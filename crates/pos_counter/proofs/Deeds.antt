@@ -29,7 +29,7 @@ use Rattle.pos_service.specs.declared.code.Code.{Code}
 use Rattle.pos_service.specs.declared.memory.NoMemory.{NoMemory}
 use Rattle.pos_service.specs.Calls.{serves}
 use Rattle.pos_service.specs.Deeds.{Does as CarriesOut, MayWantFor, may_want}
-use Rattle.pos_service.specs.Stations.{SameStation, Station}
+use Rattle.pos_service.specs.Hardware.{SameHardware, Hardware}
 use Rattle.pos_counter.specs.AtDevices.{CallsAt, CallsFor}
 use Rattle.pos_counter.specs.Steps.{IsPlaceOn, device_deed, device_rows}
 use Rattle.pos_counter.proofs.Lifts.{match_at_none, match_at_some}
@@ -113,25 +113,25 @@ deed_called category.PosPrinter is c asked d served range allowed e = absurd cc
 deed_called category.HardTotals is c asked d served range allowed e = absurd cc
 
 -- a call that is refused by its arguments
-pub called_refused : (n place : ℕ) (asked : Call) (c : Control) (code : Code) (old : List Control) (before : Station) → slice_get old n ≡ Some c
+pub called_refused : (n place : ℕ) (asked : Call) (c : Control) (code : Code) (old : List Control) (before : Hardware) → slice_get old n ≡ Some c
     → first_refusal (device_rows c.category (Some before.kind) c asked) ≡ Some (answer.Refused code 0)
     → CallsAt n asked place (Ok (answer.Refused code 0)) old before old before
 called_refused n place asked c code old before at refused =
     match_at_some _ c _ _ at (record {
       outcome = match_at_some (first_refusal (device_rows c.category (Some before.kind) c asked))
-          (answer.Refused code 0) _ _ refused (refl, record { controls = refl; station = refl });
+          (answer.Refused code 0) _ _ refused (refl, record { controls = refl; hardware = refl });
     })
 
 -- one that comes to a deed
 pub called_done : (n place : ℕ) (asked : Call) (c : Control) (d : Deed) (outcome : Result Answer NoMemory) (old new : List Control)
-    (before after : Station) → slice_get old n ≡ Some c → first_refusal (device_rows c.category (Some before.kind) c asked) ≡ None
+    (before after : Hardware) → slice_get old n ≡ Some c → first_refusal (device_rows c.category (Some before.kind) c asked) ≡ None
     → device_deed c.category (Some before.kind) c asked ≡ Some d → MayWantFor asked d
     → MatchResult outcome (λ result. CarriesOut d n place result old before new after)
-    (λ want. IsTrue (may_want d) × SameStation old before new after) → CallsAt n asked place outcome old before new after
+    (λ want. IsTrue (may_want d) × SameHardware old before new after) → CallsAt n asked place outcome old before new after
 called_done n place asked c d outcome old new before after at none is wants done = match_at_some _ c _ _ at (by outcome done)
   where
     by : (o : Result Answer NoMemory)
-        → MatchResult o (λ result. CarriesOut d n place result old before new after) (λ want. IsTrue (may_want d) × SameStation old before new after)
+        → MatchResult o (λ result. CarriesOut d n place result old before new after) (λ want. IsTrue (may_want d) × SameHardware old before new after)
         → CallsFor n asked place o c old before new after
     by (Ok result) h = record {
       outcome = match_at_none (first_refusal (device_rows c.category (Some before.kind) c asked)) _ _ none

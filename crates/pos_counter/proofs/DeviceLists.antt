@@ -4,21 +4,23 @@ use Rattle.std.specs.Prelude.{slice_get, option_map, is_some, IfSome, IsSome}
 use Rattle.std.specs.List.{AllByRecursion}
 use Rattle.pos_service.specs.declared.input.Input.{Input}
 use Rattle.pos_service.specs.Peripherals.{PeripheralState, input_fits}
-use Rattle.pos_service.specs.Stations.{station_of}
+use Rattle.pos_service.specs.Hardware.{Effect, hardware_of}
+use Rattle.pos_common.specs.KeptControls.{KeptControl, controls_of}
 use Rattle.pos_profile.specs.Registries.{Device as Registered, IsServed, standing_at, with_peripheral}
-use Rattle.pos_counter.specs.Machine.{Device, station_in}
+use Rattle.pos_counter.specs.AtDevices.{IsDoneAt}
+use Rattle.pos_counter.specs.Machine.{Device, hardware_in}
 use Rattle.pos_counter.specs.Steps.{FindsFit}
 use Rattle.pos_counter.specs.KeptDevices.{device_of, devices_of}
 
 -- what stands at it
-pub station_there : (list : List Registered) (totals : Option (List ℕ)) (place : ℕ)
-    → station_in (slice_get (devices_of list totals) place) ≡ option_map station_of (standing_at list place)
-station_there [] None zero = refl
-station_there [] None (suc place) = refl
-station_there [] (Some name) zero = refl
-station_there [] (Some name) (suc place) = refl
-station_there (d ∷ list) totals zero = refl
-station_there (d ∷ list) totals (suc place) = station_there list totals place
+pub hardware_there : (list : List Registered) (totals : Option (List ℕ)) (place : ℕ)
+    → hardware_in (slice_get (devices_of list totals) place) ≡ option_map hardware_of (standing_at list place)
+hardware_there [] None zero = refl
+hardware_there [] None (suc place) = refl
+hardware_there [] (Some name) zero = refl
+hardware_there [] (Some name) (suc place) = refl
+hardware_there (d ∷ list) totals zero = refl
+hardware_there (d ∷ list) totals (suc place) = hardware_there list totals place
 
 -- what is at a place of the registry is at that place of the machine
 pub registered_there : (list : List Registered) (totals : Option (List ℕ)) (place : ℕ) (d : Registered) → slice_get list place ≡ Some d
@@ -28,39 +30,39 @@ registered_there [] totals (suc place) d at = cc
 registered_there (x ∷ list) totals zero d at = let same : x ≡ d = cc in ap (λ (y : Registered). Some (device_of y)) same
 registered_there (x ∷ list) totals (suc place) d at = registered_there list totals place d at
 
--- another peripheral, or none, at a device is another station, or none
+-- another peripheral, or none, at a device is other hardware, or none
 pub devices_with : (list : List Registered) (totals : Option (List ℕ)) (place : ℕ) (d : Registered) (x : Option PeripheralState)
     → slice_get list place ≡ Some d
-    → devices_of (with_peripheral list place x) totals ≡ set (devices_of list totals) place (record (device_of d) { station = option_map station_of x })
+    → devices_of (with_peripheral list place x) totals ≡ set (devices_of list totals) place (record (device_of d) { hardware = option_map hardware_of x })
 devices_with [] totals zero d x at = cc
 devices_with [] totals (suc place) d x at = cc
 devices_with (y ∷ list) totals zero d x at =
     let same : y ≡ d = cc in
-    ap (λ (z : Registered). let first : Device = record (device_of z) { station = option_map station_of x } in first ∷ devices_of list totals) same
+    ap (λ (z : Registered). let first : Device = record (device_of z) { hardware = option_map hardware_of x } in first ∷ devices_of list totals) same
 devices_with (y ∷ list) totals (suc place) d x at = ap (λ ds. device_of y ∷ ds) (devices_with list totals place d x at)
 
 -- What is out at a place of a registry: what it is to the machine, and what the devices are once it is back.
-pub record IsOut (list : List Registered) (totals : Option (List ℕ)) (place : ℕ) (was : PeripheralState) : Type 0 where
+record IsOut (list : List Registered) (totals : Option (List ℕ)) (place : ℕ) (was : PeripheralState) : Type 0 where
   pub device : Device
   pub is_device : slice_get (devices_of list totals) place ≡ Some device
-  pub is_attached : device.station ≡ Some (station_of was)
+  pub is_attached : device.hardware ≡ Some (hardware_of was)
   pub kind : device.kind ≡ Some was.kind
   pub back : (now : PeripheralState)
       → devices_of (with_peripheral (with_peripheral list place None) place (Some now)) totals ≡ set (devices_of list totals) place
-      (record device { station = Some (station_of now) })
+      (record device { hardware = Some (hardware_of now) })
 
 served_kind : (d : Registered) (was : PeripheralState) → IsServed d → Some was ≡ d.peripheral → d.kind ≡ was.kind
 served_kind d was served is = sym
     (subst (λ (o : Option PeripheralState). IfSome o (λ state. (state.is_parked ≡ false) × (state.kind ≡ d.kind))) (sym is) served).1
 
-pub is_out : (list : List Registered) (totals : Option (List ℕ)) (place : ℕ) (was : PeripheralState) → AllByRecursion IsServed list
+is_out : (list : List Registered) (totals : Option (List ℕ)) (place : ℕ) (was : PeripheralState) → AllByRecursion IsServed list
     → Some was ≡ standing_at list place → IsOut list totals place was
 is_out [] totals zero was served is = cc
 is_out [] totals (suc place) was served is = cc
 is_out (d ∷ list) totals zero was served is = record {
   device = device_of d;
   is_device = refl;
-  is_attached = ap (option_map station_of) (sym is);
+  is_attached = ap (option_map hardware_of) (sym is);
   kind = ap Some (served_kind d was served.0 is);
   back = λ now. refl;
 }
@@ -73,27 +75,45 @@ is_out (d ∷ list) totals (suc place) was served is =
       back = λ now. ap (λ ds. device_of d ∷ ds) (rest.back now);
     }
 
+-- what is done with it, once it is back
+pub done_there : {hs gs : List KeptControl} (list vacated new : List Registered) (totals : Option (List ℕ)) (place : ℕ) (was now : PeripheralState)
+    (Does : Effect) → AllByRecursion IsServed list → Some was ≡ standing_at list place → vacated ≡ with_peripheral list place None
+    → new ≡ with_peripheral vacated place (Some now) → Does (controls_of hs) (hardware_of was) (controls_of gs) (hardware_of now)
+    → IsDoneAt (devices_of list totals) place Does hs gs (devices_of new totals)
+done_there list vacated new totals place was now Does served is out back does =
+    let there = is_out list totals place was served is in
+    record {
+      device = there.device;
+      before = hardware_of was;
+      after = hardware_of now;
+      is_device = there.is_device;
+      is_attached = there.is_attached;
+      kind = there.kind;
+      does = does;
+      changed = ap (λ ds. devices_of ds totals) (back ∙ ap (λ ds. with_peripheral ds place (Some now)) out) ∙ there.back now;
+    }
+
 -- a device whose peripheral isn't found has none
 pub vacant_there : {B : Type 0} (list : List Registered) (totals : Option (List ℕ)) (place : ℕ) (found : Option B) (f : B → PeripheralState)
-    → option_map f found ≡ standing_at list place → is_some found ≡ false → station_in (slice_get (devices_of list totals) place) ≡ None
-vacant_there list totals place None f is none = station_there list totals place ∙ ap (option_map station_of) (sym is)
+    → option_map f found ≡ standing_at list place → is_some found ≡ false → hardware_in (slice_get (devices_of list totals) place) ≡ None
+vacant_there list totals place None f is none = hardware_there list totals place ∙ ap (option_map hardware_of) (sym is)
 vacant_there list totals place (Some x) f is none = cc
 
 pub missing_there : (list : List Registered) (totals : Option (List ℕ)) (place : ℕ) → None ≡ standing_at list place
-    → station_in (slice_get (devices_of list totals) place) ≡ None
-missing_there list totals place none = station_there list totals place ∙ ap (option_map station_of) (sym none)
+    → hardware_in (slice_get (devices_of list totals) place) ≡ None
+missing_there list totals place none = hardware_there list totals place ∙ ap (option_map hardware_of) (sym none)
 
 -- an input fits what is found, or doesn't
 pub found_fit : (list : List Registered) (totals : Option (List ℕ)) (place : ℕ) (state : PeripheralState) (given : Input) (fits : Bool)
-    → Some state ≡ standing_at list place → input_fits state.kind given ≡ fits → FindsFit (station_in (slice_get (devices_of list totals) place)) given fits
+    → Some state ≡ standing_at list place → input_fits state.kind given ≡ fits → FindsFit (hardware_in (slice_get (devices_of list totals) place)) given fits
 found_fit list totals place state given fits is fit = record {
-  before = station_of state;
-  is_attached = station_there list totals place ∙ ap (option_map station_of) (sym is);
+  before = hardware_of state;
+  is_attached = hardware_there list totals place ∙ ap (option_map hardware_of) (sym is);
   fit = fit;
 }
 
 -- one whose peripheral is found has one
 pub attached_there : {B : Type 0} (list : List Registered) (totals : Option (List ℕ)) (place : ℕ) (found : Option B) (f : B → PeripheralState)
-    → option_map f found ≡ standing_at list place → is_some found ≡ true → IsSome (station_in (slice_get (devices_of list totals) place))
+    → option_map f found ≡ standing_at list place → is_some found ≡ true → IsSome (hardware_in (slice_get (devices_of list totals) place))
 attached_there list totals place None f is some = cc
-attached_there list totals place (Some x) f is some = subst IsSome (sym (station_there list totals place ∙ ap (option_map station_of) (sym is))) refl
+attached_there list totals place (Some x) f is some = subst IsSome (sym (hardware_there list totals place ∙ ap (option_map hardware_of) (sym is))) refl

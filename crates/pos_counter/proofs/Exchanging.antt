@@ -1,25 +1,23 @@
 -- What the registry of a counter tells of an exchange, as steps of the machine.
 use Rattle.std.proofs.Common.{◌≡◌, ◌∙◌, ℕ, ◌+◌, ◌<◌, ◌≤◌, drop, get_or, List, Option, Some, None, Result, Ok, Err, Bool, false, ap, sym, subst, refl, length}
 use Rattle.std.specs.Prelude.{◌||◌, IfErr, IsSome, slice_get, option_map, option_and_then}
-use Rattle.std.proofs.lemmas.List.{drop_all, drop_more, length-set}
+use Rattle.std.proofs.lemmas.List.{drop_all, drop_more}
 use Rattle.pos_service.specs.Peripherals.{PeripheralState}
-use Rattle.pos_service.specs.Stations.{station_of}
-use Rattle.pos_common.specs.Held.{Held, controls_of}
+use Rattle.pos_service.specs.Hardware.{hardware_of}
+use Rattle.pos_common.specs.KeptControls.{KeptControl, controls_of}
 use Rattle.pos_service.specs.declared.exchange_fault.AttachFault.{AttachFault}
 use Rattle.pos_service.specs.declared.exchange_fault.AttachFault.TheVariants as attach
 use Rattle.pos_service.specs.declared.exchange_fault.DetachFault.{DetachFault}
 use Rattle.pos_service.specs.declared.exchange_fault.DetachFault.TheVariants as detach
 use Rattle.pos_profile.specs.Places.{place_of as registered_place}
 use Rattle.pos_profile.specs.Registries.{Device as Registered, Attaches, Detaches, IsNamed, names_of, standing_at}
-use Rattle.pos_counter.specs.Machine.{Shared, device_at, kind_in, place_of, station_in}
-use Rattle.pos_counter.specs.Assembly.{ArePartsSound, over}
-use Rattle.pos_counter.specs.Serving.{ServesBeside}
+use Rattle.pos_counter.specs.Machine.{machine_with, device_at, kind_in, place_of, hardware_in}
+use Rattle.pos_counter.specs.Totals.{TotalsPart}
 use Rattle.pos_counter.specs.KeptDevices.{device_of, devices_of}
 use Rattle.pos_counter.specs.Responses.{attached, detached}
-use Rattle.pos_counter.specs.Steps.{Attach, Detach, has_open, is_open_at}
+use Rattle.pos_counter.specs.Steps.{Step, Attach, Detach, has_open, is_open_at}
 use Rattle.pos_counter.proofs.DeviceLists.{devices_with, registered_there}
 use Rattle.pos_counter.proofs.Places.{found_first, kind_last}
-use Rattle.pos_counter.proofs.Serving.{step_serves}
 
 -- the device of a name that the registry has
 named_device : (list : List Registered) (totals : Option (List ℕ)) (name : List ℕ) (d : Registered) → IsNamed list name d
@@ -28,24 +26,24 @@ named_device list totals name d is =
     ap (device_at (devices_of list totals)) (found_first name list totals is.place is.found) ∙ registered_there list totals is.place d is.at
 
 -- whether a control has a device open: the next one has it, or not
-pub open_next : (place : ℕ) (hs : List Held) (i : ℕ) (h : Held) (b : Bool) → i < length hs → h ≡ get_or hs i h → has_open place h.control ≡ b
+pub open_next : (place : ℕ) (hs : List KeptControl) (i : ℕ) (h : KeptControl) (b : Bool) → i < length hs → h ≡ get_or hs i h → has_open place h.control ≡ b
     → is_open_at place (controls_of (drop i hs)) ≡ (b || is_open_at place (controls_of (drop (i + 1) hs)))
 open_next place hs i h b lt is has =
     ap (λ xs. is_open_at place (controls_of xs)) (drop_more hs i h lt)
-    ∙ ap (λ (x : Held). has_open place x.control || is_open_at place (controls_of (drop (i + 1) hs))) (sym is)
+    ∙ ap (λ (x : KeptControl). has_open place x.control || is_open_at place (controls_of (drop (i + 1) hs))) (sym is)
     ∙ ap (λ a. a || is_open_at place (controls_of (drop (i + 1) hs))) has
 
 -- and behind the last none has
-pub open_end : (place : ℕ) (hs : List Held) (i : ℕ) → length hs ≤ i → is_open_at place (controls_of (drop i hs)) ≡ false
+pub open_end : (place : ℕ) (hs : List KeptControl) (i : ℕ) → length hs ≤ i → is_open_at place (controls_of (drop i hs)) ≡ false
 open_end place hs i le = ap (λ xs. is_open_at place (controls_of xs)) (drop_all i hs le)
 
-module _ (hs : List Held) (list new : List Registered) (totals : Option (List ℕ)) (name : List ℕ) (sound : ArePartsSound hs (devices_of list totals)) where
+module _ (hs : List KeptControl) (list new : List Registered) (totals : Option (List ℕ)) (name : List ℕ) (cl : List (Option ℕ)) (part : TotalsPart) where
   -- nothing has changed
   same_devices : new ≡ list → devices_of new totals ≡ devices_of list totals
   same_devices is = ap (λ xs. devices_of xs totals) is
 
-  same_machine : (shared : Shared) → new ≡ list → over hs (devices_of new totals) shared ≡ over hs (devices_of list totals) shared
-  same_machine shared is = ap (λ xs. over hs xs shared) (same_devices is)
+  same_machine : new ≡ list → machine_with hs cl (devices_of new totals) part ≡ machine_with hs cl (devices_of list totals) part
+  same_machine is = ap (λ xs. machine_with hs cl xs part) (same_devices is)
 
   -- what stands at a place of the registry
   registered_at : (place : ℕ) (was : PeripheralState) → standing_at list place ≡ Some was
@@ -57,77 +55,70 @@ module _ (hs : List Held) (list new : List Registered) (totals : Option (List �
       by None at stood = cc
       by (Some d) at stood = (d, at, stood)
 
-  pub attach_serves : {B : Type 0} (state : B → PeripheralState) (peripheral : B) (result : Result (Unit {0}) (AttachFault × B))
+  pub attach_step : {B : Type 0} (state : B → PeripheralState) (peripheral : B) (result : Result (Unit {0}) (AttachFault × B))
       → IfErr result (λ refusal. refusal.1 ≡ peripheral) → Attaches list name (state peripheral) result new
-      → ServesBeside hs (devices_of list totals) (Attach name (station_of (state peripheral))) (attached state result) hs (devices_of new totals)
-  attach_serves state peripheral (Ok u) back h =
+      → Step (machine_with hs cl (devices_of list totals) part) (Attach name (hardware_of (state peripheral))) (attached state result)
+      (machine_with hs cl (devices_of new totals) part)
+  attach_step state peripheral (Ok u) back h =
       let changed = ap (λ xs. devices_of xs totals) h.served ∙ devices_with list totals h.place h.may.device (Some (state peripheral)) h.may.at in
-      step_serves hs hs (devices_of list totals) (devices_of new totals) _ _ sound
-      (ap length changed ∙ length-set (devices_of list totals) h.place _) (λ shared. record {
+      record {
         place = h.place;
         device = device_of h.may.device;
         is_at = found_first name list totals h.place h.found;
         is_device = registered_there list totals h.place h.may.device h.may.at;
-        is_vacant = ap (option_map station_of) h.may.vacant;
+        is_vacant = ap (option_map hardware_of) h.may.vacant;
         kind = ap Some (sym h.may.kind);
-        machine = ap (λ xs. over hs xs shared) changed;
-      })
-  attach_serves state peripheral (Err (attach.Unknown, given)) back h =
-      step_serves hs hs (devices_of list totals) (devices_of new totals) _ _ sound (ap length (same_devices h.1))
-      (λ shared. (kind_last name list totals h.0, ap (λ b. station_of (state b)) back, same_machine shared h.1))
-  attach_serves state peripheral (Err (attach.InUse, given)) back h =
-      step_serves hs hs (devices_of list totals) (devices_of new totals) _ _ sound (ap length (same_devices h.1)) (λ shared. (
-        subst IsSome (sym (ap station_in (named_device list totals name h.0.device h.0.named) ∙ ap (option_map station_of) h.0.served)) refl,
-        ap (λ b. station_of (state b)) back,
-        same_machine shared h.1,
-      ))
-  attach_serves state peripheral (Err (attach.KindDiffers, given)) back h =
-      let there = named_device list totals name h.0.device h.0.named in
-      step_serves hs hs (devices_of list totals) (devices_of new totals) _ _ sound (ap length (same_devices h.1)) (λ shared. (
+        machine = ap (λ xs. machine_with hs cl xs part) changed;
+      }
+  attach_step state peripheral (Err (attach.Unknown, given)) back h =
+      (kind_last name list totals h.0, ap (λ b. hardware_of (state b)) back, same_machine h.1)
+  attach_step state peripheral (Err (attach.InUse, given)) back h = (
+    subst IsSome (sym (ap hardware_in (named_device list totals name h.0.device h.0.named) ∙ ap (option_map hardware_of) h.0.served)) refl,
+    ap (λ b. hardware_of (state b)) back,
+    same_machine h.1,
+  )
+  attach_step state peripheral (Err (attach.KindDiffers, given)) back h =
+      let there = named_device list totals name h.0.device h.0.named in (
         record {
           kind = h.0.device.kind;
           named = ap kind_in there;
-          is_vacant = ap station_in there ∙ ap (option_map station_of) h.0.vacant;
+          is_vacant = ap hardware_in there ∙ ap (option_map hardware_of) h.0.vacant;
           differs = h.0.kind;
         },
-        ap (λ b. station_of (state b)) back,
-        same_machine shared h.1,
-      ))
+        ap (λ b. hardware_of (state b)) back,
+        same_machine h.1,
+      )
 
-  pub detach_serves : {B : Type 0} (state : B → PeripheralState) (is_open : Bool) (result : Result B DetachFault)
+  pub detach_step : {B : Type 0} (state : B → PeripheralState) (is_open : Bool) (result : Result B DetachFault)
       → ((place : ℕ) → registered_place (names_of list) name ≡ Some place → is_open ≡ is_open_at place (controls_of hs))
       → Detaches state list name is_open result new
-      → ServesBeside hs (devices_of list totals) (Detach name) (detached state result) hs (devices_of new totals)
-  detach_serves state is_open (Ok peripheral) told h =
+      → Step (machine_with hs cl (devices_of list totals) part) (Detach name) (detached state result) (machine_with hs cl (devices_of new totals) part)
+  detach_step state is_open (Ok peripheral) told h =
       let d = registered_at h.0.place h.0.was h.0.stood in
       let changed = ap (λ xs. devices_of xs totals) h.0.vacated ∙ devices_with list totals h.0.place d.0 None d.1 in
-      step_serves hs hs (devices_of list totals) (devices_of new totals) _ _ sound
-      (ap length changed ∙ length-set (devices_of list totals) h.0.place _) (λ shared. record {
+      record {
         place = h.0.place;
         device = device_of d.0;
         is_at = found_first name list totals h.0.place h.0.found;
         is_device = registered_there list totals h.0.place d.0 d.1;
-        is_attached = ap (option_map station_of) d.2 ∙ ap (λ s. Some (station_of s)) (sym h.0.parked);
+        is_attached = ap (option_map hardware_of) d.2 ∙ ap (λ s. Some (hardware_of s)) (sym h.0.parked);
         is_closed = sym (told h.0.place h.0.found) ∙ h.1;
-        machine = ap (λ xs. over hs xs shared) changed;
-      })
-  detach_serves state is_open (Err detach.Unknown) told h =
-      step_serves hs hs (devices_of list totals) (devices_of new totals) _ _ sound (ap length (same_devices h.1))
-      (λ shared. (kind_last name list totals h.0, same_machine shared h.1))
-  detach_serves state is_open (Err detach.Vacant) told h =
-      let there = named_device list totals name h.0.device h.0.named in
-      step_serves hs hs (devices_of list totals) (devices_of new totals) _ _ sound (ap length (same_devices h.1)) (λ shared. (
-        (subst IsSome (sym (ap kind_in there)) refl, ap station_in there ∙ ap (option_map station_of) h.0.vacant),
-        same_machine shared h.1,
-      ))
-  detach_serves state is_open (Err detach.InUse) told h =
-      let named : IsNamed list name h.0.device = h.0.named in
-      step_serves hs hs (devices_of list totals) (devices_of new totals) _ _ sound (ap length (same_devices h.2)) (λ shared. (
+        machine = ap (λ xs. machine_with hs cl xs part) changed;
+      }
+  detach_step state is_open (Err detach.Unknown) told h =
+      (kind_last name list totals h.0, same_machine h.1)
+  detach_step state is_open (Err detach.Vacant) told h =
+      let there = named_device list totals name h.0.device h.0.named in (
+        (subst IsSome (sym (ap kind_in there)) refl, ap hardware_in there ∙ ap (option_map hardware_of) h.0.vacant),
+        same_machine h.1,
+      )
+  detach_step state is_open (Err detach.InUse) told h =
+      let named : IsNamed list name h.0.device = h.0.named in (
         record {
           place = named.place;
           is_at = found_first name list totals named.place named.found;
-          is_attached = subst IsSome (sym (ap station_in (named_device list totals name h.0.device named) ∙ ap (option_map station_of) h.0.served)) refl;
+          is_attached = subst IsSome (sym (ap hardware_in (named_device list totals name h.0.device named) ∙ ap (option_map hardware_of) h.0.served)) refl;
           is_open = sym (told named.place named.found) ∙ h.1;
         },
-        same_machine shared h.2,
-      ))
+        same_machine h.2,
+      )

@@ -1,7 +1,7 @@
 -- What the totals do with a call, for all that their disk may leave before it.
-use Rattle.std.proofs.Common.{◌≡◌, ◌⊎◌, inl, inr, ⊎_elim, ℕ, List, [], ◌∷◌, Option, Some, None, Result, Ok, Err, Bool, true, false, cond, not, ◌&&◌, refl, sym, ap, ◌∙◌, subst}
-use Rattle.std.specs.Prelude.{MatchOption, MatchResult, IsSome, IsTrue, is_none}
-use Rattle.pos_disk.specs.Keeps.{KeepsDisk}
+use Rattle.std.proofs.Common.{◌≡◌, ◌⊎◌, inl, inr, ⊎_elim, ℕ, List, [], ◌∷◌, ◌++◌, Option, Some, None, Result, Ok, Err, Bool, true, false, cond, not, ◌&&◌, refl}
+use Rattle.std.proofs.Common.{sym, ap, ◌∙◌, subst, arith}
+use Rattle.std.specs.Prelude.{MatchOption, MatchResult, IsSome, IsTrue, is_none, is_some}
 use Rattle.pos_disk.specs.State.{LeavesOnly, Rises}
 use Rattle.pos_disk.specs.declared.device.Disk.{Ghosts}
 use Rattle.pos_image.specs.declared.layout.Layout.{Layout}
@@ -14,24 +14,23 @@ use Rattle.pos_service.specs.declared.memory.NoMemory.{NoMemory}
 use Rattle.pos_service.specs.Calls.{takes_memory}
 use Rattle.pos_totals.specs.HardTotals.{File, Mode, Off, Ready, Totals, Change}
 use Rattle.pos_totals.specs.TotalsQuestions.{Question, refusals_of_question, MayTell}
-use Rattle.pos_totals.specs.TotalsChanges.{refusals_of_change, number_rows, given_by, Done, DoesChange}
+use Rattle.pos_totals.specs.TotalsChanges.{refusals_of_change, number_rows, given_by, Done, DoesChange, RunsOut}
 use Rattle.pos_totals.specs.TotalsArrangements.{Arrangement, ClaimFile, ReleaseFile, BeginTrans, Rollback, after_arrangement, claimed, refusals_of_arrangement}
 use Rattle.pos_totals.specs.TotalsCommits.{DoesCommit}
 use Rattle.pos_totals.specs.HardTotals.{changes_in, in_transaction, transaction_of, with_files, with_transaction}
 use Rattle.pos_totals.specs.TotalsFiles.{with_each, is_called}
 use Rattle.pos_service.specs.Refusals.{Row, Decided, first_refusal}
 use Rattle.pos_totals.specs.TotalsCalls.{FileCall, Arranges as ArrangesCall, Asks, Commits, Makes, file_call, file_rows}
-use Rattle.pos_store.proofs.Passing.{stays}
 use Rattle.pos_store.specs.Standing.{Standing, Stands, StandsForEither, LeavesOneOf}
-use Rattle.pos_totals.specs.Changes.{Arranged, Changes, CommitsBuffer, PutsGroup, HasFailed, in_doubt}
+use Rattle.pos_totals.specs.Changes.{Arranged, Changes, CommitsBuffer, IsOneGroup, PutsGroup, HasFailed, in_doubt}
 use Rattle.pos_totals.specs.Views.{TotalsView, TurnsOff, WhenOff, plain, plain_file}
 use Rattle.pos_counter.specs.DiskUse.{SparesFiles}
-use Rattle.pos_counter.specs.Serving.{CallsFiles, FilesStepped}
+use Rattle.pos_counter.specs.FileCalls.{CallsFiles, FilesStepped, IsQuiet}
 use Rattle.pos_counter.specs.History.{changes_asked}
-use Rattle.pos_counter.specs.Leaving.{Leaves, part_of}
+use Rattle.pos_counter.specs.Leaving.{IsSettled, Leaves, part_of, part_with}
 use Rattle.pos_counter.specs.Totals.{TotalsPart, TotalsDo, FilesCalled, PutsChanges, put_at_once, settled, left_after}
 use Rattle.pos_counter.proofs.Lifts.{match_cases, match_weaker, match_at_none, match_at_some}
-use Rattle.pos_counter.proofs.Serving.{OnlyNow, kept_disk, same_view}
+use Rattle.pos_counter.proofs.Serving.{settled_twice}
 
 -- ---- what is answered to a call of the totals' own
 
@@ -49,24 +48,17 @@ called_err n fc asked part want is takes none =
 
 -- ---- what a crash leaves
 
--- totals that know the same files on a disk that wasn't touched: what a crash leaves is as it was
-beside : {D : Type 0} (bound : Ghosts D) (view : TotalsView D) (totals : Totals) (left : List Standing) (n : ℕ) (asked : Call)
-    (outcome : Result Answer NoMemory) → OnlyNow bound view.disk → Leaves bound view left
-    → settled totals.layout totals.mode left ≡ settled view.totals.layout view.totals.mode left
-    → FilesCalled n asked (part_of bound view left) outcome (part_of bound (record { disk = view.disk; totals = totals }) left)
-    → FilesStepped bound left view n asked outcome (record { disk = view.disk; totals = totals })
-beside bound view totals left n asked outcome only leaves same called = record {
-  after = left;
-  leaves = record { honest = leaves.honest; leaves = leaves.leaves; is_settled = leaves.is_settled ∙ sym same };
-  answer = called;
-  any_moment = (stays (bound.state view.disk) left (λ bytes since. only bytes leaves.honest since) leaves.leaves).any_moment;
+-- totals that know the same files on a disk that wasn't touched
+quiet : {D : Type 0} (view new : TotalsView D) (totals : Totals) (n : ℕ) (asked : Call) (outcome : Result Answer NoMemory) → new.disk ≡ view.disk
+    → new.totals ≡ totals → ((left : List Standing) → settled totals.layout totals.mode left ≡ settled view.totals.layout view.totals.mode left)
+    → ((left : List Standing) (failures : ℕ) → FilesCalled n asked (part_with view.totals left failures) outcome (part_with totals left failures))
+    → IsQuiet view n asked outcome new
+quiet view new totals n asked outcome disk is same called = record {
+  disk = disk;
+  is_settled = λ left. ap (λ (t : Totals). settled t.layout t.mode left) is ∙ same left;
+  answer = λ left failures so. subst (λ (t : Totals). FilesCalled n asked (part_with view.totals left failures) outcome (part_with t left failures))
+      (sym is) (called left failures);
 }
-
--- totals that rest
-rests : {D : Type 0} (bound : Ghosts D) (view : TotalsView D) (left : List Standing) (n : ℕ) (asked : Call) (outcome : Result Answer NoMemory)
-    → OnlyNow bound view.disk → Leaves bound view left → FilesCalled n asked (part_of bound view left) outcome (part_of bound view left)
-    → FilesStepped bound left view n asked outcome view
-rests bound view left n asked outcome only leaves called = beside bound view view.totals left n asked outcome only leaves refl called
 
 -- what a crash leaves is said of the files that the totals have
 pub kept_left : (changes : List Change) (old : TotalsPart) → old.left ≡ settled old.totals.layout old.totals.mode old.left
@@ -97,11 +89,6 @@ never_turns : (mode : Mode) → TurnsOff mode mode → ⊥
 never_turns Off turns = turns
 never_turns (Ready files sequence) turns = turns
 
--- what is settled is so once
-pub settled_twice : (layout : Layout) (left : List Standing) (mode : Mode) → settled layout mode left ≡ settled layout mode (settled layout mode left)
-settled_twice layout left Off = refl
-settled_twice layout left (Ready files sequence) = refl
-
 -- what holds anyhow holds while the totals are off
 when_off : (mode : Mode) (P : Type 0) → P → WhenOff mode P
 when_off Off P holds = holds
@@ -113,21 +100,19 @@ same_disk : {D : Type 0} (old new : TotalsView D) → TurnsOff old.totals.mode n
 same_disk old new (inl turns) = inl turns
 same_disk {D = D} old new (inr same) = inr (ap (λ (v : TotalsView D). v.disk) same)
 
--- a call that spares the disk has no group of changes: it is refused, or there is nothing to put there
-no_group : (o : Option Answer) (changes : List Change) → IsSome o ⊎ (changes ≡ []) → cond (is_none o) changes [] ≡ []
-no_group (Some refusal) changes spares = refl
-no_group None changes (inl refused) = absurd cc
-no_group None changes (inr none) = none
-
 -- ---- a call that puts its changes on the disk as one group, where nothing refuses it
 
-module _ {D : Type 0} (bound : Ghosts D) (old new : TotalsView D) (only : OnlyNow bound old.disk) (n : ℕ) (asked : Call) (fc : FileCall)
+module _ {D : Type 0} (bound : Ghosts D) (old new : TotalsView D) (n : ℕ) (asked : Call) (fc : FileCall)
     (is : file_call asked ≡ fc) (takes : takes_memory asked ≡ true) (PutsThem : Type 0 → Answer → Totals → Type 0)
     (puts_fewer : (P Q : Type 0) → (P → Q) → (result : Answer) → PutsThem P result new.totals → PutsThem Q result new.totals)
+    (puts_none : (P Q : Type 0) (result : Answer) → changes_asked old.totals n fc ≡ [] → PutsThem P result new.totals → PutsThem Q result new.totals)
     (keeps_layout : (P : Type 0) (result : Answer) → PutsThem P result new.totals → new.totals.layout ≡ old.totals.layout)
-    (does_so : (left after : List Standing) (result : Answer)
-    → PutsChanges (PutsThem (Rises (bound.state old.disk).failures (bound.state new.disk).failures)) (part_of bound old left)
-    (changes_asked old.totals n fc) result (part_of bound new after) → TotalsDo fc (part_of bound old left) n result (part_of bound new after)) where
+    (keeps_mode : (P : Type 0) (result : Answer) → changes_asked old.totals n fc ≡ [] → PutsThem P result new.totals
+    → new.totals.mode ≡ old.totals.mode)
+    (does_so : (left after : List Standing) (was is : ℕ) (result : Answer)
+    → PutsChanges (PutsThem (Rises was is)) (part_with old.totals left was)
+    (changes_asked old.totals n fc) result (part_with new.totals after is)
+    → TotalsDo fc (part_with old.totals left was) n result (part_with new.totals after is)) where
   abbrev rows : List Row
   rows = file_rows old.totals n fc
 
@@ -152,12 +137,7 @@ module _ {D : Type 0} (bound : Ghosts D) (old new : TotalsView D) (only : OnlyNo
     abbrev part : TotalsPart
     part = part_of bound old left
 
-    -- a call that is refused, or finds no memory, leaves all as it is
-    rests_there : (outcome : Result Answer NoMemory) → new ≡ old → FilesCalled n asked part outcome part → FilesStepped bound left old n asked outcome new
-    rests_there outcome same called =
-        subst (λ v. FilesStepped bound left old n asked outcome v) (sym same) (rests bound old left n asked outcome only leaves called)
-
-    -- one that nothing refuses
+    -- one that nothing refuses, and that has changes
     moves : (result : Answer) → first_refusal rows ≡ None → PutsGroup bound old changes (Ok result) new → Puts result
         → FilesStepped bound left old n asked (Ok result) new
     moves result none puts does =
@@ -173,40 +153,74 @@ module _ {D : Type 0} (bound : Ghosts D) (old new : TotalsView D) (only : OnlyNo
                 (settled_twice old.totals.layout (in_doubt old.totals.layout old.totals.next left changes old.totals.mode) new.totals.mode);
           };
           answer = called_ok n fc asked part (part_of bound new after) result is (record {
-            outcome = match_at_none (first_refusal rows) _ _ none (does_so left after result (record {
-              does = puts_fewer (HasFailed bound old.disk new.disk) (Rises (bound.state old.disk).failures (bound.state new.disk).failures)
-                  (λ failed. failed leaves.honest) result does;
-              group = puts.group;
-              left = refl;
-              counts = puts.counts leaves.honest;
-              later = puts.kept.later leaves.honest;
-            }));
+            outcome = match_at_none (first_refusal rows) _ _ none (does_so left after (bound.state old.disk).failures
+                (bound.state new.disk).failures result (record {
+                  does = puts_fewer (HasFailed bound old.disk new.disk) (Rises (bound.state old.disk).failures (bound.state new.disk).failures)
+                      (λ failed. failed leaves.honest) result does;
+                  group = puts.group;
+                  left = refl;
+                  counts = puts.counts leaves.honest;
+                  later = puts.kept.later leaves.honest;
+                }));
           });
           any_moment = subst (λ l. LeavesOnly (bound.state old.disk) (bound.state new.disk) (StandsForEither l after))
               (sym leaves.is_settled) passes.any_moment;
         }
 
-    by_table : (outcome : Result Answer NoMemory) → IsTold outcome → PutsGroup bound old (cond (is_none (first_refusal rows)) changes []) outcome new
-        → (o : Option Answer) → first_refusal rows ≡ o → FilesStepped bound left old n asked outcome new
-    by_table (Ok result) told puts (Some refusal) e =
-        let y = subst (λ o. MatchOption o (Puts result) (λ refusal. (result ≡ refusal) × (new.totals ≡ old.totals))) e told.outcome in
-        let untouched = puts.untouched (ap (λ (o : Option Answer). cond (is_none o) changes []) e) in
-        rests_there (Ok result) (same_view old new old.totals untouched y.1)
-        (called_ok n fc asked part part result is (record { outcome = match_at_some (first_refusal rows) refusal _ _ e (y.0, refl) }))
-    by_table (Err want) told puts (Some refusal) e = let bad = sym e ∙ told.0 in cc
-    by_table (Err want) told puts None e = rests_there (Err want) (rested (puts.unchanged (λ h. h)) told.1) (called_err n fc asked part want is takes e)
-    by_table (Ok result) told puts None e =
-        moves result e (subst (λ g. PutsGroup bound old g (Ok result) new) (ap (λ (o : Option Answer). cond (is_none o) changes []) e) puts)
-        (subst (λ o. MatchOption o (Puts result) (λ refusal. (result ≡ refusal) × (new.totals ≡ old.totals))) e told.outcome)
+  -- one that nothing refuses, and that has none
+  rests : (left : List Standing) (failures : ℕ) (result : Answer) → IsSettled old.totals left → first_refusal rows ≡ None → changes ≡ []
+      → IsOneGroup old.totals changes → Puts result → FilesCalled n asked (part_with old.totals left failures) (Ok result)
+      (part_with new.totals left failures)
+  rests left failures result so none empty group does =
+      let mode = keeps_mode (HasFailed bound old.disk new.disk) result empty does in
+      let over = part_with old.totals left failures in
+      called_ok n fc asked over (part_with new.totals left failures) result is (record {
+        outcome = match_at_none (first_refusal rows) _ _ none (does_so left left failures failures result (record {
+          does = puts_none (HasFailed bound old.disk new.disk) (Rises failures failures) result empty does;
+          group = group;
+          left = sym (ap (λ m. left_after over changes m) mode ∙ kept_left changes over so);
+          counts = inr refl;
+          later = omega arith;
+        }));
+      })
+
+  unrefused : (result : Answer) → first_refusal rows ≡ None → PutsGroup bound old changes (Ok result) new → Puts result → (cs : List Change)
+      → changes ≡ cs → CallsFiles bound old n asked (Ok result) new
+  unrefused result none puts does [] empty = inl (record {
+    disk = puts.untouched empty;
+    is_settled = λ left. ap (λ l. settled l new.totals.mode left) (keeps_layout (HasFailed bound old.disk new.disk) result does)
+        ∙ ap (λ m. settled old.totals.layout m left) (keeps_mode (HasFailed bound old.disk new.disk) result empty does);
+    answer = λ left failures so. rests left failures result so none empty puts.group does;
+  })
+  unrefused result none puts does (change ∷ cs) some = inr (record {
+    uses = λ spares. by (subst (λ c. SparesFiles old.totals n c) is spares);
+    steps = λ left leaves. moves left leaves result none puts does;
+    unchanged = λ undone. same_disk old new (puts.unchanged undone);
+    kept = puts.kept;
+  })
+    where
+      by : SparesFiles old.totals n fc → ⊥
+      by (inl refused) = let no : false ≡ true = subst IsSome none refused in cc
+      by (inr empty) = let no : [] ≡ change ∷ cs = sym empty ∙ some in cc
+
+  by_table : (outcome : Result Answer NoMemory) → IsTold outcome → PutsGroup bound old (cond (is_none (first_refusal rows)) changes []) outcome new
+      → (o : Option Answer) → first_refusal rows ≡ o → CallsFiles bound old n asked outcome new
+  by_table (Ok result) told puts (Some refusal) e =
+      let y = subst (λ o. MatchOption o (Puts result) (λ refusal. (result ≡ refusal) × (new.totals ≡ old.totals))) e told.outcome in
+      inl (quiet old new old.totals n asked (Ok result) (puts.untouched (ap (λ (o : Option Answer). cond (is_none o) changes []) e)) y.1 (λ left. refl)
+      (λ left failures. called_ok n fc asked (part_with old.totals left failures) (part_with old.totals left failures) result is
+      (record { outcome = match_at_some (first_refusal rows) refusal _ _ e (y.0, refl) })))
+  by_table (Err want) told puts (Some refusal) e = let bad = sym e ∙ told.0 in cc
+  by_table (Err want) told puts None e =
+      inl (quiet old new old.totals n asked (Err want) (ap (λ (v : TotalsView D). v.disk) (rested (puts.unchanged (λ h. h)) told.1)) told.1 (λ left. refl)
+      (λ left failures. called_err n fc asked (part_with old.totals left failures) want is takes e))
+  by_table (Ok result) told puts None e =
+      unrefused result e (subst (λ g. PutsGroup bound old g (Ok result) new) (ap (λ (o : Option Answer). cond (is_none o) changes []) e) puts)
+      (subst (λ o. MatchOption o (Puts result) (λ refusal. (result ≡ refusal) × (new.totals ≡ old.totals))) e told.outcome) changes refl
 
   pub group_calls : (outcome : Result Answer NoMemory) → IsTold outcome
       → PutsGroup bound old (cond (is_none (first_refusal rows)) changes []) outcome new → CallsFiles bound old n asked outcome new
-  group_calls outcome told puts = record {
-    steps = λ left leaves. by_table left leaves outcome told puts (first_refusal rows) refl;
-    untouched = λ spares. puts.untouched (no_group (first_refusal rows) changes (subst (λ c. SparesFiles old.totals n c) is spares));
-    unchanged = λ undone. same_disk old new (puts.unchanged undone);
-    kept = puts.kept;
-  }
+  group_calls outcome told puts = by_table outcome told puts (first_refusal rows) refl
 
 -- the disk fails for a weaker cause
 fails_so : (P Q : Type 0) → (P → Q) → (old : Totals) (changes : List Change) (given : Value) (result : Answer) (new : Totals)
@@ -245,6 +259,24 @@ change_layout P old n change result new does =
       | inr x ↦ ap (λ (t : Totals). t.layout) x.2.1
     ]
 
+-- a change that isn't put there at once is buffered, whether the disk fails or not
+change_buffered : (P Q : Type 0) (old : Totals) (n : ℕ) (change : Change) (result : Answer) (new : Totals)
+    → put_at_once (in_transaction old n) change ≡ [] → DoesChange P old n change result new
+    → DoesChange Q old n change result new × (new.mode ≡ old.mode)
+change_buffered P Q old n change result new none does = by (transaction_of old n) none does
+  where
+    AtOnce : Type 0 → Type 0
+    AtOnce R = Decided (number_rows old change) result (new ≡ old)
+        (RunsOut old result new ⊎ Done R old (change ∷ []) (given_by old.next change) result new)
+
+    Buffers : List Change → Type 0
+    Buffers buffer = (result ≡ answer.Done value.Empty) × (new ≡ with_transaction old n (Some (buffer ++ change ∷ [])))
+
+    by : (o : Option (List Change)) → put_at_once (is_some o) change ≡ [] → MatchOption o (AtOnce P) Buffers
+        → MatchOption o (AtOnce Q) Buffers × (new.mode ≡ old.mode)
+    by None none does = absurd cc
+    by (Some buffer) none does = (does, ap (λ (t : Totals). t.mode) does.1)
+
 -- the group of a change is what it puts there at once, where nothing refuses it
 at_once : (o : Option Answer) (transacting : Bool) (change : Change)
     → cond (is_none o && not transacting) (change ∷ []) [] ≡ cond (is_none o) (put_at_once transacting change) []
@@ -254,12 +286,15 @@ at_once None false change = refl
 
 -- a call that asks for a change
 pub change_calls : {D : Type 0} (bound : Ghosts D) (view new : TotalsView D) (n : ℕ) (change : Change) (asked : Call)
-    (outcome : Result Answer NoMemory) → OnlyNow bound view.disk → file_call asked ≡ Makes change → takes_memory asked ≡ true
+    (outcome : Result Answer NoMemory) → file_call asked ≡ Makes change → takes_memory asked ≡ true
     → Changes bound view n change outcome new → CallsFiles bound view n asked outcome new
-change_calls bound view new n change asked outcome only is takes changes =
-    group_calls bound view new only n asked (Makes change) is takes (λ P result totals. DoesChange P view.totals n change result totals)
+change_calls bound view new n change asked outcome is takes changes =
+    group_calls bound view new n asked (Makes change) is takes (λ P result totals. DoesChange P view.totals n change result totals)
     (λ P Q to result does. change_so P Q to view.totals n change result new.totals does)
-    (λ P result does. change_layout P view.totals n change result new.totals does) (λ left after result puts. puts) outcome changes.answer
+    (λ P Q result none does. (change_buffered P Q view.totals n change result new.totals none does).0)
+    (λ P result does. change_layout P view.totals n change result new.totals does)
+    (λ P result none does. (change_buffered P P view.totals n change result new.totals none does).1)
+    (λ left after was is result puts. puts) outcome changes.answer
     (subst (λ g. PutsGroup bound view g outcome new)
     (at_once (first_refusal (refusals_of_change view.totals n change)) (in_transaction view.totals n) change) changes.disk)
 
@@ -278,17 +313,26 @@ commit_layout P old n (change ∷ changes) result new does =
     ⊎_elim (λ out. ap (λ (t : Totals). t.layout) out.2)
     (λ done. done_layout P (with_transaction old n None) (change ∷ changes) value.Empty result new done) does
 
+-- a commit of nothing ends the transaction, whether the disk fails or not
+commit_of_none : (P Q : Type 0) (old : Totals) (n : ℕ) (changes : List Change) (result : Answer) (new : Totals) → changes ≡ []
+    → DoesCommit P old (with_transaction old n None) changes result new
+    → DoesCommit Q old (with_transaction old n None) changes result new × (new.mode ≡ old.mode)
+commit_of_none P Q old n [] result new none does = (does, ap (λ (t : Totals). t.mode) does.1)
+commit_of_none P Q old n (change ∷ changes) result new none does = absurd cc
+
 -- a call that commits
 pub commit_calls : {D : Type 0} (bound : Ghosts D) (view new : TotalsView D) (n : ℕ) (asked : Call) (outcome : Result Answer NoMemory)
-    → OnlyNow bound view.disk → file_call asked ≡ Commits → takes_memory asked ≡ true → CommitsBuffer bound view n outcome new
+    → file_call asked ≡ Commits → takes_memory asked ≡ true → CommitsBuffer bound view n outcome new
     → CallsFiles bound view n asked outcome new
-commit_calls bound view new n asked outcome only is takes commits =
+commit_calls bound view new n asked outcome is takes commits =
     let ended = with_transaction view.totals n None in
     let buffered = changes_in (transaction_of view.totals n) in
-    group_calls bound view new only n asked Commits is takes (λ P result totals. DoesCommit P view.totals ended buffered result totals)
+    group_calls bound view new n asked Commits is takes (λ P result totals. DoesCommit P view.totals ended buffered result totals)
     (λ P Q to result does. commit_so P Q to view.totals ended buffered result new.totals does)
+    (λ P Q result none does. (commit_of_none P Q view.totals n buffered result new.totals none does).0)
     (λ P result does. commit_layout P view.totals n buffered result new.totals does)
-    (λ left after result puts. puts) outcome commits.answer commits.disk
+    (λ P result none does. (commit_of_none P P view.totals n buffered result new.totals none does).1)
+    (λ left after was is result puts. puts) outcome commits.answer commits.disk
 
 -- ---- an arrangement
 
@@ -302,59 +346,51 @@ arranged_settled old n Rollback left = refl
 
 -- a call that makes an arrangement
 pub arrangement_calls : {D : Type 0} (bound : Ghosts D) (view new : TotalsView D) (n : ℕ) (arrangement : Arrangement) (asked : Call)
-    (result : Answer) → OnlyNow bound view.disk → file_call asked ≡ ArrangesCall arrangement → Arranged view n arrangement result new
+    (result : Answer) → file_call asked ≡ ArrangesCall arrangement → Arranged view n arrangement result new
     → CallsFiles bound view n asked (Ok result) new
-arrangement_calls {D = D} bound view new n arrangement asked result only is arranged = record {
-  steps = λ left leaves. by_table left leaves (first_refusal rows) refl;
-  untouched = λ spares. arranged.disk;
-  unchanged = λ undone. inr arranged.disk;
-  kept = subst (λ d. KeepsDisk bound view.disk d) (sym arranged.disk) (kept_disk bound view.disk);
-}
+arrangement_calls bound view new n arrangement asked result is arranged = by_table (first_refusal rows) refl
   where
     rows : List Row
     rows = refusals_of_arrangement view.totals n arrangement
 
-    by_table : (left : List Standing) → Leaves bound view left → (o : Option Answer) → first_refusal rows ≡ o
-        → FilesStepped bound left view n asked (Ok result) new
-    by_table left leaves (Some refusal) e =
+    called : (totals : Totals) (left : List Standing) (failures : ℕ)
+        → Decided rows result (part_with totals left failures ≡ part_with view.totals left failures) (TotalsDo (ArrangesCall arrangement)
+        (part_with view.totals left failures) n result (part_with totals left failures))
+        → FilesCalled n asked (part_with view.totals left failures) (Ok result) (part_with totals left failures)
+    called totals left failures d = called_ok n (ArrangesCall arrangement) asked (part_with view.totals left failures) (part_with totals left failures)
+        result is d
+
+    by_table : (o : Option Answer) → first_refusal rows ≡ o → CallsFiles bound view n asked (Ok result) new
+    by_table (Some refusal) e =
         let y = subst (λ o. MatchOption o ((result ≡ answer.Done value.Empty) × (new.totals ≡ after_arrangement view.totals n arrangement))
         (λ refusal. (result ≡ refusal) × (new.totals ≡ view.totals))) e arranged.answer.outcome in
-        let part = part_of bound view left in
-        subst (λ v. FilesStepped bound left view n asked (Ok result) v) (sym (same_view view new view.totals arranged.disk y.1))
-        (rests bound view left n asked (Ok result) only leaves
-        (called_ok n (ArrangesCall arrangement) asked part part result is (record { outcome = match_at_some (first_refusal rows) refusal _ _ e (y.0, refl) })))
-    by_table left leaves None e =
+        inl (quiet view new view.totals n asked (Ok result) arranged.disk y.1 (λ left. refl)
+        (λ left failures. called view.totals left failures (record { outcome = match_at_some (first_refusal rows) refusal _ _ e (y.0, refl) })))
+    by_table None e =
         let y = subst (λ o. MatchOption o ((result ≡ answer.Done value.Empty) × (new.totals ≡ after_arrangement view.totals n arrangement))
         (λ refusal. (result ≡ refusal) × (new.totals ≡ view.totals))) e arranged.answer.outcome in
         let totals = after_arrangement view.totals n arrangement in
-        let after : TotalsView D = record { disk = view.disk; totals = totals } in
-        subst (λ v. FilesStepped bound left view n asked (Ok result) v) (sym (same_view view new totals arranged.disk y.1))
-        (beside bound view totals left n asked (Ok result) only leaves (arranged_settled view.totals n arrangement left)
-        (called_ok n (ArrangesCall arrangement) asked (part_of bound view left) (part_of bound after left) result is
-        (record { outcome = match_at_none (first_refusal rows) _ _ e (y.0, refl) })))
+        inl (quiet view new totals n asked (Ok result) arranged.disk y.1 (arranged_settled view.totals n arrangement)
+        (λ left failures. called totals left failures (record { outcome = match_at_none (first_refusal rows) _ _ e (y.0, refl) })))
 
 -- ---- a question
 
 -- a call that asks about the files
 pub question_calls : {D : Type 0} (bound : Ghosts D) (view : TotalsView D) (n : ℕ) (question : Question) (asked : Call)
-    (outcome : Result Answer NoMemory) → OnlyNow bound view.disk → file_call asked ≡ Asks question
+    (outcome : Result Answer NoMemory) → file_call asked ≡ Asks question
     → (takes_memory asked ≡ true) ⊎ ((a : Answer) × (outcome ≡ Ok a)) → MayTell view.totals n question outcome → CallsFiles bound view n asked outcome view
-question_calls bound view n question asked outcome only is takes tells = record {
-  steps = λ left leaves. rests bound view left n asked outcome only leaves (told left outcome takes tells);
-  untouched = λ spares. refl;
-  unchanged = λ undone. inr refl;
-  kept = kept_disk bound view.disk;
-}
+question_calls bound view n question asked outcome is takes tells =
+    inl (quiet view view view.totals n asked outcome refl refl (λ left. refl) (λ left failures. told left failures outcome takes tells))
   where
-    told : (left : List Standing) (o : Result Answer NoMemory) → (takes_memory asked ≡ true) ⊎ ((a : Answer) × (o ≡ Ok a))
-        → MayTell view.totals n question o → FilesCalled n asked (part_of bound view left) o (part_of bound view left)
-    told left (Ok result) takes h =
-        let part = part_of bound view left in
+    told : (left : List Standing) (failures : ℕ) (o : Result Answer NoMemory) → (takes_memory asked ≡ true) ⊎ ((a : Answer) × (o ≡ Ok a))
+        → MayTell view.totals n question o → FilesCalled n asked (part_with view.totals left failures) o (part_with view.totals left failures)
+    told left failures (Ok result) takes h =
+        let part = part_with view.totals left failures in
         called_ok n (Asks question) asked part part result is (record {
           outcome = match_weaker (first_refusal (refusals_of_question view.totals n question)) _ _ _ _ (λ y. (y, refl)) (λ refusal y. (y.0, refl)) h.outcome;
         })
-    told left (Err want) (inl takes) h = called_err n (Asks question) asked (part_of bound view left) want is takes h
-    told left (Err want) (inr fine) h =
+    told left failures (Err want) (inl takes) h = called_err n (Asks question) asked (part_with view.totals left failures) want is takes h
+    told left failures (Err want) (inr fine) h =
         let bad : Err want ≡ Ok fine.0 = fine.1 in
         let none : ⊥ = cc in
         absurd none

@@ -4,7 +4,7 @@ pub mod Deeds
 pub mod DeviceLists
 pub mod Cursors
 pub mod Sound
-pub mod Stations
+pub mod Hardware
 pub mod Runs
 pub mod Parking
 pub mod Serving
@@ -13,6 +13,7 @@ pub mod Beginning
 pub mod Claiming
 pub mod FileCalls
 pub mod TotalsSteps
+pub mod Sparing
 pub mod Recovering
 pub mod Prefixes
 pub mod PrefixSteps

@@ -1,7 +1,8 @@
 -- From what a call does to one control to what it does to the machine.
-use Rattle.std.proofs.Common.{◌≡◌, ℕ, ◌<◌, ◌⊎◌, inl, inr, List, Option, Some, None, Result, Ok, Err, get_or, set, length, ap, sym, ◌∙◌, subst, refl}
+use Rattle.std.proofs.Common.{◌≡◌, ◌++◌, ◌∷◌, [], ℕ, ◌<◌, ◌⊎◌, inl, inr, List, Option, Some, None, Result, Ok, Err, get_or, set, length, ap, sym, ◌∙◌, subst}
+use Rattle.std.proofs.Common.{refl}
 use Rattle.std.specs.Prelude.{MatchOption, slice_get, option_map}
-use Rattle.std.proofs.lemmas.List.{map-set, set-get_or}
+use Rattle.std.proofs.lemmas.List.{get_or_default, length-map, map-set, map_push, set-get_or}
 use Rattle.std.proofs.lemmas.Option.{slice_get-map, slice_get-get_or}
 use Rattle.pos_service.specs.declared.answer.Answer.{Answer}
 use Rattle.pos_service.specs.declared.call.Call.TheVariants as call
@@ -10,17 +11,19 @@ use Rattle.pos_service.specs.declared.property.Property.{Property}
 use Rattle.pos_service.specs.Properties.{get_rows, property_of}
 use Rattle.pos_service.specs.declared.event.Event.{Event}
 use Rattle.pos_service.specs.declared.event.ErrorReply.{ErrorReply}
-use Rattle.pos_service.specs.Controls.{Control, deliverable, delivered}
-use Rattle.pos_counter.specs.Machine.{Device, Machine, Shared, holder_of, with_control}
+use Rattle.pos_service.specs.Controls.{Control, deliverable, delivered, new_control}
+use Rattle.pos_service.specs.declared.category.Category.{Category}
+use Rattle.pos_totals.specs.HardTotals.{with_control as with_place}
+use Rattle.pos_counter.specs.Machine.{Device, Machine, machine_with, holder_of, with_control}
 use Rattle.pos_service.specs.Refusals.{Row, Decided, first_refusal}
 use Rattle.pos_counter.specs.Responses.{answered}
-use Rattle.pos_counter.specs.Steps.{Step, CallOf, Deliver, Delivered, facts_of}
-use Rattle.pos_common.specs.Held.{Gets, Held, controls_of}
-use Rattle.pos_counter.specs.Assembly.{over}
+use Rattle.pos_counter.specs.Totals.{TotalsPart}
+use Rattle.pos_counter.specs.Steps.{Step, CallOf, Deliver, Delivered, Made, NewControl, facts_of, most_controls}
+use Rattle.pos_common.specs.KeptControls.{Gets, KeptControl, controls_of}
 
 -- the machine of some controls, devices and totals
-abbrev with_controls : List Control → List Device → Shared → Machine
-with_controls controls devices shared = record { controls = controls; devices = devices; claims = shared.claims; totals = shared.totals }
+abbrev with_controls : List Control → List Device → List (Option ℕ) → TotalsPart → Machine
+with_controls controls devices cl part = record { controls = controls; devices = devices; claims = cl; totals = part }
 
 -- a match was of none, or of some
 pub match_cases : {A : Type 0} (o : Option A) (P : Type 0) (R : A → Type 0) → MatchOption o P R → ((o ≡ None) × P) ⊎ ((a : A) × (o ≡ Some a) × R a)
@@ -45,31 +48,61 @@ pub match_at_none : {A : Type 0} (o : Option A) (P : Type 0) (R : A → Type 0) 
 match_at_none o P R e p = subst (λ x. MatchOption x P R) (sym e) p
 
 -- the control with a number that is given, as the machine sees it
-pub control_at : (hs : List Held) (n : ℕ) (d : Held) → n < length hs → slice_get (controls_of hs) n ≡ Some (get_or hs n d).control
-control_at hs n d lt = slice_get-map (λ (h : Held). h.control) hs n ∙ ap (option_map (λ (h : Held). h.control)) (slice_get-get_or hs n d lt)
+pub control_at : (hs : List KeptControl) (n : ℕ) (d : KeptControl) → n < length hs → slice_get (controls_of hs) n ≡ Some (get_or hs n d).control
+control_at hs n d lt = slice_get-map (λ (h : KeptControl). h.control) hs n ∙ ap (option_map (λ (h : KeptControl). h.control)) (slice_get-get_or hs n d lt)
+
+-- the control that is kept at a place, as the machine sees it
+pub kept_at : (hs : List KeptControl) (n : ℕ) (h : KeptControl) → n < length hs → h ≡ get_or hs n h → slice_get (controls_of hs) n ≡ Some h.control
+kept_at hs n h lt is = control_at hs n h lt ∙ ap (λ (k : KeptControl). Some k.control) (sym is)
+
+-- it is one
+pub kept_same : (hs : List KeptControl) (n : ℕ) (h k : KeptControl) → n < length hs → h ≡ get_or hs n h → k ≡ get_or hs n k → h ≡ k
+kept_same hs n h k lt is also = is ∙ get_or_default hs n h k lt ∙ sym also
 
 -- the machine with other controls
-pub over_same : (cs ds : List Control) (devices : List Device) (shared : Shared) → cs ≡ ds → with_controls cs devices shared ≡ with_controls ds devices shared
-over_same cs ds devices shared e = ap (λ (c : List Control). with_controls c devices shared) e
+pub over_same : (cs ds : List Control) (devices : List Device) (cl : List (Option ℕ)) (part : TotalsPart) → cs ≡ ds
+    → with_controls cs devices cl part ≡ with_controls ds devices cl part
+over_same cs ds devices cl part e = ap (λ (c : List Control). with_controls c devices cl part) e
+
+-- the machine with one control in the place of another
+pub set_machine : (hs : List KeptControl) (cl : List (Option ℕ)) (ds : List Device) (part : TotalsPart) (n : ℕ) (g : KeptControl) (c : Control) → g.control ≡ c
+    → machine_with (set hs n g) cl ds part ≡ with_control (machine_with hs cl ds part) n c
+set_machine hs cl ds part n g c e = over_same _ _ ds cl part (map-set (λ (h : KeptControl). h.control) hs n g ∙ ap (set (controls_of hs) n) e)
 
 -- a call that is decided on one control is decided on the machine
-pub decided_at : (hs : List Held) (ds : List Device) (shared : Shared) (n : ℕ) (g h : Held) (rows : List Row) (r : Answer) (Done : Type 0)
-    (c : Control) → h ≡ get_or hs n h → Decided rows r (g ≡ h) (Done × (g.control ≡ c))
-    → Decided rows r (over (set hs n g) ds shared ≡ over hs ds shared) (Done × (over (set hs n g) ds shared ≡ with_control (over hs ds shared) n c))
-decided_at hs ds shared n g h rows r Done c e x = record {
+pub decided_at : (hs : List KeptControl) (ds : List Device) (cl : List (Option ℕ)) (part : TotalsPart) (n : ℕ) (g h : KeptControl) (rows : List Row)
+    (r : Answer)
+    (Done : Type 0) (c : Control) → h ≡ get_or hs n h → Decided rows r (g ≡ h) (Done × (g.control ≡ c))
+    → Decided rows r (machine_with (set hs n g) cl ds part ≡ machine_with hs cl ds part)
+    (Done × (machine_with (set hs n g) cl ds part ≡ with_control (machine_with hs cl ds part) n c))
+decided_at hs ds cl part n g h rows r Done c e x = record {
   outcome = match_weaker (first_refusal rows) _ _ _ _
-      (λ y. (y.0, over_same _ _ ds shared (map-set (λ (k : Held). k.control) hs n g ∙ ap (set (controls_of hs) n) y.1)))
-      (λ refusal y. (y.0, ap (λ (ks : List Held). over ks ds shared) (ap (set hs n) (y.1 ∙ e) ∙ set-get_or hs n h)))
+      (λ y. (y.0, set_machine hs cl ds part n g c y.1))
+      (λ refusal y. (y.0, ap (λ (ks : List KeptControl). machine_with ks cl ds part) (ap (set hs n) (y.1 ∙ e) ∙ set-get_or hs n h)))
       x.outcome;
 }
 
 -- a delivery to a control is a step
-pub deliver_step : (hs : List Held) (ds : List Device) (shared : Shared) (n : ℕ) (reply : ErrorReply) (event : Option Event) (g h : Held)
-    → n < length hs → h ≡ get_or hs n h → event ≡ deliverable h.control → g.control ≡ delivered reply h.control
-    → Step (over hs ds shared) (Deliver n reply) (Delivered event) (over (set hs n g) ds shared)
-deliver_step hs ds shared n reply event g h lt is first rest =
-    match_at_some _ h.control _ _ (control_at hs n h lt ∙ ap (λ (k : Held). Some k.control) (sym is))
-    (first, over_same _ _ ds shared (map-set (λ (k : Held). k.control) hs n g ∙ ap (set (controls_of hs) n) rest))
+pub deliver_step : (hs : List KeptControl) (ds : List Device) (cl : List (Option ℕ)) (part : TotalsPart) (n : ℕ) (reply : ErrorReply)
+    (event : Option Event) (g h : KeptControl) → n < length hs → h ≡ get_or hs n h → event ≡ deliverable h.control → g.control ≡ delivered reply h.control
+    → Step (machine_with hs cl ds part) (Deliver n reply) (Delivered event) (machine_with (set hs n g) cl ds part)
+deliver_step hs ds cl part n reply event g h lt is first rest =
+    match_at_some _ h.control _ _ (kept_at hs n h lt is)
+    (first, set_machine hs cl ds part n g (delivered reply h.control) rest)
+
+-- a new control is a step
+pub made_step : (hs gs : List KeptControl) (cl : List (Option ℕ)) (ds : List Device) (part : TotalsPart) (k : Category) (h : KeptControl) (number : ℕ)
+    → number < most_controls → number ≡ length hs → gs ≡ hs ++ h ∷ [] → h.control ≡ new_control k
+    → Step (machine_with hs cl ds part) (NewControl tt k) (Made number) (machine_with gs cl ds (record part { totals = with_place part.totals }))
+made_step hs gs cl ds part k h number room many is new = (
+  subst (λ n. n < most_controls) count room,
+  count,
+  over_same (controls_of gs) (controls_of hs ++ new_control k ∷ []) ds cl (record part { totals = with_place part.totals })
+      (ap controls_of is ∙ map_push (λ (d : KeptControl). d.control) hs h ∙ ap (λ (c : Control). controls_of hs ++ c ∷ []) new),
+)
+  where
+    count : number ≡ length (controls_of hs)
+    count = many ∙ sym (length-map hs (λ (d : KeptControl). d.control))
 
 -- a property that is told, or for which there is no memory, is a step
 pub get_step : (m : Machine) (n : ℕ) (c : Control) (p : Property) (r : Result Answer NoMemory) → slice_get m.controls n ≡ Some c

@@ -3,18 +3,18 @@ use Rattle.std.proofs.Common.{◌≡◌, [], ◌∷◌, ℕ, List, Option, Some,
 use Rattle.std.specs.Prelude.{All, IfSome, filter, option_map}
 use Rattle.std.proofs.lemmas.List.Elements.{All-map}
 use Rattle.pos_service.specs.Peripherals.{PeripheralState}
-use Rattle.pos_service.specs.Stations.{Station, station_of}
+use Rattle.pos_service.specs.Hardware.{Hardware, hardware_of}
 use Rattle.pos_profile.specs.Registries.{Device as Registered, parked, parked_state}
 use Rattle.pos_counter.specs.Machine.{Device}
 use Rattle.pos_counter.specs.KeptDevices.{device_of, devices_of, has_kind}
 
 -- a device whose peripheral is out of service is to the machine as it was
-still : (o : Option PeripheralState) → option_map station_of (option_map parked_state o) ≡ option_map station_of o
+still : (o : Option PeripheralState) → option_map hardware_of (option_map parked_state o) ≡ option_map hardware_of o
 still None = refl
 still (Some state) = refl
 
 parked_device : (d : Registered) → device_of (parked d) ≡ device_of d
-parked_device d = ap (λ (o : Option Station). let x : Device = record { name = d.name; kind = Some d.kind; station = o } in x) (still d.peripheral)
+parked_device d = ap (λ (o : Option Hardware). let x : Device = record { name = d.name; kind = Some d.kind; hardware = o } in x) (still d.peripheral)
 
 -- so are the devices that may have a peripheral
 pub devices_stay : (list : List Registered) (totals : Option (List ℕ)) → map device_of (map parked list) ≡ filter has_kind (devices_of list totals)

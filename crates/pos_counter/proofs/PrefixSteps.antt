@@ -20,7 +20,8 @@ use Rattle.pos_service.specs.Claims.{after_release}
 use Rattle.pos_service.specs.Controls.{Control, closed}
 use Rattle.pos_service.specs.Calls.{has_call, is_category, is_common, needs_of, row_of}
 use Rattle.pos_service.specs.Needs.{table}
-use Rattle.pos_totals.specs.HardTotals.{File, Totals, Mode, Off, Ready, Change, IsAmong, sequences_after, files_of, is_ready, with_files, with_transaction, changes_in, in_transaction, transaction_of, after_disk_fault}
+use Rattle.pos_totals.specs.HardTotals.{File, Totals, Mode, Off, Ready, Change, IsAmong, sequences_after, files_of, is_ready, with_files, with_transaction}
+use Rattle.pos_totals.specs.HardTotals.{changes_in, in_transaction, transaction_of, after_disk_fault}
 use Rattle.pos_totals.specs.TotalsChanges.{Done, DoesTogether, mode_after, files_after_all, number_rows, given_by, RunsOut}
 use Rattle.pos_totals.specs.TotalsCommits.{DoesCommit}
 use Rattle.pos_totals.specs.TotalsFiles.{is_called, with_each}
@@ -28,11 +29,11 @@ use Rattle.pos_totals.specs.TotalsClaims.{is_own_claim}
 use Rattle.pos_totals.specs.TotalsArrangements.{claimed as claimed_file}
 use Rattle.pos_totals.specs.TotalsArrangements.{Arrangement, ClaimFile, ReleaseFile, BeginTrans, Rollback, after_arrangement}
 use Rattle.pos_service.specs.Refusals.{Row, Decided, first_refusal}
-use Rattle.pos_service.specs.Stations.{Effect}
+use Rattle.pos_service.specs.Hardware.{Effect}
 use Rattle.pos_totals.specs.TotalsCalls.{FileCall, Arranges, Asks, Commits, Makes, Nothing, file_call}
 use Rattle.pos_disk.specs.State.{Rises}
 use Rattle.pos_store.specs.Layouts.{limits_of}
-use Rattle.pos_store.specs.Modes.{Ready as StoreReady}
+use Rattle.pos_store.specs.StoreViews.{Ready as StoreReady}
 use Rattle.pos_store.specs.Standing.{Stands, IsOneOf}
 use Rattle.pos_totals.specs.Changes.{IsOneGroup, in_doubt}
 use Rattle.pos_totals.specs.Groups.{group_of}
@@ -41,12 +42,15 @@ use Rattle.pos_totals.specs.Views.{plain, stored}
 use Rattle.pos_counter.specs.DiskUse.{IsUndone}
 use Rattle.pos_counter.specs.History.{NothingDone, changes_asked, event_between, event_of}
 use Rattle.pos_counter.specs.Machine.{Machine, holder_of, with_control}
-use Rattle.pos_counter.specs.Steps.{Request, NewControl, CallOf, InputTo, WorkOn, Deliver, Snapshot, Attach, Detach, Response, Made, Full, Answered, TakenIn, NoDevice, WrongInput, Worked, Delivered, Shown, Attached, NotAttached, Detached, NotDetached, OutOfMemory, OnStation, Step, Called, Does, CategoryDoes, Sets, SetsByRecovery, category_rows, refusals, claimed, dropped, released}
-use Rattle.pos_counter.specs.Totals.{TotalsPart, ChangesTotals, CommitsTotals, TotalsDo, Recovered, asks_recovery, is_totals, left_after, put_at_once, recovers, settled}
+use Rattle.pos_counter.specs.Steps.{Request, NewControl, CallOf, InputTo, WorkOn, Deliver, Snapshot, Attach, Detach, Response, Made, Full, Answered, TakenIn}
+use Rattle.pos_counter.specs.Steps.{NoDevice, WrongInput, Worked, Delivered, Shown, Attached, NotAttached, Detached, NotDetached, OutOfMemory, OnHardware, Step}
+use Rattle.pos_counter.specs.Steps.{Called, Does, CategoryDoes, Sets, SetsByRecovery, category_rows, refusals, claimed, dropped, released}
+use Rattle.pos_counter.specs.Totals.{TotalsPart, ChangesTotals, CommitsTotals, TotalsDo, Recovered, asks_recovery, is_totals, left_after, put_at_once, recovers}
+use Rattle.pos_counter.specs.Totals.{settled}
 use Rattle.pos_counter.proofs.FileCalls.{kept_left, plain_claimed}
 use Rattle.pos_counter.proofs.Cursors.{none_applies, unless_not}
 use Rattle.pos_counter.proofs.Lifts.{match_cases}
-use Rattle.pos_counter.proofs.Stations.{own_refusals}
+use Rattle.pos_counter.proofs.Hardware.{own_refusals}
 use Rattle.pos_counter.proofs.Prefixes.{Happens}
 
 -- what changes, a response and the modes say is what happens
@@ -329,9 +333,9 @@ set_told old new n c p v result true e (inr (h, is)) = elim h [
 
 -- ---- calls
 
--- what is done at a station is no matter to the totals
-station_same : (old new : Machine) (at : Option ℕ) (Does : ℕ → Effect) → OnStation old at Does new → new.totals ≡ old.totals
-station_same old new at Does o = ap (λ (m : Machine). m.totals) o.machine
+-- what is done at hardware is no matter to the totals
+hardware_same : (old new : Machine) (at : Option ℕ) (Does : ℕ → Effect) → OnHardware old at Does new → new.totals ≡ old.totals
+hardware_same old new at Does o = ap (λ (m : Machine). m.totals) o.machine
 
 -- a call that totals don't have asks nothing of them
 asks_nothing : (own : Call) → has_call category.HardTotals own ≡ false → file_call own ≡ Nothing
@@ -367,7 +371,7 @@ category_told : (k : Category) (old new : Machine) (n : ℕ) (c : Control) (own 
     → old.totals.left ≡ settled old.totals.totals.layout old.totals.totals.mode old.totals.left → has_call k own ≡ true → CategoryDoes k old n c own result new
     → Told (changes_asked old.totals.totals n (file_call own)) old.totals (Answered result) new.totals
 category_told category.HardTotals old new n c own result is has h = files_told (file_call own) old.totals new.totals n result is h.0
-category_told k old new n c own result is has h = at_device_told k old new n c own result refl has (station_same old new c.device _ h)
+category_told k old new n c own result is has h = at_device_told k old new n c own result refl has (hardware_same old new c.device _ h)
 
 -- what a control's claim, its release and its end leave of the files
 claimed_told : (k : Category) (old new : Machine) (n : ℕ) (c : Control) (response : Response) → new ≡ claimed k old n c → Told [] old.totals response new.totals
@@ -444,11 +448,11 @@ step_told old (CallOf n asked) OutOfMemory new is h =
       | inl x ↦ absurd x.1
       | inr x ↦ rest_undone (changes_asked old.totals.totals n (file_call asked)) old.totals new.totals OutOfMemory tt (ap (λ (m : Machine). m.totals) x.2.2)
     ]
-step_told old (InputTo name input) TakenIn new is h = rest_unasked old.totals new.totals TakenIn (station_same old new _ _ h)
+step_told old (InputTo name input) TakenIn new is h = rest_unasked old.totals new.totals TakenIn (hardware_same old new _ _ h)
 step_told old (InputTo name input) NoDevice new is h = same_machine old new old NoDevice h.1 refl
 step_told old (InputTo name input) WrongInput new is h = same_machine old new old WrongInput h.1 refl
 step_told old (InputTo name input) OutOfMemory new is h = same_machine old new old OutOfMemory h.1 refl
-step_told old (WorkOn name) (Worked result) new is h = rest_unasked old.totals new.totals (Worked result) (station_same old new _ _ h)
+step_told old (WorkOn name) (Worked result) new is h = rest_unasked old.totals new.totals (Worked result) (hardware_same old new _ _ h)
 step_told old (WorkOn name) NoDevice new is h = same_machine old new old NoDevice h.1 refl
 step_told old (WorkOn name) OutOfMemory new is h = same_machine old new old OutOfMemory h.1 refl
 step_told old (Deliver n reply) (Delivered event) new is h =
@@ -459,8 +463,8 @@ step_told old (Deliver n reply) (Delivered event) new is h =
 step_told old (Snapshot name) (Shown shown) new is h = same_machine old new old (Shown shown) h.2 refl
 step_told old (Snapshot name) NoDevice new is h = same_machine old new old NoDevice h.1 refl
 step_told old (Snapshot name) OutOfMemory new is h = same_machine old new old OutOfMemory h.1 refl
-step_told old (Attach name station) Attached new is h = same_machine old new _ Attached h.machine refl
-step_told old (Attach name station) (NotAttached fault given) new is h = same_machine old new old (NotAttached fault given) h.2 refl
-step_told old (Detach name) (Detached station) new is h = same_machine old new _ (Detached station) h.machine refl
+step_told old (Attach name hardware) Attached new is h = same_machine old new _ Attached h.machine refl
+step_told old (Attach name hardware) (NotAttached fault given) new is h = same_machine old new old (NotAttached fault given) h.2 refl
+step_told old (Detach name) (Detached hardware) new is h = same_machine old new _ (Detached hardware) h.machine refl
 step_told old (Detach name) (NotDetached fault) new is h = same_machine old new old (NotDetached fault) h.1 refl
 step_told old q r new is h = absurd h

@@ -1,5 +1,6 @@
 -- Whatever happens to the totals' files, a crash leaves a prefix of their history.
-use Rattle.std.proofs.Common.{◌≡◌, ◌∙◌, ◌⊎◌, ℕ, Bool, true, false, cond, List, [], ◌∷◌, ◌++◌, map, Option, Some, None, Result, Ok, Err, inl, inr, refl, sym, ap, subst, append_assoc}
+use Rattle.std.proofs.Common.{◌≡◌, ◌∙◌, ◌⊎◌, ℕ, Bool, true, false, cond, List, [], ◌∷◌, ◌++◌, map, Option, Some, None, Result, Ok, Err, inl, inr, refl, sym, ap}
+use Rattle.std.proofs.Common.{subst, append_assoc}
 use Rattle.std.specs.Prelude.{bytes_eq}
 use Rattle.std.specs.Cmp.Lexicographic.{pointwise_decides}
 use Rattle.std.proofs.lemmas.Bool.{and_parts, and_from}
@@ -14,9 +15,10 @@ use Rattle.pos_image.specs.declared.layout.Layout.{Layout}
 use Rattle.pos_totals.specs.HardTotals.{File, Mode, Off, Ready, next_sequences}
 use Rattle.pos_store.specs.Layouts.{limits_of}
 use Rattle.pos_store.specs.Standing.{Standing, Stands, IsOneOf}
-use Rattle.pos_store.specs.Modes.{Ready as StoreReady}
+use Rattle.pos_store.specs.StoreViews.{Ready as StoreReady}
 use Rattle.pos_totals.specs.Views.{plain, stored}
-use Rattle.pos_counter.specs.History.{Group, History, FilesEvent, GroupAccepted, GroupInDoubt, FilesFound, NothingDone, begun, listed, with_settled, without_doubt, after_groups, files_after, is_same, has_made, decided, told}
+use Rattle.pos_counter.specs.History.{Group, History, FilesEvent, GroupAccepted, GroupInDoubt, FilesFound, NothingDone, begun, listed, with_settled}
+use Rattle.pos_counter.specs.History.{without_doubt, after_groups, files_after, is_same, has_made, decided, told}
 use Rattle.pos_counter.specs.Prefixes.{BeginsWith, IsFiles, IsPrefix, LeavesPrefix, LeavesPrefixInside, StartsWith}
 use Rattle.pos_counter.specs.Totals.{TotalsPart, settled}
 

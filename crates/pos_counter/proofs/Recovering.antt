@@ -1,10 +1,11 @@
 -- Setting a property as a step of the machine, where it recovers the totals and where it doesn't.
-use Rattle.std.proofs.Common.{◌≡◌, ◌⊎◌, inl, inr, ℕ, List, [], ◌∷◌, Option, Some, None, Result, Ok, Err, Bool, true, false, not, ◌&&◌, set, get_or, length, ◌<◌, refl, sym, ap, ◌∙◌, subst}
+use Rattle.std.proofs.Common.{◌≡◌, ◌⊎◌, inl, inr, ℕ, List, [], ◌∷◌, Option, Some, None, Result, Ok, Err, Bool, true, false, not, ◌&&◌, set, get_or, length, ◌<◌}
+use Rattle.std.proofs.Common.{refl, sym, ap, ◌∙◌, subst}
 use Rattle.std.specs.Bool.{MatchBool}
 use Rattle.std.specs.Prelude.{◌||◌, MatchOption, IsErrOf, IsSome, IsTrue, is_some, is_none, slice_get, ⊤}
 use Rattle.std.proofs.lemmas.List.{map-set, set-get_or}
-use Rattle.pos_disk.specs.State.{LeavesOnly}
-use Rattle.pos_disk.specs.declared.device.Disk.{Ghosts}
+use Rattle.pos_disk.specs.declared.device.Disk.{Ghosts as DiskGhosts}
+use Rattle.pos_service.specs.declared.peripheral.Peripheral.{Ghosts}
 use Rattle.pos_service.specs.declared.answer.Answer.{Answer}
 use Rattle.pos_service.specs.declared.answer.Answer.TheVariants as answer
 use Rattle.pos_service.specs.declared.answer.Value.{Value}
@@ -22,26 +23,28 @@ use Rattle.pos_service.specs.declared.signs.Signs.{Signs}
 use Rattle.pos_service.specs.Needs.{needs_holder, needs_no_other}
 use Rattle.pos_service.specs.Properties.{set_rows, after_set, needs_to_set, takes, tells_power}
 use Rattle.pos_service.specs.Controls.{Control, reports_power}
-use Rattle.pos_service.specs.Stations.{signs_in}
+use Rattle.pos_service.specs.Hardware.{signs_in}
 use Rattle.pos_totals.specs.HardTotals.{Mode, Off, Ready, Totals, is_ready}
 use Rattle.pos_service.specs.Claims.{is_foreign}
 use Rattle.pos_service.specs.Refusals.{Row, first_refusal, when}
-use Rattle.pos_common.specs.Held.{Held, SetsTo, controls_of}
-use Rattle.pos_store.specs.Standing.{Standing, LeavesOneOf, StandsForEither}
+use Rattle.pos_common.specs.KeptControls.{KeptControl, SetsTo, controls_of}
+use Rattle.pos_store.specs.Standing.{Standing, LeavesOneOf}
 use Rattle.pos_totals.specs.declared.fault.RecoveryFault.{RecoveryFault}
 use Rattle.pos_totals.specs.declared.fault.RecoveryFault.TheVariants as fault
 use Rattle.pos_totals.specs.Recoveries.{Recovers as DiskRecovers, RecoversOneOf, FindsFiles, ReadsAs, code_of}
 use Rattle.pos_totals.specs.Views.{TotalsView, IsReady, WhenOff}
-use Rattle.pos_counter.specs.Machine.{Device, Machine, Shared, device_at, holder_in, holder_of, kind_in, kind_of, station_in, with_control}
-use Rattle.pos_counter.specs.DiskUse.{SparesDisk}
-use Rattle.pos_counter.specs.Assembly.{over, machine_with, ArePartsSound}
-use Rattle.pos_counter.specs.Leaving.{part_of, Leaves}
+use Rattle.pos_counter.specs.Machine.{Device, Machine, machine_with, device_at, holder_in, holder_of, kind_in, kind_of, signs_at, hardware_in, with_control}
+use Rattle.pos_counter.specs.DiskUse.{ChangesTotalsAlone, SparesDisk, after_enabling}
+use Rattle.pos_counter.specs.Leaving.{part_of, part_with, Leaves}
 use Rattle.pos_counter.specs.Responses.{answered}
-use Rattle.pos_counter.specs.Serving.{IsRecovering, Serves}
-use Rattle.pos_counter.specs.Steps.{CallOf, Answered, IsSound, Step, Sets, SetsByRecovery}
+use Rattle.pos_counter.specs.FileCalls.{IsRecovering}
+use Rattle.pos_counter.specs.Counters.{machine, IsCounterSound, IsStep, Serves}
+use Rattle.pos_counter.specs.declared.counter.Counter.{Counter}
+use Rattle.pos_counter.specs.KeptDevices.{AreDevicesSound}
+use Rattle.pos_counter.specs.Steps.{CallOf, Response, Answered, OutOfMemory, IsSound, Step, Sets, SetsByRecovery}
 use Rattle.pos_counter.specs.Totals.{TotalsPart, Recovers, asks_recovery, recovers, is_enabling, is_totals, settled}
-use Rattle.pos_counter.proofs.FileCalls.{settled_twice}
-use Rattle.pos_counter.proofs.Lifts.{control_at, decided_at, over_same, match_at_none, match_at_some, match_cases, match_weaker}
+use Rattle.pos_counter.proofs.Serving.{settled_twice}
+use Rattle.pos_counter.proofs.Lifts.{kept_at, decided_at, over_same, match_at_none, match_at_some, match_cases, match_weaker}
 use Rattle.pos_counter.proofs.Sound.{seated, set_seat, with_control_sound}
 
 and_left : (a b : Bool) → (a && b) ≡ true → a ≡ true
@@ -102,51 +105,32 @@ enabling_unrefused n holder at c p v e =
         by_parts None k d is = cc
         by_parts (Some i) k d is = subst (λ (j : Category). first_refusal (Rows (Some i) j) ≡ None) (sym is) refl
 
--- the machine with one control in the place of another, and other totals
-set_machine : (hs : List Held) (cl : List (Option ℕ)) (ds : List Device) (n : ℕ) (g : Held) (c : Control) (old new : TotalsPart) → g.control ≡ c
-    → machine_with (set hs n g) cl ds new ≡ record (with_control (machine_with hs cl ds old) n c) { totals = new }
-set_machine hs cl ds n g c old new e =
-    ap (λ (cs : List Control). let m : Machine = record { controls = cs; devices = ds; claims = cl; totals = new } in m)
-    (map-set (λ (h : Held). h.control) hs n g ∙ ap (set (controls_of hs) n) e)
-
 -- and DeviceEnabled takes it
 enabling_taken : (at : Option Kind) (c : Control) (p : Property) (v : Value) → asks_recovery c p v ≡ true → takes at p v ≡ true
 enabling_taken at c p v e =
     let asks = asks_enabling c p v e in
     subst (λ q. takes at q v ≡ true) (sym asks.0) (subst (λ u. takes at property.DeviceEnabled u ≡ true) (sym asks.1) refl)
 
--- a control that is to be enabled keeps the parts sound
-set_sound : (hs : List Held) (ds : List Device) (n : ℕ) (g : Held) (s : Signs) (c : Control) (p : Property) (v : Value)
-    → slice_get (controls_of hs) n ≡ Some c → asks_recovery c p v ≡ true → g.control ≡ after_set s c p v → ArePartsSound hs ds
-    → ArePartsSound (set hs n g) ds
-set_sound hs ds n g s c p v at asks e sound = record {
-  machine = λ shared.
-      let m = over hs ds shared in
-      let seat = set_seat m.devices s c p v (enabling_taken (kind_of m c) c p v asks) (seated m n c (sound.machine shared) at) in
-      let there = with_control_sound m n (after_set s c p v) seat (sound.machine shared) in
-      subst IsSound (sym (set_machine hs shared.claims ds n g (after_set s c p v) shared.totals shared.totals e))
-      (record { kinds = there.kinds; places = there.places });
-}
-
 -- a control that is as it was leaves the machine so
-same_control : (hs : List Held) (ds : List Device) (shared : Shared) (n : ℕ) (g h : Held) → h ≡ get_or hs n h → g.control ≡ h.control
-    → over (set hs n g) ds shared ≡ over hs ds shared
-same_control hs ds shared n g h is same =
-    over_same _ _ ds shared (map-set (λ (k : Held). k.control) hs n g ∙ ap (set (controls_of hs) n) same
-    ∙ sym (map-set (λ (k : Held). k.control) hs n h) ∙ ap controls_of (ap (set hs n) is ∙ set-get_or hs n h))
+same_control : (hs : List KeptControl) (ds : List Device) (cl : List (Option ℕ)) (part : TotalsPart) (n : ℕ) (g h : KeptControl) → h ≡ get_or hs n h
+    → g.control ≡ h.control
+    → machine_with (set hs n g) cl ds part ≡ machine_with hs cl ds part
+same_control hs ds cl part n g h is same =
+    over_same _ _ ds cl part (map-set (λ (k : KeptControl). k.control) hs n g ∙ ap (set (controls_of hs) n) same
+    ∙ sym (map-set (λ (k : KeptControl). k.control) hs n h) ∙ ap controls_of (ap (set hs n) is ∙ set-get_or hs n h))
 
 -- a property is set, or finds no memory, and nothing is recovered
-pub plain_set : (hs : List Held) (cl : List (Option ℕ)) (ds : List Device) (part : TotalsPart) (n : ℕ) (g h : Held) (p : Property) (v : Value)
+pub plain_set : (hs : List KeptControl) (cl : List (Option ℕ)) (ds : List Device) (part : TotalsPart) (n : ℕ) (g h : KeptControl) (p : Property) (v : Value)
     (r : Result Answer NoMemory) → n < length hs → h ≡ get_or hs n h → recovers part h.control p v ≡ false
     → SetsTo (set_rows n (holder_in h.control.category cl part.totals.area h.control.device)
     (kind_in (device_at ds h.control.device)) h.control p v) (tells_power h.control p v) r h g
-    (after_set (signs_in (station_in (device_at ds h.control.device))) h.control p v)
+    (after_set (signs_in (hardware_in (device_at ds h.control.device))) h.control p v)
     → Step (machine_with hs cl ds part) (CallOf n (call.Set p v)) (answered r) (machine_with (set hs n g) cl ds part)
 plain_set hs cl ds part n g h p v (Ok r) lt is plain turns =
     let rows = set_rows n (holder_in h.control.category cl part.totals.area h.control.device) (kind_in (device_at ds h.control.device)) h.control p v in
-    let signs = signs_in (station_in (device_at ds h.control.device)) in
-    let d = decided_at hs ds (record { claims = cl; totals = part }) n g h rows r _ (after_set signs h.control p v) is turns in
-    match_at_some _ h.control _ _ (control_at hs n h lt ∙ ap (λ (k : Held). Some k.control) (sym is)) (record {
+    let signs = signs_in (hardware_in (device_at ds h.control.device)) in
+    let d = decided_at hs ds cl part n g h rows r _ (after_set signs h.control p v) is turns in
+    match_at_some _ h.control _ _ (kept_at hs n h lt is) (record {
       outcome = match_weaker (first_refusal rows) _ _ _ _
           (λ y. subst (λ b. MatchBool b (SetsByRecovery (machine_with hs cl ds part) n h.control p v r (machine_with (set hs n g) cl ds part))
           (Sets (machine_with hs cl ds part) n h.control p v r (machine_with (set hs n g) cl ds part))) (sym plain) y)
@@ -154,15 +138,15 @@ plain_set hs cl ds part n g h p v (Ok r) lt is plain turns =
           d.outcome;
     })
 plain_set hs cl ds part n g h p v (Err want) lt is plain wants =
-    match_at_some _ h.control _ _ (control_at hs n h lt ∙ ap (λ (k : Held). Some k.control) (sym is)) (
+    match_at_some _ h.control _ _ (kept_at hs n h lt is) (
       subst (λ b. IsTrue (b || tells_power h.control p v)) (sym plain) wants.0,
       wants.1,
-      same_control hs ds (record { claims = cl; totals = part }) n g h is wants.2,
+      same_control hs ds cl part n g h is wants.2,
     )
 
 -- ---- a recovery
 
-module _ {D : Type 0} (bound : Ghosts D) (old new : TotalsView D) (off : old.totals.mode ≡ Off) where
+module _ {D : Type 0} (bound : DiskGhosts D) (old new : TotalsView D) (off : old.totals.mode ≡ Off) where
   -- for all that the disk may leave, one of it is found
   found_one : (r : Result (Unit {0}) RecoveryFault) (left : List Standing) → DiskRecovers bound old r new → Leaves bound old left
       → RecoversOneOf left (bound.state old.disk) (bound.state new.disk) old.totals r new.totals
@@ -215,143 +199,216 @@ module _ {D : Type 0} (bound : Ghosts D) (old new : TotalsView D) (off : old.tot
       same_else x left recovers ∙ ap (λ (k : ℕ). let part : TotalsPart = record { totals = old.totals; left = left; failures = k } in part)
       (never_failed (Err x) recovers honest other)
 
-  module _ (hs : List Held) (cl : List (Option ℕ)) (ds : List Device) (sound : ArePartsSound hs ds) (n : ℕ) (c : Control) (p : Property) (v : Value)
-      (at : slice_get (controls_of hs) n ≡ Some c) (asks : asks_recovery c p v ≡ true)
-      (recovering : (asks_recovery c p v && not (is_ready old.totals.mode)) ≡ true) where
-    abbrev before : List Standing → Machine
-    before left = machine_with hs cl ds (part_of bound old left)
+-- ---- a call that recovers totals that are off, where nothing refuses it
 
-    abbrev holder : List Standing → Option ℕ
-    holder left = holder_of (before left) c
+module _ {D P : Type 0} (bound : DiskGhosts D) (peripherals : Ghosts P) (old new : Counter D P) (off : old.totals.totals.mode ≡ Off)
+    (sound : IsCounterSound peripherals old) (devices : AreDevicesSound peripherals new.devices) (n : ℕ) (c : Control) (p : Property) (v : Value)
+    (at : slice_get (controls_of old.controls.items) n ≡ Some c) (asks : asks_recovery c p v ≡ true)
+    (recovering : (asks_recovery c p v && not (is_ready old.totals.totals.mode)) ≡ true) where
+  abbrev before : List Standing → Machine
+  before left = machine peripherals old (part_of bound old.totals left)
 
-    abbrev enabled : Control
-    enabled = after_set (signs_in (station_in (device_at ds c.device))) c p v
+  abbrev now : List Standing → Machine
+  now left = machine peripherals new (part_of bound new.totals left)
 
-    -- the call recovers totals that are off, and nothing refuses it
-    uses : (left : List Standing) → SparesDisk (before left) (CallOf n (call.Set p v)) → ⊥
-    uses left spares = by_row (subst (λ (o : Option Control). MatchOption o ⊤ Spares) at spares)
-      where
-        Spares : Control → Type 0
-        Spares k = IsSome (first_refusal (set_rows n (holder_of (before left) k) (kind_of (before left) k) k p v)) ⊎
-            ((asks_recovery k p v && not (is_ready old.totals.mode)) ≡ false)
+  abbrev Unrefused : List Standing → Type 0
+  Unrefused left = first_refusal (set_rows n (holder_of (before left) c) (kind_of (before left) c) c p v) ≡ None
 
-        by_row : Spares c → ⊥
-        by_row (inl refused) =
-            let none = enabling_unrefused n (holder left) (kind_of (before left) c) c p v asks in
-            let bad : false ≡ true = subst IsSome none refused in
-            cc
-        by_row (inr rests) = cc
+  unrefused : (left : List Standing) → Unrefused left
+  unrefused left = enabling_unrefused n (holder_of (before left) c) (kind_of (before left) c) c p v asks
 
-    -- the totals are off before
-    was_off : IsReady old.totals.mode → ⊥
-    was_off ready = subst IsReady off ready
+  abbrev enabled : Control
+  enabled = after_set (signs_at (before []) c) c p v
 
-    -- the totals are recovered, and the control is enabled
-    pub recovered_serves : (g : Held) → DiskRecovers bound old (Ok tt) new → g.control ≡ enabled
-        → Serves bound hs cl ds old (CallOf n (call.Set p v)) (Answered (answer.Done value.Empty)) (set hs n g) cl ds new
-    recovered_serves g recovers is = record {
-      steps = λ left leaves.
-          let f = found_one (Ok tt) left recovers leaves in
-          let after = settled new.totals.layout new.totals.mode left in
+  -- it uses the disk
+  uses : (left : List Standing) (failures : ℕ)
+      → SparesDisk (machine peripherals old (part_with old.totals.totals left failures)) (CallOf n (call.Set p v)) → ⊥
+  uses left failures spares = by_row (subst (λ (o : Option Control). MatchOption o ⊤ Spares) at spares)
+    where
+      m : Machine
+      m = machine peripherals old (part_with old.totals.totals left failures)
+
+      Spares : Control → Type 0
+      Spares k = IsSome (first_refusal (set_rows n (holder_of m k) (kind_of m k) k p v)) ⊎
+          ((asks_recovery k p v && not (is_ready old.totals.totals.mode)) ≡ false)
+
+      by_row : Spares c → ⊥
+      by_row (inl refused) =
+          let none = enabling_unrefused n (holder_of m c) (kind_of m c) c p v asks in
+          let bad : false ≡ true = subst IsSome none refused in
+          cc
+      by_row (inr rests) = cc
+
+  -- it enables its control, which is one of Hard Totals
+  totals : c.category ≡ category.HardTotals
+  totals = (asks_enabling c p v asks).3
+
+  abbrev enabling : Control
+  enabling = after_enabling (before []) c
+
+  enabled_so : enabled ≡ enabling
+  enabled_so =
+      ap (λ (q : Property). after_set (signs_at (before []) c) c q v) (asks_enabling c p v asks).0
+      ∙ ap (λ (u : Value). after_set (signs_at (before []) c) c property.DeviceEnabled u) (asks_enabling c p v asks).1
+
+  -- what it does where nothing refuses it
+  does : (result : Answer) (left after : List Standing) → SetsByRecovery (before left) n c p v result (now after)
+      → Step (before left) (CallOf n (call.Set p v)) (Answered result) (now after)
+  does result left after sets = match_at_some _ c _ _ at (record {
+    outcome = match_at_none (first_refusal (set_rows n (holder_of (before left) c) (kind_of (before left) c) c p v)) _ _ (unrefused left)
+        (subst (λ b. MatchBool b (SetsByRecovery (before left) n c p v result (now after)) (Sets (before left) n c p v result (now after)))
+        (sym recovering) sets);
+  })
+
+  -- it is a step for all that the disk may leave, and changes the totals alone, and its control
+  is_step : (r : Result (Unit {0}) RecoveryFault) (response : Response) → DiskRecovers bound old.totals r new.totals
+      → ((left : List Standing) → Leaves bound old.totals left
+      → Step (before left) (CallOf n (call.Set p v)) response (now (settled new.totals.totals.layout new.totals.totals.mode left)))
+      → ((left : List Standing) (failures : ℕ) → ChangesTotalsAlone (machine peripherals old (part_with old.totals.totals left failures))
+      (CallOf n (call.Set p v)) (machine peripherals new (part_with new.totals.totals left failures)))
+      → IsStep bound peripherals old (CallOf n (call.Set p v)) response new
+  is_step r response recovers step alone = record {
+    steps = λ left leaves. record {
+      after = settled new.totals.totals.layout new.totals.totals.mode left;
+      leaves = recovered_leaves bound old.totals new.totals off r left recovers leaves;
+      step = step left leaves;
+      any_moment = (found_one bound old.totals new.totals off r left recovers leaves).passes.any_moment;
+    };
+    spared = λ left failures spares. absurd (uses left failures spares);
+    otherwise = λ left failures. inr (alone left failures);
+    unchanged = λ undone was ready. absurd (subst IsReady off was);
+    kept = recovers.kept;
+  }
+
+  -- the totals are recovered, and the control is enabled
+  pub recovered_serves : (o : Result Answer NoMemory) → o ≡ Ok (answer.Done value.Empty) → DiskRecovers bound old.totals (Ok tt) new.totals
+      → ((part : TotalsPart) → machine peripherals new part ≡ with_control (machine peripherals old part) n enabled)
+      → Serves bound peripherals old (CallOf n (call.Set p v)) (answered o) new
+  recovered_serves o is recovers there = subst (λ r. Serves bound peripherals old (CallOf n (call.Set p v)) (answered r) new) (sym is) (record {
+    step = is_step (Ok tt) (Answered (answer.Done value.Empty)) recovers
+        (λ left leaves.
+        let after = settled new.totals.totals.layout new.totals.totals.mode left in
+        does (answer.Done value.Empty) left after (inl (
+          refl,
           record {
-            after = after;
-            leaves = recovered_leaves (Ok tt) left recovers leaves;
-            step = match_at_some _ c _ _ at (record {
-              outcome = match_at_none (first_refusal (set_rows n (holder left) (kind_of (before left) c) c p v)) _ _
-                  (enabling_unrefused n (holder left) (kind_of (before left) c) c p v asks)
-                  (subst (λ b. MatchBool b
-                  (SetsByRecovery (before left) n c p v (answer.Done value.Empty) (machine_with (set hs n g) cl ds (part_of bound new after)))
-                  (Sets (before left) n c p v (answer.Done value.Empty) (machine_with (set hs n g) cl ds (part_of bound new after)))) (sym recovering)
-                  (inl (
-                    refl,
-                    record { found = f.found; left = refl; counts = never_failed (Ok tt) recovers leaves.honest (λ failed. cc) },
-                    set_machine hs cl ds n g enabled (part_of bound old left) (part_of bound new after) is,
-                  )));
-            });
-            any_moment = f.passes.any_moment;
-          };
-      sound = set_sound hs ds n g (signs_in (station_in (device_at ds c.device))) c p v at asks is sound;
-      covers = refl;
-      places = refl;
-      untouched = λ left spares. absurd (uses left spares);
-      unchanged = λ undone was now. absurd (was_off was);
-      kept = recovers.kept;
-    }
+            found = (found_one bound old.totals new.totals off (Ok tt) left recovers leaves).found;
+            left = refl;
+            counts = never_failed bound old.totals new.totals off (Ok tt) recovers leaves.honest (λ failed. cc);
+          },
+          there (part_of bound new.totals after),
+        )))
+        (λ left failures. match_at_some _ c _ _ at (
+          totals,
+          inr (there (part_with new.totals.totals left failures)
+              ∙ ap (with_control (machine peripherals old (part_with new.totals.totals left failures)) n) enabled_so),
+        ));
+    sound = record {
+      machine = λ part.
+          let m = machine peripherals old part in
+          let seat = set_seat m.devices (signs_at m c) c p v (enabling_taken (kind_of m c) c p v asks) (seated m n c (sound.machine part) at) in
+          subst IsSound (sym (there part)) (with_control_sound m n enabled seat (sound.machine part));
+      devices = devices;
+    };
+  })
 
-    -- why a recovery has failed
-    why : (left : List Standing) (x : RecoveryFault) (k : Code) → DiskRecovers bound old (Err x) new → Leaves bound old left → Some k ≡ code_of x
-        → Recovers (part_of bound old left) (answer.Refused k 0) (part_of bound new left)
-    why left fault.Unformatted k recovers leaves is =
-        let code : k ≡ code.NoHardware = cc in
+  -- why a recovery has failed
+  why : (left : List Standing) (x : RecoveryFault) (k : Code) → DiskRecovers bound old.totals (Err x) new.totals → Leaves bound old.totals left
+      → Some k ≡ code_of x → Recovers (part_of bound old.totals left) (answer.Refused k 0) (part_of bound new.totals left)
+  why left fault.Unformatted k recovers leaves is =
+      let code : k ≡ code.NoHardware = cc in
+      inl (
+        ap (λ j. answer.Refused j 0) code,
+        (found_one bound old.totals new.totals off (Err fault.Unformatted) left recovers leaves).found.0,
+        same_part bound old.totals new.totals off fault.Unformatted left recovers leaves.honest (λ failed. cc),
+      )
+  why left fault.Damaged k recovers leaves is =
+      let code : k ≡ code.Failure = cc in
+      inr (
+        ap (λ j. answer.Refused j 0) code,
         inl (
-          ap (λ j. answer.Refused j 0) code,
-          (found_one (Err fault.Unformatted) left recovers leaves).found.0,
-          same_part fault.Unformatted left recovers leaves.honest (λ failed. cc),
-        )
-    why left fault.Damaged k recovers leaves is =
-        let code : k ≡ code.Failure = cc in
-        inr (
-          ap (λ j. answer.Refused j 0) code,
-          inl (inl (found_one (Err fault.Damaged) left recovers leaves).found.0, same_part fault.Damaged left recovers leaves.honest (λ failed. cc)),
-        )
-    why left fault.Handles k recovers leaves is =
-        let code : k ≡ code.Failure = cc in
-        inr (
-          ap (λ j. answer.Refused j 0) code,
-          inl (inr (found_one (Err fault.Handles) left recovers leaves).found.0, same_part fault.Handles left recovers leaves.honest (λ failed. cc)),
-        )
-    why left fault.NoMemory k recovers leaves is = let bad : ⊥ = cc in absurd bad
-    why left fault.Device k recovers leaves is =
-        let code : k ≡ code.Failure = cc in
-        inr (
-          ap (λ j. answer.Refused j 0) code,
-          inr (record {
-            rises = recovers.device refl leaves.honest;
-            later = recovers.kept.later leaves.honest;
-            else_same = same_else fault.Device
-                left recovers;
-          }),
-        )
+          inl (found_one bound old.totals new.totals off (Err fault.Damaged) left recovers leaves).found.0,
+          same_part bound old.totals new.totals off fault.Damaged left recovers leaves.honest (λ failed. cc),
+        ),
+      )
+  why left fault.Handles k recovers leaves is =
+      let code : k ≡ code.Failure = cc in
+      inr (
+        ap (λ j. answer.Refused j 0) code,
+        inl (
+          inr (found_one bound old.totals new.totals off (Err fault.Handles) left recovers leaves).found.0,
+          same_part bound old.totals new.totals off fault.Handles left recovers leaves.honest (λ failed. cc),
+        ),
+      )
+  why left fault.NoMemory k recovers leaves is = let bad : ⊥ = cc in absurd bad
+  why left fault.Device k recovers leaves is =
+      let code : k ≡ code.Failure = cc in
+      inr (
+        ap (λ j. answer.Refused j 0) code,
+        inr (record {
+          rises = recovers.device refl leaves.honest;
+          later = recovers.kept.later leaves.honest;
+          else_same = same_else bound old.totals new.totals off fault.Device
+              left recovers;
+        }),
+      )
+
+  -- a recovery that fails leaves the machine, but for the count of failures of its disk
+  module _ (x : RecoveryFault) (recovers : DiskRecovers bound old.totals (Err x) new.totals)
+      (same : (part : TotalsPart) → machine peripherals new part ≡ machine peripherals old part) where
+    still : (left : List Standing) → Leaves bound old.totals left → settled new.totals.totals.layout new.totals.totals.mode left ≡ left
+    still left leaves = failed_left bound old.totals new.totals off x left recovers leaves
+
+    same_before : (left : List Standing) → Leaves bound old.totals left → (IsErrOf {T = Unit {0}} (Err x) fault.Device → ⊥) → now left ≡ before left
+    same_before left leaves other =
+        same (part_of bound new.totals left)
+        ∙ ap (machine peripherals old) (same_part bound old.totals new.totals off x left recovers leaves.honest other)
+
+    unmoved : (left : List Standing) (failures : ℕ) → ChangesTotalsAlone (machine peripherals old (part_with old.totals.totals left failures))
+        (CallOf n (call.Set p v)) (machine peripherals new (part_with new.totals.totals left failures))
+    unmoved left failures = match_at_some _ c _ _ at (totals, inl (same (part_with new.totals.totals left failures)))
+
+    still_sound : IsCounterSound peripherals new
+    still_sound = record { machine = λ part. subst IsSound (sym (same part)) (sound.machine part); devices = devices }
 
     -- the recovery fails, and the control stays as it is
-    pub failed_serves : (x : RecoveryFault) (k : Code) → DiskRecovers bound old (Err x) new → Some k ≡ code_of x
-        → Serves bound hs cl ds old (CallOf n (call.Set p v)) (Answered (answer.Refused k 0)) hs cl ds new
-    failed_serves x k recovers is = record {
-      steps = λ left leaves.
-          let same = failed_left x left recovers leaves in
-          record {
-            after = left;
-            leaves = subst (Leaves bound new) same (recovered_leaves (Err x) left recovers leaves);
-            step = match_at_some _ c _ _ at (record {
-              outcome = match_at_none (first_refusal (set_rows n (holder left) (kind_of (before left) c) c p v)) _ _
-                  (enabling_unrefused n (holder left) (kind_of (before left) c) c p v asks)
-                  (subst (λ b. MatchBool b (SetsByRecovery (before left) n c p v (answer.Refused k 0)
-                  (machine_with hs cl ds (part_of bound new left)))
-                  (Sets (before left) n c p v (answer.Refused k 0) (machine_with hs cl ds (part_of bound new left)))) (sym recovering)
-                  (inr (why left x k recovers leaves is, refl)));
-            });
-            any_moment = subst (λ after. LeavesOnly (bound.state old.disk) (bound.state new.disk) (StandsForEither left after)) same
-                (found_one (Err x) left recovers leaves).passes.any_moment;
-          };
-      sound = sound;
-      covers = refl;
-      places = refl;
-      untouched = λ left spares. absurd (uses left spares);
-      unchanged = λ undone was now. absurd (was_off was);
-      kept = recovers.kept;
+    pub failed_serves : (k : Code) → Some k ≡ code_of x → Serves bound peripherals old (CallOf n (call.Set p v)) (Answered (answer.Refused k 0)) new
+    failed_serves k is = record {
+      step = is_step (Err x) (Answered (answer.Refused k 0)) recovers
+          (λ left leaves. subst (λ after. Step (before left) (CallOf n (call.Set p v)) (Answered (answer.Refused k 0)) (now after))
+          (sym (still left leaves))
+          (does (answer.Refused k 0) left left (inr (why left x k recovers leaves is, same (part_of bound new.totals left)))))
+          unmoved;
+      sound = still_sound;
     }
+
+    -- the recovery finds no memory, and nothing has changed
+    pub starved_serves : None ≡ code_of x → Serves bound peripherals old (CallOf n (call.Set p v)) OutOfMemory new
+    starved_serves is = record {
+      step = is_step (Err x) OutOfMemory recovers
+          (λ left leaves. subst (λ after. Step (before left) (CallOf n (call.Set p v)) OutOfMemory (now after)) (sym (still left leaves))
+          (match_at_some _ c _ _ at (
+            subst (λ b. IsTrue (b || tells_power c p v)) (sym recovering) refl,
+            unrefused left,
+            same_before left leaves (no_fault x is),
+          )))
+          unmoved;
+      sound = still_sound;
+    }
+      where
+        no_fault : (x : RecoveryFault) → None ≡ code_of x → IsErrOf {T = Unit {0}} (Err x) fault.Device → ⊥
+        no_fault x is failed = cc
 
 -- ---- what a function that recovers knows
 
 -- the control that is to be enabled
-pub record Asking (hs : List Held) (n : ℕ) (p : Property) (v : Value) (mode : Mode) : Type 0 where
+pub record Asking (hs : List KeptControl) (n : ℕ) (p : Property) (v : Value) (mode : Mode) : Type 0 where
   pub control : Control
   pub at : slice_get (controls_of hs) n ≡ Some control
   pub asks : asks_recovery control p v ≡ true
   pub recovering : (asks_recovery control p v && not (is_ready mode)) ≡ true
   pub off : mode ≡ Off
 
-pub asks_there : (hs : List Held) (n : ℕ) (p : Property) (v : Value) (mode : Mode) → IsRecovering hs n p v mode → Asking hs n p v mode
+pub asks_there : (hs : List KeptControl) (n : ℕ) (p : Property) (v : Value) (mode : Mode) → IsRecovering hs n p v mode → Asking hs n p v mode
 asks_there hs n p v mode h =
     elim (match_cases (slice_get (controls_of hs) n) _ _ h) [
       | inl x ↦ absurd x.1
@@ -375,15 +432,15 @@ silent c p v e tells =
     never true k notified e t = cc
 
 -- the control is the one that is to be enabled
-pub asked_control : (hs : List Held) (n : ℕ) (h : Held) (c : Control) → n < length hs → h ≡ get_or hs n h → slice_get (controls_of hs) n ≡ Some c
+pub asked_control : (hs : List KeptControl) (n : ℕ) (h : KeptControl) (c : Control) → n < length hs → h ≡ get_or hs n h → slice_get (controls_of hs) n ≡ Some c
     → h.control ≡ c
-asked_control hs n h c lt is at = some_same h.control c (sym (control_at hs n h lt ∙ ap (λ (k : Held). Some k.control) (sym is)) ∙ at)
+asked_control hs n h c lt is at = some_same h.control c (sym (kept_at hs n h lt is) ∙ at)
   where
     some_same : (a b : Control) → Some a ≡ Some b → a ≡ b
     some_same a b e = cc
 
 -- nothing refuses to set the property, nor does it want memory
-pub done_set : (n : ℕ) (holder : Option ℕ) (kind : Option Kind) (s : Signs) (h g : Held) (c : Control) (p : Property) (v : Value)
+pub done_set : (n : ℕ) (holder : Option ℕ) (kind : Option Kind) (s : Signs) (h g : KeptControl) (c : Control) (p : Property) (v : Value)
     (r : Result Answer NoMemory) → h.control ≡ c → asks_recovery c p v ≡ true
     → SetsTo (set_rows n holder kind h.control p v) (tells_power h.control p v) r h g (after_set s h.control p v)
     → (r ≡ Ok (answer.Done value.Empty)) × (g.control ≡ after_set s c p v)

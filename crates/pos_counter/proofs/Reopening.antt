@@ -1,5 +1,6 @@
 -- What an enabling finds where a crash has left a disk that stands for some files.
-use Rattle.std.proofs.Common.{◌≡◌, ◌∙◌, ◌⊎◌, ℕ, ◌≤◌, Bool, true, false, cond, not, List, [], ◌∷◌, ◌++◌, length, Option, Some, None, Result, Ok, Err, inl, inr, refl, sym, ap, subst, arith}
+use Rattle.std.proofs.Common.{◌≡◌, ◌∙◌, ◌⊎◌, ℕ, ◌≤◌, Bool, true, false, cond, not, List, [], ◌∷◌, ◌++◌, length, Option, Some, None, Result, Ok, Err, inl, inr}
+use Rattle.std.proofs.Common.{refl, sym, ap, subst, arith}
 use Rattle.std.specs.Bool.{MatchBool}
 use Rattle.std.specs.Prelude.{slice_get, MatchOption}
 use Rattle.std.proofs.lemmas.Bool.{and_from}
@@ -30,12 +31,14 @@ use Rattle.pos_totals.specs.Recoveries.{AreLeft, HasTooMany, numbered}
 use Rattle.pos_totals.specs.Views.{TotalsView}
 use Rattle.pos_counter.specs.declared.counter.Counter.{Counter}
 use Rattle.pos_counter.specs.Counters.{Begins}
-use Rattle.pos_counter.specs.History.{Group, History, FilesEvent, GroupAccepted, GroupInDoubt, FilesFound, NothingDone, after_groups, begun, decided, event_of, files_after, has_made, history_along, history_of, history_with, told, with_settled, without_doubt}
+use Rattle.pos_counter.specs.History.{Group, History, FilesEvent, GroupAccepted, GroupInDoubt, FilesFound, NothingDone, after_groups, begun, decided, event_of}
+use Rattle.pos_counter.specs.History.{files_after, has_made, history_along, history_of, history_with, told, with_settled, without_doubt}
 use Rattle.pos_counter.specs.Leaving.{Leaves}
 use Rattle.pos_counter.specs.Machine.{Machine}
 use Rattle.pos_counter.specs.Prefixes.{StartsWith}
 use Rattle.pos_counter.specs.Reopening.{HasThem, HasCause, FindsThem, enabling}
-use Rattle.pos_counter.specs.Steps.{Request, CallOf, Response, Made, Full, Answered, TakenIn, NoDevice, WrongInput, Worked, Delivered, Shown, Attached, NotAttached, Detached, NotDetached, OutOfMemory, Step, Run, Called, Wants, SetsByRecovery, Sets, refusals}
+use Rattle.pos_counter.specs.Steps.{Request, CallOf, Response, Made, Full, Answered, TakenIn, NoDevice, WrongInput, Worked, Delivered, Shown, Attached}
+use Rattle.pos_counter.specs.Steps.{NotAttached, Detached, NotDetached, OutOfMemory, Step, Run, Called, Wants, SetsByRecovery, Sets, refusals}
 use Rattle.pos_counter.specs.Totals.{TotalsPart, Recovered, Recovers, asks_recovery, recovers, settled}
 use Rattle.pos_counter.proofs.Lifts.{match_cases}
 use Rattle.pos_counter.proofs.PrefixRuns.{law_after, law_recovers}
@@ -136,8 +139,8 @@ module _ (layout : Layout) (start : List PlainFile) (sequence : ℕ) (old : Mach
   finds_them (Delivered event) new at step = absurd step
   finds_them (Shown plant) new at step = absurd step
   finds_them Attached new at step = absurd step
-  finds_them (NotAttached fault station) new at step = absurd step
-  finds_them (Detached station) new at step = absurd step
+  finds_them (NotAttached fault hardware) new at step = absurd step
+  finds_them (Detached hardware) new at step = absurd step
   finds_them (NotDetached fault) new at step = absurd step
 
 -- ---- how many files a disk stands for

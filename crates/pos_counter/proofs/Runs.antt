@@ -1,5 +1,5 @@
 -- A run goes on by one more step.
-use Rattle.std.proofs.Common.{inl, inr, sym, ◌≡◌, ℕ, ◌∷◌, ◌++◌, [], List, Result, length, ap, ◌∙◌, subst, refl, arith}
+use Rattle.std.proofs.Common.{inl, inr, sym, ◌≡◌, ℕ, ◌∷◌, ◌++◌, [], List, length, ap, subst, refl, arith}
 use Rattle.pos_counter.specs.Machine.{Machine}
 use Rattle.pos_counter.specs.Steps as machine
 use Rattle.pos_disk.specs.State.{MayLeave}
@@ -7,22 +7,14 @@ use Rattle.pos_disk.specs.declared.device.Disk.{Ghosts as DiskGhosts}
 use Rattle.pos_disk.proofs.Moments.{started, followed_by, weaker}
 use Rattle.pos_service.specs.declared.peripheral.Peripheral.{Ghosts}
 use Rattle.pos_store.specs.Standing.{Standing, StandsForOneOf, StandsForEither}
-use Rattle.pos_disk.specs.Keeps.{KeepsDisk}
-use Rattle.pos_totals.specs.Views.{TotalsView}
 use Rattle.pos_counter.specs.declared.counter.Counter.{Counter}
 use Rattle.pos_counter.specs.Counters.{machine as machine_of_counter, IsLeftDuring, IsRun, IsStep, IsStepBeside, RunsFrom}
-use Rattle.pos_counter.specs.KeptDevices.{devices_in}
-use Rattle.pos_counter.specs.Assembly.{machine_with}
-use Rattle.pos_counter.specs.Leaving.{part_of, Leaves, Stepped}
-use Rattle.pos_counter.specs.Serving.{MakesControl}
-use Rattle.pos_counter.specs.Steps.{NewControl, Step, Run}
+use Rattle.pos_counter.specs.Leaving.{part_of, Leaves}
+use Rattle.pos_counter.specs.Steps.{Step, Run}
 use Rattle.pos_service.specs.declared.request.Request.{Request}
 use Rattle.pos_service.specs.declared.request.Response.{Response}
-use Rattle.pos_counter.specs.Responses.{made, request_of, response_of, steps_of}
-use Rattle.pos_service.specs.declared.category.Category.{Category}
-use Rattle.pos_counter.specs.declared.faults.ControlFault.{ControlFault}
-use Rattle.pos_counter.specs.Totals.{TotalsPart, settled}
-use Rattle.pos_counter.proofs.Serving.{arranges_stepped, kept_disk, rests_stepped, same_view}
+use Rattle.pos_counter.specs.Responses.{request_of, response_of, steps_of}
+use Rattle.pos_counter.proofs.Serving.{OnlyNow, beside_is_step}
 
 -- one more request and its response are one more step
 pub steps_push : {P : Type 0} (peripherals : Ghosts P) (qs : List (Request (Unit {0}) ℕ P)) (rs : List (Response P)) (q : Request (Unit {0}) ℕ P)
@@ -52,57 +44,18 @@ left_beside a b c s more step run bytes (inl h) = inl h
 left_beside a b c s more step run bytes (inr h) = inr (left_first b c more run bytes h)
 
 module _ {D P : Type 0} (bound : DiskGhosts D) (peripherals : Ghosts P) where
-  -- a step in which the totals have no part is a step for all that the disk may leave
-  pub beside_is_step : (old new : Counter D P) (q : machine.Request) (r : machine.Response)
-      → ((bytes : List ℕ) → bound.honest old.totals.disk → (bound.state old.totals.disk).left_since (bound.state old.totals.disk).moment bytes
-      → MayLeave (bound.state old.totals.disk) bytes) → IsStepBeside peripherals old q r new → IsStep bound peripherals old q r new
-  beside_is_step old new q r only beside = record {
-    steps = λ left leaves. subst (λ (v : TotalsView D). Stepped bound left (machine_of_counter peripherals old) old.totals q r
-        (machine_of_counter peripherals new) v) (sym beside.totals)
-        (rests_stepped bound old.totals (machine_of_counter peripherals old) (machine_of_counter peripherals new) q r left only leaves
-        (beside.step (part_of bound old.totals left)));
-    untouched = λ left spares. ap (λ (v : TotalsView D). v.disk) beside.totals;
-    unchanged = λ undone was is. ap (λ (v : TotalsView D). v.disk) beside.totals;
-    kept = subst (λ (v : TotalsView D). KeepsDisk bound old.totals.disk v.disk) (sym beside.totals) (kept_disk bound old.totals.disk);
-  }
-
-  -- the same by another name of the request and of the response
-  pub beside_step_as : (old new : Counter D P) (q : machine.Request) (r : machine.Response) (asked : machine.Request) (answered : machine.Response)
-      → ((bytes : List ℕ) → bound.honest old.totals.disk → (bound.state old.totals.disk).left_since (bound.state old.totals.disk).moment bytes
-      → MayLeave (bound.state old.totals.disk) bytes) → asked ≡ q → answered ≡ r → IsStepBeside peripherals old q r new
-      → IsStep bound peripherals old asked answered new
-  beside_step_as old new q r asked answered only is gives beside =
-      subst (λ s. IsStep bound peripherals old asked s new) (sym gives)
-      (subst (λ p. IsStep bound peripherals old p r new) (sym is) (beside_is_step old new q r only beside))
-
-  -- a new control is a step for all that the disk may leave
-  pub control_is_step : (old new : Counter D P) (k : Category) (outcome : Result ℕ ControlFault)
-      → ((bytes : List ℕ) → bound.honest old.totals.disk → (bound.state old.totals.disk).left_since (bound.state old.totals.disk).moment bytes
-      → MayLeave (bound.state old.totals.disk) bytes)
-      → MakesControl old.desk old.totals k outcome new.desk new.totals
-      → ((part : TotalsPart) → machine_of_counter peripherals new part ≡ machine_with new.desk old.claims
-      (devices_in peripherals old.devices) part) → IsStep bound peripherals old (NewControl tt k) (made outcome) new
-  control_is_step old new k outcome only makes same = record {
-    steps = λ left leaves. subst (λ (v : TotalsView D). Stepped bound left (machine_of_counter peripherals old) old.totals (NewControl tt k)
-        (made outcome) (machine_of_counter peripherals new) v) (sym (same_view old.totals new.totals new.totals.totals makes.disk refl))
-        (arranges_stepped bound old.totals new.totals.totals (machine_of_counter peripherals old) (machine_of_counter peripherals new)
-        (NewControl tt k) (made outcome) left only (ap (λ layout. settled layout new.totals.totals.mode left) makes.layout
-        ∙ ap (λ mode. settled old.totals.totals.layout mode left) makes.mode) leaves
-        (subst (λ m. Step (machine_of_counter peripherals old (part_of bound old.totals left)) (NewControl tt k) (made outcome) m) (sym (same (now left)))
-        (makes.step (devices_in peripherals old.devices) old.claims left (bound.state old.totals.disk).failures)));
-    untouched = λ left spares. makes.disk;
-    unchanged = λ undone was is. makes.disk;
-    kept = subst (λ (d : D). KeepsDisk bound old.totals.disk d) (sym makes.disk) (kept_disk bound old.totals.disk);
-  }
-    where
-      now : List Standing → TotalsPart
-      now left = record { totals = new.totals.totals; left = left; failures = (bound.state old.totals.disk).failures }
-
   -- a step by another name of the request and of the response
   pub step_as : (old new : Counter D P) (q : machine.Request) (r : machine.Response) (asked : machine.Request) (answered : machine.Response)
       → asked ≡ q → answered ≡ r → IsStep bound peripherals old q r new → IsStep bound peripherals old asked answered new
   step_as old new q r asked answered is gives step =
       subst (λ s. IsStep bound peripherals old asked s new) (sym gives) (subst (λ p. IsStep bound peripherals old p r new) (sym is) step)
+
+  -- the same of one in which the totals have no part
+  pub beside_step_as : (old new : Counter D P) (q : machine.Request) (r : machine.Response) (asked : machine.Request) (answered : machine.Response)
+      → OnlyNow bound old.totals.disk → asked ≡ q → answered ≡ r → IsStepBeside peripherals old q r new
+      → IsStep bound peripherals old asked answered new
+  beside_step_as old new q r asked answered only is gives beside =
+      step_as old new q r asked answered is gives (beside_is_step bound peripherals old new q r only beside)
 
   -- a run with one step more
   pub runs_more : (a b c : Counter D P) (steps : List (machine.Request × machine.Response)) (q : machine.Request) (r : machine.Response)
@@ -164,6 +117,5 @@ module _ {D P : Type 0} (bound : DiskGhosts D) (peripherals : Ghosts P) where
 
   -- so is one in which the totals have no part
   pub one_beside : (a b : Counter D P) (q : machine.Request) (r : machine.Response)
-      → ((bytes : List ℕ) → bound.honest a.totals.disk → (bound.state a.totals.disk).left_since (bound.state a.totals.disk).moment bytes
-      → MayLeave (bound.state a.totals.disk) bytes) → IsStepBeside peripherals a q r b → IsRun bound peripherals a ((q, r) ∷ []) b
-  one_beside a b q r only beside = one_step a b q r (beside_is_step a b q r only beside)
+      → OnlyNow bound a.totals.disk → IsStepBeside peripherals a q r b → IsRun bound peripherals a ((q, r) ∷ []) b
+  one_beside a b q r only beside = one_step a b q r (beside_is_step bound peripherals a b q r only beside)

@@ -1,8 +1,10 @@
 -- Every step keeps the machine sound.
-use Rattle.std.proofs.Common.{◌≡◌, ℕ, ◌∷◌, inl, inr, zero, suc, List, [], Option, Some, None, Bool, true, false, cond, set, ap, sym, ◌∙◌, subst, refl, arith}
+use Rattle.std.proofs.Common.{◌≡◌, ℕ, ◌∷◌, inl, inr, zero, suc, List, [], Option, Some, None, Bool, true, false, cond, get_or, length, set, ap, sym, ◌∙◌, subst}
+use Rattle.std.proofs.Common.{refl, arith}
 use Rattle.std.specs.Bool.{MatchBool}
 use Rattle.std.specs.Prelude.{MatchOption, MatchResult, IfSome, IsTrue, All, Result, Ok, Err, ◌++◌, ◌||◌, slice_get, slice_set, is_some, is_none, option_map}
 use Rattle.std.proofs.lemmas.Bool.{eq-eqb, false≢true}
+use Rattle.std.proofs.lemmas.List.{length-set}
 use Rattle.std.proofs.lemmas.List.Elements.{All-cons, All-nil, All-push, All-set, All-weaker, All-map, All-get_or}
 use Rattle.std.proofs.lemmas.Option.{slice_get_within, get_or_from_slice_get, slice_get-map, MatchOption-at_some}
 use Rattle.pos_service.specs.declared.category.Category.{Category}
@@ -40,12 +42,16 @@ use Rattle.pos_service.specs.Deeds.{CarriedOut, ChangesOne, Does as CarriesOut, 
 use Rattle.pos_service.specs.Displays.{origin}
 use Rattle.pos_service.specs.Peripherals.{IsInRange, signs_of}
 use Rattle.pos_service.specs.PrinterCalls.{DueRequest, WorksAt, WorksOn, after_work, due_request_at}
-use Rattle.pos_service.specs.Claims.{after_release, holder_at, is_exclusive}
-use Rattle.pos_service.specs.Stations.{Station, Effect, SameStation, TakesIn, reaction}
+use Rattle.pos_service.specs.Claims.{after_release, claimed_by, holder_at, is_exclusive, is_own, released_by}
+use Rattle.pos_service.specs.Hardware.{Hardware, Effect, SameHardware, TakesIn, reaction}
 use Rattle.pos_service.specs.Statuses.{heard_signs}
 use Rattle.pos_totals.specs.HardTotals.{with_control as with_place}
 use Rattle.pos_counter.specs.Machine.{Device, Machine, device_at, holder_of, kind_in, kind_of, signs_at, place_of, found_at, with_control, with_totals}
-use Rattle.pos_counter.specs.Steps.{Request, NewControl, CallOf, InputTo, WorkOn, Deliver, Snapshot, Attach, Detach, Response, Made, Full, Answered, TakenIn, NoDevice, WrongInput, Worked, Delivered, Shown, Attached, NotAttached, Detached, NotDetached, OutOfMemory, IsAttached, IsDetached, has_open, is_open_at, is_place, OnStation, Step, Called, Sets, SetsByRecovery, CategoryDoes, DeviceDoes, category_rows, device_deed, device_rows, claimed, released, dropped, facts_of, refusals, IsSound, IsPlaceOn, HasItsKind, HasItsDevice}
+use Rattle.pos_counter.specs.Steps.{Request, NewControl, CallOf, InputTo, WorkOn, Deliver, Snapshot, Attach, Detach, Response, Made, Full, Answered, TakenIn}
+use Rattle.pos_counter.specs.Steps.{NoDevice, WrongInput, Worked, Delivered, Shown, Attached, NotAttached, Detached, NotDetached, OutOfMemory, IsAttached}
+use Rattle.pos_counter.specs.Steps.{IsDetached, has_open, is_open_at, is_place, OnHardware, Step, Called, Sets, SetsByRecovery, CategoryDoes, DeviceDoes}
+use Rattle.pos_counter.specs.Steps.{category_rows, device_deed, device_rows, claimed, released, dropped, facts_of, refusals, IsSound, IsPlaceOn, HasItsKind}
+use Rattle.pos_counter.specs.Steps.{HasItsDevice}
 use Rattle.pos_counter.specs.Totals.{TotalsPart, recovers}
 use Rattle.pos_counter.proofs.Cursors.{NoneApplies, none_applies, place_opened, place_set, unless_not}
 use Rattle.pos_counter.proofs.Deeds.{DeedStaysOn, StaysOn, deed_called}
@@ -54,7 +60,7 @@ use Rattle.pos_counter.proofs.Lifts.{match_cases}
 -- the device is there, and serves a control of the category whose cursor is at a place
 abbrev pub Served : Category → Place → Option Device → Type 0
 Served category cursor o =
-    MatchOption o ⊥ (λ device. (serves category device.kind ≡ true) × IsTrue (is_none device.kind || is_some device.station) × IsPlaceOn device.kind cursor)
+    MatchOption o ⊥ (λ device. (serves category device.kind ≡ true) × IsTrue (is_none device.kind || is_some device.hardware) × IsPlaceOn device.kind cursor)
 
 -- a category's control whose cursor is at a place may have the device at this one open
 abbrev Seat : List Device → Category → Place → Option ℕ → Type 0
@@ -91,6 +97,7 @@ pub with_control_sound : (m : Machine) (n : ℕ) (c : Control) → HasItsDevice 
 with_control_sound m n c h s = record {
   kinds = s.kinds;
   places = All-set (HasItsDevice m.devices) m.controls n c h s.places;
+  covers = s.covers;
 }
 
 -- a decided call that changes its control keeps the machine sound where the new control has its device
@@ -113,7 +120,7 @@ found_seat ds category None kinds = tt
 found_seat ds category (Some i) kinds = there (slice_get ds i) refl
   where
     pick : (d : Device) → slice_get ds i ≡ Some d → (served attached : Bool) → serves category d.kind ≡ served
-        → (is_none d.kind || is_some d.station) ≡ attached
+        → (is_none d.kind || is_some d.hardware) ≡ attached
         → Seat ds category origin (place_found (cond served (cond attached (finding.At i) finding.Vacant) finding.NotThere))
     pick d e true true s a = subst (Served category origin) (sym e) (s, a, place_opened d.kind (kind_of_device ds i d e kinds).0)
     pick d e true false s a = tt
@@ -122,7 +129,7 @@ found_seat ds category (Some i) kinds = there (slice_get ds i) refl
 
     there : (o : Option Device) → slice_get ds i ≡ o → Seat ds category origin (place_found (found_at category (Some i) o))
     there None e = tt
-    there (Some d) e = pick d e (serves category d.kind) (is_none d.kind || is_some d.station) refl refl
+    there (Some d) e = pick d e (serves category d.kind) (is_none d.kind || is_some d.hardware) refl refl
 
 -- a change of controls that leaves each its category, its device and its cursor
 pub record KeepsDevice (change : Control → Control) : Type 0 where
@@ -173,11 +180,11 @@ reaction_keeps (input.Scan kind bytes label) taken.Scan was is = read_keeps _
 reaction_keeps i taken.Scan was is = record { category = λ c. refl; device = λ c. refl; cursor = λ c. refl }
 reaction_keeps i taken.Fault was is = record { category = λ c. refl; device = λ c. refl; cursor = λ c. refl }
 
--- another station at a device, of its kind
-abbrev with_after : Device → Station → Device
-with_after device after = record device { station = Some after }
+-- other hardware at a device, of its kind
+abbrev with_after : Device → Hardware → Device
+with_after device after = record device { hardware = Some after }
 
-served_stays : (ds : List Device) (i k : ℕ) (d : Device) (after : Station) (category : Category) (cursor : Place) → slice_get ds i ≡ Some d
+served_stays : (ds : List Device) (i k : ℕ) (d : Device) (after : Hardware) (category : Category) (cursor : Place) → slice_get ds i ≡ Some d
     → Served category cursor (slice_get ds k) → Served category cursor (slice_get (set ds i (with_after d after)) k)
 served_stays [] i k d after category cursor is h = absurd h
 served_stays (x ∷ ds) zero zero d after category cursor is h =
@@ -191,7 +198,7 @@ served_stays (x ∷ ds) zero (suc k) d after category cursor is h = h
 served_stays (x ∷ ds) (suc i) zero d after category cursor is h = h
 served_stays (x ∷ ds) (suc i) (suc k) d after category cursor is h = served_stays ds i k d after category cursor is h
 
-seat_stays : (ds : List Device) (i : ℕ) (d : Device) (after : Station) → slice_get ds i ≡ Some d → (c : Control) → HasItsDevice ds c
+seat_stays : (ds : List Device) (i : ℕ) (d : Device) (after : Hardware) → slice_get ds i ≡ Some d → (c : Control) → HasItsDevice ds c
     → HasItsDevice (set ds i (with_after d after)) c
 seat_stays ds i d after is c h = by_place c.device h
   where
@@ -199,23 +206,23 @@ seat_stays ds i d after is c h = by_place c.device h
     by_place None g = tt
     by_place (Some k) g = served_stays ds i k d after c.category c.cursor.place is g
 
--- A station stands at a device: it is of the device's kind, which is in range.
-pub record StandsAt (ds : List Device) (at : Option ℕ) (station : Station) : Type 0 where
-  pub kind : kind_in (device_at ds at) ≡ Some station.kind
-  pub range : IsInRange station.kind
+-- Hardware stands at a device: it is of the device's kind, which is in range.
+pub record StandsAt (ds : List Device) (at : Option ℕ) (hardware : Hardware) : Type 0 where
+  pub kind : kind_in (device_at ds at) ≡ Some hardware.kind
+  pub range : IsInRange hardware.kind
 
--- what is done at a device's station keeps its kind, and each control's device
-pub record Keeps (ds : List Device) (before : Station) (old : List Control) (after : Station) (new : List Control) : Type 0 where
+-- what is done at a device's hardware keeps its kind, and each control's device
+pub record Keeps (ds : List Device) (before : Hardware) (old : List Control) (after : Hardware) (new : List Control) : Type 0 where
   pub kind : after.kind ≡ before.kind
   pub seats : All (HasItsDevice ds) old → All (HasItsDevice ds) new
 
-on_station_sound : (m m' : Machine) (at : Option ℕ) (Does : ℕ → Effect)
-    → ((place : ℕ) (before : Station) (new : List Control) (after : Station) → StandsAt m.devices at before → Does place m.controls before new after
-    → Keeps m.devices before m.controls after new) → OnStation m at Does m' → IsSound m → IsSound m'
-on_station_sound m m' at Does keeps o s =
+on_hardware_sound : (m m' : Machine) (at : Option ℕ) (Does : ℕ → Effect)
+    → ((place : ℕ) (before : Hardware) (new : List Control) (after : Hardware) → StandsAt m.devices at before → Does place m.controls before new after
+    → Keeps m.devices before m.controls after new) → OnHardware m at Does m' → IsSound m → IsSound m'
+on_hardware_sound m m' at Does keeps o s =
     let here : HasItsKind o.device = kind_of_device m.devices o.place o.device o.is_device s.kinds in
     let kind : o.device.kind ≡ Some o.before.kind =
-    subst (λ (st : Option Station). IfSome st (λ station. o.device.kind ≡ Some station.kind)) o.is_attached here.1 in
+    subst (λ (st : Option Hardware). IfSome st (λ hardware. o.device.kind ≡ Some hardware.kind)) o.is_attached here.1 in
     let stands : StandsAt m.devices at o.before = record {
       kind = ap (λ p. kind_in (device_at m.devices p)) o.is_at ∙ ap kind_in o.is_device ∙ kind;
       range = subst (λ (k : Option Kind). IfSome k IsInRange) kind here.0;
@@ -225,19 +232,20 @@ on_station_sound m m' at Does keeps o s =
       kinds = All-set HasItsKind m.devices o.place (with_after o.device o.after) (here.0, kind ∙ ap Some (sym kept.kind)) s.kinds;
       places = All-weaker (HasItsDevice m.devices) (HasItsDevice (set m.devices o.place (with_after o.device o.after)))
           (seat_stays m.devices o.place o.device o.after o.is_device) o.controls (kept.seats s.places);
+      covers = s.covers ∙ sym (length-set m.devices o.place (with_after o.device o.after));
     })
 
-failed_keeps : (ds : List Device) (old : List Control) (before : Station) (new : List Control) (after : Station) → LineFailed old before new after
+failed_keeps : (ds : List Device) (old : List Control) (before : Hardware) (new : List Control) (after : Hardware) → LineFailed old before new after
     → Keeps ds before old after new
 failed_keeps ds old before new after h = record {
-  kind = ap (λ (s : Station). s.kind) h.station;
+  kind = ap (λ (s : Hardware). s.kind) h.hardware;
   seats = λ all. subst (All (HasItsDevice ds)) (sym h.controls) all;
 }
 
-takes_keeps : (ds : List Device) (i : Input) (place : ℕ) (old : List Control) (before : Station) (new : List Control) (after : Station)
+takes_keeps : (ds : List Device) (i : Input) (place : ℕ) (old : List Control) (before : Hardware) (new : List Control) (after : Hardware)
     → TakesIn i place old before new after → Keeps ds before old after new
 takes_keeps ds i place old before new after h = record {
-  kind = ap (λ (s : Station). s.kind) h.station;
+  kind = ap (λ (s : Hardware). s.kind) h.hardware;
   seats = λ all. subst (All (HasItsDevice ds)) (sym h.controls) (all_listening_keep ds place _ old (reaction_keeps i h.taken _ _) all);
 }
 
@@ -251,24 +259,24 @@ one_keeps ds change number old new keeps h all = elim (match_cases (slice_get ol
 ]
 
 -- where nothing has changed
-same_keeps : (ds : List Device) (old : List Control) (before : Station) (new : List Control) (after : Station) → SameStation old before new after
+same_keeps : (ds : List Device) (old : List Control) (before : Hardware) (new : List Control) (after : Hardware) → SameHardware old before new after
     → Keeps ds before old after new
 same_keeps ds old before new after h = record {
-  kind = ap (λ (s : Station). s.kind) h.station;
+  kind = ap (λ (s : Hardware). s.kind) h.hardware;
   seats = λ all. subst (All (HasItsDevice ds)) (sym h.controls) all;
 }
 
-carried_keeps : (ds : List Device) (given : Order) (place : ℕ) (old : List Control) (before : Station) (new : List Control) (after : Station)
+carried_keeps : (ds : List Device) (given : Order) (place : ℕ) (old : List Control) (before : Hardware) (new : List Control) (after : Hardware)
     → CarriedOut given place old before new after → Keeps ds before old after new
 carried_keeps ds given place old before new after h = record {
-  kind = ap (λ (s : Station). s.kind) h.station;
+  kind = ap (λ (s : Hardware). s.kind) h.hardware;
   seats = λ all. subst (All (HasItsDevice ds)) (sym h.controls)
       (all_listening_keep ds place _ old (heard_keeps (signs_of before.kind before.plant) (signs_of after.kind after.plant)) all);
 }
 
 -- whatever a peripheral says to an order
-ordered_keeps : (ds : List Device) (given : Order) (place : ℕ) (told : Reply) (old : List Control) (before : Station) (new : List Control)
-    (after : Station) → Ordered given place told old before new after → Keeps ds before old after new
+ordered_keeps : (ds : List Device) (given : Order) (place : ℕ) (told : Reply) (old : List Control) (before : Hardware) (new : List Control)
+    (after : Hardware) → Ordered given place told old before new after → Keeps ds before old after new
 ordered_keeps ds given place reply.Done old before new after h = carried_keeps ds given place old before new after h
 ordered_keeps ds given place reply.CoverOpen old before new after h = same_keeps ds old before new after h.same
 ordered_keeps ds given place reply.PaperEnd old before new after h = same_keeps ds old before new after h.same
@@ -311,8 +319,8 @@ changes_keep ds what number c old new at stays h all =
     (All-set (HasItsDevice ds) old number (changed what c) (change_seat ds what c stays (seat_of ds old number c at all)) all)
 
 -- what a call comes to keeps each control's device
-deed_keeps : (ds : List Device) (d : Deed) (r : Answer) (number place : ℕ) (c : Control) (old : List Control) (before : Station) (new : List Control)
-    (after : Station) → slice_get old number ≡ Some c → DeedStaysOn (kind_in (device_at ds c.device)) c.cursor.place d
+deed_keeps : (ds : List Device) (d : Deed) (r : Answer) (number place : ℕ) (c : Control) (old : List Control) (before : Hardware) (new : List Control)
+    (after : Hardware) → slice_get old number ≡ Some c → DeedStaysOn (kind_in (device_at ds c.device)) c.cursor.place d
     → CarriesOut d number place r old before new after → Keeps ds before old after new
 deed_keeps ds (deed.Gives given what) r number place c old before new after at stays h =
     let told = ordered_keeps ds given place h.said old before h.heard after h.ordered in
@@ -332,15 +340,15 @@ deed_keeps ds (deed.Gives given what) r number place c old before new after at s
     by reply.LineFault ordered same all = subst (All (HasItsDevice ds)) (sym same) all
     by reply.Offline ordered same all = subst (All (HasItsDevice ds)) (sym same) all
 deed_keeps ds (deed.Changes what) r number place c old before new after at stays h = record {
-  kind = ap (λ (s : Station). s.kind) h.station;
+  kind = ap (λ (s : Hardware). s.kind) h.hardware;
   seats = changes_keep ds what number c old new at stays h.controls;
 }
 deed_keeps ds (deed.Queues given) r number place c old before new after at stays h =
     elim (match_cases (first_refusal (id_rows c)) _ _
-    (MatchOption-at_some ⊥ (λ control. Decided (id_rows control) r (SameStation old before new after)
+    (MatchOption-at_some ⊥ (λ control. Decided (id_rows control) r (SameHardware old before new after)
     (Queued given number r old before new after)) c at h).outcome) [
       | inl x ↦ record {
-        kind = ap (λ (s : Station). s.kind) x.1.station;
+        kind = ap (λ (s : Hardware). s.kind) x.1.hardware;
         seats = one_keeps ds (queued given) number old new (record { category = λ c. refl; device = λ c. refl; cursor = λ c. refl }) x.1.controls;
       }
       | inr x ↦ same_keeps ds old before new after x.2.1
@@ -354,8 +362,8 @@ work_keeps id reply.PaperEnd = record { category = λ c. refl; device = λ c. re
 work_keeps id reply.LineFault = record { category = λ c. refl; device = λ c. refl; cursor = λ c. refl }
 work_keeps id reply.Offline = record { category = λ c. refl; device = λ c. refl; cursor = λ c. refl }
 
-worked_keeps : (ds : List Device) (work : DueRequest) (place : ℕ) (r : WorkResult) (old : List Control) (before : Station) (new : List Control)
-    (after : Station) → WorksOn work place r old before new after → Keeps ds before old after new
+worked_keeps : (ds : List Device) (work : DueRequest) (place : ℕ) (r : WorkResult) (old : List Control) (before : Hardware) (new : List Control)
+    (after : Hardware) → WorksOn work place r old before new after → Keeps ds before old after new
 worked_keeps ds work place r old before new after h =
     let done = ordered_keeps ds work.given place h.said old before h.controls after h.ordered in record {
       kind = done.kind;
@@ -363,18 +371,18 @@ worked_keeps ds work place r old before new after h =
     }
 
 -- work, or nothing to do
-works_keep : (ds : List Device) (holder : Option ℕ) (place : ℕ) (outcome : Result WorkResult NoMemory) (old : List Control) (before : Station)
-    (new : List Control) (after : Station) → WorksAt holder place outcome old before new after → Keeps ds before old after new
+works_keep : (ds : List Device) (holder : Option ℕ) (place : ℕ) (outcome : Result WorkResult NoMemory) (old : List Control) (before : Hardware)
+    (new : List Control) (after : Hardware) → WorksAt holder place outcome old before new after → Keeps ds before old after new
 works_keep ds holder place outcome old before new after h =
     elim (match_cases (due_request_at before.kind place holder old) _ _ h) [ inl x ↦ same_keeps ds old before new after x.1.1 | inr x ↦ by x.0 outcome x.2 ]
   where
     by : (work : DueRequest) (outcome : Result WorkResult NoMemory)
-        → MatchResult outcome (λ r. WorksOn work place r old before new after) (λ want. SameStation old before new after) → Keeps ds before old after new
+        → MatchResult outcome (λ r. WorksOn work place r old before new after) (λ want. SameHardware old before new after) → Keeps ds before old after new
     by work (Ok r) h = worked_keeps ds work place r old before new after h
     by work (Err want) h = same_keeps ds old before new after h
 
-device_keeps : (k : Category) (m : Machine) (asked : Call) (r : Answer) (n place : ℕ) (c : Control) (before : Station) (new : List Control)
-    (after : Station) → slice_get m.controls n ≡ Some c → serves k (kind_of m c) ≡ true → NoneApplies (device_rows k (kind_of m c) c asked)
+device_keeps : (k : Category) (m : Machine) (asked : Call) (r : Answer) (n place : ℕ) (c : Control) (before : Hardware) (new : List Control)
+    (after : Hardware) → slice_get m.controls n ≡ Some c → serves k (kind_of m c) ≡ true → NoneApplies (device_rows k (kind_of m c) c asked)
     → StandsAt m.devices c.device before → DeviceDoes k (kind_of m c) n c asked r place m.controls before new after
     → Keeps m.devices before m.controls after new
 device_keeps k m asked r n place c before new after at served allowed stands h =
@@ -390,7 +398,7 @@ device_keeps k m asked r n place c before new after at served allowed stands h =
         (subst (λ at. NoneApplies (device_rows k at c asked)) stands.kind allowed) (subst (λ at. device_deed k at c asked ≡ Some d) stands.kind is))
 
 -- an open control's category serves its device
-served_by : (ds : List Device) (c : Control) (before : Station) → StandsAt ds c.device before → HasItsDevice ds c
+served_by : (ds : List Device) (c : Control) (before : Hardware) → StandsAt ds c.device before → HasItsDevice ds c
     → serves c.category (kind_in (device_at ds c.device)) ≡ true
 served_by ds c before stands h = by c.device stands.kind h
   where
@@ -405,15 +413,15 @@ served_by ds c before stands h = by c.device stands.kind h
 
 -- totals that have changed leave all else as it was
 other_totals : (m m' : Machine) → m' ≡ record m { totals = m'.totals } → IsSound m → IsSound m'
-other_totals m m' e s = subst IsSound (sym e) (record { kinds = s.kinds; places = s.places })
+other_totals m m' e s = subst IsSound (sym e) (record { kinds = s.kinds; places = s.places; covers = s.covers })
 
 -- what a category's call does keeps the machine sound
 category_sound : (k : Category) (m m' : Machine) (n : ℕ) (c : Control) (own : Call) (r : Answer) → slice_get m.controls n ≡ Some c
-    → ((before : Station) → StandsAt m.devices c.device before → serves k (kind_of m c) ≡ true) → NoneApplies (category_rows k m n c own)
+    → ((before : Hardware) → StandsAt m.devices c.device before → serves k (kind_of m c) ≡ true) → NoneApplies (category_rows k m n c own)
     → CategoryDoes k m n c own r m' → IsSound m → IsSound m'
 category_sound category.HardTotals m m' n c own r e served allowed h s = other_totals m m' h.1 s
 category_sound k m m' n c own r e served allowed h s =
-    on_station_sound m m' c.device _
+    on_hardware_sound m m' c.device _
     (λ place before new after stands. device_keeps k m own r n place c before new after e (served before stands) allowed stands) h s
 
 -- a control with a property set to what it takes has its device
@@ -429,27 +437,39 @@ set_sound m m' n c p v r false may e h s =
     (with_control_sound m n (after_set (signs_at m c) c p v) (set_seat m.devices (signs_at m c) c p v may (seated m n c s e)) s)
 set_sound m m' n c p v r true may e (inl h) s =
     let there = with_control_sound m n (after_set (signs_at m c) c p v) (set_seat m.devices (signs_at m c) c p v may (seated m n c s e)) s in
-    same_machine _ m' h.2 (record { kinds = there.kinds; places = there.places })
+    same_machine _ m' h.2 (record { kinds = there.kinds; places = there.places; covers = there.covers })
 set_sound m m' n c p v r true may e (inr h) s = other_totals m m' h.1 s
 
--- claims that have changed leave all else as it was
-other_claims : (m : Machine) (claims : List (Option ℕ)) → IsSound m → IsSound (record m { claims = claims })
-other_claims m claims s = record { kinds = s.kinds; places = s.places }
+-- other claims for the same devices leave all else as it was
+other_claims : (m : Machine) (claims : List (Option ℕ)) → length claims ≡ length m.claims → IsSound m → IsSound (record m { claims = claims })
+other_claims m claims same s = record { kinds = s.kinds; places = s.places; covers = same ∙ s.covers }
 
 other_part : (m : Machine) (part : TotalsPart) → IsSound m → IsSound (record m { totals = part })
-other_part m part s = record { kinds = s.kinds; places = s.places }
+other_part m part s = record { kinds = s.kinds; places = s.places; covers = s.covers }
+
+length_released : (cl : List (Option ℕ)) (o : Option ℕ) (n : ℕ) → length (released_by cl o n) ≡ length cl
+length_released cl None n = refl
+length_released cl (Some place) n = by (is_own n (get_or cl place None))
+  where
+    by : (b : Bool) → length (cond b (set cl place None) cl) ≡ length cl
+    by true = length-set cl place None
+    by false = refl
+
+length_claimed : (cl : List (Option ℕ)) (o : Option ℕ) (n : ℕ) → length (claimed_by cl o n) ≡ length cl
+length_claimed cl None n = refl
+length_claimed cl (Some place) n = length-set cl place (Some n)
 
 claimed_sound : (k : Category) (m : Machine) (n : ℕ) (c : Control) → IsSound m → IsSound (claimed k m n c)
 claimed_sound category.HardTotals m n c s = other_part m _ s
-claimed_sound k m n c s = other_claims m _ s
+claimed_sound k m n c s = other_claims m _ (length_claimed m.claims c.device n) s
 
 released_sound : (k : Category) (m : Machine) (n : ℕ) (c : Control) → IsSound m → IsSound (released k m n c)
 released_sound category.HardTotals m n c s = other_part m _ s
-released_sound k m n c s = other_claims m _ s
+released_sound k m n c s = other_claims m _ (length_released m.claims c.device n) s
 
 dropped_sound : (k : Category) (m : Machine) (n : ℕ) (c : Control) → IsSound m → IsSound (dropped k m n c)
 dropped_sound category.HardTotals m n c s = other_part m _ s
-dropped_sound k m n c s = other_claims m _ s
+dropped_sound k m n c s = other_claims m _ (length_released m.claims c.device n) s
 
 -- a control that has released its device still has it open
 released_seat : (ds : List Device) (k : Category) (c : Control) → HasItsDevice ds c → HasItsDevice ds (after_release k c)
@@ -492,18 +512,19 @@ called_sound m m' n c own r e h s =
     ]
 
 -- a device that gets a peripheral of its kind keeps each control's device
-attached_sound : (m m' : Machine) (name : List ℕ) (station : Station) → IsAttached m name station m' → IsSound m → IsSound m'
-attached_sound m m' name station o s =
+attached_sound : (m m' : Machine) (name : List ℕ) (hardware : Hardware) → IsAttached m name hardware m' → IsSound m → IsSound m'
+attached_sound m m' name hardware o s =
     let here : HasItsKind o.device = kind_of_device m.devices o.place o.device o.is_device s.kinds in
     same_machine _ m' o.machine (record {
-      kinds = All-set HasItsKind m.devices o.place (with_after o.device station) (here.0, o.kind) s.kinds;
-      places = All-weaker (HasItsDevice m.devices) (HasItsDevice (set m.devices o.place (with_after o.device station)))
-          (seat_stays m.devices o.place o.device station o.is_device) m.controls s.places;
+      kinds = All-set HasItsKind m.devices o.place (with_after o.device hardware) (here.0, o.kind) s.kinds;
+      places = All-weaker (HasItsDevice m.devices) (HasItsDevice (set m.devices o.place (with_after o.device hardware)))
+          (seat_stays m.devices o.place o.device hardware o.is_device) m.controls s.places;
+      covers = s.covers ∙ sym (length-set m.devices o.place (with_after o.device hardware));
     })
 
 -- a device without its peripheral
 abbrev emptied : Device → Device
-emptied device = record device { station = None }
+emptied device = record device { hardware = None }
 
 -- each other device serves whom it served
 served_elsewhere : (ds : List Device) (i k : ℕ) (d : Device) (category : Category) (cursor : Place) → (k ≡ i → ⊥)
@@ -533,12 +554,13 @@ seats_elsewhere ds i d (c ∷ cs) none all =
     neither false b h = (refl, h)
 
 -- a device that no control has open may lose its peripheral
-detached_sound : (m m' : Machine) (name : List ℕ) (station : Station) → IsDetached m name station m' → IsSound m → IsSound m'
-detached_sound m m' name station o s =
+detached_sound : (m m' : Machine) (name : List ℕ) (hardware : Hardware) → IsDetached m name hardware m' → IsSound m → IsSound m'
+detached_sound m m' name hardware o s =
     let here : HasItsKind o.device = kind_of_device m.devices o.place o.device o.is_device s.kinds in
     same_machine _ m' o.machine (record {
       kinds = All-set HasItsKind m.devices o.place (emptied o.device) (here.0, tt) s.kinds;
       places = seats_elsewhere m.devices o.place o.device m.controls o.is_closed s.places;
+      covers = s.covers ∙ sym (length-set m.devices o.place (emptied o.device));
     })
 
 -- every step from a sound machine leads to a sound one
@@ -547,6 +569,7 @@ step_sound m m' (NewControl u category) (Made number) h s =
     same_machine (record (with_totals m (with_place m.totals.totals)) { controls = m.controls ++ new_control category ∷ [] }) m' h.2 (record {
       kinds = s.kinds;
       places = All-push (HasItsDevice m.devices) m.controls (new_control category) s.places tt;
+      covers = s.covers;
     })
 step_sound m m' (NewControl u category) Full h s = same_machine m m' h.1 s
 step_sound m m' (NewControl u category) OutOfMemory h s = same_machine m m' h.1 s
@@ -554,12 +577,12 @@ step_sound m m' (CallOf n q) (Answered r) h s =
     elim (match_cases (slice_get m.controls n) _ _ h) [ inl x ↦ same_machine m m' x.1.1 s | inr x ↦ called_sound m m' n x.0 q r x.1 x.2 s ]
 step_sound m m' (CallOf n q) OutOfMemory h s = elim (match_cases (slice_get m.controls n) _ _ h) [ inl x ↦ absurd x.1 | inr x ↦ same_machine m m' x.2.2 s ]
 step_sound m m' (InputTo name input) TakenIn h s =
-    on_station_sound m m' _ _ (λ place before new after stands. takes_keeps m.devices input place m.controls before new after) h s
+    on_hardware_sound m m' _ _ (λ place before new after stands. takes_keeps m.devices input place m.controls before new after) h s
 step_sound m m' (InputTo name input) NoDevice h s = same_machine m m' h.1 s
 step_sound m m' (InputTo name input) WrongInput h s = same_machine m m' h.1 s
 step_sound m m' (InputTo name input) OutOfMemory h s = same_machine m m' h.1 s
 step_sound m m' (WorkOn name) (Worked result) h s =
-    on_station_sound m m' _ _ (λ place before new after stands. works_keep m.devices (holder_at m.claims (Some place)) place
+    on_hardware_sound m m' _ _ (λ place before new after stands. works_keep m.devices (holder_at m.claims (Some place)) place
     (Ok result) m.controls before new after) h s
 step_sound m m' (WorkOn name) NoDevice h s = same_machine m m' h.1 s
 step_sound m m' (WorkOn name) OutOfMemory h s = same_machine m m' h.1 s
@@ -571,8 +594,8 @@ step_sound m m' (Deliver n reply) (Delivered event) h s =
 step_sound m m' (Snapshot name) (Shown shown) h s = same_machine m m' h.2 s
 step_sound m m' (Snapshot name) NoDevice h s = same_machine m m' h.1 s
 step_sound m m' (Snapshot name) OutOfMemory h s = same_machine m m' h.1 s
-step_sound m m' (Attach name station) Attached h s = attached_sound m m' name station h s
-step_sound m m' (Attach name station) (NotAttached fault given) h s = same_machine m m' h.2 s
-step_sound m m' (Detach name) (Detached station) h s = detached_sound m m' name station h s
+step_sound m m' (Attach name hardware) Attached h s = attached_sound m m' name hardware h s
+step_sound m m' (Attach name hardware) (NotAttached fault given) h s = same_machine m m' h.2 s
+step_sound m m' (Detach name) (Detached hardware) h s = detached_sound m m' name hardware h s
 step_sound m m' (Detach name) (NotDetached fault) h s = same_machine m m' h.1 s
 step_sound m m' q r h s = absurd h

@@ -1,7 +1,8 @@
 -- A call of the totals' own as a step of the machine.
 use Rattle.std.proofs.Common.{◌≡◌, ◌⊎◌, inl, inr, ℕ, List, [], Option, Some, Result, Ok, Err, false, refl, sym, ap, ◌∙◌, subst}
 use Rattle.std.specs.Prelude.{MatchOption, IsSome, slice_get, ⊤}
-use Rattle.pos_disk.specs.declared.device.Disk.{Ghosts}
+use Rattle.pos_disk.specs.declared.device.Disk.{Ghosts as DiskGhosts}
+use Rattle.pos_service.specs.declared.peripheral.Peripheral.{Ghosts}
 use Rattle.pos_service.specs.declared.answer.Answer.{Answer}
 use Rattle.pos_service.specs.declared.answer.Answer.TheVariants as answer
 use Rattle.pos_service.specs.declared.call.Call.{Call}
@@ -13,21 +14,23 @@ use Rattle.pos_service.specs.Controls.{Control}
 use Rattle.pos_totals.specs.HardTotals.{Mode, Off, Ready}
 use Rattle.pos_service.specs.Refusals.{first_refusal}
 use Rattle.pos_totals.specs.TotalsCalls.{file_call, file_rows}
-use Rattle.pos_common.specs.Held.{Held, controls_of}
+use Rattle.pos_common.specs.KeptControls.{controls_of}
 use Rattle.pos_store.specs.Standing.{Standing}
 use Rattle.pos_totals.specs.Changes.{IsDone}
 use Rattle.pos_totals.specs.Views.{IsReady, TotalsView, TurnsOff}
-use Rattle.pos_counter.specs.Machine.{Device, Machine}
-use Rattle.pos_counter.specs.Assembly.{machine_with, ArePartsSound}
-use Rattle.pos_counter.specs.Leaving.{part_of}
-use Rattle.pos_counter.specs.Serving.{CallsFiles, Serves}
+use Rattle.pos_counter.specs.Machine.{Machine}
+use Rattle.pos_counter.specs.Leaving.{part_of, part_with}
+use Rattle.pos_counter.specs.FileCalls.{CallsFiles}
+use Rattle.pos_counter.specs.Counters.{machine, IsCounterSound, Serves}
+use Rattle.pos_counter.specs.declared.counter.Counter.{Counter}
 use Rattle.pos_counter.specs.Responses.{answered}
 use Rattle.pos_counter.specs.Steps.{CallOf, Step, CategoryDoes, category_rows, refusals}
 use Rattle.pos_counter.specs.DiskUse.{AsksNothing, IsUndone, SparesDisk, SparesFiles}
 use Rattle.pos_counter.specs.History.{changes_asked}
 use Rattle.pos_counter.specs.Totals.{TotalsPart, FilesCalled}
 use Rattle.pos_counter.proofs.Lifts.{match_at_some, match_by, match_weaker}
-use Rattle.pos_counter.proofs.Stations.{IsLet, let_refusals, own_does, own_takes}
+use Rattle.pos_counter.proofs.Serving.{OnlyNow, quiet_serves}
+use Rattle.pos_counter.proofs.Hardware.{IsLet, let_refusals, own_does, own_takes}
 
 -- behind the check of an open control of Hard Totals, the totals' refusals decide
 totals_refusals : (m : Machine) (n : ℕ) (c : Control) (asked : Call) → is_common asked ≡ false → c.category ≡ category.HardTotals → IsLet m n c asked
@@ -84,27 +87,36 @@ still_ready old Off turns ready = ready
 still_ready old (Ready files sequence) turns ready = turns
 
 -- a call of the totals' own that its control may make
-pub files_serve : {D : Type 0} (bound : Ghosts D) (view new : TotalsView D) (hs : List Held) (cl : List (Option ℕ)) (ds : List Device) (n : ℕ)
-    (c : Control) (asked : Call) (outcome : Result Answer NoMemory)
-    → is_common asked ≡ false → slice_get (controls_of hs) n ≡ Some c → c.category ≡ category.HardTotals
-    → ((left : List Standing) → IsLet (machine_with hs cl ds (part_of bound view left)) n c asked)
-    → CallsFiles bound view n asked outcome new → ArePartsSound hs ds → Serves bound hs cl ds view (CallOf n asked) (answered outcome) hs cl ds new
-files_serve bound view new hs cl ds n c asked outcome own at is lets calls sound = record {
-  steps = λ left leaves.
-      let f = calls.steps left leaves in
-      record {
-        after = f.after;
-        leaves = f.leaves;
-        step = called_step (machine_with hs cl ds (part_of bound view left)) (part_of bound new f.after) n c asked outcome own at is (lets left) f.answer;
-        any_moment = f.any_moment;
-      };
-  sound = sound;
-  covers = refl;
-  places = refl;
-  untouched = λ left spares. calls.untouched (spares_own (machine_with hs cl ds (part_of bound view left)) n c asked own at is (lets left) spares);
-  unchanged = λ undone was now. elim (calls.unchanged (not_done outcome undone)) [
-    | inl turns ↦ absurd (still_ready view.totals.mode new.totals.mode turns now)
-    | inr same ↦ same
-  ];
-  kept = calls.kept;
+pub files_serve : {D P : Type 0} (bound : DiskGhosts D) (peripherals : Ghosts P) (old : Counter D P) (now : TotalsView D) (n : ℕ) (c : Control)
+    (asked : Call) (outcome : Result Answer NoMemory)
+    → is_common asked ≡ false → slice_get (controls_of old.controls.items) n ≡ Some c → c.category ≡ category.HardTotals
+    → ((left : List Standing) (failures : ℕ) → IsLet (machine peripherals old (part_with old.totals.totals left failures)) n c asked)
+    → OnlyNow bound old.totals.disk → CallsFiles bound old.totals n asked outcome now → IsCounterSound peripherals old
+    → Serves bound peripherals old (CallOf n asked) (answered outcome) (record old { totals = now })
+files_serve bound peripherals old now n c asked outcome own at is lets only (inl quiet) sound =
+    quiet_serves bound peripherals old (record old { totals = now }) (CallOf n asked) (answered outcome) now.totals only quiet.disk refl quiet.is_settled
+    sound sound.devices
+    (λ left failures so. called_step (machine peripherals old (part_with old.totals.totals left failures)) (part_with now.totals left failures) n c asked
+    outcome own at is (lets left failures) (quiet.answer left failures so))
+files_serve bound peripherals old now n c asked outcome own at is lets only (inr puts) sound = record {
+  step = record {
+    steps = λ left leaves.
+        let f = puts.steps left leaves in
+        record {
+          after = f.after;
+          leaves = f.leaves;
+          step = called_step (machine peripherals old (part_of bound old.totals left)) (part_of bound now f.after) n c asked outcome own at is
+              (lets left (bound.state old.totals.disk).failures) f.answer;
+          any_moment = f.any_moment;
+        };
+    spared = λ left failures spares.
+        absurd (puts.uses (spares_own (machine peripherals old (part_with old.totals.totals left failures)) n c asked own at is (lets left failures) spares));
+    otherwise = λ left failures. inr (match_at_some _ c _ _ at (is, inl refl));
+    unchanged = λ undone was ready. elim (puts.unchanged (not_done outcome undone)) [
+      | inl turns ↦ absurd (still_ready old.totals.totals.mode now.totals.mode turns ready)
+      | inr same ↦ same
+    ];
+    kept = puts.kept;
+  };
+  sound = record { machine = sound.machine; devices = sound.devices };
 }

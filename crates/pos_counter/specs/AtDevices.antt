@@ -8,18 +8,18 @@ use Rattle.pos_service.specs.Calls.{has_call, serves, takes_memory}
 use Rattle.pos_service.specs.Controls.{Control}
 use Rattle.pos_service.specs.Refusals.{Decided, first_refusal}
 use Rattle.pos_service.specs.declared.input.Input.{Input}
-use Rattle.pos_service.specs.Stations.{Effect, SameStation, Station}
-use Rattle.pos_common.specs.Held.{Held, controls_of}
-use Rattle.pos_counter.specs.Machine.{Device, device_at, kind_in, station_in}
+use Rattle.pos_service.specs.Hardware.{Effect, SameHardware, Hardware}
+use Rattle.pos_common.specs.KeptControls.{KeptControl, controls_of}
+use Rattle.pos_counter.specs.Machine.{Device, device_at, kind_in, hardware_in}
 use Rattle.pos_counter.specs.Steps.{DeviceDoes, FindsFit, IsPlaceOn, device_rows}
 
 -- something stands at the device at a place
 abbrev pub IsAttachedAt : List Device → ℕ → Type 0
-IsAttachedAt devices place = IsSome (station_in (device_at devices (Some place)))
+IsAttachedAt devices place = IsSome (hardware_in (device_at devices (Some place)))
 
 -- An input fits what stands at the device at a place.
 abbrev pub FitsAt : List Device → ℕ → Input → Type 0
-FitsAt devices place given = FindsFit (station_in (device_at devices (Some place))) given true
+FitsAt devices place given = FindsFit (hardware_in (device_at devices (Some place))) given true
 
 -- A call may be handed to what stands at a control's device, which is of this kind: the control's category has the call
 -- and serves the kind, and the control's cursor is at one of its places.
@@ -36,24 +36,24 @@ pub record MayBeCalled (devices : List Device) (place : ℕ) (asked : Call) (con
       (MayCall (kind_in (device_at devices (Some place))) asked)
 
 -- Something is done with what stands at the device at a place, and with the controls, and nothing else changes.
-pub record IsDoneAt (devices : List Device) (place : ℕ) (Does : Effect) (helds new_helds : List Held)
+pub record IsDoneAt (devices : List Device) (place : ℕ) (Does : Effect) (helds new_helds : List KeptControl)
     (new_devices : List Device) : Type 0 where
   pub device : Device
-  pub before : Station
-  pub after : Station
+  pub before : Hardware
+  pub after : Hardware
   pub is_device : slice_get devices place ≡ Some device
-  pub is_attached : device.station ≡ Some before
+  pub is_attached : device.hardware ≡ Some before
   pub kind : device.kind ≡ Some before.kind
   pub does : Does (controls_of helds) before (controls_of new_helds) after
-  pub changed : new_devices ≡ slice_set devices place (record device { station = Some after })
+  pub changed : new_devices ≡ slice_set devices place (record device { hardware = Some after })
 
 -- what a call of a control does at its device, once its check is done
 abbrev pub CallsFor : ℕ → Call → ℕ → Result Answer NoMemory → Control → Effect
 CallsFor number asked place outcome control old before new after =
     let rows = device_rows control.category (Some before.kind) control asked in MatchResult outcome
-    (λ result. Decided rows result (SameStation old before new after)
+    (λ result. Decided rows result (SameHardware old before new after)
     (DeviceDoes control.category (Some before.kind) number control asked result place old before new after))
-    (λ want. IsTrue (takes_memory asked) × (first_refusal rows ≡ None) × SameStation old before new after)
+    (λ want. IsTrue (takes_memory asked) × (first_refusal rows ≡ None) × SameHardware old before new after)
 
 -- the same of the control with a number
 abbrev pub CallsAt : ℕ → Call → ℕ → Result Answer NoMemory → Effect

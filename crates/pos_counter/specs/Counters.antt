@@ -8,20 +8,20 @@ use Rattle.pos_store.specs.Standing.{Standing, StandsForOneOf}
 use Rattle.pos_totals.specs.Views.{IsReady}
 use Rattle.pos_disk.specs.Keeps.{KeepsDisk}
 use Rattle.pos_counter.specs.declared.counter.Counter.{Counter}
-use Rattle.pos_counter.specs.Machine.{Machine}
+use Rattle.pos_counter.specs.Machine.{Machine, machine_with}
 use Rattle.pos_counter.specs.KeptDevices.{devices_in, profile_devices, AreDevicesSound}
-use Rattle.pos_counter.specs.Assembly.{machine_with, ArePartsSound}
-use Rattle.pos_counter.specs.Leaving.{part_of, Leaves, Stepped}
-use Rattle.pos_counter.specs.DiskUse.{IsUndone, SparesDisk}
+use Rattle.pos_counter.specs.Leaving.{part_of, part_with, IsSettled, Leaves, Spared, Stepped}
+use Rattle.pos_counter.specs.DiskUse.{ChangesTotalsAlone, IsUndone, SparesDisk}
 use Rattle.pos_image.specs.declared.layout.Layout.TheVariants.{Layout1}
 use Rattle.pos_profile.specs.declared.entry.Entry.{Entry}
-use Rattle.pos_counter.specs.Steps.{Request, Response, Step, Run}
+use Rattle.pos_counter.specs.Steps.{Request, Response, IsSound, Step, Run}
+use Rattle.pos_counter.specs.Sparing.{AllSpare, RunSparing}
 use Rattle.pos_counter.specs.Totals.{TotalsPart}
 
 -- the machine that a counter stands for, by what its totals are
 abbrev pub machine : {D P : Type 0} → Ghosts P → Counter D P → TotalsPart → Machine
 machine peripherals counter part =
-    machine_with counter.desk counter.claims (devices_in peripherals counter.devices) part
+    machine_with counter.controls.items counter.claims (devices_in peripherals counter.devices) part
 
 -- A counter as it begins over the devices of a profile and a disk: no control, each device vacant and held by nobody,
 -- totals that are off and have the layout of a new disk.
@@ -46,13 +46,20 @@ pub record IsStep {D P : Type 0} (bound : DiskGhosts D) (peripherals : Ghosts P)
     (old : Counter D P) (request : Request) (response : Response) (new : Counter D P) : Type 0 where
   pub steps : (left : List Standing) → Leaves bound old.totals left
       → Stepped bound left (machine peripherals old) old.totals request response (machine peripherals new) new.totals
-  -- a request that spares the disk doesn't touch it
-  pub untouched : (left : List Standing) → SparesDisk (machine peripherals old (part_of bound old.totals left)) request
-      → new.totals.disk ≡ old.totals.disk
-  -- nor does a call that isn't done, but after a fault of the disk, which turns the totals off, and but a recovery,
-  -- which finds them off
+  -- a request that spares the disk is a step whatever the disk is, and doesn't touch it
+  pub spared : (left : List Standing) (failures : ℕ)
+      → SparesDisk (machine peripherals old (part_with old.totals.totals left failures)) request
+      → Spared left failures (machine peripherals old) old.totals request response (machine peripherals new) new.totals
+  -- nor does a call touch the disk that isn't done, but after a fault of it, which turns the totals off, and but a
+  -- recovery, which finds them off
   pub unchanged : IsUndone response → IsReady old.totals.totals.mode → IsReady new.totals.totals.mode
       → new.totals.disk ≡ old.totals.disk
+  -- a request that doesn't spare it is a step whatever the disk is too, or a call at Hard Totals that changes nothing
+  -- beside them
+  pub otherwise : (left : List Standing) (failures : ℕ)
+      → Spared left failures (machine peripherals old) old.totals request response (machine peripherals new) new.totals
+      ⊎ ChangesTotalsAlone (machine peripherals old (part_with old.totals.totals left failures)) request
+      (machine peripherals new (part_with new.totals.totals left failures))
   pub kept : KeepsDisk bound old.totals.disk new.totals.disk
 
 -- the bytes stand for what a crash leaves before a run, between two of its steps, or after it
@@ -82,13 +89,30 @@ IsRun {D = D} {P = P} bound peripherals old [] new = new ≡ old
 IsRun {D = D} {P = P} bound peripherals old (step ∷ steps) new =
     (mid : Counter D P) × IsStep bound peripherals old step.0 step.1 mid × IsRun bound peripherals mid steps new
 
+-- What a run does whatever the disk is, honest or not: each request that spares it is a step, by whatever the machine
+-- has of the disk, and another changes nothing beside the totals; and where all of them spare it, it is as it was.
+pub record RunsAnyhow {D P : Type 0} (peripherals : Ghosts P) (left : List Standing) (failures : ℕ)
+    (old : Counter D P) (steps : List (Request × Response)) (new : Counter D P) : Type 0 where
+  pub after : List Standing
+  pub is_settled : IsSettled new.totals.totals after
+  pub run : RunSparing (machine peripherals old (part_with old.totals.totals left failures)) steps
+      (machine peripherals new (part_with new.totals.totals after failures))
+  pub spared : AllSpare (machine peripherals old (part_with old.totals.totals left failures)) steps
+      (machine peripherals new (part_with new.totals.totals after failures)) run
+      → (new.totals.disk ≡ old.totals.disk) × (after ≡ left)
+
 -- The machine is the same, and the totals and their disk are.
 pub record Stays {D P : Type 0} (peripherals : Ghosts P) (old new : Counter D P) : Type 0 where
   pub machine : (part : TotalsPart) → machine peripherals new part ≡ machine peripherals old part
   pub totals : new.totals ≡ old.totals
 
--- What is true of every counter: its parts are sound, its devices are, and there is a claim for each of them.
+-- What is true of every counter: its machine is sound, and its devices are.
 pub record IsCounterSound {D P : Type 0} (peripherals : Ghosts P) (counter : Counter D P) : Type 0 where
-  pub parts : ArePartsSound counter.desk (devices_in peripherals counter.devices)
+  pub machine : (part : TotalsPart) → IsSound (machine peripherals counter part)
   pub devices : AreDevicesSound peripherals counter.devices
-  pub covers : length counter.claims ≡ length (devices_in peripherals counter.devices)
+
+-- From a sound counter to a new one, a step: the request gets this response, and the new counter is sound.
+pub record Serves {D P : Type 0} (bound : DiskGhosts D) (peripherals : Ghosts P)
+    (old : Counter D P) (request : Request) (response : Response) (new : Counter D P) : Type 0 where
+  pub step : IsStep bound peripherals old request response new
+  pub sound : IsCounterSound peripherals new

@@ -13,8 +13,7 @@ use Rattle.pos_image.specs.declared.layout.Layout.TheVariants.{Layout1}
 use Rattle.pos_totals.specs.HardTotals.{Off}
 use Rattle.pos_store.specs.Standing.{Stands}
 use Rattle.pos_counter.specs.History.{Group, History, history_of}
-use Rattle.pos_counter.specs.Machine.{Machine}
-use Rattle.pos_counter.specs.Assembly.{machine_with}
+use Rattle.pos_counter.specs.Machine.{Machine, machine_with}
 use Rattle.pos_counter.specs.KeptDevices.{totals_devices}
 use Rattle.pos_counter.specs.Steps.{Request, NewControl, CallOf, Response, Made, Answered, Run}
 

@@ -1,7 +1,7 @@
 -- The devices that a counter keeps, and those that it hands over at its end.
 use Rattle.std.specs.Prelude.{◌≡◌, ℕ, true, List, [], ◌∷◌, Option, Some, None, IfSome, All, map, option_map, is_some, ◌++◌, Bool, bytes_eq, if◌then◌else◌}
 use Rattle.std.specs.List.{filter, find}
-use Rattle.pos_service.specs.Stations.{station_of}
+use Rattle.pos_service.specs.Hardware.{hardware_of}
 use Rattle.pos_counter.specs.Machine.{Device, Machine}
 use Rattle.pos_counter.specs.declared.devices.Devices.{Devices}
 use Rattle.pos_profile.specs.declared.entry.Entry.{Entry}
@@ -14,13 +14,13 @@ abbrev pub device_of : Registered → Device
 device_of device = record {
   name = device.name;
   kind = Some device.kind;
-  station = option_map station_of device.peripheral;
+  hardware = option_map hardware_of device.peripheral;
 }
 
 -- the Hard Totals device of a name, which has no peripheral; none where there is no name
 abbrev pub totals_devices : Option (List ℕ) → List Device
 totals_devices None = []
-totals_devices (Some name) = record { name = name; kind = None; station = None } ∷ []
+totals_devices (Some name) = record { name = name; kind = None; hardware = None } ∷ []
 
 -- the devices of a counter: those that may have a peripheral, in order, and the Hard Totals device
 abbrev pub devices_of : List Registered → Option (List ℕ) → List Device

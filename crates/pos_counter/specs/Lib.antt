@@ -1,9 +1,9 @@
-pub mod Assembly
 pub mod AtDevices
 pub mod Counters
 pub mod Crashes
 pub mod DiskUse
 pub mod Examples
+pub mod FileCalls
 pub mod History
 pub mod KeptDevices
 pub mod Leaving
@@ -11,6 +11,6 @@ pub mod Machine
 pub mod Prefixes
 pub mod Reopening
 pub mod Responses
-pub mod Serving
+pub mod Sparing
 pub mod Steps
 pub mod Totals

@@ -10,26 +10,32 @@ use Rattle.pos_service.specs.Calls.{serves}
 use Rattle.pos_service.specs.Claims.{holder_at}
 use Rattle.pos_service.specs.Controls.{Control}
 use Rattle.pos_totals.specs.HardTotals.{Totals}
-use Rattle.pos_service.specs.Stations.{Station, signs_in}
+use Rattle.pos_service.specs.Hardware.{Hardware, signs_in}
+use Rattle.pos_common.specs.KeptControls.{KeptControl, controls_of}
 use Rattle.pos_counter.specs.Totals.{TotalsPart}
 
--- a device of the profile: of a kind, and without a station where no peripheral is attached
+-- a device of the profile: of a kind, and without hardware where no peripheral is attached
 pub record Device : Type 0 where
   pub name : List ℕ
   pub kind : Option Kind
-  pub station : Option Station
+  pub hardware : Option Hardware
 
--- What the controls share beside the devices: the claims, which name the control that holds each device by the devices'
--- places, and the totals, which know who holds their own (the area).
-pub record Shared : Type 0 where
-  pub claims : List (Option ℕ)
-  pub totals : TotalsPart
-
+-- Controls, devices, the claims, which name the control that holds each device by the devices' places, and the totals,
+-- which know who holds their own (the area).
 pub record Machine : Type 0 where
   pub controls : List Control
   pub devices : List Device
   pub claims : List (Option ℕ)
   pub totals : TotalsPart
+
+-- the machine of the controls, claims and devices that a counter keeps, over any totals
+abbrev pub machine_with : List KeptControl → List (Option ℕ) → List Device → TotalsPart → Machine
+machine_with helds claims devices part = record {
+  controls = controls_of helds;
+  devices = devices;
+  claims = claims;
+  totals = part;
+}
 
 -- the place, from this one on, of the first device with a name
 abbrev pub place_from : ℕ → List ℕ → List Device → Option ℕ
@@ -44,9 +50,9 @@ abbrev pub device_at : List Device → Option ℕ → Option Device
 device_at devices None = None
 device_at devices (Some place) = slice_get devices place
 
-abbrev pub station_in : Option Device → Option Station
-station_in None = None
-station_in (Some device) = device.station
+abbrev pub hardware_in : Option Device → Option Hardware
+hardware_in None = None
+hardware_in (Some device) = device.hardware
 
 -- what a device is, where it has a peripheral
 abbrev pub kind_in : Option Device → Option Kind
@@ -54,8 +60,8 @@ kind_in None = None
 kind_in (Some device) = device.kind
 
 -- what stands at the device of this name
-abbrev pub station_named : Machine → List ℕ → Option Station
-station_named machine name = station_in (device_at machine.devices (place_of machine.devices name))
+abbrev pub hardware_named : Machine → List ℕ → Option Hardware
+hardware_named machine name = hardware_in (device_at machine.devices (place_of machine.devices name))
 
 -- what the device of this name is, where it has a peripheral
 abbrev pub kind_named : Machine → List ℕ → Option Kind
@@ -67,7 +73,7 @@ found_at category None device = finding.NotThere
 found_at category (Some place) None = finding.NotThere
 found_at category (Some place) (Some device) =
     if serves category device.kind
-    then (if is_none device.kind || is_some device.station then finding.At place else finding.Vacant)
+    then (if is_none device.kind || is_some device.hardware then finding.At place else finding.Vacant)
     else finding.NotThere
 
 -- what a control of a category finds under a name
@@ -79,17 +85,17 @@ found_under machine category name =
 abbrev pub with_control : Machine → ℕ → Control → Machine
 with_control machine number control = record machine { controls = slice_set machine.controls number control }
 
--- the machine with these controls, and another station at a device
-abbrev pub with_station : Machine → List Control → ℕ → Device → Station → Machine
-with_station machine controls place device station = record machine {
+-- the machine with these controls, and other hardware at a device
+abbrev pub with_hardware : Machine → List Control → ℕ → Device → Hardware → Machine
+with_hardware machine controls place device hardware = record machine {
   controls = controls;
-  devices = slice_set machine.devices place (record device { station = Some station });
+  devices = slice_set machine.devices place (record device { hardware = Some hardware });
 }
 
--- the machine, where a device has this station or none
-abbrev pub with_standing : Machine → ℕ → Device → Option Station → Machine
-with_standing machine place device station = record machine {
-  devices = slice_set machine.devices place (record device { station = station });
+-- the machine, where a device has this hardware or none
+abbrev pub with_standing : Machine → ℕ → Device → Option Hardware → Machine
+with_standing machine place device hardware = record machine {
+  devices = slice_set machine.devices place (record device { hardware = hardware });
 }
 
 -- the control that holds a device of a category, by the claims and the claim of the area: of Hard Totals, the one that
@@ -108,7 +114,7 @@ kind_of machine control = kind_in (device_at machine.devices control.device)
 
 -- what a control's device shows of itself
 abbrev pub signs_at : Machine → Control → Signs
-signs_at machine control = signs_in (station_in (device_at machine.devices control.device))
+signs_at machine control = signs_in (hardware_in (device_at machine.devices control.device))
 
 -- the machine with other totals over the same disk
 abbrev pub with_totals : Machine → Totals → Machine

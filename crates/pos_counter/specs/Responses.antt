@@ -13,7 +13,7 @@ use Rattle.pos_service.specs.declared.exchange_fault.AttachFault.{AttachFault}
 use Rattle.pos_service.specs.declared.exchange_fault.DetachFault.{DetachFault}
 use Rattle.pos_service.specs.Peripherals.{PeripheralState}
 use Rattle.pos_service.specs.Requests.{request_by, response_by}
-use Rattle.pos_service.specs.Stations.{Station, station_of}
+use Rattle.pos_service.specs.Hardware.{Hardware, hardware_of}
 use Rattle.pos_counter.specs.Steps as machine
 use Rattle.pos_counter.specs.declared.faults.ControlFault.{ControlFault}
 use Rattle.pos_counter.specs.declared.faults.ControlFault.TheVariants as control_fault
@@ -57,16 +57,16 @@ shown (Err snapshot_fault.NoMemory) = response.OutOfMemory
 -- what `attach` answers, by what the peripheral is that it hands back
 abbrev pub attached : {P : Type 0} → (P → PeripheralState) → Result (Unit {0}) (AttachFault × P) → machine.Response
 attached state (Ok u) = response.Attached
-attached state (Err refusal) = response.NotAttached refusal.0 (station_of (state refusal.1))
+attached state (Err refusal) = response.NotAttached refusal.0 (hardware_of (state refusal.1))
 
 -- what `detach` answers, by what the peripheral is that it hands out
 abbrev pub detached : {P : Type 0} → (P → PeripheralState) → Result P DetachFault → machine.Response
-detached state (Ok peripheral) = response.Detached (station_of (state peripheral))
+detached state (Ok peripheral) = response.Detached (hardware_of (state peripheral))
 detached state (Err fault) = response.NotDetached fault
 
 -- what stands at a device, or would stand there, where a peripheral serves it
-abbrev pub stands_as : {P : Type 0} → Ghosts P → P → Station
-stands_as peripherals peripheral = station_of (peripherals.state peripheral)
+abbrev pub stands_as : {P : Type 0} → Ghosts P → P → Hardware
+stands_as peripherals peripheral = hardware_of (peripherals.state peripheral)
 
 -- a request to the machine
 abbrev pub request_of : {P : Type 0} → Ghosts P → Request (Unit {0}) ℕ P → machine.Request

@@ -1,7 +1,8 @@
 -- The steps of the device machine, and its runs.
 use Rattle.std.specs.Bool.{MatchBool}
 use Rattle.std.specs.List.{list_any}
-use Rattle.std.specs.Prelude.{◌≡◌, ◌⊎◌, ℕ, ◌++◌, ◌∷◌, Bool, true, false, List, [], Option, Some, None, Ok, MatchOption, IfSome, IsSome, All, IsTrue, length, ◌<◌, ◌≤◌, ◌||◌, slice_get, is_some, is_none, nat_eq}
+use Rattle.std.specs.Prelude.{◌≡◌, ◌⊎◌, ℕ, ◌++◌, ◌∷◌, Bool, true, false, List, [], Option, Some, None, Ok, MatchOption, IfSome, IsSome, All, IsTrue, length}
+use Rattle.std.specs.Prelude.{◌<◌, ◌≤◌, ◌||◌, slice_get, is_some, is_none, nat_eq}
 use Rattle.pos_service.specs.declared.category.Category.{Category}
 use Rattle.pos_service.specs.declared.category.Category.TheVariants as category
 use Rattle.pos_service.specs.declared.call.Call.{Call}
@@ -23,7 +24,7 @@ use Rattle.pos_service.specs.Refusals.{Row, Decided, first_refusal}
 use Rattle.pos_service.specs.Calls.{takes_memory as own_takes_memory}
 use Rattle.pos_service.specs.Calls.{serves, needs_of, place_found, open_rows, close_rows}
 use Rattle.pos_service.specs.Properties.{set_rows, after_set, tells_power, get_rows, is_of_bytes, property_of}
-use Rattle.pos_service.specs.Stations.{Station, Effect, TakesIn}
+use Rattle.pos_service.specs.Hardware.{Hardware, Effect, TakesIn}
 use Rattle.pos_service.specs.Deeds.{Does as CarriesOut}
 use Rattle.pos_service.specs.DisplayCalls.{display_rows, display_deed}
 use Rattle.pos_service.specs.DrawerCalls.{drawer_deed}
@@ -36,7 +37,8 @@ use Rattle.pos_service.specs.declared.facts.Facts.{Facts}
 use Rattle.pos_service.specs.declared.request.Request.{Request as RequestOf}
 pub use Rattle.pos_service.specs.declared.request.Request.TheVariants.{NewControl, CallOf, InputTo, WorkOn, Deliver, Snapshot, Attach, Detach}
 use Rattle.pos_service.specs.declared.request.Response.{Response as ResponseOf}
-pub use Rattle.pos_service.specs.declared.request.Response.TheVariants.{Made, Full, Answered, TakenIn, NoDevice, WrongInput, Worked, Delivered, Shown, Attached, NotAttached, Detached, NotDetached, OutOfMemory}
+pub use Rattle.pos_service.specs.declared.request.Response.TheVariants.{Made, Full, Answered, TakenIn, NoDevice, WrongInput, Worked, Delivered, Shown, Attached}
+pub use Rattle.pos_service.specs.declared.request.Response.TheVariants.{NotAttached, Detached, NotDetached, OutOfMemory}
 use Rattle.pos_service.specs.declared.exchange_fault.AttachFault.{AttachFault}
 use Rattle.pos_service.specs.declared.exchange_fault.AttachFault.TheVariants as attach
 use Rattle.pos_service.specs.declared.exchange_fault.DetachFault.{DetachFault}
@@ -45,16 +47,17 @@ use Rattle.pos_totals.specs.HardTotals.{totals_limits, in_transaction, with_cont
 use Rattle.pos_totals.specs.TotalsClaims.{is_area_taken, without_control}
 use Rattle.pos_totals.specs.TotalsCalls.{file_call, file_rows}
 use Rattle.pos_counter.specs.Totals.{TotalsDo, Recovered, Recovers, recovers, file_facts}
-use Rattle.pos_counter.specs.Machine.{Device, Machine, place_of, station_named, kind_named, found_under, holder_of, kind_of, signs_at, with_control, with_station, with_standing, with_totals}
+use Rattle.pos_counter.specs.Machine.{Device, Machine, place_of, hardware_named, kind_named, found_under, holder_of, kind_of, signs_at, with_control}
+use Rattle.pos_counter.specs.Machine.{with_hardware, with_standing, with_totals}
 
 -- what may be asked of the machine: a new control without a name, controls by their numbers; a peripheral that is to be
 -- attached by what would stand at the device
 abbrev pub Request : Type 0
-Request = RequestOf (Unit {0}) ℕ Station
+Request = RequestOf (Unit {0}) ℕ Hardware
 
 -- what it may answer: a peripheral that it hands out by what stood there, or would have
 abbrev pub Response : Type 0
-Response = ResponseOf Station
+Response = ResponseOf Hardware
 
 -- what is known of the control with a number and of its device, as properties tell it
 abbrev pub facts_of : Machine → ℕ → Control → Facts
@@ -71,18 +74,18 @@ facts_of machine number control = record {
 abbrev pub most_controls : ℕ
 most_controls = 4096
 
--- What happens at the station of a device, by what it does to the controls and the station.
-pub record OnStation (old : Machine) (at : Option ℕ) (Does : ℕ → Effect) (new : Machine) : Type 0 where
+-- What happens at the hardware of a device, by what it does to the controls and the hardware.
+pub record OnHardware (old : Machine) (at : Option ℕ) (Does : ℕ → Effect) (new : Machine) : Type 0 where
   pub place : ℕ
   pub device : Device
-  pub before : Station
+  pub before : Hardware
   pub controls : List Control
-  pub after : Station
+  pub after : Hardware
   pub is_at : at ≡ Some place
   pub is_device : slice_get old.devices place ≡ Some device
-  pub is_attached : device.station ≡ Some before
+  pub is_attached : device.hardware ≡ Some before
   pub does : Does place old.controls before controls after
-  pub machine : new ≡ with_station old controls place device after
+  pub machine : new ≡ with_hardware old controls place device after
 
 -- the call of a control may want memory
 abbrev pub takes_memory : Machine → Control → Call → Bool
@@ -109,7 +112,7 @@ device_deed category.LineDisplay at control own = display_deed at control.cursor
 device_deed category.PosPrinter at control own = printer_deed control own
 device_deed category.HardTotals at control own = None
 
--- what it does at the station of the device, where nothing refuses it
+-- what it does at the hardware of the device, where nothing refuses it
 abbrev pub DeviceDoes : Category → Option Kind → ℕ → Control → Call → Answer → ℕ → Effect
 DeviceDoes c at number control own result place old before new after =
     MatchOption (device_deed c at control own) ⊥ (λ deed. CarriesOut deed number place result old before new after)
@@ -120,12 +123,12 @@ category_rows category.HardTotals machine number control own =
     file_rows machine.totals.totals number (file_call own)
 category_rows c machine number control own = device_rows c (kind_of machine control) control own
 
--- what each call of a category's own does, where nothing refuses it: with the totals, or at its device's station
+-- what each call of a category's own does, where nothing refuses it: with the totals, or at its device's hardware
 abbrev pub CategoryDoes : Category → Machine → ℕ → Control → Call → Answer → Machine → Type 0
 CategoryDoes category.HardTotals old number control own result new =
     TotalsDo (file_call own) old.totals number result new.totals × (new ≡ record old { totals = new.totals })
 CategoryDoes c old number control own result new =
-    OnStation old control.device (DeviceDoes c (kind_of old control) number control own result) new
+    OnHardware old control.device (DeviceDoes c (kind_of old control) number control own result) new
 
 -- another control keeps a device of a category from the control with a number
 abbrev pub is_taken : Category → Machine → ℕ → Option ℕ → Bool
@@ -216,42 +219,42 @@ Wants old number control call new =
     IsTrue (takes_memory old control call) × (first_refusal (refusals old number control call) ≡ None) × (new ≡ old)
 
 -- A device has a peripheral, and the input fits its kind, or doesn't.
-pub record FindsFit (station : Option Station) (input : Input) (fits : Bool) : Type 0 where
-  pub before : Station
-  pub is_attached : station ≡ Some before
+pub record FindsFit (hardware : Option Hardware) (input : Input) (fits : Bool) : Type 0 where
+  pub before : Hardware
+  pub is_attached : hardware ≡ Some before
   pub fit : input_fits before.kind input ≡ fits
 
 -- There is a request that is to be done now at the device of this name.
 pub record FindsWork (machine : Machine) (name : List ℕ) : Type 0 where
   pub place : ℕ
-  pub before : Station
+  pub before : Hardware
   pub is_at : place_of machine.devices name ≡ Some place
-  pub is_attached : station_named machine name ≡ Some before
+  pub is_attached : hardware_named machine name ≡ Some before
   pub work : IsSome (due_request_at before.kind place (holder_at machine.claims (Some place)) machine.controls)
 
 -- The device of this name, which is vacant, has a peripheral of its kind from now on.
-pub record IsAttached (old : Machine) (name : List ℕ) (station : Station) (new : Machine) : Type 0 where
+pub record IsAttached (old : Machine) (name : List ℕ) (hardware : Hardware) (new : Machine) : Type 0 where
   pub place : ℕ
   pub device : Device
   pub is_at : place_of old.devices name ≡ Some place
   pub is_device : slice_get old.devices place ≡ Some device
-  pub is_vacant : device.station ≡ None
-  pub kind : device.kind ≡ Some station.kind
-  pub machine : new ≡ with_standing old place device (Some station)
+  pub is_vacant : device.hardware ≡ None
+  pub kind : device.kind ≡ Some hardware.kind
+  pub machine : new ≡ with_standing old place device (Some hardware)
 
 -- The device of this name is vacant, and of another kind than the peripheral.
-pub record IsOfAnotherKind (machine : Machine) (name : List ℕ) (station : Station) : Type 0 where
+pub record IsOfAnotherKind (machine : Machine) (name : List ℕ) (hardware : Hardware) : Type 0 where
   pub kind : Kind
   pub named : kind_named machine name ≡ Some kind
-  pub is_vacant : station_named machine name ≡ None
-  pub differs : ¬ (station.kind ≡ kind)
+  pub is_vacant : hardware_named machine name ≡ None
+  pub differs : ¬ (hardware.kind ≡ kind)
 
 -- why a peripheral is not attached: no device of the name has peripherals, else the device is of another kind, or has
 -- its peripheral
-abbrev pub IsNotAttachedFor : Machine → List ℕ → Station → AttachFault → Type 0
-IsNotAttachedFor machine name station attach.Unknown = kind_named machine name ≡ None
-IsNotAttachedFor machine name station attach.KindDiffers = IsOfAnotherKind machine name station
-IsNotAttachedFor machine name station attach.InUse = IsSome (station_named machine name)
+abbrev pub IsNotAttachedFor : Machine → List ℕ → Hardware → AttachFault → Type 0
+IsNotAttachedFor machine name hardware attach.Unknown = kind_named machine name ≡ None
+IsNotAttachedFor machine name hardware attach.KindDiffers = IsOfAnotherKind machine name hardware
+IsNotAttachedFor machine name hardware attach.InUse = IsSome (hardware_named machine name)
 
 -- a device's place is this one
 abbrev pub is_place : ℕ → Option ℕ → Bool
@@ -267,12 +270,12 @@ abbrev pub is_open_at : ℕ → List Control → Bool
 is_open_at place controls = list_any (has_open place) controls
 
 -- The device of this name, which no control has open, is vacant from now on; this stood there.
-pub record IsDetached (old : Machine) (name : List ℕ) (station : Station) (new : Machine) : Type 0 where
+pub record IsDetached (old : Machine) (name : List ℕ) (hardware : Hardware) (new : Machine) : Type 0 where
   pub place : ℕ
   pub device : Device
   pub is_at : place_of old.devices name ≡ Some place
   pub is_device : slice_get old.devices place ≡ Some device
-  pub is_attached : device.station ≡ Some station
+  pub is_attached : device.hardware ≡ Some hardware
   pub is_closed : is_open_at place old.controls ≡ false
   pub machine : new ≡ with_standing old place device None
 
@@ -280,7 +283,7 @@ pub record IsDetached (old : Machine) (name : List ℕ) (station : Station) (new
 pub record IsOpenUnder (machine : Machine) (name : List ℕ) : Type 0 where
   pub place : ℕ
   pub is_at : place_of machine.devices name ≡ Some place
-  pub is_attached : IsSome (station_named machine name)
+  pub is_attached : IsSome (hardware_named machine name)
   pub is_open : is_open_at place machine.controls ≡ true
 
 -- why no peripheral is detached: no device of the name has peripherals, else the device is vacant, else a control has
@@ -288,7 +291,7 @@ pub record IsOpenUnder (machine : Machine) (name : List ℕ) : Type 0 where
 abbrev pub IsNotDetachedFor : Machine → List ℕ → DetachFault → Type 0
 IsNotDetachedFor machine name detach.Unknown = kind_named machine name ≡ None
 IsNotDetachedFor machine name detach.Vacant =
-    IsSome (kind_named machine name) × (station_named machine name ≡ None)
+    IsSome (kind_named machine name) × (hardware_named machine name ≡ None)
 IsNotDetachedFor machine name detach.InUse = IsOpenUnder machine name
 
 -- From old, the machine may give this response to the request, and is new then.
@@ -306,28 +309,28 @@ Step old (CallOf number call) (Answered result) new =
     (λ control. Called old number control call result new)
 Step old (CallOf number call) OutOfMemory new =
     MatchOption (slice_get old.controls number) ⊥ (λ control. Wants old number control call new)
-Step old (InputTo name input) TakenIn new = OnStation old (place_of old.devices name) (TakesIn input) new
-Step old (InputTo name input) NoDevice new = (station_named old name ≡ None) × (new ≡ old)
-Step old (InputTo name input) WrongInput new = FindsFit (station_named old name) input false × (new ≡ old)
-Step old (InputTo name input) OutOfMemory new = FindsFit (station_named old name) input true × (new ≡ old)
+Step old (InputTo name input) TakenIn new = OnHardware old (place_of old.devices name) (TakesIn input) new
+Step old (InputTo name input) NoDevice new = (hardware_named old name ≡ None) × (new ≡ old)
+Step old (InputTo name input) WrongInput new = FindsFit (hardware_named old name) input false × (new ≡ old)
+Step old (InputTo name input) OutOfMemory new = FindsFit (hardware_named old name) input true × (new ≡ old)
 Step old (WorkOn name) (Worked result) new =
-    OnStation old (place_of old.devices name)
+    OnHardware old (place_of old.devices name)
     (λ place. WorksAt (holder_at old.claims (Some place)) place (Ok result)) new
-Step old (WorkOn name) NoDevice new = (station_named old name ≡ None) × (new ≡ old)
+Step old (WorkOn name) NoDevice new = (hardware_named old name ≡ None) × (new ≡ old)
 Step old (WorkOn name) OutOfMemory new = FindsWork old name × (new ≡ old)
 Step old (Deliver number reply) (Delivered event) new =
     MatchOption (slice_get old.controls number) ((event ≡ None) × (new ≡ old))
     (λ control. (event ≡ deliverable control) × (new ≡ with_control old number (delivered reply control)))
 Step old (Snapshot name) (Shown shown) new =
-    IfSome (station_named old name) (λ station. station.plant ≡ shown.0)
-    × (is_some (station_named old name) ≡ true) × (new ≡ old)
-Step old (Snapshot name) NoDevice new = (station_named old name ≡ None) × (new ≡ old)
-Step old (Snapshot name) OutOfMemory new = (is_some (station_named old name) ≡ true) × (new ≡ old)
-Step old (Attach name station) Attached new = IsAttached old name station new
+    IfSome (hardware_named old name) (λ hardware. hardware.plant ≡ shown.0)
+    × (is_some (hardware_named old name) ≡ true) × (new ≡ old)
+Step old (Snapshot name) NoDevice new = (hardware_named old name ≡ None) × (new ≡ old)
+Step old (Snapshot name) OutOfMemory new = (is_some (hardware_named old name) ≡ true) × (new ≡ old)
+Step old (Attach name hardware) Attached new = IsAttached old name hardware new
 -- a refusal hands the peripheral back as it is
-Step old (Attach name station) (NotAttached fault given) new =
-    IsNotAttachedFor old name station fault × (given ≡ station) × (new ≡ old)
-Step old (Detach name) (Detached station) new = IsDetached old name station new
+Step old (Attach name hardware) (NotAttached fault given) new =
+    IsNotAttachedFor old name hardware fault × (given ≡ hardware) × (new ≡ old)
+Step old (Detach name) (Detached hardware) new = IsDetached old name hardware new
 Step old (Detach name) (NotDetached fault) new = IsNotDetachedFor old name fault × (new ≡ old)
 -- no other response is given
 Step old request response new = ⊥
@@ -340,7 +343,7 @@ Run old (step ∷ steps) new = (mid : Machine) × Step old step.0 step.1 mid × 
 -- A device's kind is in range, and its peripheral, where it has one, is of this kind.
 abbrev pub HasItsKind : Device → Type 0
 HasItsKind device =
-    IfSome device.kind IsInRange × IfSome device.station (λ station. device.kind ≡ Some station.kind)
+    IfSome device.kind IsInRange × IfSome device.hardware (λ hardware. device.kind ≡ Some hardware.kind)
 
 -- A place is one of what a device is, where that is a display.
 abbrev pub IsPlaceOn : Option Kind → Place → Type 0
@@ -351,7 +354,7 @@ IsPlaceOn at place =
 -- control's cursor is at one of its places.
 abbrev pub IsServed : Control → Device → Type 0
 IsServed control device =
-    (serves control.category device.kind ≡ true) × IsTrue (is_none device.kind || is_some device.station)
+    (serves control.category device.kind ≡ true) × IsTrue (is_none device.kind || is_some device.hardware)
     × IsPlaceOn device.kind control.cursor.place
 
 -- The device of an open control is there, and serves it.
@@ -363,3 +366,5 @@ HasItsDevice devices control =
 pub record IsSound (machine : Machine) : Type 0 where
   pub kinds : All HasItsKind machine.devices
   pub places : All (HasItsDevice machine.devices) machine.controls
+  -- there is a claim for each device
+  pub covers : length machine.claims ≡ length machine.devices

@@ -1,5 +1,6 @@
 -- Hard Totals in the device machine (chapter Hard Totals).
-use Rattle.std.specs.Prelude.{◌≡◌, ◌≤◌, ◌⊎◌, ℕ, Bool, true, false, not, ◌&&◌, List, [], ◌∷◌, Option, Some, None, Result, MatchResult, IsTrue, is_some, length, if◌then◌else◌}
+use Rattle.std.specs.Prelude.{◌≡◌, ◌≤◌, ◌⊎◌, ℕ, Bool, true, false, not, ◌&&◌, List, [], ◌∷◌, Option, Some, None, Result, MatchResult, IsTrue, is_some, length}
+use Rattle.std.specs.Prelude.{if◌then◌else◌}
 use Rattle.pos_disk.specs.State.{Rises}
 use Rattle.pos_image.specs.declared.layout.Layout.{Layout}
 use Rattle.pos_service.specs.declared.answer.Answer.{Answer}

@@ -1,84 +1,75 @@
 //! The calls that every category has.
-ghost use Rattle.std.specs.Prelude.{◌≡◌, ◌<◌, List, Some, None, IfSome, length};
+ghost use Rattle.std.specs.Prelude.{◌≡◌, ◌<◌, Some, None, IfSome, length};
 ghost use Rattle.pos_service.specs.declared.call.Call.TheVariants as call;
 ghost use Rattle.pos_service.specs.Claims.{holder_at, is_own, is_foreign, claim_rows, claimed_by, release_rows, released_by, after_release};
 ghost use Rattle.pos_totals.specs.TotalsClaims.{is_area_taken};
 ghost use Rattle.pos_service.specs.Refusals.{Decided};
-ghost use Rattle.pos_counter.specs.Machine.{Device};
-ghost use Rattle.pos_counter.specs.Assembly.{AreCovered, ArePartsSound};
-ghost use Rattle.pos_counter.specs.KeptDevices.{AreDevicesSound, devices_in};
-ghost use Rattle.pos_counter.specs.Serving.{Serves, ServesBeside};
+ghost use Rattle.pos_counter.specs.Counters.{IsCounterSound, Serves};
 ghost use Rattle.pos_counter.specs.Steps.{CallOf, Answered};
 
-use crate::devices::Devices;
+use crate::counter::Counter;
 use crate::totals_calls::is_totals;
 use pos_common::{Claims, Control};
 use pos_disk::Disk;
 use pos_service::{Answer, Code, Peripheral, Value};
 use pos_totals::Totals;
 
-/// `open`, of the first device with a name (common chapter).
-pub(crate) fn open<P: Peripheral>(
-    controls: &mut [Control],
-    devices: &Devices<P>,
-    number: usize,
-    name: &[u8],
-) -> Answer
-    requires in_range { number < length controls.old }
-    requires parts { ArePartsSound controls.old (devices_in P.Peripheral devices.now) }
-    requires sound { AreDevicesSound P.Peripheral devices.now }
-    ensures { let devices = devices_in P.Peripheral devices.now in
-        ServesBeside controls.old devices (CallOf number (call.Open name.now)) (Answered result)
-        controls.new devices }
-{
-    let control = &mut controls[number];
-    let found = devices.find_for(control.category(), name);
-    control.open(found)
-}
+impl<D: Disk, P: Peripheral> Counter<D, P> {
+    /// `open`, of the first device with a name (common chapter).
+    pub(crate) fn open(&mut self, number: usize, name: &[u8]) -> Answer
+        requires in_range { number < length self.old.controls.items }
+        requires sound { IsCounterSound P.Peripheral self.old }
+        ensures { Serves D.Disk P.Peripheral self.old (CallOf number (call.Open name.now)) (Answered result) self.new }
+    {
+        let control = &mut self.controls[number];
+        let found = self.devices.find_for(control.category(), name);
+        control.open(found)
+    }
 
-/// `close`: what the control holds is free again (common chapter).
-pub(crate) fn close<D: Disk>(
-    controls: &mut [Control],
-    claims: &mut Claims,
-    totals: &mut Totals<D>,
-    number: usize,
-) -> Answer
-    requires { number < length controls.old }
-    ensures { (devices : List Device) → ArePartsSound controls.old devices →
-        Serves D.Disk controls.old claims.old devices totals.old
-        (CallOf number call.Close) (Answered result) controls.new claims.new devices totals.new }
-{
-    let device = controls[number].device();
-    if device.is_none() {
-        return Answer::Refused(Code::Closed, 0);
+    /// `close`: what the control holds is free again (common chapter).
+    pub(crate) fn close(&mut self, number: usize) -> Answer
+        requires in_range { number < length self.old.controls.items }
+        requires sound { IsCounterSound P.Peripheral self.old }
+        ensures { Serves D.Disk P.Peripheral self.old (CallOf number call.Close) (Answered result) self.new }
+    {
+        let control = &self.controls[number];
+        let device = control.device();
+        if device.is_none() {
+            return Answer::Refused(Code::Closed, 0);
+        }
+        if is_totals(control) {
+            self.totals.drop_control(number);
+            return self.controls[number].close();
+        }
+        self.claims.release(device, number);
+        self.controls[number].close()
     }
-    if is_totals(&controls[number]) {
-        totals.drop_control(number);
-        return controls[number].close();
-    }
-    claims.release(device, number);
-    controls[number].close()
-}
 
-/// `claim` (common chapter).
-pub(crate) fn claim<D: Disk>(
-    controls: &[Control],
-    claims: &mut Claims,
-    totals: &mut Totals<D>,
-    number: usize,
-    timeout: i128,
-) -> Answer
-    requires in_range { number < length controls.now }
-    requires covers { AreCovered controls.now claims.old }
-    ensures { (devices : List Device) → ArePartsSound controls.now devices →
-        Serves D.Disk controls.now claims.old devices totals.old
-        (CallOf number (call.Claim timeout)) (Answered result) controls.now claims.new devices totals.new }
-{
-    let control = &controls[number];
-    if is_totals(control) {
-        return claim_area(control, totals, number, timeout);
+    /// `claim` (common chapter).
+    pub(crate) fn claim(&mut self, number: usize, timeout: i128) -> Answer
+        requires in_range { number < length self.old.controls.items }
+        requires sound { IsCounterSound P.Peripheral self.old }
+        ensures { Serves D.Disk P.Peripheral self.old (CallOf number (call.Claim timeout)) (Answered result) self.new }
+    {
+        let control = &self.controls[number];
+        if is_totals(control) {
+            return claim_area(control, &mut self.totals, number, timeout);
+        }
+        claim_device(control, &mut self.claims, number, timeout)
     }
-    claim_device(control, claims, number, timeout)
+
+    /// `release` (common chapter).
+    pub(crate) fn release(&mut self, number: usize) -> Answer
+        requires in_range { number < length self.old.controls.items }
+        requires sound { IsCounterSound P.Peripheral self.old }
+        ensures { Serves D.Disk P.Peripheral self.old (CallOf number call.Release) (Answered result) self.new }
+    {
+        let control = &mut self.controls[number];
+        if is_totals(control) {
+            return release_area(control, &mut self.totals, number);
+        }
+        release_device(control, &mut self.claims, number)
+    }
 }
 
 /// `claim` of a peripheral.
@@ -120,25 +111,6 @@ fn claim_area<D: Disk>(
         },
         refusal => refusal,
     }
-}
-
-/// `release` (common chapter).
-pub(crate) fn release<D: Disk>(
-    controls: &mut [Control],
-    claims: &mut Claims,
-    totals: &mut Totals<D>,
-    number: usize,
-) -> Answer
-    requires { number < length controls.old }
-    ensures { (devices : List Device) → ArePartsSound controls.old devices →
-        Serves D.Disk controls.old claims.old devices totals.old
-        (CallOf number call.Release) (Answered result) controls.new claims.new devices totals.new }
-{
-    let control = &mut controls[number];
-    if is_totals(control) {
-        return release_area(control, totals, number);
-    }
-    release_device(control, claims, number)
 }
 
 /// `release` of a peripheral.

@@ -1,28 +1,26 @@
-ghost use Rattle.std.specs.Prelude.{◌≡◌, [], false, true, length, All, IfOk, IfErr, OnErr};
+ghost use Rattle.std.specs.Prelude.{◌≡◌, [], length, All, IfOk, IfErr, OnErr};
 ghost use Rattle.pos_disk.specs.State.{IsAtRest};
 ghost use Rattle.pos_profile.specs.Registries.{devices_of as registered_in};
-ghost use Rattle.pos_service.specs.Stations.{station_of};
 ghost use Rattle.pos_totals.specs.Views.{WhenReady};
-ghost use Rattle.pos_counter.specs.Steps.{Attach, Detach, NewControl, CallOf, InputTo, WorkOn, Deliver, Delivered, Snapshot as SnapshotOf};
+ghost use Rattle.pos_counter.specs.Steps.{NewControl, Deliver, Delivered};
 ghost use Rattle.pos_counter.specs.KeptDevices.{HandsOver};
-ghost use Rattle.pos_counter.specs.Responses.{HandsOut, OffersInService, made, answered, attached, detached, taken_in, worked, shown, request_of, response_of, steps_of};
+ghost use Rattle.pos_counter.specs.Responses.{HandsOut, OffersInService, made, request_of, response_of, steps_of};
 ghost use Rattle.pos_counter.specs.Totals.{TotalsPart};
 ghost use Rattle.pos_counter.specs.Counters.{machine, Begins, IsStep, IsStepBeside, IsRun, Stays, IsCounterSound};
 
-use crate::desk::Desk;
 use crate::devices::Devices;
-use crate::faults::{ControlFault, InputFault, SnapshotFault, WorkFault};
-use crate::{device_calls, exchange, responses, working};
-use pos_common::Claims;
+use crate::faults::ControlFault;
+use crate::responses;
+use pos_common::{Claims, Control};
 use pos_disk::Disk;
 use pos_profile::laws::is_profile;
 use pos_profile::{Profile, Slot};
-use pos_service::{
-    Answer, AttachFault, Call, Category, DetachFault, ErrorReply, Event, Input, NoMemory,
-    Peripheral, Request, Response, Snapshot, Worked,
-};
+use pos_service::{Category, ErrorReply, Event, NoMemory, Peripheral, Request, Response};
 use pos_totals::Totals;
 use std::alloc::Global;
+
+/// How many controls there may be.
+const MOST_CONTROLS: usize = 4096;
 
 /// The handle of a new counter's first file.
 const FIRST_HANDLE: u64 = 1;
@@ -30,13 +28,15 @@ const FIRST_HANDLE: u64 = 1;
 /// The controls of all applications, the devices that they share, and the totals on a disk. It is ended by `shutdown`
 /// alone.
 ///
-/// Each call is a step of the device machine that the counter stands for, so each list of calls is a run of it. What is
-/// said of the totals, and of what a crash leaves, is said over an honest disk.
+/// Each call is a step of the device machine that the counter stands for, so each list of calls is a run of it. Of
+/// calls at Hard Totals that use the disk, and of what a crash leaves, this is said over an honest disk; all else is a
+/// step over any disk. docs/MODEL.md, "Over any disk".
 pub struct Counter<D: Disk, P> {
-    desk: Desk,
-    claims: Claims,
-    devices: Devices<P>,
-    totals: Totals<D>,
+    pub(crate) alloc: Global,
+    pub(crate) controls: Vec<Control>,
+    pub(crate) claims: Claims,
+    pub(crate) devices: Devices<P>,
+    pub(crate) totals: Totals<D>,
 }
 
 /// What is left of a counter that was ended.
@@ -70,45 +70,14 @@ impl<D: Disk, P: Peripheral> Counter<D, P> {
         };
         match Devices::new(alloc, profile, slots) {
             Ok(devices) => Ok(Counter {
-                desk: Desk::new(alloc),
+                alloc,
+                controls: Vec::new(alloc),
                 claims,
                 devices,
                 totals: Totals::new(alloc, disk, FIRST_HANDLE),
             }),
             Err(want) => Err((want, disk)),
         }
-    }
-
-    /// Has a peripheral serve the device of this name, which is vacant and of its kind.
-    ///
-    /// Refused with Unknown where no device of the name may have a peripheral, else with InUse where the device has its
-    /// peripheral, else with KindDiffers. A refusal changes nothing, and hands the peripheral back as it is. It takes
-    /// no memory.
-    pub fn attach(&mut self, name: &[u8], peripheral: P) -> Result<(), (AttachFault, P)>
-        requires sound { IsCounterSound P.Peripheral self.old }
-        requires unparked { (P.Peripheral.state peripheral).is_parked ≡ false }
-        ensures step { IsStepBeside P.Peripheral self.old
-            (Attach name.now (station_of (P.Peripheral.state peripheral)))
-            (attached P.Peripheral.state result) self.new }
-        ensures handed_back { IfErr result (λ refusal. refusal.1 ≡ peripheral) }
-        ensures sound { IsCounterSound P.Peripheral self.new }
-    {
-        exchange::attach(&self.desk.controls, &mut self.devices, name, peripheral)
-    }
-
-    /// Takes the peripheral of the device of this name, which no control has open, out of service, and hands it out,
-    /// else as it is. The device is vacant then.
-    ///
-    /// Refused with Unknown where no device of the name may have a peripheral, else with Vacant where it has none, else
-    /// with InUse where a control has the device open. A refusal changes nothing. It takes no memory.
-    pub fn detach(&mut self, name: &[u8]) -> Result<P, DetachFault>
-        requires sound { IsCounterSound P.Peripheral self.old }
-        ensures step { IsStepBeside P.Peripheral self.old
-            (Detach name.now) (detached P.Peripheral.state result) self.new }
-        ensures parked { IfOk result (λ peripheral. (P.Peripheral.state peripheral).is_parked ≡ true) }
-        ensures sound { IsCounterSound P.Peripheral self.new }
-    {
-        exchange::detach(&self.desk.controls, &mut self.devices, name)
     }
 
     /// A new control of a category, which is closed: its number, counted from 0.
@@ -119,68 +88,21 @@ impl<D: Disk, P: Peripheral> Counter<D, P> {
         ensures step { IsStep D.Disk P.Peripheral self.old (NewControl tt category) (made result) self.new }
         ensures sound { IsCounterSound P.Peripheral self.new }
     {
-        self.desk.control(&mut self.totals, category)
-    }
-
-    /// A call of an application on its control.
-    ///
-    /// The answer is E_ILLEGAL where there is no control of this number, else the first refusal of the call's table
-    /// that applies, else what the call gives. Want of memory changes nothing. A crash at any moment of the call leaves
-    /// what may be left before it or after it. The disk is touched only by a change and a commit that nothing refuses,
-    /// where the change isn't buffered and the commit has changes, and by an enabling of Hard Totals that are off.
-    pub fn call(&mut self, number: usize, call: &Call) -> Result<Answer, NoMemory>
-        requires sound { IsCounterSound P.Peripheral self.old }
-        ensures step { IsStep D.Disk P.Peripheral self.old (CallOf number call.now) (answered result) self.new }
-        ensures sound { IsCounterSound P.Peripheral self.new }
-    {
-        self.desk.call(
-            &mut self.claims,
-            &mut self.devices,
-            &mut self.totals,
-            number,
-            call,
-        )
-    }
-
-    /// Something happens at the device of this name. Each control that has it open and enabled hears of it.
-    ///
-    /// Refused with NoDevice where no device has the name or no peripheral stands behind it, with WrongInput where a
-    /// peripheral of its kind has no such input. Want of memory changes nothing.
-    pub fn input(&mut self, device: &[u8], input: &Input) -> Result<(), InputFault>
-        requires sound { IsCounterSound P.Peripheral self.old }
-        ensures step { IsStepBeside P.Peripheral self.old (InputTo device.now input.now) (taken_in result) self.new }
-        ensures sound { IsCounterSound P.Peripheral self.new }
-    {
-        device_calls::input(
-            self.desk.allocator(),
-            &mut self.desk.controls,
-            &mut self.devices,
-            device,
-            input,
-        )
-    }
-
-    /// Works on the output that waits for the device of this name: the first request of the control that holds it
-    /// (common chapter, asynchronous output).
-    ///
-    /// It is Idle where there is nothing to do: where the device is no printer, where nobody holds it, where its holder
-    /// is disabled or has no request, and while the holder's first request has failed. Else the request is Done, and an
-    /// OutputCompleteEvent is enqueued; or it has Failed, stays the first, and an ErrorEvent with EL_OUTPUT is
-    /// enqueued.
-    ///
-    /// Refused with NoDevice where no device has the name or no peripheral stands behind it. Want of memory changes
-    /// nothing.
-    pub fn work(&mut self, device: &[u8]) -> Result<Worked, WorkFault>
-        requires sound { IsCounterSound P.Peripheral self.old }
-        ensures step { IsStepBeside P.Peripheral self.old (WorkOn device.now) (worked result) self.new }
-        ensures sound { IsCounterSound P.Peripheral self.new }
-    {
-        working::work(
-            &mut self.desk.controls,
-            &self.claims,
-            &mut self.devices,
-            device,
-        )
+        let number = self.controls.len();
+        if number >= MOST_CONTROLS {
+            return Err(ControlFault::Full);
+        }
+        if self.controls.reserve(1).is_err() {
+            return Err(ControlFault::NoMemory);
+        }
+        match self.totals.add_control() {
+            Ok(()) => {
+                self.controls
+                    .push_reserved(Control::new(self.alloc, category));
+                Ok(number)
+            }
+            Err(NoMemory) => Err(ControlFault::NoMemory),
+        }
     }
 
     /// Takes the event that may be delivered to a control, with the application's answer in case it is an ErrorEvent.
@@ -190,17 +112,10 @@ impl<D: Disk, P: Peripheral> Counter<D, P> {
         ensures step { IsStepBeside P.Peripheral self.old (Deliver number reply) (Delivered result) self.new }
         ensures sound { IsCounterSound P.Peripheral self.new }
     {
-        self.desk.deliver(number, reply)
-    }
-
-    /// What the device of this name is physically.
-    ///
-    /// Refused with NoDevice where no device has the name or no peripheral stands behind it.
-    pub fn snapshot(&self, device: &[u8]) -> Result<Snapshot, SnapshotFault>
-        requires sound { IsCounterSound P.Peripheral self.now }
-        ensures { IsStepBeside P.Peripheral self.now (SnapshotOf device.now) (shown result) self.now }
-    {
-        device_calls::snapshot(&self.devices, device)
+        if number >= self.controls.len() {
+            return None;
+        }
+        self.controls[number].deliver(reply)
     }
 
     /// Carries out requests one after another: what is answered to each, in order. Each peripheral that is to be
@@ -222,7 +137,7 @@ impl<D: Disk, P: Peripheral> Counter<D, P> {
         ensures unchanged { OnErr result (Stays P.Peripheral self.old self.new) }
         ensures sound { IsCounterSound P.Peripheral self.new }
     {
-        let Ok(mut responses) = Vec::with_capacity(self.desk.allocator(), requests.len()) else {
+        let Ok(mut responses) = Vec::with_capacity(self.alloc, requests.len()) else {
             return Err((NoMemory, requests));
         };
         let mut waiting = requests;
@@ -270,7 +185,8 @@ impl<D: Disk, P: Peripheral> Counter<D, P> {
             → HandsOver (machine P.Peripheral self part) (registered_in P.Peripheral result.entries.items) }
     {
         let Counter {
-            desk: _,
+            alloc: _,
+            controls: _,
             claims: _,
             devices,
             totals,

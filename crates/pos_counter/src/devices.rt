@@ -1,8 +1,8 @@
 //! The devices of a counter, by their names and places.
 ghost use Rattle.std.specs.Prelude.{◌≡◌, [], Some, IfOk, IsSome, length, map};
 ghost use Rattle.pos_profile.specs.Registries.{devices as registered, devices_of as registered_in, parked};
-ghost use Rattle.pos_service.specs.Stations.{signs_in};
-ghost use Rattle.pos_counter.specs.Machine.{device_at, found_at, kind_in, place_of, station_in};
+ghost use Rattle.pos_service.specs.Hardware.{signs_in};
+ghost use Rattle.pos_counter.specs.Machine.{device_at, found_at, kind_in, place_of, hardware_in};
 ghost use Rattle.pos_counter.specs.KeptDevices.{AreDevicesSound, devices_in, profile_devices, totals_name, totals_place};
 
 use pos_profile::{Profile, Registry, Slot};
@@ -122,7 +122,7 @@ impl<P: Peripheral> Devices<P> {
     /// The signs of the peripheral at the place: where there is none, that it is on, and else each false or good.
     pub(crate) fn signs_at(&self, place: Option<usize>) -> Signs
         ensures { let devices = devices_in P.Peripheral self.now in
-            result ≡ signs_in (station_in (device_at devices place)) }
+            result ≡ signs_in (hardware_in (device_at devices place)) }
     {
         if let Some(place) = place {
             if let Some(peripheral) = self.registry.peripheral(place) {

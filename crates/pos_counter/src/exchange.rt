@@ -1,55 +1,53 @@
 //! The exchange of peripherals: which are attached, and which are detached.
 ghost use Rattle.std.specs.Prelude.{◌≡◌, ℕ, Some, false, true, IfErr, IfOk};
-ghost use Rattle.pos_service.specs.Stations.{station_of};
-ghost use Rattle.pos_common.specs.Held.{controls_of};
+ghost use Rattle.pos_service.specs.Hardware.{hardware_of};
+ghost use Rattle.pos_common.specs.KeptControls.{controls_of};
 ghost use Rattle.pos_profile.specs.Places.{place_of};
 ghost use Rattle.pos_profile.specs.Registries.{devices as registered, names_of};
-ghost use Rattle.pos_counter.specs.KeptDevices.{AreDevicesSound, devices_in};
-ghost use Rattle.pos_counter.specs.Assembly.{ArePartsSound};
-ghost use Rattle.pos_counter.specs.Serving.{ServesBeside};
+ghost use Rattle.pos_counter.specs.KeptDevices.{AreDevicesSound};
+ghost use Rattle.pos_counter.specs.Counters.{IsStepBeside, IsCounterSound};
 ghost use Rattle.pos_counter.specs.Responses.{attached, detached};
 ghost use Rattle.pos_counter.specs.Steps.{Attach, Detach, has_open, is_open_at};
 
+use crate::counter::Counter;
 use crate::devices::Devices;
 use pos_common::Control;
+use pos_disk::Disk;
 use pos_service::{AttachFault, DetachFault, Peripheral};
 
-/// Has a peripheral serve the first device with a name.
-pub(crate) fn attach<P: Peripheral>(
-    controls: &[Control],
-    devices: &mut Devices<P>,
-    name: &[u8],
-    peripheral: P,
-) -> Result<(), (AttachFault, P)>
-    requires parts { ArePartsSound controls.now (devices_in P.Peripheral devices.old) }
-    requires sound { AreDevicesSound P.Peripheral devices.old }
-    requires unparked { (P.Peripheral.state peripheral).is_parked ≡ false }
-    ensures serves { ServesBeside controls.now (devices_in P.Peripheral devices.old)
-        (Attach name.now (station_of (P.Peripheral.state peripheral))) (attached P.Peripheral.state result)
-        controls.now (devices_in P.Peripheral devices.new) }
-    ensures handed_back { IfErr result (λ refusal. refusal.1 ≡ peripheral) }
-    ensures sound { AreDevicesSound P.Peripheral devices.new }
-{
-    let _ = controls;
-    devices.registry.attach(name, peripheral)
-}
+impl<D: Disk, P: Peripheral> Counter<D, P> {
+    /// Has a peripheral serve the device of this name, which is vacant and of its kind.
+    ///
+    /// Refused with Unknown where no device of the name may have a peripheral, else with InUse where the device has its
+    /// peripheral, else with KindDiffers. A refusal changes nothing, and hands the peripheral back as it is. It takes
+    /// no memory.
+    pub fn attach(&mut self, name: &[u8], peripheral: P) -> Result<(), (AttachFault, P)>
+        requires sound { IsCounterSound P.Peripheral self.old }
+        requires unparked { (P.Peripheral.state peripheral).is_parked ≡ false }
+        ensures step { IsStepBeside P.Peripheral self.old
+            (Attach name.now (hardware_of (P.Peripheral.state peripheral)))
+            (attached P.Peripheral.state result) self.new }
+        ensures handed_back { IfErr result (λ refusal. refusal.1 ≡ peripheral) }
+        ensures sound { IsCounterSound P.Peripheral self.new }
+    {
+        self.devices.registry.attach(name, peripheral)
+    }
 
-/// Takes what serves the first device with a name out of service, and hands it out.
-pub(crate) fn detach<P: Peripheral>(
-    controls: &[Control],
-    devices: &mut Devices<P>,
-    name: &[u8],
-) -> Result<P, DetachFault>
-    requires parts { ArePartsSound controls.now (devices_in P.Peripheral devices.old) }
-    requires sound { AreDevicesSound P.Peripheral devices.old }
-    ensures serves { ServesBeside controls.now (devices_in P.Peripheral devices.old)
-        (Detach name.now) (detached P.Peripheral.state result)
-        controls.now (devices_in P.Peripheral devices.new) }
-    ensures parked { IfOk result (λ peripheral. (P.Peripheral.state peripheral).is_parked ≡ true) }
-    ensures sound { AreDevicesSound P.Peripheral devices.new }
-{
-    let is_open = is_open(controls, devices, name);
-    devices.registry.detach(name, is_open)
+    /// Takes the peripheral of the device of this name, which no control has open, out of service, and hands it out,
+    /// else as it is. The device is vacant then.
+    ///
+    /// Refused with Unknown where no device of the name may have a peripheral, else with Vacant where it has none, else
+    /// with InUse where a control has the device open. A refusal changes nothing. It takes no memory.
+    pub fn detach(&mut self, name: &[u8]) -> Result<P, DetachFault>
+        requires sound { IsCounterSound P.Peripheral self.old }
+        ensures step { IsStepBeside P.Peripheral self.old
+            (Detach name.now) (detached P.Peripheral.state result) self.new }
+        ensures parked { IfOk result (λ peripheral. (P.Peripheral.state peripheral).is_parked ≡ true) }
+        ensures sound { IsCounterSound P.Peripheral self.new }
+    {
+        let is_open = is_open(&self.controls, &self.devices, name);
+        self.devices.registry.detach(name, is_open)
+    }
 }
 
 /// Whether one of the controls has the first device with a name open, where that may have a peripheral.

@@ -8,22 +8,26 @@ ghost use Rattle.pos_profile.specs.declared.entry.Entry.{Entry};
 ghost use Rattle.pos_service.specs.declared.answer.Answer.{Answer};
 ghost use Rattle.pos_service.specs.declared.answer.Answer.TheVariants.{Refused};
 ghost use Rattle.pos_service.specs.declared.answer.Value.TheVariants.{Truth};
+ghost use Rattle.pos_service.specs.declared.call.Call.{Call};
+ghost use Rattle.pos_service.specs.declared.category.Category.TheVariants.{HardTotals};
 ghost use Rattle.pos_service.specs.declared.code.Code.TheVariants.{Failure};
 ghost use Rattle.pos_service.specs.declared.property.Property.TheVariants.{DeviceEnabled};
 ghost use Rattle.pos_service.specs.Controls.{Control};
 ghost use Rattle.pos_store.specs.Layouts.{limits_of};
 ghost use Rattle.pos_store.specs.Standing.{Standing, Stands, StandsFor, IsBytes, IsOneOf};
 ghost use Rattle.pos_totals.specs.Recoveries.{HasTooMany};
-ghost use Rattle.pos_counter.specs.Counters.{Begins, IsLeftDuring, IsRun, IsStep, IsStepBeside, RunsFrom};
+ghost use Rattle.pos_counter.specs.Counters.{Begins, IsLeftDuring, IsRun, IsStep, IsStepBeside, RunsAnyhow, RunsFrom};
 ghost use Rattle.pos_counter.specs.Crashes.{BeginsOver, HasBegun, HasRun, KeepsPrefix, KeepsPrefixes};
+ghost use Rattle.pos_counter.specs.DiskUse.{SparesDisk};
 ghost use Rattle.pos_counter.specs.Examples.{MayHave, new_machine, steps_into_doubt, steps_through_doubt, a_group};
 ghost use Rattle.pos_counter.specs.History.{Group, History, FilesEvent, begun, told};
 ghost use Rattle.pos_counter.specs.History.{history_along, history_of, history_with};
 ghost use Rattle.pos_counter.specs.Machine.{Machine};
-ghost use Rattle.pos_counter.specs.Leaving.{Leaves};
+ghost use Rattle.pos_counter.specs.Leaving.{IsSettled, Leaves};
 ghost use Rattle.pos_counter.specs.Prefixes.{BeginsWith, IsFiles, IsPrefixAlong, StandsForSome, StartsWith};
 ghost use Rattle.pos_counter.specs.Prefixes.{IsPrefix, IsPrefixOf, LeavesPrefix, LeavesPrefixInside, moved_with};
 ghost use Rattle.pos_counter.specs.Reopening.{FindsThem, enabling};
+ghost use Rattle.pos_counter.specs.Sparing.{AllSpare, RunSparing};
 ghost use Rattle.pos_counter.specs.Steps.{Request, CallOf, Response, Step, Run};
 ghost use Rattle.pos_counter.specs.Totals.{Recovers, TotalsPart, asks_recovery};
 
@@ -159,6 +163,27 @@ pub fn new_counter_leaves_one_thing<D: Disk, P: Peripheral>(counter: &Counter<D,
     ensures { (entries : List Entry) (disk : D) → Begins P.Peripheral entries disk counter.now
         → D.honest disk → IsAtRest (D.state disk) → IsBytes (D.state disk).reading
         → (standing : Standing) × Leaves D.Disk counter.now.totals (standing ∷ []) }
+{}
+
+/// Whatever the disk of a counter is, honest or not: each request of a run that spares the disk is a step of the
+/// machine, and another, which is a call at Hard Totals, changes nothing beside them; and where all spare the disk, it
+/// is as it was. What the other calls answer and do to the totals is said over an honest disk alone. docs/MODEL.md,
+/// "Over any disk".
+pub fn runs_over_any_disk<D: Disk, P: Peripheral>(counter: &Counter<D, P>)
+    ensures { (left : List Standing) (failures : ℕ) (steps : List (Request × Response)) (old : _)
+        → IsSettled old.totals.totals left
+        → IsRun D.Disk P.Peripheral old steps counter.now
+        → RunsAnyhow P.Peripheral left failures old steps counter.now }
+{}
+
+/// Which requests spare the disk: all but calls at controls of Hard Totals; and a run of requests that spare it is a
+/// run of the machine.
+pub fn most_requests_spare_the_disk()
+    ensures elsewhere { (machine : Machine) (number : ℕ) (control : Control) (asked : Call)
+        → slice_get machine.controls number ≡ Some control → ¬ (control.category ≡ HardTotals)
+        → SparesDisk machine (CallOf number asked) }
+    ensures run { (old new : Machine) (steps : List (Request × Response)) (run : RunSparing old steps new)
+        → AllSpare old steps new run → Run old steps new }
 {}
 
 /// A run that is followed by a step is a run: so requests that are carried out as a list, and calls made one by one,

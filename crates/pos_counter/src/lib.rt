@@ -1,13 +1,13 @@
 //! The controls of all applications and the devices that they share: each request is a step of the device machine.
 #![tactic(auto)]
 
+mod calls;
 mod control_calls;
 mod counter;
-mod desk;
-mod device_calls;
 mod devices;
 mod exchange;
 mod faults;
+mod inputs;
 pub mod laws;
 mod properties;
 mod responses;

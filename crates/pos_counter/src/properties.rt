@@ -1,19 +1,17 @@
 //! The properties of a control, by what is known of its device (common chapter, and those of the categories).
-ghost use Rattle.std.specs.Prelude.{◌≡◌, ◌<◌, ◌&&◌, [], ℕ, List, Option, length, not};
+ghost use Rattle.std.specs.Prelude.{◌≡◌, ◌<◌, ◌&&◌, ℕ, List, length, not};
 ghost use Rattle.pos_service.specs.declared.call.Call.TheVariants as call;
 ghost use Rattle.pos_store.specs.Standing.{Standing};
-ghost use Rattle.pos_counter.specs.Assembly.{ArePartsSound, machine_with};
-ghost use Rattle.pos_counter.specs.Serving.{Serves};
-ghost use Rattle.pos_counter.specs.KeptDevices.{devices_in};
-ghost use Rattle.pos_counter.specs.Leaving.{part_of};
+ghost use Rattle.pos_counter.specs.Counters.{IsCounterSound, Serves, machine};
+ghost use Rattle.pos_counter.specs.Leaving.{part_with};
 ghost use Rattle.pos_service.specs.Claims.{is_own};
 ghost use Rattle.pos_counter.specs.Machine.{holder_in, holder_of};
 ghost use Rattle.pos_counter.specs.Responses.{answered};
 ghost use Rattle.pos_counter.specs.Steps.{Step, CallOf, facts_of};
-ghost use Rattle.pos_counter.specs.Serving.{IsRecovering};
+ghost use Rattle.pos_counter.specs.FileCalls.{IsRecovering};
 ghost use Rattle.pos_counter.specs.Totals.{asks_recovery, file_facts};
 
-use crate::devices::Devices;
+use crate::counter::Counter;
 use crate::totals_calls::is_totals;
 use pos_common::{Claims, Control};
 use pos_disk::Disk;
@@ -21,49 +19,96 @@ use pos_service::claims::is_own;
 use pos_service::{Answer, Facts, FileFacts, NoMemory, Peripheral, Property, Value};
 use pos_totals::Totals;
 
-/// Gets a property. Want of memory, for a copy of bytes, changes nothing.
-pub(crate) fn get<D: Disk, P: Peripheral>(
-    controls: &[Control],
-    claims: &Claims,
-    devices: &Devices<P>,
-    totals: &Totals<D>,
-    number: usize,
-    property: Property,
-) -> Result<Answer, NoMemory>
-    requires in_range { number < length controls.now }
-    ensures { (left : List Standing) →
-        let devices = devices_in P.Peripheral devices.now in
-        let machine = machine_with controls.now claims.now devices (part_of D.Disk totals.now left) in
-        Step machine (CallOf number (call.Get property)) (answered result) machine }
-{
-    let control = &controls[number];
-    let holder = find_holder(control, claims, totals.area());
-    let facts = find_facts(control, is_own(number, holder), devices, totals, number);
-    control.get(number, holder, property, &facts)
-}
+impl<D: Disk, P: Peripheral> Counter<D, P> {
+    /// Gets a property. Want of memory, for a copy of bytes, changes nothing.
+    pub(crate) fn get(&self, number: usize, property: Property) -> Result<Answer, NoMemory>
+        requires { number < length self.now.controls.items }
+        ensures { (left : List Standing) (failures : ℕ) →
+            let machine = machine P.Peripheral self.now (part_with self.now.totals.totals left failures) in
+            Step machine (CallOf number (call.Get property)) (answered result) machine }
+    {
+        let control = &self.controls[number];
+        let holder = find_holder(control, &self.claims, self.totals.area());
+        let facts = self.find_facts(control, is_own(number, holder), number);
+        control.get(number, holder, property, &facts)
+    }
 
-/// What is known of the control with a number and of its device, by whether it holds that.
-fn find_facts<D: Disk, P: Peripheral>(
-    control: &Control,
-    is_claimed: bool,
-    devices: &Devices<P>,
-    totals: &Totals<D>,
-    number: usize,
-) -> Facts
-    ensures { (claims : List (Option ℕ)) (left : List Standing) →
-        let control = control.now.control in
-        let devices = devices_in P.Peripheral devices.now in
-        let machine = machine_with [] claims devices (part_of D.Disk totals.now left) in
-        is_claimed ≡ is_own number (holder_of machine control) → result ≡ facts_of machine number control }
-{
-    let device = control.device();
-    Facts {
-        is_claimed,
-        in_transaction: totals.in_transaction(number),
-        kind: devices.kind_at(device),
-        signs: devices.signs_at(device),
-        totals_size: totals.size(),
-        files: find_file_facts(totals),
+    /// What is known of the control with a number and of its device, by whether it holds that.
+    fn find_facts(&self, control: &Control, is_claimed: bool, number: usize) -> Facts
+        ensures { (left : List Standing) (failures : ℕ) →
+            let control = control.now.control in
+            let machine = machine P.Peripheral self.now (part_with self.now.totals.totals left failures) in
+            is_claimed ≡ is_own number (holder_of machine control) → result ≡ facts_of machine number control }
+    {
+        let device = control.device();
+        Facts {
+            is_claimed,
+            in_transaction: self.totals.in_transaction(number),
+            kind: self.devices.kind_at(device),
+            signs: self.devices.signs_at(device),
+            totals_size: self.totals.size(),
+            files: find_file_facts(&self.totals),
+        }
+    }
+
+    /// Sets a property. Setting DeviceEnabled to true on a control of Hard Totals recovers totals that are off; on
+    /// another that is to be notified of its device's power it enqueues the event of that. Both may find no memory,
+    /// which changes nothing.
+    ///
+    /// Refused as the control says; and where the totals are to be recovered, with E_NOHARDWARE where the disk has
+    /// none, with E_FAILURE where it is damaged or fails, or where the handles don't suffice.
+    pub(crate) fn set(
+        &mut self,
+        number: usize,
+        property: Property,
+        value: &Value,
+    ) -> Result<Answer, NoMemory>
+        requires in_range { number < length self.old.controls.items }
+        requires sound { IsCounterSound P.Peripheral self.old }
+        ensures { Serves D.Disk P.Peripheral self.old (CallOf number (call.Set property value.now)) (answered result)
+            self.new }
+    {
+        if is_recovering(
+            &self.controls[number],
+            self.totals.is_ready(),
+            property,
+            value,
+        ) {
+            return self.set_recovered(number, property, value);
+        }
+        let control = &mut self.controls[number];
+        let holder = find_holder(control, &self.claims, self.totals.area());
+        let device = control.device();
+        let kind = self.devices.kind_at(device);
+        let signs = self.devices.signs_at(device);
+        control.set(number, holder, kind, signs, property, value)
+    }
+
+    /// Enables a control of Hard Totals that are off, once they are recovered.
+    fn set_recovered(
+        &mut self,
+        number: usize,
+        property: Property,
+        value: &Value,
+    ) -> Result<Answer, NoMemory>
+        requires in_range { number < length self.old.controls.items }
+        requires sound { IsCounterSound P.Peripheral self.old }
+        requires recovers { IsRecovering self.old.controls.items number property value.now self.old.totals.totals.mode }
+        ensures { Serves D.Disk P.Peripheral self.old (CallOf number (call.Set property value.now)) (answered result)
+            self.new }
+    {
+        let control = &self.controls[number];
+        let holder = find_holder(control, &self.claims, self.totals.area());
+        let device = control.device();
+        let kind = self.devices.kind_at(device);
+        let signs = self.devices.signs_at(device);
+        match self.totals.recover() {
+            Ok(()) => self.controls[number].set(number, holder, kind, signs, property, value),
+            Err(fault) => match fault.code() {
+                Ok(code) => Ok(Answer::Refused(code, 0)),
+                Err(NoMemory) => Err(NoMemory),
+            },
+        }
     }
 }
 
@@ -88,67 +133,6 @@ fn find_file_facts<D: Disk>(totals: &Totals<D>) -> Option<FileFacts>
         free: totals.free(),
         count: totals.count(),
     })
-}
-
-/// Sets a property. Setting DeviceEnabled to true on a control of Hard Totals recovers totals that are off; on another
-/// that is to be notified of its device's power it enqueues the event of that. Both may find no memory, which changes
-/// nothing.
-///
-/// Refused as the control says; and where the totals are to be recovered, with E_NOHARDWARE where the disk has none,
-/// with E_FAILURE where it is damaged or fails, or where the handles don't suffice.
-pub(crate) fn set<D: Disk, P: Peripheral>(
-    controls: &mut [Control],
-    claims: &Claims,
-    devices: &Devices<P>,
-    totals: &mut Totals<D>,
-    number: usize,
-    property: Property,
-    value: &Value,
-) -> Result<Answer, NoMemory>
-    requires { number < length controls.old }
-    ensures { let devices = devices_in P.Peripheral devices.now in
-        ArePartsSound controls.old devices → Serves D.Disk controls.old claims.now devices totals.old
-        (CallOf number (call.Set property value.now)) (answered result) controls.new claims.now devices totals.new }
-{
-    if is_recovering(&controls[number], totals.is_ready(), property, value) {
-        return set_recovered(controls, claims, devices, totals, number, property, value);
-    }
-    let control = &mut controls[number];
-    let holder = find_holder(control, claims, totals.area());
-    let device = control.device();
-    let kind = devices.kind_at(device);
-    let signs = devices.signs_at(device);
-    control.set(number, holder, kind, signs, property, value)
-}
-
-/// Enables a control of Hard Totals that are off, once they are recovered.
-fn set_recovered<D: Disk, P: Peripheral>(
-    controls: &mut [Control],
-    claims: &Claims,
-    devices: &Devices<P>,
-    totals: &mut Totals<D>,
-    number: usize,
-    property: Property,
-    value: &Value,
-) -> Result<Answer, NoMemory>
-    requires in_range { number < length controls.old }
-    requires recovers { IsRecovering controls.old number property value.now totals.old.totals.mode }
-    ensures { let devices = devices_in P.Peripheral devices.now in
-        ArePartsSound controls.old devices → Serves D.Disk controls.old claims.now devices totals.old
-        (CallOf number (call.Set property value.now)) (answered result) controls.new claims.now devices totals.new }
-{
-    let control = &controls[number];
-    let holder = find_holder(control, claims, totals.area());
-    let device = control.device();
-    let kind = devices.kind_at(device);
-    let signs = devices.signs_at(device);
-    match totals.recover() {
-        Ok(()) => controls[number].set(number, holder, kind, signs, property, value),
-        Err(fault) => match fault.code() {
-            Ok(code) => Ok(Answer::Refused(code, 0)),
-            Err(NoMemory) => Err(NoMemory),
-        },
-    }
 }
 
 /// Whether setting the property recovers the totals: it enables an open control of Hard Totals while they are off.

@@ -2,7 +2,7 @@
 ghost use Rattle.std.specs.Prelude.{◌≡◌, true};
 ghost use Rattle.pos_service.specs.declared.category.Category.TheVariants as category;
 ghost use Rattle.pos_service.specs.Calls.{has_call};
-ghost use Rattle.pos_counter.specs.Serving.{CallsFiles};
+ghost use Rattle.pos_counter.specs.FileCalls.{CallsFiles};
 ghost use Rattle.pos_counter.specs.Totals.{is_totals};
 
 use pos_common::Control;

@@ -2,43 +2,47 @@
 ghost use Rattle.std.specs.Prelude.{◌≡◌, Some, false};
 ghost use Rattle.pos_service.specs.Claims.{holder_at};
 ghost use Rattle.pos_service.specs.PrinterCalls.{WorksAt};
-ghost use Rattle.pos_service.specs.Stations.{station_of, StaysInService};
-ghost use Rattle.pos_common.specs.Held.{controls_of};
+ghost use Rattle.pos_service.specs.Hardware.{hardware_of, StaysInService};
+ghost use Rattle.pos_common.specs.KeptControls.{controls_of};
 ghost use Rattle.pos_counter.specs.KeptDevices.{AreDevicesSound, devices_in};
-ghost use Rattle.pos_counter.specs.Assembly.{ArePartsSound};
 ghost use Rattle.pos_counter.specs.AtDevices.{IsAttachedAt, IsDoneAt};
-ghost use Rattle.pos_counter.specs.Serving.{ServesUnder};
+ghost use Rattle.pos_counter.specs.Counters.{IsStepBeside, IsCounterSound};
 ghost use Rattle.pos_counter.specs.Responses.{worked};
 ghost use Rattle.pos_counter.specs.Steps.{WorkOn};
 
+use crate::counter::Counter;
 use crate::devices::Devices;
 use crate::faults::WorkFault;
 use pos_common::{Claims, Control};
+use pos_disk::Disk;
 use pos_service::{NoMemory, Peripheral, Worked};
 
-/// Works on the output that waits for the first device with a name.
-pub(crate) fn work<P: Peripheral>(
-    controls: &mut [Control],
-    claims: &Claims,
-    devices: &mut Devices<P>,
-    name: &[u8],
-) -> Result<Worked, WorkFault>
-    requires parts { ArePartsSound controls.old (devices_in P.Peripheral devices.old) }
-    requires sound { AreDevicesSound P.Peripheral devices.old }
-    ensures serves { ServesUnder claims.now controls.old (devices_in P.Peripheral devices.old)
-        (WorkOn name.now) (worked result)
-        controls.new (devices_in P.Peripheral devices.new) }
-    ensures sound { AreDevicesSound P.Peripheral devices.new }
-{
-    let Some(place) = devices.find(name) else {
-        return Err(WorkFault::NoDevice);
-    };
-    if devices.registry.peripheral(place).is_none() {
-        return Err(WorkFault::NoDevice);
-    }
-    match work_there(controls, place, claims, devices) {
-        Ok(worked) => Ok(worked),
-        Err(NoMemory) => Err(WorkFault::NoMemory),
+impl<D: Disk, P: Peripheral> Counter<D, P> {
+    /// Works on the output that waits for the device of this name: the first request of the control that holds it
+    /// (common chapter, asynchronous output).
+    ///
+    /// It is Idle where there is nothing to do: where the device is no printer, where nobody holds it, where its holder
+    /// is disabled or has no request, and while the holder's first request has failed. Else the request is Done, and an
+    /// OutputCompleteEvent is enqueued; or it has Failed, stays the first, and an ErrorEvent with EL_OUTPUT is
+    /// enqueued.
+    ///
+    /// Refused with NoDevice where no device has the name or no peripheral stands behind it. Want of memory changes
+    /// nothing.
+    pub fn work(&mut self, device: &[u8]) -> Result<Worked, WorkFault>
+        requires sound { IsCounterSound P.Peripheral self.old }
+        ensures step { IsStepBeside P.Peripheral self.old (WorkOn device.now) (worked result) self.new }
+        ensures sound { IsCounterSound P.Peripheral self.new }
+    {
+        let Some(place) = self.devices.find(device) else {
+            return Err(WorkFault::NoDevice);
+        };
+        if self.devices.registry.peripheral(place).is_none() {
+            return Err(WorkFault::NoDevice);
+        }
+        match work_there(&mut self.controls, place, &self.claims, &mut self.devices) {
+            Ok(worked) => Ok(worked),
+            Err(NoMemory) => Err(WorkFault::NoMemory),
+        }
     }
 }
 
@@ -75,8 +79,8 @@ fn work_at<P: Peripheral>(
     requires unparked { (P.Peripheral.state peripheral.old).is_parked ≡ false }
     ensures worked { let state = P.Peripheral.state in
         WorksAt (holder_at claims.now (Some place)) place result
-        (controls_of controls.old) (station_of (state peripheral.old))
-        (controls_of controls.new) (station_of (state peripheral.new)) }
+        (controls_of controls.old) (hardware_of (state peripheral.old))
+        (controls_of controls.new) (hardware_of (state peripheral.new)) }
     ensures in_service { let state = P.Peripheral.state in
         StaysInService (state peripheral.old) (state peripheral.new) }
 {

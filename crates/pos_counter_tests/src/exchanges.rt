@@ -2,8 +2,8 @@
 ghost use Rattle.std.specs.Prelude.{◌≡◌, false};
 ghost use Rattle.pos_counter.specs.Counters.{IsCounterSound};
 
+use crate::counters::{end_all, formatted, serve, vacant};
 use crate::drivers::Wanting;
-use crate::support::{end_all, formatted, serve, vacant};
 use pos_counter::{Counter, Ended};
 use pos_disk::Disk;
 use pos_profile::Slot;

@@ -4,7 +4,7 @@ ghost use Rattle.std.specs.Prelude.{IfOk, All};
 ghost use Rattle.pos_counter.specs.Counters.{IsCounterSound};
 ghost use Rattle.pos_counter.specs.Responses.{OffersInService};
 
-use crate::support::formatted;
+use crate::counters::formatted;
 use pos_counter::{Counter, Ended};
 use pos_disk::{Disk, MemDisk};
 use pos_profile::{Profile, Slot};

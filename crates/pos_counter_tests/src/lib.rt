@@ -3,7 +3,7 @@
 #![tactic(auto)]
 
 #[cfg(test)]
-mod bench;
+mod counters;
 #[cfg(test)]
 mod drivers;
 #[cfg(test)]
@@ -17,8 +17,8 @@ mod requests;
 #[cfg(test)]
 mod rows;
 #[cfg(test)]
-mod stops;
+mod stopped_call;
 #[cfg(test)]
-mod support;
+mod stops;
 #[cfg(test)]
 mod torn;

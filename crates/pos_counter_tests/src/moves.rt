@@ -1,6 +1,6 @@
 //! A move to layout 2 is stopped at each of its disk calls. After each crash then a new counter finds the same files,
 //! by one layout or the other, and the disk can be moved.
-use crate::support::{formatted, told};
+use crate::counters::{formatted, told};
 use crate::torn::Loose;
 use pos_disk::{Fill, FuseDisk, MemDisk};
 use pos_profile::Profile;

@@ -1,8 +1,8 @@
 //! Each kind of request over drivers that find no memory for each other order or input: it is refused, and done when
 //! it is made once more.
 
+use crate::counters::{end, formatted, serve, text_of, vacant};
 use crate::drivers::Wanting;
-use crate::support::{end, formatted, serve, text_of, vacant};
 use pos_counter::{ControlFault, InputFault, SnapshotFault, WorkFault};
 use pos_service::PeripheralBox;
 use pos_sims::{PlainDisplay, PlainDrawer, PlainScanner, RollPrinter};

@@ -1,8 +1,8 @@
 //! Each call that reaches the disk is stopped at each of its disk calls. Then the totals are off and the disk is left
 //! alone; crashes leave the files before the call or after the whole of it; and enabling finds which.
-use crate::bench::{Bench, Counts};
+use crate::counters::{formatted, told};
 use crate::rows::{CHANGES, ENABLING};
-use crate::support::{formatted, told};
+use crate::stopped_call::{Counts, StoppedCall};
 use pos_disk::MemDisk;
 use pos_profile::Profile;
 use std::alloc::Global;
@@ -48,7 +48,7 @@ fn an_enabling_is_stopped(rt: HostRuntime) -> Result<(), Fail> {
     let alloc = rt.alloc();
     let mut counts = Counts::new();
     for disk in [with_room(alloc)?, without_room(alloc)?] {
-        Bench::new(alloc, disk, ENABLING)?.stop_at_each(&mut counts)?;
+        StoppedCall::new(alloc, disk, ENABLING)?.stop_at_each(&mut counts)?;
     }
     println!(rt; "an enabling: {counts}")?;
     assert_eq!(rt; counts.stops, 64);
@@ -60,7 +60,7 @@ fn a_change_by_a_record_is_stopped(rt: HostRuntime) -> Result<(), Fail> {
     let alloc = rt.alloc();
     let mut counts = Counts::new();
     for row in CHANGES {
-        Bench::new(alloc, with_room(alloc)?, row)?.stop_at_each(&mut counts)?;
+        StoppedCall::new(alloc, with_room(alloc)?, row)?.stop_at_each(&mut counts)?;
     }
     println!(rt; "a change by a record: {counts}")?;
     assert_eq!(rt; counts.stops, 120);
@@ -72,7 +72,7 @@ fn a_change_by_an_image_is_stopped(rt: HostRuntime) -> Result<(), Fail> {
     let alloc = rt.alloc();
     let mut counts = Counts::new();
     for row in CHANGES {
-        Bench::new(alloc, without_room(alloc)?, row)?.stop_at_each(&mut counts)?;
+        StoppedCall::new(alloc, without_room(alloc)?, row)?.stop_at_each(&mut counts)?;
     }
     println!(rt; "a change by an image: {counts}")?;
     assert_eq!(rt; counts.stops, 240);

@@ -1,5 +1,6 @@
 -- A group that is read is the one that was spelled.
-use Rattle.std.proofs.Common.{◌≡◌, ◌⊎◌, ℕ, suc, ◌^◌, ◌<◌, Bool, true, false, cond, eqb, List, [], ◌∷◌, ◌++◌, length, Option, Some, None, refl, sym, ap, subst, ◌∙◌, inl, inr, append_assoc, arith}
+use Rattle.std.proofs.Common.{◌≡◌, ◌⊎◌, ℕ, suc, ◌^◌, ◌<◌, Bool, true, false, cond, eqb, List, [], ◌∷◌, ◌++◌, length, Option, Some, None, refl, sym, ap, subst}
+use Rattle.std.proofs.Common.{◌∙◌, inl, inr, append_assoc, arith}
 use Rattle.std.specs.Prelude.{nat_le}
 use Rattle.std.specs.List.{flat_map}
 use Rattle.std.specs.Int.{w16, w32, to_be_bytes}
@@ -13,8 +14,10 @@ use Rattle.pos_dir.specs.declared.fault.DirectoryFault.TheVariants.{BadName, Ran
 use Rattle.pos_dir.specs.Files.{is_name}
 use Rattle.pos_dir.specs.Changes.{write_limit, IsChange, IsGroup}
 use Rattle.pos_dir.specs.Spelling.{name_spelling, text_spelling, change_spelling, group_spelling}
-use Rattle.pos_dir.specs.Reading.{◌>>=◌, byte_at, number_at, name_at, text_at, create_at, delete_at, rename_at, write_at, set_all_at, fields_at, change_at, items_at, is_end, group_at}
-use Rattle.pos_dir.proofs.Readers.{IsBytes, IsReader, Takes, Takes-then, bind_some, passed, some_is, byte_spelling, byte_reads, u16_reads, u32_reads, name_reads, text_reads, both_take, both_again}
+use Rattle.pos_dir.specs.Reading.{◌>>=◌, byte_at, number_at, name_at, text_at, create_at, delete_at, rename_at, write_at, set_all_at, fields_at, change_at}
+use Rattle.pos_dir.specs.Reading.{items_at, is_end, group_at}
+use Rattle.pos_dir.proofs.Readers.{IsBytes, IsReader, Takes, Takes-then, bind_some, passed, some_is, byte_spelling, byte_reads, u16_reads, u32_reads}
+use Rattle.pos_dir.proofs.Readers.{name_reads, text_reads, both_take, both_again}
 use Rattle.pos_dir.proofs.Items.{items_take, items_again}
 use Rattle.pos_dir.proofs.Directories.{ended}
 

@@ -1,5 +1,6 @@
 -- A change that is applicable leaves the files of a directory.
-use Rattle.std.proofs.Common.{◌≡◌, ℕ, zero, suc, ◌+◌, ◌<◌, ◌≤◌, Bool, true, false, not, ◌&&◌, ◌||◌, cond, List, [], ◌∷◌, ◌++◌, length, take, drop, get_or, set, Option, Some, None, Result, Ok, Err, refl, sym, ap, subst, ◌∙◌, arith, length-append}
+use Rattle.std.proofs.Common.{◌≡◌, ℕ, zero, suc, ◌+◌, ◌<◌, ◌≤◌, Bool, true, false, not, ◌&&◌, ◌||◌, cond, List, [], ◌∷◌, ◌++◌, length, take, drop, get_or, set}
+use Rattle.std.proofs.Common.{Option, Some, None, Result, Ok, Err, refl, sym, ap, subst, ◌∙◌, arith, length-append}
 use Rattle.std.specs.Prelude.{slice_get, slice_set, remove, replicate, nat_lt, nat_le}
 use Rattle.std.specs.List.{list_all, AllByRecursion}
 use Rattle.std.proofs.lemmas.List.Elements.{All-from_recursion}
@@ -56,7 +57,7 @@ has_name-append (f ∷ files) file name old new =
     let parts = or_parts (bytes_eq f.name name) (has_name files name) old in
     or_from (bytes_eq f.name name) (has_name (files ++ file ∷ []) name) parts.0 (has_name-append files file name parts.1 new)
 
-are_distinct-append : (files : List File) (file : File) → are_distinct files ≡ true → has_name files file.name ≡ false
+pub are_distinct-append : (files : List File) (file : File) → are_distinct files ≡ true → has_name files file.name ≡ false
     → are_distinct (files ++ file ∷ []) ≡ true
 are_distinct-append [] file distinct new = refl
 are_distinct-append (f ∷ files) file distinct new =

@@ -6,3 +6,4 @@ pub mod Groups
 pub mod Loops
 pub mod Outlined
 pub mod Applied
+pub mod Passing

@@ -5,5 +5,6 @@ pub mod Calls
 pub mod Reading
 pub mod Texts
 pub mod Outlines
-pub mod Steps
+pub mod Supplies
 pub mod Room
+pub mod Flaws

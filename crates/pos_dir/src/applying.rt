@@ -3,6 +3,8 @@ ghost use Rattle.pos_dir.specs.Files.{IsDirectory};
 ghost use Rattle.pos_dir.specs.Changes.{outcome_of_all};
 ghost use Rattle.pos_dir.specs.Spelling.{spelling, body_limit};
 ghost use Rattle.pos_dir.specs.Calls.{Applies};
+ghost use Rattle.pos_dir.specs.Supplies.{supplies_of};
+ghost use Rattle.std.specs.List.{flat_map};
 
 use crate::directory::Directory;
 use crate::fault::DirectoryFault;
@@ -11,7 +13,7 @@ use crate::group::Group;
 use crate::laws::{is_directory, is_group};
 use crate::limits::Limits;
 use crate::outlines::check_group;
-use crate::steps::{Step, make_steps};
+use crate::supplying::{Supply, carry_out_change, make_supplies, take_supply};
 use crate::writing::{limit_body, put_directory};
 use std::alloc::Global;
 
@@ -21,7 +23,7 @@ use std::alloc::Global;
 pub fn apply_group(
     alloc: Global,
     directory: &mut Directory,
-    group: &Group,
+    group: &Group<'_>,
 ) -> Result<(), DirectoryFault>
     ensures applied { Applies directory.old group.now result directory.new }
     ensures limits { directory.new.limits ≡ directory.old.limits }
@@ -30,22 +32,23 @@ pub fn apply_group(
     apply_checked(alloc, directory.limits, &mut directory.files, group)
 }
 
-/// Applies all changes of a group as `apply_group` does, and gives the one spelling of the files
-/// after it, as `encode` does. It is refused as `apply_group` is; the directory is unchanged then,
-/// for want of memory (NoMemory) too.
+/// Applies a group that is applicable, and gives the one spelling of the files after it, as `encode` does.
+/// It is refused for want of memory alone (NoMemory); the directory is unchanged then.
 pub fn apply_and_encode(
     alloc: Global,
     directory: &mut Directory,
-    group: &Group,
+    group: &Group<'_>,
 ) -> Result<Vec<u8>, DirectoryFault>
-    ensures applied { Applies directory.old group.now result directory.new }
+    requires { IsOk (outcome_of_all directory.old.limits directory.old.files group.now) }
+    ensures outcome { MatchResult result
+        (λ _. outcome_of_all directory.old.limits directory.old.files group.now ≡ Ok directory.new.files)
+        (λ fault. (fault ≡ DirectoryFault.NoMemory) × (directory.new ≡ directory.old)) }
     ensures limits { directory.new.limits ≡ directory.old.limits }
     ensures spelled { IfOk result (λ body. body.items ≡ spelling directory.new.files) }
     ensures directory { IsDirectory directory.new.limits directory.new.files }
     ensures length { length (spelling directory.new.files) ≤ body_limit directory.new.limits }
 {
     is_directory(directory);
-    check_group(directory, group)?;
     let mut body = Vec::with_capacity(alloc, limit_body(directory.limits))?;
     apply_checked(alloc, directory.limits, &mut directory.files, group)?;
     put_directory(&mut body, directory);
@@ -57,7 +60,7 @@ pub fn apply_and_encode(
 pub fn apply_applicable(
     alloc: Global,
     directory: &mut Directory,
-    group: &Group,
+    group: &Group<'_>,
 ) -> Result<(), DirectoryFault>
     requires { IsOk (outcome_of_all directory.old.limits directory.old.files group.now) }
     ensures outcome { MatchResult result
@@ -75,7 +78,7 @@ fn apply_checked(
     alloc: Global,
     limits: Limits,
     files: &mut Vec<File>,
-    group: &Group,
+    group: &Group<'_>,
 ) -> Result<(), DirectoryFault>
     requires directory { IsDirectory limits files.old.items }
     requires applicable { IsOk (outcome_of_all limits files.old.items group.now) }
@@ -84,19 +87,22 @@ fn apply_checked(
     ensures directory { IsDirectory limits files.new.items }
 {
     is_group(group);
-    let steps = make_steps(alloc, group)?;
+    let supplies = make_supplies(alloc, group)?;
     files.reserve(limits.files as usize - files.len())?;
-    carry_out(limits, files, steps);
+    carry_out(limits, files, group, supplies);
     Ok(())
 }
 
-/// Carries out changes that are applicable, where there is room for all files.
-fn carry_out(limits: Limits, files: &mut Vec<File>, steps: Vec<Step<'_>>)
-    requires applicable { IsOk (outcome_of_all limits files.old.items steps.items) }
+/// Carries out changes that are applicable, with what they take, where there is room for all files.
+fn carry_out(limits: Limits, files: &mut Vec<File>, group: &Group<'_>, supplies: Vec<Supply>)
+    requires applicable { IsOk (outcome_of_all limits files.old.items group.now) }
+    requires supplied { supplies.items ≡ flat_map supplies_of group.now }
     requires room { limits.files ≤ vec_capacity files.old }
-    ensures { outcome_of_all limits files.old.items steps.entry.items ≡ Ok files.new.items }
+    ensures { outcome_of_all limits files.old.items group.now ≡ Ok files.new.items }
 {
-    for step in steps {
-        step.carry_out(limits, files);
+    let mut left = supplies.into_iter();
+    for change in &group.changes {
+        let supply = take_supply(change, &mut left);
+        carry_out_change(limits, files, change, supply);
     }
 }

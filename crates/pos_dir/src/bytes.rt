@@ -42,7 +42,7 @@ impl Name {
     }
 }
 
-/// The bytes of a file or of a change. Contracts see them as a list.
+/// The bytes of a file. Contracts see them as a list.
 #[derive(Drop)]
 pub struct Bytes {
     items: Vec<u8>,
@@ -92,5 +92,35 @@ impl Bytes {
         ensures { self.new ≡ replicate (length self.old) value }
     {
         self.items.fill(value);
+    }
+}
+
+/// Bytes that are lent: the name or the bytes of a change. Contracts see them as a list.
+#[derive(Drop)]
+pub struct LentBytes<'a> {
+    items: &'a [u8],
+}
+
+impl<'a> Model for LentBytes<'a> {
+    ghost use Rattle.std.specs.Prelude.{List, ℕ};
+
+    ghost Value = { List ℕ };
+
+    ghost view = { λ bytes. bytes.items.now };
+}
+
+impl<'a> LentBytes<'a> {
+    /// These bytes.
+    pub fn from_slice(items: &'a [u8]) -> Self
+        ensures { result ≡ items.now }
+    {
+        LentBytes { items }
+    }
+
+    /// The bytes.
+    pub fn as_slice(&self) -> &[u8]
+        ensures { result.now ≡ self.now }
+    {
+        self.items
     }
 }

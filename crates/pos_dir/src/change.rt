@@ -1,13 +1,13 @@
-use crate::bytes::{Bytes, Name};
+use crate::bytes::LentBytes;
 
 /// A change of the files of Hard Totals (UnifiedPOS 1.16, Hard Totals: create, delete, rename,
-/// write, setAll). A file is named by its index at the moment of the change.
+/// write, setAll). A file is named by its index at the moment of the change; names and bytes are lent.
 #[derive(Drop)]
-pub enum Change {
+pub enum Change<'a> {
     /// Adds a file of zero bytes behind the others.
     Create {
         /// Its name, which no file has.
-        name: Name,
+        name: LentBytes<'a>,
         /// The number of its bytes.
         size: u32,
     },
@@ -21,7 +21,7 @@ pub enum Change {
         /// The file.
         index: u16,
         /// The name, which no file has, this one neither.
-        name: Name,
+        name: LentBytes<'a>,
     },
     /// Puts bytes in the place of those of a file from an offset on.
     Write {
@@ -30,7 +30,7 @@ pub enum Change {
         /// The place of the first byte.
         offset: u32,
         /// The bytes, at most 65,536.
-        bytes: Bytes,
+        bytes: LentBytes<'a>,
     },
     /// Makes each byte of a file the same.
     SetAll {

@@ -1,46 +1,20 @@
 //! Changes read from the bytes that spell them.
 ghost use Rattle.std.specs.Prelude.{◌≡◌, None, IsSome, IfSome, MatchOption, MatchResult};
 ghost use Rattle.std.specs.Option.{option_map};
-ghost use Rattle.pos_dir.specs.Texts.{change_of};
 ghost use Rattle.pos_dir.specs.Reading.{create_at, delete_at, rename_at, write_at, set_all_at, fields_at, change_at, items_at, group_at, Locates};
 
-use crate::bytes::{Bytes, Name};
+use crate::bytes::LentBytes;
 use crate::change::Change;
-use crate::copying::Item;
+use crate::collecting::Item;
 use crate::fault::DirectoryFault;
 use crate::fields::{read_byte, read_name, read_text, read_u16, read_u32};
 use crate::group::WRITE_LIMIT;
 use std::alloc::Global;
 
-/// A change in the bytes that spell it.
-#[derive(Drop)]
-enum ChangeText<'a> {
-    Create {
-        name: &'a [u8],
-        size: u32,
-    },
-    Delete {
-        index: u16,
-    },
-    Rename {
-        index: u16,
-        name: &'a [u8],
-    },
-    Write {
-        index: u16,
-        offset: u32,
-        bytes: &'a [u8],
-    },
-    SetAll {
-        index: u16,
-        value: u8,
-    },
-}
-
 /// A change.
 #[tactic(auto, unfolding(crate::specs::Reading::change_at))]
-fn read_change(bytes: &[u8]) -> Option<(ChangeText<'_>, &[u8])>
-    ensures { option_map (λ x. (change_of x.0, x.1.now)) result ≡ change_at bytes.now }
+fn read_change(bytes: &[u8]) -> Option<(Change<'_>, &[u8])>
+    ensures { option_map (λ x. (x.0, x.1.now)) result ≡ change_at bytes.now }
 {
     let (tag, rest) = read_byte(bytes)?;
     read_fields(tag, rest)
@@ -48,8 +22,8 @@ fn read_change(bytes: &[u8]) -> Option<(ChangeText<'_>, &[u8])>
 
 /// The fields behind a tag.
 #[tactic(auto, unfolding(crate::specs::Reading::fields_at))]
-fn read_fields(tag: u8, bytes: &[u8]) -> Option<(ChangeText<'_>, &[u8])>
-    ensures { option_map (λ x. (change_of x.0, x.1.now)) result ≡ fields_at tag bytes.now }
+fn read_fields(tag: u8, bytes: &[u8]) -> Option<(Change<'_>, &[u8])>
+    ensures { option_map (λ x. (x.0, x.1.now)) result ≡ fields_at tag bytes.now }
 {
     match tag {
         1 => read_create(bytes),
@@ -63,37 +37,49 @@ fn read_fields(tag: u8, bytes: &[u8]) -> Option<(ChangeText<'_>, &[u8])>
 
 /// The fields of a Create.
 #[tactic(auto, unfolding(crate::specs::Reading::create_at))]
-fn read_create(bytes: &[u8]) -> Option<(ChangeText<'_>, &[u8])>
-    ensures { option_map (λ x. (change_of x.0, x.1.now)) result ≡ create_at bytes.now }
+fn read_create(bytes: &[u8]) -> Option<(Change<'_>, &[u8])>
+    ensures { option_map (λ x. (x.0, x.1.now)) result ≡ create_at bytes.now }
 {
     let (name, rest) = read_name(bytes)?;
     let (size, rest) = read_u32(rest)?;
-    Some((ChangeText::Create { name, size }, rest))
+    Some((
+        Change::Create {
+            name: LentBytes::from_slice(name),
+            size,
+        },
+        rest,
+    ))
 }
 
 /// The fields of a Delete.
 #[tactic(auto, unfolding(crate::specs::Reading::delete_at))]
-fn read_delete(bytes: &[u8]) -> Option<(ChangeText<'_>, &[u8])>
-    ensures { option_map (λ x. (change_of x.0, x.1.now)) result ≡ delete_at bytes.now }
+fn read_delete(bytes: &[u8]) -> Option<(Change<'_>, &[u8])>
+    ensures { option_map (λ x. (x.0, x.1.now)) result ≡ delete_at bytes.now }
 {
     let (index, rest) = read_u16(bytes)?;
-    Some((ChangeText::Delete { index }, rest))
+    Some((Change::Delete { index }, rest))
 }
 
 /// The fields of a Rename.
 #[tactic(auto, unfolding(crate::specs::Reading::rename_at))]
-fn read_rename(bytes: &[u8]) -> Option<(ChangeText<'_>, &[u8])>
-    ensures { option_map (λ x. (change_of x.0, x.1.now)) result ≡ rename_at bytes.now }
+fn read_rename(bytes: &[u8]) -> Option<(Change<'_>, &[u8])>
+    ensures { option_map (λ x. (x.0, x.1.now)) result ≡ rename_at bytes.now }
 {
     let (index, rest) = read_u16(bytes)?;
     let (name, rest) = read_name(rest)?;
-    Some((ChangeText::Rename { index, name }, rest))
+    Some((
+        Change::Rename {
+            index,
+            name: LentBytes::from_slice(name),
+        },
+        rest,
+    ))
 }
 
 /// The fields of a Write.
 #[tactic(auto, unfolding(crate::specs::Reading::write_at))]
-fn read_write(bytes: &[u8]) -> Option<(ChangeText<'_>, &[u8])>
-    ensures { option_map (λ x. (change_of x.0, x.1.now)) result ≡ write_at bytes.now }
+fn read_write(bytes: &[u8]) -> Option<(Change<'_>, &[u8])>
+    ensures { option_map (λ x. (x.0, x.1.now)) result ≡ write_at bytes.now }
 {
     let (index, rest) = read_u16(bytes)?;
     let (offset, rest) = read_u32(rest)?;
@@ -102,10 +88,10 @@ fn read_write(bytes: &[u8]) -> Option<(ChangeText<'_>, &[u8])>
         return None;
     }
     Some((
-        ChangeText::Write {
+        Change::Write {
             index,
             offset,
-            bytes,
+            bytes: LentBytes::from_slice(bytes),
         },
         rest,
     ))
@@ -113,52 +99,22 @@ fn read_write(bytes: &[u8]) -> Option<(ChangeText<'_>, &[u8])>
 
 /// The fields of a SetAll.
 #[tactic(auto, unfolding(crate::specs::Reading::set_all_at))]
-fn read_set_all(bytes: &[u8]) -> Option<(ChangeText<'_>, &[u8])>
-    ensures { option_map (λ x. (change_of x.0, x.1.now)) result ≡ set_all_at bytes.now }
+fn read_set_all(bytes: &[u8]) -> Option<(Change<'_>, &[u8])>
+    ensures { option_map (λ x. (x.0, x.1.now)) result ≡ set_all_at bytes.now }
 {
     let (index, rest) = read_u16(bytes)?;
     let (value, rest) = read_byte(rest)?;
-    Some((ChangeText::SetAll { index, value }, rest))
+    Some((Change::SetAll { index, value }, rest))
 }
 
-/// The change in memory of its own.
-fn copy_change(alloc: Global, text: &ChangeText<'_>) -> Result<Change, DirectoryFault>
-    ensures { MatchResult result (λ change. change ≡ change_of text.now) (λ fault. fault ≡ DirectoryFault.NoMemory) }
-{
-    match text {
-        ChangeText::Create { name, size } => Ok(Change::Create {
-            name: Name::from_vec(Vec::from_slice(alloc, name)?),
-            size: *size,
-        }),
-        ChangeText::Delete { index } => Ok(Change::Delete { index: *index }),
-        ChangeText::Rename { index, name } => Ok(Change::Rename {
-            index: *index,
-            name: Name::from_vec(Vec::from_slice(alloc, name)?),
-        }),
-        ChangeText::Write {
-            index,
-            offset,
-            bytes,
-        } => Ok(Change::Write {
-            index: *index,
-            offset: *offset,
-            bytes: Bytes::from_vec(Vec::from_slice(alloc, bytes)?),
-        }),
-        ChangeText::SetAll { index, value } => Ok(Change::SetAll {
-            index: *index,
-            value: *value,
-        }),
-    }
-}
-
-impl Item for Change {
+impl<'a> Item<'a> for Change<'a> {
     ghost item_at = { change_at };
 
-    fn copy_first(alloc: Global, bytes: &[u8]) -> Result<(Self, &[u8]), DirectoryFault> {
-        let Some((change, rest)) = read_change(bytes) else {
-            unreachable!()
-        };
-        Ok((copy_change(alloc, &change)?, rest))
+    fn read_first(_alloc: Global, bytes: &'a [u8]) -> Result<(Self, &'a [u8]), DirectoryFault> {
+        match read_change(bytes) {
+            Some(first) => Ok(first),
+            None => unreachable!(),
+        }
     }
 }
 

@@ -17,7 +17,7 @@ pub(crate) fn read_byte(bytes: &[u8]) -> Option<(u8, &[u8])>
 }
 
 /// So many bytes.
-fn read_part(bytes: &[u8], size: usize) -> Option<(&[u8], &[u8])>
+pub(crate) fn read_part(bytes: &[u8], size: usize) -> Option<(&[u8], &[u8])>
     ensures { option_map (λ x. (x.0.now, x.1.now)) result ≡ part_at size bytes.now }
 {
     if bytes.len() < size {

@@ -6,7 +6,7 @@ ghost use Rattle.pos_dir.specs.Files.{has_name, are_distinct};
 ghost use Rattle.pos_dir.specs.Reading.{file_at, items_at, end_within, directory_at, Locates};
 
 use crate::bytes::{Bytes, Name};
-use crate::copying::Item;
+use crate::collecting::Item;
 use crate::fault::DirectoryFault;
 use crate::fields::{read_name, read_text, read_u16};
 use crate::file::File;
@@ -15,14 +15,14 @@ use std::alloc::Global;
 
 /// A file in the bytes that spell it.
 #[derive(Drop)]
-struct FileText<'a> {
-    name: &'a [u8],
-    bytes: &'a [u8],
+pub(crate) struct FileText<'a> {
+    pub name: &'a [u8],
+    pub bytes: &'a [u8],
 }
 
 /// A file.
 #[tactic(auto, unfolding(crate::specs::Reading::file_at))]
-fn read_file(bytes: &[u8]) -> Option<(FileText<'_>, &[u8])>
+pub(crate) fn read_file(bytes: &[u8]) -> Option<(FileText<'_>, &[u8])>
     ensures { option_map (λ x. (file_of x.0, x.1.now)) result ≡ file_at bytes.now }
 {
     let (name, rest) = read_name(bytes)?;
@@ -40,10 +40,10 @@ fn copy_file(alloc: Global, text: &FileText<'_>) -> Result<File, DirectoryFault>
     })
 }
 
-impl Item for File {
+impl<'a> Item<'a> for File {
     ghost item_at = { file_at };
 
-    fn copy_first(alloc: Global, bytes: &[u8]) -> Result<(Self, &[u8]), DirectoryFault> {
+    fn read_first(alloc: Global, bytes: &'a [u8]) -> Result<(Self, &'a [u8]), DirectoryFault> {
         let Some((file, rest)) = read_file(bytes) else {
             unreachable!()
         };
@@ -66,7 +66,7 @@ fn skip_files(count: u16, bytes: &[u8], room: usize) -> Option<&[u8]>
 }
 
 /// Whether one of so many files has the name, where the bytes begin with so many.
-fn is_used(count: u16, bytes: &[u8], name: &[u8]) -> bool
+pub(crate) fn is_used(count: u16, bytes: &[u8], name: &[u8]) -> bool
     ensures { IfSome (items_at file_at count bytes.now) (λ files. result ≡ has_name files.0 name.now) }
 {
     let mut rest = bytes;

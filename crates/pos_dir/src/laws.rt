@@ -39,7 +39,7 @@ pub fn is_directory(directory: &Directory)
 }
 
 /// The changes of a group are ones that it takes.
-pub fn is_group(group: &Group)
+pub fn is_group(group: &Group<'_>)
     ensures { IsGroup group.now }
 {
     let _ = &group.changes;

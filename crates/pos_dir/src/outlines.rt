@@ -6,7 +6,7 @@ ghost use Rattle.pos_dir.specs.Files.{IsDirectory};
 ghost use Rattle.pos_dir.specs.Changes.{fault_of, outcome};
 ghost use Rattle.pos_dir.specs.Outlines.{AreOutlines, is_named, Checks};
 
-use crate::bytes::Bytes;
+use crate::bytes::LentBytes;
 use crate::change::Change;
 use crate::directory::Directory;
 use crate::fault::DirectoryFault;
@@ -110,7 +110,7 @@ fn check_write<const N: usize>(
     outlines: &ArrayVec<Outline<'_>, N>,
     index: u16,
     offset: u32,
-    bytes: &Bytes,
+    bytes: &LentBytes<'_>,
 ) -> Result<(), DirectoryFault>
     ensures { (limits : Limits)
         → Checks limits outlines.now.items (Write index offset bytes.now) result outlines.now.items }
@@ -144,7 +144,7 @@ fn check_set_all<const N: usize>(
 fn check<'a, const N: usize>(
     outlines: &mut ArrayVec<Outline<'a>, N>,
     limits: Limits,
-    change: &'a Change,
+    change: &'a Change<'_>,
 ) -> Result<(), DirectoryFault>
     requires files { limits.files ≤ N }
     requires total { sum_by (λ outline. outline.size) outlines.old.items ≤ limits.bytes }
@@ -182,7 +182,7 @@ fn check_within<'a, const N: usize>(
     outlines: &mut ArrayVec<Outline<'a>, N>,
     limits: Limits,
     files: &'a [File],
-    group: &'a Group,
+    group: &'a Group<'_>,
 ) -> Result<(), DirectoryFault>
     requires empty { outlines.old.items ≡ [] }
     requires directory { IsDirectory limits files.now }
@@ -197,7 +197,7 @@ fn check_within<'a, const N: usize>(
 }
 
 /// Checks a group over outlines of all files.
-fn check_outlined<'a>(directory: &'a Directory, group: &'a Group) -> Result<(), DirectoryFault>
+fn check_outlined<'a>(directory: &'a Directory, group: &'a Group<'_>) -> Result<(), DirectoryFault>
     ensures { result_err result ≡ fault_of directory.now.limits directory.now.files group.now }
 {
     let files = directory.files.as_slice();
@@ -214,7 +214,7 @@ fn check_write_alone(
     files: &[File],
     index: u16,
     offset: u32,
-    bytes: &Bytes,
+    bytes: &LentBytes<'_>,
 ) -> Result<(), DirectoryFault>
     ensures { (limits : Limits)
         → result_err result ≡ result_err (outcome limits files.now (Write index offset bytes.now)) }
@@ -241,7 +241,7 @@ fn check_set_all_alone(files: &[File], index: u16) -> Result<(), DirectoryFault>
 }
 
 /// Checks a change that goes by its own file alone, a Write or a SetAll; None for another one.
-fn check_alone(files: &[File], change: &Change) -> Option<Result<(), DirectoryFault>>
+fn check_alone(files: &[File], change: &Change<'_>) -> Option<Result<(), DirectoryFault>>
     ensures { (limits : Limits)
         → IfSome result (λ answer. result_err answer ≡ result_err (outcome limits files.now change.now)) }
 {
@@ -258,14 +258,14 @@ fn check_alone(files: &[File], change: &Change) -> Option<Result<(), DirectoryFa
 
 /// Whether a group is applicable, or the fault of the first change that isn't: NoFile, Exists,
 /// Range or NoRoom. It takes no memory, and a single Write or SetAll takes no time for the other files.
-pub fn check_group<'a>(directory: &'a Directory, group: &'a Group) -> Result<(), DirectoryFault>
+pub fn check_group(directory: &Directory, group: &Group<'_>) -> Result<(), DirectoryFault>
     ensures { result_err result ≡ fault_of directory.now.limits directory.now.files group.now }
 {
     if group.changes.len() != 1 {
-        return check_outlined(directory, group);
+        return check_outlined(&*directory, &*group);
     }
     match check_alone(directory.files.as_slice(), &group.changes[0]) {
         Some(answer) => answer,
-        None => check_outlined(directory, group),
+        None => check_outlined(&*directory, &*group),
     }
 }

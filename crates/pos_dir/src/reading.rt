@@ -3,7 +3,7 @@ ghost use Rattle.pos_dir.specs.declared.limits.TheConstants.{LAYOUT_2};
 ghost use Rattle.pos_dir.specs.Calls.{Decodes, DecodesGroup};
 
 use crate::changes::locate_changes;
-use crate::copying::copy_items;
+use crate::collecting::collect_items;
 use crate::directory::Directory;
 use crate::fault::DirectoryFault;
 use crate::files::locate_files;
@@ -22,20 +22,20 @@ pub fn decode(alloc: Global, bytes: &[u8], limits: Limits) -> Result<Directory, 
     let Some((count, rest)) = locate_files(limits, bytes) else {
         return Err(DirectoryFault::Malformed);
     };
-    let files = copy_items(alloc, count, rest)?;
+    let files = collect_items(alloc, count, rest)?;
     Ok(Directory { limits, files })
 }
 
 /// The group whose spelling (`encode_group`) the bytes are, all of them. Bytes that spell no group
 /// are refused (Malformed): those cut short, bytes left over, an unknown tag, a bad name, a Write
 /// of more than 65,536 bytes. Want of memory is answered for the spelling of a group alone
-/// (NoMemory).
-pub fn decode_group(alloc: Global, bytes: &[u8]) -> Result<Group, DirectoryFault>
+/// (NoMemory). The names and bytes of its changes are those of the bytes, lent.
+pub fn decode_group(alloc: Global, bytes: &[u8]) -> Result<Group<'_>, DirectoryFault>
     ensures { DecodesGroup bytes.now result }
 {
     let Some((count, rest)) = locate_changes(bytes) else {
         return Err(DirectoryFault::Malformed);
     };
-    let changes = copy_items(alloc, count, rest)?;
+    let changes = collect_items(alloc, count, rest)?;
     Ok(Group { changes })
 }

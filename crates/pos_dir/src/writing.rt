@@ -6,7 +6,6 @@ ghost use Rattle.pos_dir.specs.Room.{HasRoom, Puts};
 ghost use Rattle.pos_dir.specs.Changes.{group_limit, IsGroup, IsChange};
 ghost use Rattle.pos_dir.specs.Spelling.{body_limit, change_limit, spelling, group_spelling, name_spelling, text_spelling, file_spelling, change_spelling};
 
-use crate::bytes::{Bytes, Name};
 use crate::change::Change;
 use crate::directory::Directory;
 use crate::fault::DirectoryFault;
@@ -73,7 +72,7 @@ pub(crate) fn put_directory(out: &mut Vec<u8>, directory: &Directory)
 /// | 5 | SetAll | index, value in one byte |
 ///
 /// It is refused for want of memory alone (NoMemory).
-pub fn encode_group(alloc: Global, group: &Group) -> Result<Vec<u8>, DirectoryFault>
+pub fn encode_group(alloc: Global, group: &Group<'_>) -> Result<Vec<u8>, DirectoryFault>
     ensures group { IsGroup group.now }
     ensures spelling { MatchResult result (λ bytes. bytes.items ≡ group_spelling group.now)
         (λ fault. fault ≡ DirectoryFault.NoMemory) }
@@ -88,14 +87,14 @@ pub fn encode_group(alloc: Global, group: &Group) -> Result<Vec<u8>, DirectoryFa
 }
 
 /// How many bytes the spelling of a group has. It takes no memory.
-pub fn measure_group(group: &Group) -> usize
+pub fn measure_group(group: &Group<'_>) -> usize
     ensures { result ≡ length (group_spelling group.now) }
 {
     COUNT_SIZE + measure_changes(group.changes.as_slice())
 }
 
 /// The bytes of the spellings of changes in sum.
-fn measure_changes(changes: &[Change]) -> usize
+fn measure_changes(changes: &[Change<'_>]) -> usize
     requires { IsGroup changes.now }
     ensures size { result ≡ length (flat_map change_spelling changes.now) }
     ensures bound { result ≤ change_limit * group_limit }
@@ -108,7 +107,7 @@ fn measure_changes(changes: &[Change]) -> usize
 }
 
 /// The bytes of a change's spelling.
-fn measure_change(change: &Change) -> usize
+fn measure_change(change: &Change<'_>) -> usize
     requires { IsChange change.now }
     ensures size { result ≡ length (change_spelling change.now) }
     ensures bound { result ≤ change_limit }
@@ -153,23 +152,21 @@ fn put_u32(out: &mut Vec<u8>, number: u32)
 }
 
 /// Writes a name behind its length.
-fn put_name(out: &mut Vec<u8>, name: &Name)
+fn put_name(out: &mut Vec<u8>, name: &[u8])
     requires name { length name.now < 256 }
     requires room { HasRoom out.old (name_spelling name.now) }
     ensures { Puts out.old (name_spelling name.now) out.new }
 {
-    let name = name.as_slice();
     put(out, &[name.len() as u8]);
     put(out, name);
 }
 
 /// Writes bytes behind their number.
-fn put_text(out: &mut Vec<u8>, bytes: &Bytes)
+fn put_text(out: &mut Vec<u8>, bytes: &[u8])
     requires bytes { length bytes.now < 2 ^ 32 }
     requires room { HasRoom out.old (text_spelling bytes.now) }
     ensures { Puts out.old (text_spelling bytes.now) out.new }
 {
-    let bytes = bytes.as_slice();
     put_u32(out, bytes.len() as u32);
     put(out, bytes);
 }
@@ -181,12 +178,12 @@ fn put_file(out: &mut Vec<u8>, file: &File)
     requires room { HasRoom out.old (file_spelling file.now) }
     ensures { Puts out.old (file_spelling file.now) out.new }
 {
-    put_name(out, &file.name);
-    put_text(out, &file.bytes);
+    put_name(out, file.name.as_slice());
+    put_text(out, file.bytes.as_slice());
 }
 
 /// Writes a change behind its tag.
-fn put_change(out: &mut Vec<u8>, change: &Change)
+fn put_change(out: &mut Vec<u8>, change: &Change<'_>)
     requires change { IsChange change.now }
     requires room { HasRoom out.old (change_spelling change.now) }
     ensures { Puts out.old (change_spelling change.now) out.new }
@@ -194,7 +191,7 @@ fn put_change(out: &mut Vec<u8>, change: &Change)
     match change {
         Change::Create { name, size } => {
             put(out, &[1]);
-            put_name(out, name);
+            put_name(out, name.as_slice());
             put_u32(out, *size);
         }
         Change::Delete { index } => {
@@ -204,7 +201,7 @@ fn put_change(out: &mut Vec<u8>, change: &Change)
         Change::Rename { index, name } => {
             put(out, &[3]);
             put_u16(out, *index);
-            put_name(out, name);
+            put_name(out, name.as_slice());
         }
         Change::Write {
             index,
@@ -214,7 +211,7 @@ fn put_change(out: &mut Vec<u8>, change: &Change)
             put(out, &[4]);
             put_u16(out, *index);
             put_u32(out, *offset);
-            put_text(out, bytes);
+            put_text(out, bytes.as_slice());
         }
         Change::SetAll { index, value } => {
             put(out, &[5]);

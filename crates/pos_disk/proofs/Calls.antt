@@ -1,5 +1,6 @@
 -- What the calls of a disk in memory do, in the terms of every disk.
-use Rattle.std.proofs.Common.{◌≡◌, ◌⊎◌, inl, inr, ⊎_elim, ℕ, zero, suc, ◌+◌, ◌-◌, ◌≤◌, ◌<◌, List, [], ◌∷◌, ◌++◌, true, false, length, replicate, get_or, refl, sym, ◌∙◌, ap, subst, arith, length-append, Ok}
+use Rattle.std.proofs.Common.{◌≡◌, ◌⊎◌, inl, inr, ⊎_elim, ℕ, zero, suc, ◌+◌, ◌-◌, ◌≤◌, ◌<◌, List, [], ◌∷◌, ◌++◌, true, false, length, replicate, get_or, refl}
+use Rattle.std.proofs.Common.{sym, ◌∙◌, ap, subst, arith, length-append, Ok}
 use Rattle.std.proofs.Math.Seq.{get_or-append_seam}
 use Rattle.std.proofs.lemmas.Bool.{cases_lt}
 use Rattle.std.proofs.lemmas.List.{get_or_append_left, get_or_default, get_or-replicate, length-replicate}

@@ -1,6 +1,7 @@
 -- The stamps of a disk in memory, and its saved bytes.
 use Rattle.std.proofs.lemmas.Bool.Decides.{nat_tests}
-use Rattle.std.proofs.Common.{◌≡◌, ◌⊎◌, inl, inr, ℕ, zero, suc, ◌<◌, List, [], ◌∷◌, Bool, true, false, ◌==◌, length, replicate, get_or, refl, sym, ◌∙◌, ap, arith}
+use Rattle.std.proofs.Common.{◌≡◌, ◌⊎◌, inl, inr, ℕ, zero, suc, ◌<◌, List, [], ◌∷◌, Bool, true, false, ◌==◌, length, replicate, get_or, refl, sym, ◌∙◌, ap}
+use Rattle.std.proofs.Common.{arith}
 use Rattle.std.proofs.lemmas.List.{length-map, ext_get_or}
 use Rattle.pos_disk.specs.Memory.{Moment, choose, fresh, LeftAt}
 use Rattle.pos_disk.specs.Stamps.{loose_by, memory_of, IsSaved}

@@ -1,5 +1,6 @@
 -- Which event of a queue's list may be delivered, and what is left.
-use Rattle.std.proofs.Common.{zero, suc, ◌≡◌, ℕ, ◌-◌, ◌<◌, Bool, true, false, List, [], ◌∷◌, ◌++◌, Option, Some, None, IsSome, option_map, length, map, take, drop, All, refl, sym, ap, ◌∙◌, arith, append_assoc}
+use Rattle.std.proofs.Common.{zero, suc, ◌≡◌, ℕ, ◌-◌, ◌<◌, Bool, true, false, List, [], ◌∷◌, ◌++◌, Option, Some, None, IsSome, option_map, length, map, take}
+use Rattle.std.proofs.Common.{drop, All, refl, sym, ap, ◌∙◌, arith, append_assoc}
 use Rattle.std.proofs.lemmas.List.{append-nil, take-append-drop, drop-drop}
 use Rattle.std.proofs.lemmas.List.Elements.{All-nil, All-cons, All-take, All-append, All-head, All-tail}
 use Rattle.std.specs.Option.{option_to_list}
@@ -7,7 +8,8 @@ use Rattle.std.proofs.Math.Seq.{take-add}
 use Rattle.pos_service.specs.declared.scan.Scan.{Scan}
 use Rattle.pos_service.specs.declared.event.Locus.TheVariants as locus
 use Rattle.pos_service.specs.declared.event.ErrorReply.{ErrorReply}
-use Rattle.pos_service.specs.Events.{EventList, Enqueued, Status, Data, Error, Complete, input_error, is_waiting, with_input_data, split, left_by, after_reply, clears_input, input_cleared, delivered}
+use Rattle.pos_service.specs.Events.{EventList, Enqueued, Status, Data, Error, Complete, input_error, is_waiting, with_input_data, split, left_by, after_reply}
+use Rattle.pos_service.specs.Events.{clears_input, input_cleared, delivered}
 use Rattle.pos_service.specs.declared.event.Event.TheVariants as event
 use Rattle.pos_events.specs.declared.delivery.Delivery.{Delivery}
 use Rattle.pos_events.specs.Queue.{delivery_of}

@@ -8,7 +8,7 @@ use Rattle.pos_disk.proofs.Bytes.{length-splice, splice_elsewhere, part-splice, 
 use Rattle.pos_disk.specs.declared.device.Disk.{Ghosts}
 use Rattle.pos_disk.specs.Within.{SameBut}
 use Rattle.pos_image.specs.Layout.{start, layout_of, longest, log_place, is_open}
-use Rattle.pos_image.specs.Steps.{Stages}
+use Rattle.pos_image.specs.DiskCalls.{Stages}
 use Rattle.pos_image.specs.Slots.{IsCurrent, IsPrepared, HasFields}
 use Rattle.pos_image.specs.Standing.{log_of, HasImage, HasNewImage}
 use Rattle.pos_image.specs.Images.{View, Prepared, IsSound, IsReady, HasPrepared, IsBeside, HasEither, next_of, prepared_or, image_of}

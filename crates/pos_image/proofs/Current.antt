@@ -9,7 +9,7 @@ use Rattle.pos_disk.specs.Within.{SameBut}
 use Rattle.pos_image.specs.Images.{Prepared, IsBeside}
 use Rattle.pos_image.specs.Layout.{start, other, first_of, layout_of, slot_size, longest, log_place}
 use Rattle.pos_image.specs.Layout.{layout_on, is_open, sequence_at, length_at, body_at}
-use Rattle.pos_image.specs.Steps.{Stages}
+use Rattle.pos_image.specs.DiskCalls.{Stages}
 use Rattle.pos_image.specs.Slots.{IsCurrent, IsPrepared, IsFound}
 use Rattle.pos_image.specs.Standing.{OneImage, image_on, image_in, current_on, greater_of, is_tied, is_marked}
 use Rattle.pos_image.specs.declared.layout.Layout.TheVariants.{Layout1, Layout2}

@@ -4,7 +4,7 @@ use Rattle.pos_disk.proofs.Bytes.{get_or-part}
 use Rattle.pos_image.specs.Layout.{start, layout_of, slot_size, log_place, log_size}
 use Rattle.pos_image.specs.Slots.{IsCurrent}
 use Rattle.pos_image.specs.Standing.{log_of, log_in, HasImage, HasNewImage}
-use Rattle.pos_image.specs.Steps.{Stages}
+use Rattle.pos_image.specs.DiskCalls.{Stages}
 use Rattle.pos_image.specs.declared.slot.Slot.{Slot}
 use Rattle.pos_image.proofs.Current.{kept_part, stage_current, current_chosen, current_stands}
 use Rattle.pos_image.proofs.Places.{IsApart, places, slot_end, none_shared}

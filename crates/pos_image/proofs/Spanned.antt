@@ -1,5 +1,6 @@
 -- What the calls of a log leave of the images, and of the log span.
-use Rattle.std.proofs.Common.{◌≡◌, ◌↔◌, inl, inr, ⊎_elim, ℕ, ◌+◌, ◌-◌, ◌≤◌, ◌<◌, ◌^◌, List, length, get_or, sym, ap, ◌∙◌, subst, refl, arith, nat_le, Option, Some, None, Result, Ok, Err, OnOk}
+use Rattle.std.proofs.Common.{◌≡◌, ◌↔◌, inl, inr, ⊎_elim, ℕ, ◌+◌, ◌-◌, ◌≤◌, ◌<◌, ◌^◌, List, length, get_or, sym, ap, ◌∙◌, subst, refl, arith, nat_le, Option}
+use Rattle.std.proofs.Common.{Some, None, Result, Ok, Err, OnOk}
 use Rattle.std.specs.Prelude.{⊤, MatchOption}
 use Rattle.std.proofs.lemmas.Bool.{cases_lt, cases_Bool}
 use Rattle.std.proofs.lemmas.List.{ext_get_or, get_or_past}

@@ -1,6 +1,7 @@
 -- What the steps of a change leave.
 use Rattle.std.proofs.lemmas.Bool.Decides.{nat_tests}
-use Rattle.std.proofs.Common.{◌≡◌, inl, inr, ℕ, ◌+◌, ◌-◌, ◌≤◌, ◌<◌, ◌^◌, List, [], ◌∷◌, ◌++◌, length, get_or, nat_eq, sym, ap, subst, ◌∙◌, arith, Bool, Result, Ok, Err, true, false, OnOk}
+use Rattle.std.proofs.Common.{◌≡◌, inl, inr, ℕ, ◌+◌, ◌-◌, ◌≤◌, ◌<◌, ◌^◌, List, [], ◌∷◌, ◌++◌, length, get_or, nat_eq, sym, ap, subst, ◌∙◌, arith, Bool, Result}
+use Rattle.std.proofs.Common.{Ok, Err, true, false, OnOk}
 use Rattle.pos_disk.specs.State.{DiskState, IsAtRest, MayLeave, LeavesOnly, Writes, Syncs, splice, part}
 use Rattle.pos_disk.specs.Within.{SameBut, IsWithin}
 use Rattle.pos_disk.specs.declared.device.DiskFault.{DiskFault}
@@ -12,7 +13,7 @@ use Rattle.pos_disk.proofs.Bytes.{part-splice, same_part, length-splice, splice_
 use Rattle.byteorder.specs.Endian.{big_bytes}
 use Rattle.pos_image.specs.Layout.{is_open, start, layout_of, longest, log_place, slot_size}
 use Rattle.pos_image.specs.Slots.{HasFields}
-use Rattle.pos_image.specs.Steps.{Stages}
+use Rattle.pos_image.specs.DiskCalls.{Stages}
 use Rattle.pos_image.specs.declared.slot.Slot.{Slot}
 use Rattle.pos_image.proofs.Fields.{fields}
 use Rattle.pos_image.proofs.Places.{places, slot_end}

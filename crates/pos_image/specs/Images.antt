@@ -5,7 +5,7 @@ use Rattle.pos_disk.specs.State.{DiskState, IsAtRest, MayLeave, LeavesOnly, Rise
 use Rattle.pos_disk.specs.Keeps.{KeepsDisk}
 use Rattle.pos_disk.specs.declared.device.Disk.{Ghosts}
 use Rattle.pos_image.specs.Layout.{disk_size, longest, start, other, layout_of}
-use Rattle.pos_image.specs.Steps.{Keeps, ClosesGate, KeepsBeside}
+use Rattle.pos_image.specs.DiskCalls.{Keeps, ClosesGate, KeepsBeside}
 use Rattle.pos_image.specs.Slots.{IsCurrent, IsPrepared}
 use Rattle.pos_image.specs.Standing.{HasImage, HasNewImage, NoImage, DamagedImage}
 use Rattle.pos_image.specs.Standing.{image_on, is_marked, log_of}

@@ -6,9 +6,9 @@ ghost use Rattle.pos_image.specs.Layout.{disk_size};
 ghost use Rattle.pos_image.specs.NewDisk.{AllAreZero, KeepsRest};
 ghost use Rattle.pos_image.specs.Standing.{IsNewDisk, is_marked};
 
+use crate::disk_calls::write_through;
 use crate::layout::{CLOSED, FOURTH, LOG, OPEN, SECOND, SEQUENCE, THIRD};
 use crate::reading::read_gate;
-use crate::steps::write_through;
 use pos_disk::{Disk, DiskFault};
 
 // The gates of both slots of layout 1 and of their logs, and those of the slots of layout 2.

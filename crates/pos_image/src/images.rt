@@ -7,13 +7,13 @@ ghost use Rattle.pos_image.specs.NewDisk.{KeepsRest, HasClosedGates, no_files};
 ghost use Rattle.pos_image.specs.Standing.{is_marked, log_of, ShowsImage, HasNewImage};
 ghost use Rattle.pos_image.specs.declared.fault.ImageFault.TheVariants.{NoMemory, Device, TooLarge, TooSmall, Exhausted};
 
+use crate::disk_calls::{place_image, write_through};
 use crate::fault::ImageFault;
 use crate::finding::find;
 use crate::formatting::{is_marked, lay_out};
 use crate::image::Image;
 use crate::layout::{Layout, OPEN, SIZE};
 use crate::slot::Slot;
-use crate::steps::{place_image, write_through};
 use pos_disk::Disk;
 use std::alloc::Global;
 use std::marker::Model;
@@ -143,6 +143,13 @@ impl<D: Disk> Images<D> {
         ensures { result ≡ layout_of self.now.slot }
     {
         self.current.slot.layout()
+    }
+
+    /// The slot of the current image.
+    pub fn slot(&self) -> Slot
+        ensures { result ≡ self.now.slot }
+    {
+        self.current.slot
     }
 
     /// The number of the current image: 1 after formatting, and one more with each image that is published; that of the

@@ -79,7 +79,7 @@ impl Layout {
     }
 
     /// Its first slot.
-    pub(crate) fn first(self) -> Slot
+    pub fn first(self) -> Slot
         ensures { result ≡ first_of self }
     {
         match self {

@@ -1,6 +1,7 @@
 //! Images on a disk, by one of two layouts, of which one is the current one at every moment.
 #![tactic(auto)]
 
+mod disk_calls;
 mod fault;
 mod finding;
 mod formatting;
@@ -10,8 +11,9 @@ mod layout;
 mod reading;
 mod slot;
 mod spans;
-mod steps;
 
 pub use fault::ImageFault;
 pub use images::Images;
 pub use layout::Layout;
+pub use reading::{Head, Heads, read_heads};
+pub use slot::Slot;

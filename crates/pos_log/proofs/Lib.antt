@@ -1,8 +1,8 @@
 mod Appending
 pub mod Deciding
 pub mod Emptied
-mod Holding
+pub mod Holding
 pub mod LaidOut
-mod Parsing
+pub mod Parsing
 mod Spanning
 pub mod Unique

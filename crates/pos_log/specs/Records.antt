@@ -1,5 +1,5 @@
 -- The records of a log, as the span behind an image holds them. Numbers are big-endian. docs/DISK.md, "The log".
-use Rattle.std.specs.Prelude.{◌≡◌, ◌⊎◌, ◌+◌, ◌<◌, ◌≤◌, ◌^◌, ℕ, List, [], ◌∷◌, ◌++◌, length, take, false}
+use Rattle.std.specs.Prelude.{◌≡◌, ◌⊎◌, ◌+◌, ◌<◌, ◌≤◌, ◌^◌, ℕ, List, [], ◌∷◌, ◌++◌, length, take, true, false}
 use Rattle.std.specs.Int.{w32, to_be_bytes}
 use Rattle.std.specs.List.{AllByRecursion, flat_map}
 use Rattle.pos_disk.specs.State.{part}
@@ -63,3 +63,10 @@ pub record BeginsWith (groups : List (List ℕ)) (at : ℕ) (span : List ℕ) : 
   pub end_is : at ≡ length (spelling groups)
   pub front : take at span ≡ spelling groups
   pub inside : at < length span
+
+-- The span begins with some records, and at this place behind them is an open gate whose record doesn't fit.
+pub record BreaksAt (span : List ℕ) (at : ℕ) : Type 0 where
+  pub groups : List (List ℕ)
+  pub begins : BeginsWith groups at span
+  pub gate : is_open span at ≡ true
+  pub long : (n : ℕ) → ¬ (HasLength span at n)

@@ -11,3 +11,4 @@ mod writing;
 
 pub use fault::LogFault;
 pub use log::Log;
+pub use reading::find_damage;

@@ -1,7 +1,7 @@
 // The records of a log, as the bytes of its span hold them.
 ghost use Rattle.std.specs.Prelude.{◌≡◌, ◌⊎◌, ◌≤◌, ◌<◌, ℕ, length, map, IfOk, IfErr, MatchOption};
 ghost use Rattle.pos_image.specs.Layout.{is_open};
-ghost use Rattle.pos_log.specs.Records.{HoldsRecords, HoldsSome, HasLength, spelling};
+ghost use Rattle.pos_log.specs.Records.{HoldsRecords, HoldsSome, HasLength, BreaksAt, spelling};
 ghost use Rattle.pos_log.specs.declared.fault.LogFault.TheVariants.{Damaged, NoMemory};
 
 use crate::fault::LogFault;
@@ -60,4 +60,21 @@ pub fn read_records(alloc: Global, span: &[u8]) -> Result<(Vec<Vec<u8>>, usize),
         at += HEAD + length;
     }
     Ok((groups, at))
+}
+
+/// The place of the record that doesn't fit, counted from the first place of the log, or None where each one does.
+/// docs/DISK.md, "The log".
+pub fn find_damage(span: &[u8]) -> Option<usize>
+    requires some { 0 < length span.now }
+    requires short { length span.now ≤ 65536 }
+    ensures { MatchOption result (HoldsSome span.now) (BreaksAt span.now) }
+{
+    let mut at = 0;
+    while has_record(span, at) {
+        let Some(length) = group_length(span, at) else {
+            return Some(at);
+        };
+        at += HEAD + length;
+    }
+    None
 }

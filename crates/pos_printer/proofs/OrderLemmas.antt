@@ -8,7 +8,7 @@ use Rattle.pos_service.specs.declared.signs.Signs.{Signs}
 use Rattle.pos_service.specs.Controls.{Control, all_listening}
 use Rattle.pos_service.specs.Deeds.{Ordered}
 use Rattle.pos_service.specs.Peripherals.{PeripheralState, Asked, signs_of}
-use Rattle.pos_service.specs.Stations.{SameStation, station_of}
+use Rattle.pos_service.specs.Hardware.{SameHardware, hardware_of}
 use Rattle.pos_service.specs.Statuses.{heard_signs}
 use Rattle.pos_printer.proofs.ReplyLemmas.{same_covered, same_ended}
 
@@ -27,55 +27,55 @@ heard_of place s t a b old mid new is_a is_b same h =
     ∙ ap (λ (u : Signs). all_listening place (heard_signs (signs_of s.kind s.plant) u) old) is_b
 
 -- nothing has changed at a printer that does nothing
-same_station : (s t : PeripheralState) (old : List Control) → t.kind ≡ s.kind → t.plant ≡ s.plant → t.failures ≡ s.failures
-    → SameStation old (station_of s) old (station_of t)
-same_station s t old kind plant failures = record { controls = refl; station = rw (kind, plant, failures) refl }
+same_hardware : (s t : PeripheralState) (old : List Control) → t.kind ≡ s.kind → t.plant ≡ s.plant → t.failures ≡ s.failures
+    → SameHardware old (hardware_of s) old (hardware_of t)
+same_hardware s t old kind plant failures = record { controls = refl; hardware = rw (kind, plant, failures) refl }
 
 -- the printer has done it
 pub ordered_done : (given : Order) (place : ℕ) (s t : PeripheralState) (old new : List Control) → Asked s given (Ok reply.Done) t
-    → new ≡ heard_at place s t old → Ordered given place reply.Done old (station_of s) new (station_of t)
+    → new ≡ heard_at place s t old → Ordered given place reply.Done old (hardware_of s) new (hardware_of t)
 ordered_done given place s t old new asked heard = record {
   plant = asked.answer.0;
-  station = rw (asked.kind, asked.answer.1) refl;
+  hardware = rw (asked.kind, asked.answer.1) refl;
   controls = heard;
 }
 
 -- its cover is open
 ordered_covered : (given : Order) (place : ℕ) (s t : PeripheralState) (old : List Control) → Asked s given (Ok reply.CoverOpen) t
-    → Ordered given place reply.CoverOpen old (station_of s) old (station_of t)
+    → Ordered given place reply.CoverOpen old (hardware_of s) old (hardware_of t)
 ordered_covered given place s t old asked = record {
   plant = asked.answer.0;
-  same = same_station s t old asked.kind (same_covered given s.plant t.plant asked.answer.0) asked.answer.1;
+  same = same_hardware s t old asked.kind (same_covered given s.plant t.plant asked.answer.0) asked.answer.1;
 }
 
 -- its paper doesn't suffice
 ordered_ended : (given : Order) (place : ℕ) (s t : PeripheralState) (old : List Control) → Asked s given (Ok reply.PaperEnd) t
-    → Ordered given place reply.PaperEnd old (station_of s) old (station_of t)
+    → Ordered given place reply.PaperEnd old (hardware_of s) old (hardware_of t)
 ordered_ended given place s t old asked = record {
   plant = asked.answer.0;
-  same = same_station s t old asked.kind (same_ended given s.plant t.plant asked.answer.0) asked.answer.1;
+  same = same_hardware s t old asked.kind (same_ended given s.plant t.plant asked.answer.0) asked.answer.1;
 }
 
 -- its line has failed
 ordered_failed : (given : Order) (place : ℕ) (s t : PeripheralState) (old : List Control) → Asked s given (Ok reply.LineFault) t
-    → Ordered given place reply.LineFault old (station_of s) old (station_of t)
+    → Ordered given place reply.LineFault old (hardware_of s) old (hardware_of t)
 ordered_failed given place s t old asked = record {
   failures = asked.answer.1;
-  station = rw (asked.kind, asked.answer.0) refl;
+  hardware = rw (asked.kind, asked.answer.0) refl;
   controls = refl;
 }
 
 -- it is off
 ordered_off : (given : Order) (place : ℕ) (s t : PeripheralState) (old : List Control) → Asked s given (Ok reply.Offline) t
-    → Ordered given place reply.Offline old (station_of s) old (station_of t)
+    → Ordered given place reply.Offline old (hardware_of s) old (hardware_of t)
 ordered_off given place s t old asked = record {
   plant = asked.answer.0;
-  same = same_station s t old asked.kind asked.answer.0.1 asked.answer.1;
+  same = same_hardware s t old asked.kind asked.answer.0.1 asked.answer.1;
 }
 
 -- it has not done it
 pub ordered_undone : (said : Reply) → (said ≡ reply.Done → ⊥) → (given : Order) (place : ℕ) (s t : PeripheralState) (old : List Control)
-    → Asked s given (Ok said) t → Ordered given place said old (station_of s) old (station_of t)
+    → Asked s given (Ok said) t → Ordered given place said old (hardware_of s) old (hardware_of t)
 ordered_undone reply.Done undone given place s t old asked = absurd (undone refl)
 ordered_undone reply.CoverOpen undone given place s t old asked = ordered_covered given place s t old asked
 ordered_undone reply.PaperEnd undone given place s t old asked = ordered_ended given place s t old asked

@@ -19,19 +19,19 @@ use Rattle.pos_service.specs.Kinds.{is_printer}
 use Rattle.pos_service.specs.Output.{request_to_do}
 use Rattle.pos_service.specs.Peripherals.{Asked, PeripheralState, signs_of}
 use Rattle.pos_service.specs.PrinterCalls.{after_work, first_request, due_request, worked_by, WorksAt, WorksOn}
-use Rattle.pos_service.specs.Stations.{Station, SameStation, station_of}
+use Rattle.pos_service.specs.Hardware.{Hardware, SameHardware, hardware_of}
 use Rattle.pos_service.specs.Statuses.{heard_signs}
-use Rattle.pos_common.specs.Held.{Held, HasRoom, controls_of, work_events}
-use Rattle.pos_common.proofs.HeldLemmas.{control_at}
+use Rattle.pos_common.specs.KeptControls.{KeptControl, HasRoom, controls_of, work_events}
+use Rattle.pos_common.proofs.KeptLemmas.{control_at}
 use Rattle.pos_printer.specs.Requests.{HasRequest}
 use Rattle.pos_printer.proofs.OrderLemmas.{heard_of, ordered_done, ordered_undone}
 
 -- there is a request to do
-pub works : (at : Option ℕ) (holder place : ℕ) (outcome : Result Worked NoMemory) (old new : List Control) (before after : Station)
+pub works : (at : Option ℕ) (holder place : ℕ) (outcome : Result Worked NoMemory) (old new : List Control) (before after : Hardware)
     (request : ℕ × Order) → at ≡ Some holder → is_printer before.kind ≡ true
     → option_and_then (first_request place) (slice_get old holder) ≡ Some request
     → MatchResult outcome (λ result. WorksOn (due_request holder request) place result old before new after)
-    (λ want. SameStation old before new after) → WorksAt at place outcome old before new after
+    (λ want. SameHardware old before new after) → WorksAt at place outcome old before new after
 works at holder place outcome old new before after request is printer found h = rw (is, printer, found) h
 
 none_of : {A B : Type 0} (f : A → B) (o : Option A) (P : Type 0) (Q : B → Type 0) → is_some o ≡ false → P → MatchOption (option_map f o) P Q
@@ -39,11 +39,11 @@ none_of f None P Q none p = p
 none_of f (Some x) P Q none p = absurd (true≢false none)
 
 -- there is none
-pub idles : (at : Option ℕ) (holder place : ℕ) (old : List Control) (before : Station) → at ≡ Some holder → is_printer before.kind ≡ true
+pub idles : (at : Option ℕ) (holder place : ℕ) (old : List Control) (before : Hardware) → at ≡ Some holder → is_printer before.kind ≡ true
     → is_some (option_and_then (first_request place) (slice_get old holder)) ≡ false → WorksAt at place (Ok worked.Idle) old before old before
 idles at holder place old before is printer none =
     rw (is, printer) (none_of (due_request holder) (option_and_then (first_request place) (slice_get old holder)) _ _ none
-    (refl, record { controls = refl; station = refl }))
+    (refl, record { controls = refl; hardware = refl }))
 
 -- the request to do is the one that is done
 of_request : (o : Option (ℕ × Order)) (id i : ℕ) (old new : List Control) (control : Control)
@@ -54,17 +54,17 @@ of_request (Some request) id i old new control is h =
     let same : id ≡ request.0 = cc in (ap worked.Done same, h ∙ ap (λ n. slice_set old i (completed n control)) same)
 
 -- a held control whose request is done is a change of the machine's control
-pub completed_in : (hs : List Held) (i : ℕ) (d g : Held) (id : ℕ) → i < length hs
+pub completed_in : (hs : List KeptControl) (i : ℕ) (d g : KeptControl) (id : ℕ) → i < length hs
     → option_map (λ (request : ℕ × Order). request.0) (request_to_do (get_or hs i d).control.writer.output) ≡ Some id
     → g.control ≡ completed id (get_or hs i d).control
     → MatchOption (slice_get (controls_of hs) i) ⊥
     (λ control. MatchOption (request_to_do control.writer.output) ⊥
     (λ request. (worked.Done id ≡ worked.Done request.0) × (controls_of (set hs i g) ≡ slice_set (controls_of hs) i (completed request.0 control))))
 completed_in hs i d g id lt is done =
-    let within : i < length (controls_of hs) = omega (arith, length-map hs (λ (h : Held). h.control)) in
+    let within : i < length (controls_of hs) = omega (arith, length-map hs (λ (h : KeptControl). h.control)) in
     rw (slice_get-get_or (controls_of hs) i d.control within, ← control_at hs i d d.control lt)
     (of_request (request_to_do (get_or hs i d).control.writer.output) id i (controls_of hs) (controls_of (set hs i g)) (get_or hs i d).control is
-    (map-set (λ (h : Held). h.control) hs i g ∙ ap (set (controls_of hs) i) done))
+    (map-set (λ (h : KeptControl). h.control) hs i g ∙ ap (set (controls_of hs) i) done))
 
 -- The control with a number has this request to do at a place.
 pub record IsFirst (place holder : ℕ) (request : ℕ × Order) (controls : List Control) : Type 0 where
@@ -111,18 +111,18 @@ first_heard place holder request u v old new f is = record {
 }
 
 -- the control as it is held
-pub first_held : (place holder : ℕ) (request : ℕ × Order) (hs : List Held) (d : Held) (f : IsFirst place holder request (controls_of hs))
+pub first_held : (place holder : ℕ) (request : ℕ × Order) (hs : List KeptControl) (d : KeptControl) (f : IsFirst place holder request (controls_of hs))
     → (holder < length hs) × ((get_or hs holder d).control ≡ f.control)
 first_held place holder request hs d f =
     let long = slice_get_within (controls_of hs) holder f.control f.there in
-    let within : holder < length hs = omega (arith, long, length-map hs (λ (h : Held). h.control)) in
+    let within : holder < length hs = omega (arith, long, length-map hs (λ (h : KeptControl). h.control)) in
     (within, control_at hs holder d d.control within ∙ get_or_from_slice_get (controls_of hs) holder f.control d.control f.there)
 
 -- there is room for the event that it has then
-pub has_request : (place holder count : ℕ) (request : ℕ × Order) (hs : List Held) → IsFirst place holder request (controls_of hs) → 1 ≤ count
+pub has_request : (place holder count : ℕ) (request : ℕ × Order) (hs : List KeptControl) → IsFirst place holder request (controls_of hs) → 1 ≤ count
     → All (HasRoom place count) hs → HasRequest holder hs
 has_request place holder count request hs f most room =
-    let d : Held = record { control = f.control; spare = 0 } in
+    let d : KeptControl = record { control = f.control; spare = 0 } in
     let held = first_held place holder request hs d f in
     let listening = first_of (listens place f.control) (request_to_do f.control.writer.output) request f.first in
     let is = ap (λ (x : Control). request_to_do x.writer.output) held.1 ∙ listening.0 in
@@ -133,7 +133,7 @@ has_request place holder count request hs f most room =
     some_is o r is = rw is refl
 
 -- the order that the printer is given is that of the request
-pub first_asked : (place holder : ℕ) (request : ℕ × Order) (hs : List Held) (d : Held) (outcome : Result Reply NoMemory) (s t : PeripheralState)
+pub first_asked : (place holder : ℕ) (request : ℕ × Order) (hs : List KeptControl) (d : KeptControl) (outcome : Result Reply NoMemory) (s t : PeripheralState)
     → IsFirst place holder request (controls_of hs) → MatchOption (first_request place (get_or hs holder d).control) ⊥ (λ r. Asked s r.1 outcome t)
     → Asked s request.1 outcome t
 first_asked place holder request hs d outcome s t f asked =
@@ -156,7 +156,7 @@ first_done place holder request mid new result f h =
     (of_request.0, rw f.there of_request.1)
 
 -- work by its parts
-pub works_on : (holder place : ℕ) (said : Reply) (result : Worked) (old mid new : List Control) (before after : Station) (request : ℕ × Order)
+pub works_on : (holder place : ℕ) (said : Reply) (result : Worked) (old mid new : List Control) (before after : Hardware) (request : ℕ × Order)
     → Ordered request.1 place said old before mid after
     → MatchOption (slice_get mid holder) ⊥ (λ control. new ≡ slice_set mid holder (after_work request.0 said control))
     → result ≡ worked_by request.0 said → WorksOn (due_request holder request) place result old before new after
@@ -169,7 +169,7 @@ works_on holder place said result old mid new before after request ordered chang
 }
 
 -- what there is of a request to do: room for its event
-pub room_for_first : (place holder : ℕ) (old : List Control) (hs : List Held)
+pub room_for_first : (place holder : ℕ) (old : List Control) (hs : List KeptControl)
     → is_some (option_and_then (first_request place) (slice_get old holder)) ≡ true → controls_of hs ≡ old → All (HasRoom place work_events) hs
     → HasRequest holder hs
 room_for_first place holder old hs found same room =
@@ -177,22 +177,22 @@ room_for_first place holder old hs found same room =
     has_request place holder work_events f.0 hs (subst (IsFirst place holder f.0) (sym same) f.1) (omega arith) room
 
 -- work on a request that the printer does
-pub does : (at : Option ℕ) (holder place : ℕ) (result : Worked) (old mid new : List Control) (hs : List Held) (d : Held) (s t : PeripheralState)
+pub does : (at : Option ℕ) (holder place : ℕ) (result : Worked) (old mid new : List Control) (hs : List KeptControl) (d : KeptControl) (s t : PeripheralState)
     (a b : Signs) → at ≡ Some holder → is_printer s.kind ≡ true → is_some (option_and_then (first_request place) (slice_get old holder)) ≡ true
     → controls_of hs ≡ old → MatchOption (first_request place (get_or hs holder d).control) ⊥ (λ r. Asked s r.1 (Ok reply.Done) t)
     → a ≡ signs_of s.kind s.plant → b ≡ signs_of t.kind t.plant → mid ≡ all_listening place (heard_signs a b) (controls_of hs)
     → MatchOption (slice_get mid holder) ⊥
     (λ control. MatchOption (request_to_do control.writer.output) ⊥
     (λ r. (result ≡ worked.Done r.0) × (new ≡ slice_set mid holder (completed r.0 control))))
-    → WorksAt at place (Ok result) old (station_of s) new (station_of t)
+    → WorksAt at place (Ok result) old (hardware_of s) new (hardware_of t)
 does at holder place result old mid new hs d s t a b is printer found same asked was now said done =
     let heard_all = heard_of place s t a b old (controls_of hs) mid was now same said in
     let f = first_found place holder old found in
     let given = first_asked place holder f.0 hs d (Ok reply.Done) s t (subst (IsFirst place holder f.0) (sym same) f.1) asked in
     let still = first_heard place holder f.0 (signs_of s.kind s.plant) (signs_of t.kind t.plant) old mid f.1 heard_all in
     let worked = first_done place holder f.0 mid new result still done in
-    works at holder place (Ok result) old new (station_of s) (station_of t) f.0 is printer (first_is place holder f.0 old f.1)
-    (works_on holder place reply.Done result old mid new (station_of s) (station_of t) f.0
+    works at holder place (Ok result) old new (hardware_of s) (hardware_of t) f.0 is printer (first_is place holder f.0 old f.1)
+    (works_on holder place reply.Done result old mid new (hardware_of s) (hardware_of t) f.0
     (ordered_done f.0.1 place s t old mid given heard_all) worked.1 worked.0)
 
 -- what is said of a request that the printer doesn't do, and what becomes of its control
@@ -207,17 +207,17 @@ undone_said reply.LineFault undone id holder result old new answer changed = (an
 undone_said reply.Offline undone id holder result old new answer changed = (answer, changed)
 
 -- work on a request that the printer doesn't do
-pub fails : (at : Option ℕ) (holder place : ℕ) (said : Reply) (result : Worked) (old new : List Control) (hs : List Held) (d : Held)
+pub fails : (at : Option ℕ) (holder place : ℕ) (said : Reply) (result : Worked) (old new : List Control) (hs : List KeptControl) (d : KeptControl)
     (s t : PeripheralState) → (said ≡ reply.Done → ⊥) → at ≡ Some holder → is_printer s.kind ≡ true
     → is_some (option_and_then (first_request place) (slice_get old holder)) ≡ true → controls_of hs ≡ old
     → MatchOption (first_request place (get_or hs holder d).control) ⊥ (λ r. Asked s r.1 (Ok said) t)
     → result ≡ worked.Failed (code_by said) (extended_by said)
     → MatchOption (slice_get (controls_of hs) holder) ⊥
     (λ control. new ≡ slice_set (controls_of hs) holder (output_failed (code_by said) (extended_by said) control))
-    → WorksAt at place (Ok result) old (station_of s) new (station_of t)
+    → WorksAt at place (Ok result) old (hardware_of s) new (hardware_of t)
 fails at holder place said result old new hs d s t undone is printer found same asked answer changed =
     let f = first_found place holder old found in
     let given = first_asked place holder f.0 hs d (Ok said) s t (subst (IsFirst place holder f.0) (sym same) f.1) asked in
     let told = undone_said said undone f.0.0 holder result old new answer (rw same at changed) in
-    works at holder place (Ok result) old new (station_of s) (station_of t) f.0 is printer (first_is place holder f.0 old f.1)
-    (works_on holder place said result old old new (station_of s) (station_of t) f.0 (ordered_undone said undone f.0.1 place s t old given) told.1 told.0)
+    works at holder place (Ok result) old new (hardware_of s) (hardware_of t) f.0 is printer (first_is place holder f.0 old f.1)
+    (works_on holder place said result old old new (hardware_of s) (hardware_of t) f.0 (ordered_undone said undone f.0.1 place s t old given) told.1 told.0)

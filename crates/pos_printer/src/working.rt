@@ -6,8 +6,8 @@ ghost use Rattle.pos_service.specs.Kinds.{is_printer};
 ghost use Rattle.pos_service.specs.Output.{request_to_do};
 ghost use Rattle.pos_service.specs.Peripherals.{Asked};
 ghost use Rattle.pos_service.specs.PrinterCalls.{first_request, OrdersOfWork, WorksAt};
-ghost use Rattle.pos_service.specs.Stations.{station_of, StaysInService};
-ghost use Rattle.pos_common.specs.Held.{controls_of};
+ghost use Rattle.pos_service.specs.Hardware.{hardware_of, StaysInService};
+ghost use Rattle.pos_common.specs.KeptControls.{controls_of};
 ghost use Rattle.pos_printer.specs.Requests.{HasRequest};
 
 use pos_common::{Claims, Control, WORK_EVENTS, hear_all, room_all};
@@ -33,8 +33,8 @@ pub fn work<P: Peripheral>(
     requires printer { is_printer (P.Peripheral.state printer.old).kind ≡ true }
     ensures worked { let state = P.Peripheral.state in
         WorksAt (holder_at claims.now (Some place)) place result
-        (controls_of controls.old) (station_of (state printer.old))
-        (controls_of controls.new) (station_of (state printer.new)) }
+        (controls_of controls.old) (hardware_of (state printer.old))
+        (controls_of controls.new) (hardware_of (state printer.new)) }
     ensures orders { let state = P.Peripheral.state in
         OrdersOfWork result (state printer.old).orders (state printer.new).orders }
     ensures in_service { let state = P.Peripheral.state in

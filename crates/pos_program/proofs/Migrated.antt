@@ -8,7 +8,7 @@ use Rattle.pos_image.specs.declared.layout.Layout.{Layout}
 use Rattle.pos_image.specs.declared.layout.Layout.TheVariants.{Layout1, Layout2}
 use Rattle.pos_image.specs.Layout.{log_place}
 use Rattle.pos_store.specs.Migrations.{AnswersMigration, Migrates}
-use Rattle.pos_store.specs.Modes.{StoreState, StoreView, Off, Ready, WhenReady, settled}
+use Rattle.pos_store.specs.StoreViews.{StoreState, StoreView, Off, Ready, WhenReady, settled}
 use Rattle.pos_store.specs.Recoveries.{Recovers, RecoversOneOf}
 use Rattle.pos_store.specs.Standing.{Standing, Stands, IsOneOf, StandsFor, StandsForOneOf, StandsForEither, LeavesOneOf, Passes}
 use Rattle.pos_store.specs.declared.fault.StoreFault.{StoreFault}
@@ -43,7 +43,8 @@ module _ {D : Type 0} (bound : Ghosts D) (disk : D) where
         → StandsForEither candidates (map moved candidates) bytes
     found_or_moved bytes stands =
         ⊎_elim (λ was. inl (among candidates (Stands layout files sequence) bytes one.found was))
-        (λ rest. ⊎_elim (λ is. inr (among (map moved candidates) (Stands Layout2 files 1) bytes (one_moved candidates (Stands layout files sequence) one.found) is))
+        (λ rest. ⊎_elim (λ is. inr (among (map moved candidates) (Stands Layout2 files 1) bytes (one_moved candidates
+        (Stands layout files sequence) one.found) is))
         (λ no. absurd no) rest) stands
 
     -- a crash at any moment of both calls, where one of the migration leaves these
@@ -124,7 +125,6 @@ module _ {D : Type 0} (bound : Ghosts D) (disk : D) where
         stays fault.NoMemory new answer (recovers.reading honest, one.passes.now)
     found_moves Layout1 is (Err fault.Device) new answer passes at_rest device = fails new answer.0 passes (device refl)
     found_moves Layout1 is (Err fault.Off) new answer passes at_rest device = absurd answer
-    found_moves Layout1 is (Err (fault.Refused refusal)) new answer passes at_rest device = absurd answer
     found_moves Layout1 is (Err fault.Exhausted) new answer passes at_rest device = absurd answer
     found_moves Layout1 is (Err fault.Unformatted) new answer passes at_rest device = absurd answer
     found_moves Layout1 is (Err fault.Damaged) new answer passes at_rest device = absurd answer

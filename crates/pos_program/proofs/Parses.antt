@@ -1,5 +1,5 @@
 -- What a parse of a command's words tells of them.
-use Rattle.std.proofs.Common.{◌≡◌, ◌∙◌, [], List, Some, Err, true, map, codes, refl, sym, ap, subst, inl, inr, ⊎_elim}
+use Rattle.std.proofs.Common.{◌≡◌, ◌∙◌, [], List, Some, Err, true, map, codes, refl, sym, ap, subst, inl, inr}
 use Rattle.std.specs.Prelude.{◌≢◌, ◌⊎◌, slice_get, option_map}
 use Rattle.std.proofs.lemmas.Option.{slice_get-map}
 use Rattle.clap.specs.Words.{App, HasKind, IsAmong, Kinds, Row, Text, fault_of, first_of, is_simple, is_simple_and_free, kind_of, matches_of}
@@ -26,10 +26,14 @@ migrate_known : IsKnown (disk_line (codes "migrate"))
 unfolding clap_on_literals
 migrate_known = (refl, refl)
 
+files_known : IsKnown (disk_line (codes "files"))
+unfolding clap_on_literals
+files_known = (refl, refl)
+
 pub disk_known : (command : Text) → NamesDisk command → IsKnown (disk_line command)
-disk_known command is = ⊎_elim
-    (λ format. subst (λ (name : Text). IsKnown (disk_line name)) (sym format) format_known)
-    (λ migrate. subst (λ (name : Text). IsKnown (disk_line name)) (sym migrate) migrate_known) is
+disk_known command (inl format) = subst (λ (name : Text). IsKnown (disk_line name)) (sym format) format_known
+disk_known command (inr (inl migrate)) = subst (λ (name : Text). IsKnown (disk_line name)) (sym migrate) migrate_known
+disk_known command (inr (inr files)) = subst (λ (name : Text). IsKnown (disk_line name)) (sym files) files_known
 
 kind_among : (kinds : Kinds) (error : Error) → HasKind kinds error → kind_of error ≢ OutOfMemory → IsAmong (kind_of error) kinds
 kind_among kinds error (inl memory) other = absurd (other memory)
@@ -64,7 +68,8 @@ help_not_memory error help = λ memory. let bad : DisplayHelp ≡ OutOfMemory = 
 
 -- why the words of a command ask for nothing, where `clap` finds a fault in them
 failed : (words : List Text) (error : Error) (fault : ChoiceFault)
-    → Names (codes "run") words ⊎ ((command : Text) × NamesDisk command × Names command words) → TellsWhy error fault → (kind_of error ≢ OutOfMemory → HasFault words (kind_of error)) → Chooses words (Err fault)
+    → Names (codes "run") words ⊎ ((command : Text) × NamesDisk command × Names command words) → TellsWhy error fault → (kind_of error ≢ OutOfMemory
+    → HasFault words (kind_of error)) → Chooses words (Err fault)
 failed words error Help names why has = inr (subst (HasFault words) why (has (help_not_memory error why)))
 failed words error (Unknown first) names why has = absurd why
 failed words error (Refused told) names why has = subst (λ (e : Error). HasFault words (kind_of e)) (sym why.0) (has why.1)

@@ -10,7 +10,7 @@ use Rattle.clap.specs.declared.error.Error.{Error}
 use Rattle.clap.specs.declared.error.kind.ErrorKind.{ErrorKind}
 use Rattle.clap.specs.declared.error.kind.ErrorKind.TheVariants.{DisplayHelp, OutOfMemory}
 use Rattle.pos_program.specs.declared.words.Task.{Task}
-use Rattle.pos_program.specs.declared.words.Task.TheVariants.{Demo, Run, Format, Migrate}
+use Rattle.pos_program.specs.declared.words.Task.TheVariants.{Demo, Run, Format, Migrate, Files}
 use Rattle.pos_program.specs.declared.choice_fault.ChoiceFault.{ChoiceFault}
 use Rattle.pos_program.specs.declared.choice_fault.ChoiceFault.TheVariants.{Help, Unknown, Refused, NotUtf8, NoMemory}
 
@@ -32,7 +32,7 @@ disk_line command = with_rule (new_app command) (path_rule (codes "disk"))
 
 -- a command that has a disk alone
 abbrev pub NamesDisk : Text → Type 0
-NamesDisk command = (command ≡ codes "format") ⊎ (command ≡ codes "migrate")
+NamesDisk command = (command ≡ codes "format") ⊎ (command ≡ codes "migrate") ⊎ (command ≡ codes "files")
 
 -- the first of the words is the name of this command
 abbrev pub Names : Text → List Text → Type 0
@@ -78,6 +78,7 @@ pub record NamesNothing (words : List Text) (first : Text) : Type 0 where
   pub run : first ≢ codes "run"
   pub format : first ≢ codes "format"
   pub migrate : first ≢ codes "migrate"
+  pub files : first ≢ codes "files"
   pub help : is_help first ≡ false
 
 -- what the words ask for, or why they ask for nothing; memory can run out over a command alone
@@ -86,6 +87,7 @@ Chooses words (Ok Demo) = words ≡ []
 Chooses words (Ok (Run profile disk)) = AsksToRun words profile.now disk.now
 Chooses words (Ok (Format disk)) = AsksAtDisk (codes "format") words disk.now
 Chooses words (Ok (Migrate disk)) = AsksAtDisk (codes "migrate") words disk.now
+Chooses words (Ok (Files disk)) = AsksAtDisk (codes "files") words disk.now
 Chooses words (Err Help) = AsksForHelp words
 Chooses words (Err (Unknown first)) = NamesNothing words first.now
 Chooses words (Err (Refused error)) = HasFault words (kind_of error)

@@ -47,3 +47,9 @@ abbrev pub TellsOpen : Error → FileFault → Type 0
 TellsOpen cause file.NoMemory = error_kind cause ≡ OutOfMemory
 TellsOpen cause (file.Open told) = (told ≡ cause) × (error_kind cause ≢ OutOfMemory)
 TellsOpen cause other = ⊥
+
+-- why a file can't be read: want of memory, or what the system says
+abbrev pub TellsUnreadable : Error → FileFault → Type 0
+TellsUnreadable cause file.NoMemory = error_kind cause ≡ OutOfMemory
+TellsUnreadable cause (file.Unreadable told) = (told ≡ cause) × (error_kind cause ≢ OutOfMemory)
+TellsUnreadable cause other = ⊥

@@ -4,3 +4,4 @@ pub mod Formatting
 pub mod Migrating
 pub mod Opening
 pub mod ProfileFiles
+pub mod Totals

@@ -5,8 +5,8 @@ use std::fmt;
 use std::fmt::Write;
 
 /// What words ask for something, as it is told with each fault of them.
-const USAGE: &str =
-    "give no words, `run --profile FILE --disk FILE`, `format --disk FILE` or `migrate --disk FILE`";
+const USAGE: &str = "give no words, `run --profile FILE --disk FILE`, `format --disk FILE`, \
+    `migrate --disk FILE` or `files --disk FILE`";
 
 /// Why the words of the command line ask for nothing.
 #[derive(Drop)]

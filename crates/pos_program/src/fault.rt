@@ -22,7 +22,7 @@ pub enum Fault<'a> {
         /// Why.
         cause: ProfileFileFault,
     },
-    /// The disk's file can't serve, or not be formatted or moved to layout 2.
+    /// The disk's file can't serve, or not be formatted, moved to layout 2 or told of.
     Disk {
         /// Its path, as its word stood.
         path: &'a str,
@@ -31,7 +31,7 @@ pub enum Fault<'a> {
     },
     /// The script can't be read.
     Read,
-    /// The answers can't be written.
+    /// The answers, or what a file holds, can't be written.
     Write,
     /// There was no memory.
     NoMemory,

@@ -3,10 +3,11 @@
 use std::io;
 use thiserror::Error;
 
-/// Why a file can't serve as a disk, or not be formatted or moved to layout 2, with what the system says of it.
+/// Why a file can't serve as a disk, or not be formatted, moved to layout 2 or told of, with what the system says of
+/// it.
 #[derive(Clone, Copy, Debug, Error)]
 pub enum FileFault {
-    /// No memory was found to open it.
+    /// No memory was found to open it, or to tell what it holds.
     #[error("no memory to open it")]
     NoMemory,
     /// It isn't there, or may not be read and written.
@@ -46,4 +47,21 @@ pub enum FileFault {
     /// other.
     #[error("a read, a write or a sync failed while it was moved to layout 2: its files stay, so move it again")]
     Move,
+    /// It isn't there, or can't be read.
+    #[error("can't be read: {0}")]
+    Unreadable(io::Error),
+    /// No two readings of it in turn were equal.
+    #[error("changes while it is read: try again when no one writes it")]
+    Changes,
+    /// It is shorter than a disk.
+    #[error("is shorter than a totals file, which has 327680 bytes")]
+    Short,
+    /// Its totals are damaged: the bytes from this place on, counted from its first, break a rule.
+    #[error("its totals are damaged at byte {at}: {rule}")]
+    Broken {
+        /// The place.
+        at: u64,
+        /// The rule, in words.
+        rule: &'static str,
+    },
 }

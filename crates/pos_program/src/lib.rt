@@ -1,5 +1,5 @@
 //! What the program `pos_console` needs of words, files and profiles: what its words ask for, a disk in a file, a
-//! file that is formatted or moved to layout 2, the profile in a file, and the faults that it ends with.
+//! file that is formatted, moved to layout 2 or read, the profile in a file, and the faults that it ends with.
 #![tactic(auto)]
 
 mod choice_fault;
@@ -14,6 +14,7 @@ mod one_line;
 mod opening;
 mod profile_fault;
 mod profile_file;
+mod totals_file;
 mod words;
 
 pub use choice_fault::ChoiceFault;
@@ -28,4 +29,5 @@ pub use one_line::OneLine;
 pub use opening::open_run;
 pub use profile_fault::ProfileFileFault;
 pub use profile_file::{profile_of_bytes, profile_of_text, read_profile};
+pub use totals_file::{read_settled, read_totals};
 pub use words::{Task, choice, read_words};

@@ -1,6 +1,8 @@
 //! The files that the program's words name.
-ghost use Rattle.std.specs.Prelude.{ℕ, List, Result, ⊤};
+ghost use Rattle.std.specs.Prelude.{◌≤◌, ℕ, IfOk, List, Result, length, ⊤};
+ghost use Rattle.pos_image.specs.Layout.{disk_size};
 ghost use Rattle.pos_profile.specs.Entries.{Contents};
+ghost use Rattle.pos_program.specs.Totals.{bytes_of};
 ghost use Rattle.pos_program.specs.declared.file_fault.FileFault.{FileFault};
 ghost use Rattle.pos_program.specs.declared.profile_fault.ProfileFileFault.{ProfileFileFault};
 
@@ -10,6 +12,7 @@ use crate::formatting::format_file;
 use crate::migrating::migrate_file;
 use crate::profile_fault::ProfileFileFault;
 use crate::profile_file::read_profile;
+use crate::totals_file::read_totals;
 use pos_disk::Disk;
 use pos_profile::Profile;
 use std::fs::File;
@@ -33,6 +36,9 @@ pub trait NamedFiles {
     /// What moving the totals on the disk in a file to layout 2 may answer.
     ghost migrates: { Self → List ℕ → Result (Unit {0}) FileFault → Type 0 } = { λ _ _ _. ⊤ };
 
+    /// What reading the totals in a file may answer, as its bytes.
+    ghost gives_totals: { Self → List ℕ → Result (List ℕ) FileFault → Type 0 } = { λ _ _ _. ⊤ };
+
     /// The profile in a file.
     fn read_profile(&self, path: &str) -> Result<Profile, ProfileFileFault>
         ensures { gives_profile self.now path.now result };
@@ -48,6 +54,11 @@ pub trait NamedFiles {
     /// Moves the totals on the disk in a file to layout 2, as `migrate_file` does.
     fn migrate_disk(&self, path: &str) -> Result<(), FileFault>
         ensures { migrates self.now path.now result };
+
+    /// The bytes of the totals in a file, which is only read, as `read_totals` does.
+    fn read_totals(&self, path: &str) -> Result<Vec<u8>, FileFault>
+        ensures given { gives_totals self.now path.now (bytes_of result) }
+        ensures length { IfOk result (λ bytes. length bytes.items ≤ disk_size) };
 }
 
 /// The files of the system. No clause can say what they hold.
@@ -80,5 +91,9 @@ impl<R: Files<File = File> + AllocGlobal> NamedFiles for SystemFiles<'_, R> {
 
     fn migrate_disk(&self, path: &str) -> Result<(), FileFault> {
         migrate_file(self.rt, path)
+    }
+
+    fn read_totals(&self, path: &str) -> Result<Vec<u8>, FileFault> {
+        read_totals(self.rt, path)
     }
 }

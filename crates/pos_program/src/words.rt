@@ -25,6 +25,8 @@ pub enum Task<'a> {
     Format { disk: &'a str },
     /// `migrate --disk FILE`: to move the totals on the disk in a file to layout 2.
     Migrate { disk: &'a str },
+    /// `files --disk FILE`: to tell what a totals file holds.
+    Files { disk: &'a str },
 }
 
 // Why the words can't be read.
@@ -102,7 +104,7 @@ fn run_task<'a, S: AsStr>(alloc: Global, words: &'a [S]) -> Result<Task<'a>, Cho
     Ok(Task::Run { profile, disk })
 }
 
-// The path in the words of a command that has a disk alone, `format` or `migrate`.
+// The path in the words of a command that has a disk alone, `format`, `migrate` or `files`.
 fn disk_path<'a, S: AsStr>(
     alloc: Global,
     command: &'a str,
@@ -149,6 +151,17 @@ fn migrate_task<'a, S: AsStr>(alloc: Global, words: &'a [S]) -> Result<Task<'a>,
     }
 }
 
+// What the words of `files` ask for.
+fn files_task<'a, S: AsStr>(alloc: Global, words: &'a [S]) -> Result<Task<'a>, ChoiceFault<'a>>
+    requires { Names (codes "files") (map S.text words.now) }
+    ensures { Chooses (map S.text words.entry.now) result }
+{
+    match disk_path(alloc, "files", words) {
+        Ok(disk) => Ok(Task::Files { disk }),
+        Err(fault) => Err(fault),
+    }
+}
+
 // Whether a first word asks for help.
 fn is_help(word: &str) -> bool
     ensures { result ≡ is_help word.now }
@@ -175,6 +188,9 @@ pub fn choice<'a, S: AsStr>(alloc: Global, words: &'a [S]) -> Result<Task<'a>, C
     }
     if name == "migrate" {
         return migrate_task(alloc, words);
+    }
+    if name == "files" {
+        return files_task(alloc, words);
     }
     if is_help(name) {
         return Err(ChoiceFault::Help);

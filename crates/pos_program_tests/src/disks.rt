@@ -1,5 +1,6 @@
 use pos_disk::Disk;
-use pos_program::{FileDisk, FileFault};
+use pos_program::{FileDisk, FileFault, read_settled};
+use std::cell::Cell;
 use std::fs::{Metadata, OpenFile};
 use std::os::unix::fs::FileExt;
 use std::test::Fail;
@@ -58,6 +59,43 @@ fn short_transfers_are_faults(rt: HostRuntime) -> Result<(), Fail> {
     let (fits, exceeds) = (moves(&mut disk, &mut [0; 4]), moves(&mut disk, &mut [0; 5]));
     assert!(rt; fits == (true, true) && exceeds == (false, false) && disk.sync().is_ok());
     assert!(rt; moves(&mut disk, &mut [0; 4]) == (true, true));
+    Ok(())
+}
+
+/// A file of one byte, which is the number of the reading, up to the last number.
+#[derive(Drop)]
+struct RestlessFile {
+    reading: Cell<u8>,
+    last: u8,
+}
+
+impl FileExt for RestlessFile {
+    fn read_at(&self, buf: &mut [u8], offset: u64) -> io::Result<usize> {
+        if offset > 0 || buf.is_empty() {
+            return Ok(0);
+        }
+        let reading = self.reading.get();
+        self.reading.set(reading.saturating_add(1));
+        buf[0] = reading.min(self.last);
+        Ok(1)
+    }
+
+    fn write_at(&self, _buf: &[u8], _offset: u64) -> io::Result<usize> {
+        Ok(0)
+    }
+}
+
+#[test]
+fn readings_that_settle(rt: HostRuntime) -> Result<(), Fail> {
+    let (most, can_sync) = (4_096, true);
+    let whole = read_settled(rt.alloc(), &StubbornFile { most, can_sync })?;
+    assert!(rt; whole.len() == 327_680);
+    let (reading, last) = (Cell::new(1), 7);
+    let settled = read_settled(rt.alloc(), &RestlessFile { reading, last })?;
+    assert!(rt; settled.as_slice() == [7].as_slice());
+    let (reading, last) = (Cell::new(1), 8);
+    let changed = read_settled(rt.alloc(), &RestlessFile { reading, last });
+    assert!(rt; matches!(changed, Err(FileFault::Changes)));
     Ok(())
 }
 

@@ -1,7 +1,7 @@
 use pos_disk::Disk;
 use pos_program::{
     Fault, FileFault, ProfileFileFault, SystemFiles, format_file, migrate_file, open_run,
-    read_profile,
+    read_profile, read_totals,
 };
 use std::fs;
 use std::test::Fail;
@@ -62,8 +62,22 @@ fn files_of_other_lengths(rt: HostRuntime) -> Result<(), Fail> {
 }
 
 #[test]
+fn bytes_of_totals(rt: HostRuntime) -> Result<(), Fail> {
+    let path = "bytes_of_totals";
+    assert!(rt; matches!(read_totals(&rt, path), Err(FileFault::Unreadable(_))));
+    fs::write(&rt, path, b"abc")?;
+    assert!(rt; read_totals(&rt, path).is_ok_and(|bytes| bytes.as_slice() == b"abc".as_slice()));
+    let ones = vec![in rt.alloc(); 1u8; 327_681]?;
+    fs::write(&rt, path, ones.as_slice())?;
+    assert!(rt; read_totals(&rt, path).is_ok_and(|bytes| bytes.len() == 327_680));
+    fs::remove_file(&rt, path)?;
+    Ok(())
+}
+
+#[test]
 fn files_that_cannot_be_read(rt: HostRuntime) {
     assert!(rt; matches!(format_file(&rt, "."), Err(FileFault::Open(_))));
+    assert!(rt; matches!(read_totals(&rt, "."), Err(FileFault::Unreadable(_))));
     let outcome = read_profile(&rt, ".");
     assert!(rt; matches!(outcome, Err(ProfileFileFault::Unreadable(_))));
     let outcome = open_run(&SystemFiles::of(&rt), "", "");

@@ -26,8 +26,8 @@ fn a_text_on_one_line(rt: HostRuntime) -> Result<(), Fail> {
 
 #[test]
 fn faults_of_words_and_of_a_run(rt: HostRuntime) -> Result<(), Fail> {
-    let usage =
-        "give no words, `run --profile FILE --disk FILE`, `format --disk FILE` or `migrate --disk FILE`";
+    let usage = "give no words, `run --profile FILE --disk FILE`, `format --disk FILE`, \
+        `migrate --disk FILE` or `files --disk FILE`";
     let alloc = rt.alloc();
     let help = format!(in alloc; "usage: {usage}")?;
     assert!(rt; ends(alloc, Fault::Words(ChoiceFault::Help), 2, &help)?);
@@ -108,6 +108,35 @@ fn texts_of_moves(rt: HostRuntime) -> Result<(), Fail> {
     ] {
         let path = "d";
         assert!(rt; ends(rt.alloc(), Fault::Disk { path, cause }, status, told)?);
+    }
+    Ok(())
+}
+
+#[test]
+fn texts_of_what_is_not_told(rt: HostRuntime) -> Result<(), Fail> {
+    for (cause, told) in [
+        (
+            FileFault::Unreadable(io::Error::from(io::ErrorKind::Other)),
+            "d: can't be read: other error",
+        ),
+        (
+            FileFault::Changes,
+            "d: changes while it is read: try again when no one writes it",
+        ),
+        (
+            FileFault::Short,
+            "d: is shorter than a totals file, which has 327680 bytes",
+        ),
+        (
+            FileFault::Broken {
+                at: 9,
+                rule: "a rule",
+            },
+            "d: its totals are damaged at byte 9: a rule",
+        ),
+    ] {
+        let path = "d";
+        assert!(rt; ends(rt.alloc(), Fault::Disk { path, cause }, 4, told)?);
     }
     Ok(())
 }
@@ -197,6 +226,7 @@ fn words_of_each_command(rt: HostRuntime) -> Result<(), Fail> {
         ("run --disk=- --profile=p", Task::Run { profile, disk }),
         ("format --disk=-", Task::Format { disk }),
         ("migrate --disk -", Task::Migrate { disk }),
+        ("files --disk -", Task::Files { disk }),
     ] {
         assert!(rt; asks(rt.alloc(), line, task)?, "{line}");
     }
@@ -214,6 +244,11 @@ fn words_of_no_command(rt: HostRuntime) -> Result<(), Fail> {
         ("run --help", "usage: "),
         ("format -h", "usage: "),
         ("migrate --help", "usage: "),
+        ("files --help", "usage: "),
+        (
+            "files",
+            "error: the following required arguments were not provided: --disk",
+        ),
         (
             "migrate",
             "error: the following required arguments were not provided: --disk",

@@ -1,5 +1,6 @@
 -- The devices of a profile, which are served one after another by what is simulated for them.
-use Rattle.std.proofs.Common.{◌≡◌, ◌∙◌, ◌<◌, ◌≤◌, ◌+◌, ◌∷◌, ◌++◌, ◌||◌, ℕ, suc, Bool, true, false, List, Option, [], Some, None, cond, is_some, length, map, replicate, take, drop, get_or, slice_get, sym, ap, arith, refl, subst, append_assoc, append-nil}
+use Rattle.std.proofs.Common.{◌≡◌, ◌∙◌, ◌<◌, ◌≤◌, ◌+◌, ◌∷◌, ◌++◌, ◌||◌, ℕ, suc, Bool, true, false, List, Option, [], Some, None, cond, is_some, length, map}
+use Rattle.std.proofs.Common.{replicate, take, drop, get_or, slice_get, sym, ap, arith, refl, subst, append_assoc, append-nil}
 use Rattle.std.specs.Prelude.{bytes_eq}
 use Rattle.std.specs.List.{filter_map, list_any}
 use Rattle.std.proofs.Math.Seq.{set-append_seam}
@@ -17,11 +18,12 @@ use Rattle.pos_service.specs.declared.category.Category.{Category}
 use Rattle.pos_service.specs.declared.category.Category.TheVariants.{CashDrawer, Scanner, LineDisplay, PosPrinter, HardTotals}
 use Rattle.pos_service.specs.declared.kind.Kind.{Kind}
 use Rattle.pos_service.specs.Peripherals.{PeripheralState}
-use Rattle.pos_service.specs.Stations.{Station, station_of}
-use Rattle.pos_counter.specs.Machine.{Device, Machine, device_at, kind_in, kind_named, place_from, place_of, station_in, station_named, with_standing}
+use Rattle.pos_service.specs.Hardware.{Hardware, hardware_of}
+use Rattle.pos_counter.specs.Machine.{Device, Machine, device_at, kind_in, kind_named, place_from, place_of, hardware_in, hardware_named, with_standing}
 use Rattle.pos_counter.specs.KeptDevices.{device_of, profile_devices, totals_devices, totals_name}
-use Rattle.pos_counter.specs.Assembly.{machine_with}
-use Rattle.pos_counter.specs.Steps.{Response, Step, Attach, Attached, NotAttached, Made, Full, Answered, TakenIn, NoDevice, WrongInput, Delivered, Shown, Worked, Detached, NotDetached, OutOfMemory}
+use Rattle.pos_counter.specs.Machine.{machine_with}
+use Rattle.pos_counter.specs.Steps.{Response, Step, Attach, Attached, NotAttached, Made, Full, Answered, TakenIn, NoDevice, WrongInput, Delivered, Shown}
+use Rattle.pos_counter.specs.Steps.{Worked, Detached, NotDetached, OutOfMemory}
 use Rattle.pos_counter.specs.Totals.{TotalsPart}
 use Rattle.pos_run.specs.Running.{begun_with, device_with}
 use Rattle.pos_run.specs.Simulating.{device_for, simulated_devices, simulated_for, simulated_with}
@@ -32,31 +34,31 @@ the_same : {A : Type 0} {a b : A} → Some a ≡ Some b → a ≡ b
 the_same same = cc
 
 -- a peripheral of its kind isn't refused at a vacant device
-no_refusal : (old new : Machine) (name : List ℕ) (station : Station) (fault : AttachFault) (given : Station)
-    → kind_named old name ≡ Some station.kind → station_named old name ≡ None → Step old (Attach name station) (NotAttached fault given) new → ⊥
-no_refusal old new name station attach.Unknown given is vacant (none, gave, same) =
-    let both : Some station.kind ≡ None = sym is ∙ none in
+no_refusal : (old new : Machine) (name : List ℕ) (hardware : Hardware) (fault : AttachFault) (given : Hardware)
+    → kind_named old name ≡ Some hardware.kind → hardware_named old name ≡ None → Step old (Attach name hardware) (NotAttached fault given) new → ⊥
+no_refusal old new name hardware attach.Unknown given is vacant (none, gave, same) =
+    let both : Some hardware.kind ≡ None = sym is ∙ none in
     cc
-no_refusal old new name station attach.KindDiffers given is vacant (other, gave, same) = other.differs (the_same (sym is ∙ other.named))
-no_refusal old new name station attach.InUse given is vacant (there, gave, same) =
-    let none : is_some (station_named old name) ≡ false = ap is_some vacant in
+no_refusal old new name hardware attach.KindDiffers given is vacant (other, gave, same) = other.differs (the_same (sym is ∙ other.named))
+no_refusal old new name hardware attach.InUse given is vacant (there, gave, same) =
+    let none : is_some (hardware_named old name) ≡ false = ap is_some vacant in
     let both : true ≡ false = sym there ∙ none in
     cc
 
-module _ (old new : Machine) (name : List ℕ) (station : Station) (place : ℕ) (device : Device) (found : place_of old.devices name ≡ Some place)
-    (there : slice_get old.devices place ≡ Some device) (is : device.kind ≡ Some station.kind) (vacant : device.station ≡ None) where
+module _ (old new : Machine) (name : List ℕ) (hardware : Hardware) (place : ℕ) (device : Device) (found : place_of old.devices name ≡ Some place)
+    (there : slice_get old.devices place ≡ Some device) (is : device.kind ≡ Some hardware.kind) (vacant : device.hardware ≡ None) where
   named : device_at old.devices (place_of old.devices name) ≡ Some device
   named = ap (device_at old.devices) found ∙ there
 
   -- so it stands there then
-  stands : (response : Response) → Step old (Attach name station) response new → new ≡ with_standing old place device (Some station)
+  stands : (response : Response) → Step old (Attach name hardware) response new → new ≡ with_standing old place device (Some hardware)
   stands Attached done =
       let at : done.place ≡ place = the_same (sym done.is_at ∙ found) in
       let of : done.device ≡ device = the_same (sym done.is_device ∙ ap (slice_get old.devices) at ∙ there) in
       done.machine
-      ∙ ap (λ (p : ℕ). with_standing old p done.device (Some station)) at
-      ∙ ap (λ (d : Device). with_standing old place d (Some station)) of
-  stands (NotAttached fault given) step = absurd (no_refusal old new name station fault given (ap kind_in named ∙ is) (ap station_in named ∙ vacant) step)
+      ∙ ap (λ (p : ℕ). with_standing old p done.device (Some hardware)) at
+      ∙ ap (λ (d : Device). with_standing old place d (Some hardware)) of
+  stands (NotAttached fault given) step = absurd (no_refusal old new name hardware fault given (ap kind_in named ∙ is) (ap hardware_in named ∙ vacant) step)
   stands (Made number) step = absurd step
   stands Full step = absurd step
   stands (Answered answer) step = absurd step
@@ -216,7 +218,7 @@ module _ (entries : List Entry) (i : ℕ) (entry : Entry) (lt : i < length entri
 
   -- one more device is served
   pub serves_more : (part : TotalsPart) (old new : Machine) (state : PeripheralState) (response : Response) → simulated_for entry ≡ Some state
-      → is_repeated (names_of entries) i ≡ false → old ≡ begun_partly entries i part → Step old (Attach entry.name (station_of state)) response new
+      → is_repeated (names_of entries) i ≡ false → old ≡ begun_partly entries i part → Step old (Attach entry.name (hardware_of state)) response new
       → new ≡ begun_partly entries (i + 1) part
   serves_more part old new state response simulated single begun step =
       let kind : kind_of entry ≡ Some state.kind = kind_fits entry.category entry state simulated in
@@ -232,9 +234,9 @@ module _ (entries : List Entry) (i : ℕ) (entry : Entry) (lt : i < length entri
       let found : place_of (front ++ vacant ∷ back) entry.name ≡ Some (length front) =
       found_behind entry.name (take i entries) 0 vacant back (unnamed_before entries i entry lt is single)
       ((bytes_eq-Decides entry.name entry.name).1 refl) ∙ ap (λ (n : ℕ). Some n) (omega arith) in
-      let stood = stands (over (front ++ vacant ∷ back)) new entry.name (station_of state) (length front) vacant found
+      let stood = stands (over (front ++ vacant ∷ back)) new entry.name (hardware_of state) (length front) vacant found
       (there_behind front vacant back) refl refl response
-      (subst (λ (m : Machine). Step m (Attach entry.name (station_of state)) response new) before step) in
+      (subst (λ (m : Machine). Step m (Attach entry.name (hardware_of state)) response new) before step) in
       let after : front ++ full ∷ back ≡ partly (take (i + 1) entries) (drop (i + 1) entries) totals =
       sym (append_assoc front (full ∷ []) back) ∙ ap (λ (ds : List Device). ds ++ back) (sym (served_more ∙ ap (λ (ds : List Device). front ++ ds) one)) in
       stood ∙ ap over (set-append_seam front vacant back full ∙ after)

@@ -1,5 +1,6 @@
 -- The entries of a profile, what is simulated for them in its wrappers, and the spares.
-use Rattle.std.proofs.Common.{◌≡◌, ◌∙◌, ◌<◌, ◌≤◌, ◌+◌, ◌-◌, ◌^◌, ◌∷◌, ◌++◌, [], ℕ, Bool, true, false, List, Option, Some, None, All, get_or, length, min, take, refl, sym, ap, subst, arith}
+use Rattle.std.proofs.Common.{◌≡◌, ◌∙◌, ◌<◌, ◌≤◌, ◌+◌, ◌-◌, ◌^◌, ◌∷◌, ◌++◌, [], ℕ, Bool, true, false, List, Option, Some, None, All, IfSome, get_or, length}
+use Rattle.std.proofs.Common.{min, take, refl, sym, ap, subst, arith}
 use Rattle.std.proofs.lemmas.List.{map-append, take_more}
 use Rattle.std.proofs.lemmas.List.Elements.{All-map}
 use Rattle.std.proofs.lemmas.Option.{none-some, same_Some}
@@ -17,7 +18,8 @@ use Rattle.pos_profile.specs.OptionalKeys.{has_option}
 use Rattle.pos_profile.specs.Soundness.{IsInItsRange, IsSoundEntry}
 use Rattle.pos_run.specs.declared.simulation.Simulation.{Simulation}
 use Rattle.pos_run.specs.declared.wrapped.Wrapped.{Wrapped}
-use Rattle.pos_run.specs.Simulating.{HoldsOnlyIf, IsDeviceFor, IsSimulable, IsSimulatedFor, simulated_all, simulated_for, simulated_with, state_of, wrapped_by, wrapped_state}
+use Rattle.pos_run.specs.Simulating.{HoldsOnlyIf, IsDeviceFor, IsSimulable, IsSimulatedFor, simulated_all, simulated_for, simulated_with, state_of, wrapped_by}
+use Rattle.pos_run.specs.Simulating.{wrapped_state}
 use Rattle.pos_run.specs.Spares.{IsInService}
 
 module _ (entries : List Entry) (i : ℕ) (entry : Entry) (lt : i < length entries) (is : entry ≡ get_or entries i entry) where
@@ -43,6 +45,17 @@ serves HardTotals entry = tt
 
 pub state_serves : (entry : Entry) (state : PeripheralState) → Some state ≡ simulated_for entry → state.is_parked ≡ false
 state_serves entry state is = subst IsInService (sym is) (serves entry.category entry)
+
+-- and was given no order yet
+is_fresh : (category : Category) (entry : Entry) → IfSome (simulated_with category entry) (λ state. state.orders ≡ 0)
+is_fresh CashDrawer entry = refl
+is_fresh Scanner entry = refl
+is_fresh LineDisplay entry = refl
+is_fresh PosPrinter entry = refl
+is_fresh HardTotals entry = tt
+
+pub state_is_fresh : (entry : Entry) (state : PeripheralState) → Some state ≡ simulated_for entry → state.orders ≡ 0
+state_is_fresh entry state is = subst (λ simulated. IfSome simulated (λ state. state.orders ≡ 0)) (sym is) (is_fresh entry.category entry)
 
 pub device_serves : (entry : Entry) (device : Simulation) → Some (state_of device) ≡ simulated_for entry → (state_of device).is_parked ≡ false
 device_serves entry device is = state_serves entry (state_of device) is

@@ -1,18 +1,16 @@
 -- What becomes of a line, by the steps of the machine that it asks; and scripts of such lines.
-use Rattle.std.proofs.Common.{◌≡◌, ◌++◌, ◌∷◌, ◌∙◌, [], inl, inr, ℕ, true, false, List, Option, Some, None, sym, ap, subst, refl, append_assoc, append-nil, ◌<◌, length}
-use Rattle.std.specs.Prelude.{◌⊎◌, is_some, MatchOption, codes, Result, Ok, Err, is_err, IsTrue}
+use Rattle.std.proofs.Common.{◌≡◌, ◌∷◌, ◌∙◌, [], inl, inr, ℕ, true, false, List, Option, Some, None, sym, ap, subst, refl}
+use Rattle.std.specs.Prelude.{◌⊎◌, is_some, MatchOption, codes, IsTrue}
 use Rattle.std.specs.Bool.{MatchBool}
-use Rattle.std.specs.Io.KnownBytes.{Appends}
 use Rattle.pos_counter.specs.Steps.{Request, Response}
 use Rattle.pos_script.specs.Lines.{is_quiet, is_well_spelled, words_of}
 use Rattle.pos_script.specs.Arguments.{Reading}
 use Rattle.pos_script.specs.Commands.{LineRequest, asked_by, request_of_words}
-use Rattle.pos_script.specs.Text.{printed, response_text}
-use Rattle.pos_script.specs.Writing.{Writes}
+use Rattle.pos_script.specs.Text.{response_text}
 use Rattle.pos_run.specs.Names.{ControlNames}
-use Rattle.pos_run.specs.Running.{Finishes, Stops}
 use Rattle.pos_run.specs.Spares.{SpareStates}
-use Rattle.pos_run.specs.Transcript.{Leads, Session, Outcome, RequestBecomes, AskingBecomes, ReadingBecomes, LineBecomes, CarriesOut, LinesPrint, Transcript, request_of, session_after, gives_name, rebuke, session_with, passed_over, turned_down, responded}
+use Rattle.pos_run.specs.Transcript.{Leads, Session, Outcome, RequestBecomes, AskingBecomes, ReadingBecomes, LineBecomes, CarriesOut, request_of, session_after}
+use Rattle.pos_run.specs.Transcript.{gives_name, rebuke, session_with, passed_over, turned_down, responded}
 
 -- an unknown control, or a name in use
 pub asks_none : {C : Type 0} (Runs : Leads C) (state : C) (session : Session) (asking : LineRequest) → request_of session asking ≡ None

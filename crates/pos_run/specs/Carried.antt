@@ -4,8 +4,8 @@ use Rattle.pos_disk.specs.declared.device.Disk.{Ghosts as DiskGhosts}
 use Rattle.pos_service.specs.declared.peripheral.Peripheral.{Ghosts}
 use Rattle.pos_counter.specs.declared.counter.Counter.{Counter}
 use Rattle.pos_store.specs.Standing.{Standing}
-use Rattle.pos_counter.specs.Counters.{IsRun, RunsFrom}
-use Rattle.pos_counter.specs.Leaving.{Leaves}
+use Rattle.pos_counter.specs.Counters.{IsRun, RunsAnyhow, RunsFrom}
+use Rattle.pos_counter.specs.Leaving.{IsSettled, Leaves}
 use Rattle.pos_counter.specs.Steps.{Request, Response}
 use Rattle.pos_run.specs.declared.names.Names.{Names}
 use Rattle.pos_run.specs.declared.spares.Spares.{Spares}
@@ -13,7 +13,7 @@ use Rattle.pos_script.specs.declared.reply.Reply.{Reply}
 use Rattle.pos_run.specs.Names.{ControlNames, names_of}
 use Rattle.pos_run.specs.Spares.{SpareStates, spares_in}
 use Rattle.pos_script.specs.declared.line_buffer.Line.{Line}
-use Rattle.pos_script.specs.LineBuffers.{IsHeld, IsLine, Kept, StandsFor}
+use Rattle.pos_script.specs.LineBuffers.{IsLine, Kept, StandsFor}
 use Rattle.pos_script.specs.Lines.{complete_lines, lines_of}
 use Rattle.pos_script.specs.Commands.{LineRequest}
 use Rattle.pos_script.specs.Text.{reply_text}
@@ -72,38 +72,38 @@ CarriesOutLines bound peripherals old session lines before after result left new
     (λ u. Finishes (IsRun bound peripherals) old session lines before after left new)
     (λ fault. Stops (IsRun bound peripherals) old session lines before after left new)
 
--- what is held of a line decides what becomes of it: the line is carried out, and written as far as it can be
-abbrev pub CarriesOutHeld : {D P E : Type 0} → DiskGhosts D → Ghosts P
-    → Counter D P → Session → Kept → Option (List ℕ) → Option (List ℕ) → Result (Unit {0}) E → Session
+-- what was read of a line decides what becomes of it: the line is carried out, and written as far as it can be
+abbrev pub CarriesOutPrinted : {D P E : Type 0} → DiskGhosts D → Ghosts P
+    → Counter D P → Session → Line → Option (List ℕ) → Option (List ℕ) → Result (Unit {0}) E → Session
     → Counter D P → Type 0
-CarriesOutHeld bound peripherals old session held before after result left new = (line : List ℕ) → IsHeld held line
-    → CarriesOutLines bound peripherals old session (line ∷ []) before after result left new
+CarriesOutPrinted bound peripherals old session line before after result left new = (bytes : List ℕ) → IsLine line bytes
+    → CarriesOutLines bound peripherals old session (bytes ∷ []) before after result left new
 
 -- behind what was read a piece ends lines, which are carried out; where they all are, what is held then stands for
 -- what is unfinished
 abbrev pub CarriesOutPiece : {D P E : Type 0} → DiskGhosts D → Ghosts P
     → Counter D P → Session → Kept → List ℕ → Option (List ℕ) → Option (List ℕ) → Result (Unit {0}) E → Kept → Session
     → Counter D P → Type 0
-CarriesOutPiece bound peripherals old session held piece before after result held_after left new =
-    (read : List ℕ) → StandsFor held read
+CarriesOutPiece bound peripherals old session buffered piece before after result buffered_after left new =
+    (read : List ℕ) → StandsFor buffered read
     → (lines : List (List ℕ)) × (complete_lines (read ++ piece) ≡ complete_lines read ++ lines)
     × CarriesOutLines bound peripherals old session lines before after result left new
-    × OnOk result (StandsFor held_after (read ++ piece))
+    × OnOk result (StandsFor buffered_after (read ++ piece))
 
 -- at the end of what was read its last line is carried out, if there is one
 abbrev pub CarriesOutLast : {D P E : Type 0} → DiskGhosts D → Ghosts P
     → Counter D P → Session → Kept → Option (List ℕ) → Option (List ℕ) → Result (Unit {0}) E → Session
     → Counter D P → Type 0
-CarriesOutLast bound peripherals old session held before after result left new =
-    (read : List ℕ) → StandsFor held read
+CarriesOutLast bound peripherals old session buffered before after result left new =
+    (read : List ℕ) → StandsFor buffered read
     → (lines : List (List ℕ)) × (lines_of read ≡ complete_lines read ++ lines)
     × CarriesOutLines bound peripherals old session lines before after result left new
 
 -- likewise, and all that was printed is handed on, or could not be
 abbrev pub CarriesOutEnd : {D P E : Type 0} → DiskGhosts D → Ghosts P
     → Counter D P → Session → Kept → Writing → Writing → Result (Unit {0}) E → Session → Counter D P → Type 0
-CarriesOutEnd bound peripherals old session held before after result left new =
-    (read : List ℕ) → StandsFor held read
+CarriesOutEnd bound peripherals old session buffered before after result left new =
+    (read : List ℕ) → StandsFor buffered read
     → (lines : List (List ℕ)) × (lines_of read ≡ complete_lines read ++ lines)
     × MatchResult result
     (λ u. Finishes (IsRun bound peripherals) old session lines before.contents after.contents left new
@@ -112,12 +112,15 @@ CarriesOutEnd bound peripherals old session held before after result left new =
     ⊎ Finishes (IsRun bound peripherals) old session lines before.contents after.contents left new)
 
 -- from an old counter to a new one, a run; and for all that the disk may leave before it, a crash at any moment of the
--- run leaves what may be left before or after one of its steps, and one after the run what may be left after the last
+-- run leaves what may be left before or after one of its steps, and one after the run what may be left after the last;
+-- and whatever the disk is, each request that spares it is a step
 abbrev pub RunsThrough : {D P : Type 0} → DiskGhosts D → Ghosts P
     → Counter D P → List (Request × Response) → Counter D P → Type 0
 RunsThrough bound peripherals old steps new =
     IsRun bound peripherals old steps new
     × ((left : List Standing) → Leaves bound old.totals left → RunsFrom bound peripherals left old steps new)
+    × ((left : List Standing) (failures : ℕ) → IsSettled old.totals.totals left
+    → RunsAnyhow peripherals left failures old steps new)
 
 -- What a run of a script leaves of a counter, however it ended: what all lines that were carried out asked is one run,
 -- in a step of which a crash at any moment since the start lies.

@@ -7,10 +7,10 @@ use Rattle.pos_image.specs.declared.layout.Layout.TheVariants.{Layout1}
 use Rattle.pos_service.specs.declared.kind.Kind.{Kind}
 use Rattle.pos_totals.specs.HardTotals.{Off}
 use Rattle.pos_service.specs.Peripherals.{PeripheralState}
-use Rattle.pos_service.specs.Stations.{station_of}
+use Rattle.pos_service.specs.Hardware.{hardware_of}
 use Rattle.pos_store.specs.Standing.{Standing}
 use Rattle.pos_totals.specs.Views.{TotalsView}
-use Rattle.pos_counter.specs.Assembly.{machine_with}
+use Rattle.pos_counter.specs.Machine.{machine_with}
 use Rattle.pos_counter.specs.Totals.{TotalsPart}
 use Rattle.pos_counter.specs.Steps.{Request, Response}
 use Rattle.pos_run.specs.declared.reading.ReadState.{ReadState}
@@ -107,7 +107,7 @@ script_steps {Runs = Runs} {old = old} {session = session} {streams = streams} {
 
 -- a device of this name that is of a kind and has this peripheral, or none
 abbrev pub device_with : List ℕ → Kind → Option PeripheralState → Device
-device_with name kind state = record { name = name; kind = Some kind; station = option_map station_of state }
+device_with name kind state = record { name = name; kind = Some kind; hardware = option_map hardware_of state }
 
 -- the machine with these devices, no control and no claim
 abbrev pub begun_with : List Device → TotalsPart → Machine

@@ -25,6 +25,7 @@ use Rattle.pos_store.specs.Standing.{Standing, LeavesOneOf}
 use Rattle.pos_counter.specs.Machine.{Device, Machine}
 use Rattle.pos_counter.specs.KeptDevices.{totals_devices, totals_name}
 use Rattle.pos_counter.specs.Counters.{IsCounterSound, machine}
+use Rattle.pos_counter.specs.Sparing.{RunSparing}
 use Rattle.pos_counter.specs.Steps.{Run}
 use Rattle.pos_counter.specs.declared.counter.Counter.{Counter}
 use Rattle.pos_run.specs.declared.spares.Spares.{Spares}
@@ -34,7 +35,7 @@ use Rattle.pos_run.specs.declared.scripts.RunFault.TheVariants as fault
 use Rattle.pos_run.specs.Running.{RunsScript, begun_with, device_with, new_totals, off_over}
 use Rattle.pos_run.specs.Spares.{AreSparesSound, SpareStates, spares_in}
 use Rattle.pos_run.specs.Streams.{AreUntouched, Streams}
-use Rattle.pos_run.specs.Transcript.{Session, begun_session}
+use Rattle.pos_run.specs.Transcript.{Leads, Session, begun_session}
 use Rattle.pos_run.specs.declared.simulation.Simulation.{Simulation}
 use Rattle.pos_run.specs.declared.simulation.Simulation.TheVariants as simulation
 use Rattle.pos_run.specs.declared.wrapped.Wrapped.{Wrapped}
@@ -140,20 +141,24 @@ pub record IsSimulatedCounter {D P : Type 0} (peripherals : Ghosts P) (contents 
 
 -- What a run over a profile leaves: it is one from the profile's devices, each served by what is simulated for it, and
 -- totals that are off, with what is simulated for the spares.
-pub record RunsOverProfile (contents : Contents) (part : TotalsPart) (streams : Streams)
+pub record RunsOverProfile (Runs : Leads Machine) (contents : Contents) (part : TotalsPart) (streams : Streams)
     (result : Result (Unit {0}) RunFault) : Type 0 where
   pub end : Machine
   pub left : Session
-  pub run : RunsScript Run (begun_with (simulated_devices contents.devices) part)
+  pub run : RunsScript Runs (begun_with (simulated_devices contents.devices) part)
       (begun_session (simulated_all contents.spares)) streams result left end
 
 -- there was no memory, and nothing was read or written
 abbrev pub FindsNoMemory : Streams → Result (Unit {0}) RunFault → Type 0
 FindsNoMemory streams result = (result ≡ Err fault.NoMemory) × AreUntouched streams
 
--- what a run over a profile and a disk leaves, for all that an honest disk may leave before it
+-- what a run over a profile and a disk leaves: for all that an honest disk may leave before it, a run of the machine;
+-- and whatever the disk is, one in which each request that spares it is a step
 abbrev pub ProfileLeaves : Contents → Type 0 → DiskState → Streams → Result (Unit {0}) RunFault → Type 0
 ProfileLeaves contents Honest disk streams result =
-    (left : List Standing) → Honest → LeavesOneOf left disk
+    ((left : List Standing) → Honest → LeavesOneOf left disk
     → FindsNoMemory streams result
-    ⊎ RunsOverProfile contents (new_totals left disk.failures) streams result
+    ⊎ RunsOverProfile Run contents (new_totals left disk.failures) streams result)
+    × ((left : List Standing) (failures : ℕ)
+    → FindsNoMemory streams result
+    ⊎ RunsOverProfile RunSparing contents (new_totals left failures) streams result)

@@ -1,7 +1,7 @@
 -- What a script asks of the machine, and what it prints (docs/CONSOLE.md, "Answers").
 use Rattle.std.specs.Prelude.{◌≡◌, ℕ, ◌⊎◌, ◌++◌, ◌∷◌, [], Bool, true, false, List, Option, Some, None, MatchOption, IsTrue, is_some, option_map, if◌then◌else◌}
 use Rattle.std.specs.Bool.{MatchBool}
-use Rattle.pos_service.specs.Stations.{station_of}
+use Rattle.pos_service.specs.Hardware.{hardware_of}
 use Rattle.pos_counter.specs.Steps.{Request, Response, NewControl, CallOf, InputTo, Deliver, Snapshot, WorkOn, Attach, Detach, Made, Attached}
 use Rattle.pos_script.specs.declared.reply.Reply.TheVariants as reply
 use Rattle.pos_script.specs.Lines.{is_quiet}
@@ -35,7 +35,7 @@ request_of session (Deliver name reply) =
 request_of session (Snapshot device) = Some (Snapshot device)
 request_of session (WorkOn device) = Some (WorkOn device)
 request_of session (Attach device number) =
-    option_map (λ spare. Attach device (station_of spare)) (spare_at session.spares number)
+    option_map (λ spare. Attach device (hardware_of spare)) (spare_at session.spares number)
 request_of session (Detach device) = Some (Detach device)
 
 -- what a line prints that asks nothing of the machine

@@ -68,18 +68,33 @@ impl<W: Write> AnswerWriter<W> {
         remove_front(&mut self.held, count);
         result
     }
-}
 
-impl<W: Write> Write for AnswerWriter<W> {
-    ghost contents = { λ answers. answers_of W.contents answers };
-
-    fn write(&mut self, buf: &[u8]) -> io::Result<usize> {
+    /// Holds back as much as there is room for, and first hands on what is held back where that is full. On its own,
+    /// since it is rare.
+    #[inline(never)]
+    fn write_first(&mut self, buf: &[u8]) -> io::Result<usize>
+        ensures bound { WritesAtMost result buf.now }
+        ensures bytes { WriteAppends (answers_of W.contents self.old) (answers_of W.contents self.new) result buf.now }
+    {
         if self.held.len() == self.held.capacity() {
             self.hand_on()?;
         }
         let count = buf.len().min(self.held.capacity() - self.held.len());
         self.held.extend_from_slice(&buf[..count])?;
         Ok(count)
+    }
+}
+
+impl<W: Write> Write for AnswerWriter<W> {
+    ghost contents = { λ answers. answers_of W.contents answers };
+
+    #[inline(always)]
+    fn write(&mut self, buf: &[u8]) -> io::Result<usize> {
+        if buf.len() > self.held.capacity() - self.held.len() {
+            return self.write_first(buf);
+        }
+        self.held.extend_from_slice(buf)?;
+        Ok(buf.len())
     }
 
     fn flush(&mut self) -> io::Result<()>

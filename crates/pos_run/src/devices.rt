@@ -2,7 +2,7 @@
 ghost use Rattle.std.specs.Prelude.{◌≡◌, false};
 ghost use Rattle.pos_counter.specs.Counters.{IsCounterSound, IsStepBeside};
 ghost use Rattle.pos_counter.specs.Steps.{Attach, Response};
-ghost use Rattle.pos_service.specs.Stations.{station_of};
+ghost use Rattle.pos_service.specs.Hardware.{hardware_of};
 
 use crate::ending::Ends;
 use pos_counter::{Counter, Ended};
@@ -15,7 +15,7 @@ pub fn offer<D: Disk, P: Peripheral + Ends>(counter: &mut Counter<D, P>, name: &
     requires sound { IsCounterSound P.Peripheral counter.old }
     requires unparked { (P.Peripheral.state peripheral).is_parked ≡ false }
     ensures step { (response : Response) × IsStepBeside P.Peripheral counter.old
-        (Attach name.now (station_of (P.Peripheral.state peripheral))) response counter.new }
+        (Attach name.now (hardware_of (P.Peripheral.state peripheral))) response counter.new }
     ensures sound { IsCounterSound P.Peripheral counter.new }
 {
     if let Err((_, refused)) = counter.attach(name, peripheral) {

@@ -24,7 +24,7 @@ use std::io::Write;
 pub fn carry_out_lines<W: Write, D: Disk, P: Peripheral + Ends>(
     alloc: Global,
     lines: &[u8],
-    held: &mut LineBuffer,
+    buffer: &mut LineBuffer,
     writer: &mut W,
     counter: &mut Counter<D, P>,
     names: &mut Names,
@@ -38,9 +38,9 @@ pub fn carry_out_lines<W: Write, D: Disk, P: Peripheral + Ends>(
     ensures sound { IsCounterSound P.Peripheral counter.new }
     ensures spares { AreSparesSound P.Peripheral spares.new }
 {
-    held.clear();
-    let Ok(()) = carry_out_piece(alloc, lines, held, writer, counter, names, spares) else {
+    buffer.clear();
+    let Ok(()) = carry_out_piece(alloc, lines, buffer, writer, counter, names, spares) else {
         return Err(WriteFault);
     };
-    carry_out_last(alloc, held, writer, counter, names, spares)
+    carry_out_last(alloc, buffer, writer, counter, names, spares)
 }

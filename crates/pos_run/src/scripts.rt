@@ -1,6 +1,6 @@
 ghost use Rattle.std.specs.Prelude.{[]};
 ghost use Rattle.pos_counter.specs.Counters.{IsCounterSound, IsRun};
-ghost use Rattle.pos_run.specs.Carried.{CarriesOutEnd, CarriesOutHeld, CarriesOutLast, CarriesOutPiece, CarriesOutScript, session_of};
+ghost use Rattle.pos_run.specs.Carried.{CarriesOutEnd, CarriesOutLast, CarriesOutPiece, CarriesOutPrinted, CarriesOutScript, session_of};
 ghost use Rattle.pos_run.specs.Names.{ControlNames};
 ghost use Rattle.pos_run.specs.Running.{RunsScript};
 ghost use Rattle.pos_script.specs.LineBuffers.{StandsFor};
@@ -16,7 +16,7 @@ use crate::reading::{ReadFault, ScriptReader};
 use crate::spares::Spares;
 use pos_counter::Counter;
 use pos_disk::Disk;
-use pos_script::{LineBuffer, WriteFault, print_line};
+use pos_script::{Line, LineBuffer, WriteFault, print_line};
 use pos_service::Peripheral;
 use std::alloc::Global;
 use std::io::{Read, Write};
@@ -39,10 +39,10 @@ pub enum RunFault {
 /// How many bytes are read at once, at most.
 const PIECE: usize = 65_536;
 
-/// Carries out the line that is held, and writes what it prints.
-fn carry_out_held<W: Write, D: Disk, P: Peripheral + Ends>(
+/// Carries out a line, and writes what it prints.
+fn carry_out_and_print<W: Write, D: Disk, P: Peripheral + Ends>(
     alloc: Global,
-    held: &LineBuffer,
+    line: Line<'_>,
     writer: &mut W,
     counter: &mut Counter<D, P>,
     names: &mut Names,
@@ -50,13 +50,13 @@ fn carry_out_held<W: Write, D: Disk, P: Peripheral + Ends>(
 ) -> Result<(), WriteFault>
     requires sound { IsCounterSound P.Peripheral counter.old }
     requires spares { AreSparesSound P.Peripheral spares.old }
-    ensures line { CarriesOutHeld D.Disk P.Peripheral counter.old (session_of P.Peripheral names.old spares.old)
-        held.now (W.contents writer.old) (W.contents writer.new) result
+    ensures line { CarriesOutPrinted D.Disk P.Peripheral counter.old (session_of P.Peripheral names.old spares.old)
+        line.entry (W.contents writer.old) (W.contents writer.new) result
         (session_of P.Peripheral names.new spares.new) counter.new }
     ensures sound { IsCounterSound P.Peripheral counter.new }
     ensures spares { AreSparesSound P.Peripheral spares.new }
 {
-    let reply = carry_out_line(alloc, counter, names, spares, held.line());
+    let reply = carry_out_line(alloc, counter, names, spares, line);
     print_line(writer, reply)
 }
 
@@ -64,7 +64,7 @@ fn carry_out_held<W: Write, D: Disk, P: Peripheral + Ends>(
 pub(crate) fn carry_out_piece<W: Write, D: Disk, P: Peripheral + Ends>(
     alloc: Global,
     piece: &[u8],
-    held: &mut LineBuffer,
+    buffer: &mut LineBuffer,
     writer: &mut W,
     counter: &mut Counter<D, P>,
     names: &mut Names,
@@ -73,17 +73,18 @@ pub(crate) fn carry_out_piece<W: Write, D: Disk, P: Peripheral + Ends>(
     requires sound { IsCounterSound P.Peripheral counter.old }
     requires spares { AreSparesSound P.Peripheral spares.old }
     ensures piece { CarriesOutPiece D.Disk P.Peripheral counter.old (session_of P.Peripheral names.old spares.old)
-        held.old piece.now (W.contents writer.old) (W.contents writer.new) result held.new
+        buffer.old piece.now (W.contents writer.old) (W.contents writer.new) result buffer.new
         (session_of P.Peripheral names.new spares.new) counter.new }
     ensures sound { IsCounterSound P.Peripheral counter.new }
     ensures spares { AreSparesSound P.Peripheral spares.new }
 {
     let mut left = piece;
-    while let Some(rest) = held.feed(left) {
-        let Ok(()) = carry_out_held(alloc, held, writer, counter, names, spares) else {
+    while let Some((ended, rest)) = buffer.feed(left) {
+        let line = buffer.ended_line(ended);
+        let Ok(()) = carry_out_and_print(alloc, line, writer, counter, names, spares) else {
             return Err(WriteFault);
         };
-        held.clear();
+        buffer.clear();
         left = rest;
     }
     Ok(())
@@ -92,7 +93,7 @@ pub(crate) fn carry_out_piece<W: Write, D: Disk, P: Peripheral + Ends>(
 /// Carries out the last line of a script, which its end ends, if there is one, and writes what it prints.
 pub(crate) fn carry_out_last<W: Write, D: Disk, P: Peripheral + Ends>(
     alloc: Global,
-    held: &LineBuffer,
+    buffer: &LineBuffer,
     writer: &mut W,
     counter: &mut Counter<D, P>,
     names: &mut Names,
@@ -101,21 +102,21 @@ pub(crate) fn carry_out_last<W: Write, D: Disk, P: Peripheral + Ends>(
     requires sound { IsCounterSound P.Peripheral counter.old }
     requires spares { AreSparesSound P.Peripheral spares.old }
     ensures last { CarriesOutLast D.Disk P.Peripheral counter.old (session_of P.Peripheral names.old spares.old)
-        held.now (W.contents writer.old) (W.contents writer.new) result
+        buffer.now (W.contents writer.old) (W.contents writer.new) result
         (session_of P.Peripheral names.new spares.new) counter.new }
     ensures sound { IsCounterSound P.Peripheral counter.new }
     ensures spares { AreSparesSound P.Peripheral spares.new }
 {
-    if held.is_empty() {
+    if buffer.is_empty() {
         return Ok(());
     }
-    carry_out_held(alloc, held, writer, counter, names, spares)
+    carry_out_and_print(alloc, buffer.line(), writer, counter, names, spares)
 }
 
 /// Carries out the last line of a script, if there is one, and hands on and flushes all that was printed.
 fn carry_out_end<W: Write, D: Disk, P: Peripheral + Ends>(
     alloc: Global,
-    held: &LineBuffer,
+    buffer: &LineBuffer,
     writer: &mut AnswerWriter<W>,
     counter: &mut Counter<D, P>,
     names: &mut Names,
@@ -124,12 +125,12 @@ fn carry_out_end<W: Write, D: Disk, P: Peripheral + Ends>(
     requires sound { IsCounterSound P.Peripheral counter.old }
     requires spares { AreSparesSound P.Peripheral spares.old }
     ensures end { CarriesOutEnd D.Disk P.Peripheral counter.old (session_of P.Peripheral names.old spares.old)
-        held.now (writing_of W.contents writer.old) (writing_of W.contents writer.new) result
+        buffer.now (writing_of W.contents writer.old) (writing_of W.contents writer.new) result
         (session_of P.Peripheral names.new spares.new) counter.new }
     ensures sound { IsCounterSound P.Peripheral counter.new }
     ensures spares { AreSparesSound P.Peripheral spares.new }
 {
-    let Ok(()) = carry_out_last(alloc, held, writer, counter, names, spares) else {
+    let Ok(()) = carry_out_last(alloc, buffer, writer, counter, names, spares) else {
         return Err(WriteFault);
     };
     match writer.flush() {
@@ -142,14 +143,14 @@ fn carry_out_end<W: Write, D: Disk, P: Peripheral + Ends>(
 /// each read, and at the end.
 fn carry_out_script<R: Read, W: Write, D: Disk, P: Peripheral + Ends>(
     alloc: Global,
-    held: &mut LineBuffer,
+    buffer: &mut LineBuffer,
     reader: &mut ScriptReader<R>,
     writer: &mut AnswerWriter<W>,
     counter: &mut Counter<D, P>,
     names: &mut Names,
     spares: &mut Spares<P>,
 ) -> Result<(), RunFault>
-    requires empty { StandsFor held.old [] }
+    requires empty { StandsFor buffer.old [] }
     requires sound { IsCounterSound P.Peripheral counter.old }
     requires spares { AreSparesSound P.Peripheral spares.old }
     ensures script { RunsScript (IsRun D.Disk P.Peripheral) counter.old
@@ -168,13 +169,20 @@ fn carry_out_script<R: Read, W: Write, D: Disk, P: Peripheral + Ends>(
             return Err(RunFault::Read);
         };
         if count == 0 {
-            return match carry_out_end(alloc, held, writer, counter, names, spares) {
+            return match carry_out_end(alloc, buffer, writer, counter, names, spares) {
                 Ok(()) => Ok(()),
                 Err(WriteFault) => Err(RunFault::Write),
             };
         }
-        let Ok(()) = carry_out_piece(alloc, &piece[..count], held, writer, counter, names, spares)
-        else {
+        let Ok(()) = carry_out_piece(
+            alloc,
+            &piece[..count],
+            buffer,
+            writer,
+            counter,
+            names,
+            spares,
+        ) else {
             return Err(RunFault::Write);
         };
     }
@@ -204,11 +212,17 @@ pub fn run<R: Read, W: Write, D: Disk, P: Peripheral + Ends>(
     ensures sound { IsCounterSound P.Peripheral counter.new }
     ensures spares { AreSparesSound P.Peripheral spares.new }
 {
-    let Ok(mut held) = LineBuffer::new(alloc) else {
+    let Ok(mut buffer) = LineBuffer::new(alloc) else {
         return Err(RunFault::NoMemory);
     };
     let mut names = Names::new(alloc);
     carry_out_script(
-        alloc, &mut held, reader, writer, counter, &mut names, spares,
+        alloc,
+        &mut buffer,
+        reader,
+        writer,
+        counter,
+        &mut names,
+        spares,
     )
 }

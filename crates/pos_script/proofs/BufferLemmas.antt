@@ -1,14 +1,18 @@
 -- What a line buffer keeps of a line as it goes on, at its line feed, and at the end of the input.
-use Rattle.std.proofs.Common.{◌≡◌, ◌++◌, ◌∷◌, ℕ, ◌+◌, ◌-◌, ◌<◌, ◌≤◌, List, [], Bool, true, false, cond, eqb, leb, length, get_or, take, drop, ap, sym, ◌∙◌, subst, refl, arith, ◌&&◌, ◌||◌, append-nil, length-append, take-append-drop, append_assoc, true≢false}
+use Rattle.std.proofs.Common.{◌≡◌, ◌++◌, ◌∷◌, ℕ, ◌+◌, ◌-◌, ◌<◌, ◌≤◌, List, [], Bool, true, false, cond, eqb, leb, length, get_or, take, drop, ap, sym, ◌∙◌}
+use Rattle.std.proofs.Common.{subst, refl, arith, ◌&&◌, ◌||◌, append-nil, length-append, take-append-drop, append_assoc, true≢false}
 use Rattle.std.specs.Prelude.{MatchBool}
 use Rattle.std.proofs.lemmas.List.{drop_more, get_or-append-add, length-take, take_all, take_rest}
 use Rattle.std.proofs.Math.Seq.{take-append-add}
-use Rattle.std.proofs.lemmas.List.Folds.{list_all-append}
+use Rattle.std.proofs.lemmas.List.Folds.{list_all-append, list_all_at}
 use Rattle.std.proofs.lemmas.Bool.Decides.{nat_tests}
+use Rattle.pos_script.specs.declared.line_buffer.EndedLine.TheVariants as ended
+use Rattle.pos_script.specs.declared.line_buffer.Line.{Line}
 use Rattle.pos_script.specs.declared.line_buffer.Look.{Look}
 use Rattle.pos_script.specs.declared.line_buffer.Look.TheVariants as look
 use Rattle.pos_script.specs.Lines.{pieces, complete_lines, unfinished, lines_of, last_line, without_cr, is_nothing, is_plain, is_space, is_quiet}
-use Rattle.pos_script.specs.LineBuffers.{Kept, Whole, TooLong, EndsInput, EndsLine, IsHeld, StandsFor, are_plain, have_no_feed, is_blank, is_comment, is_no_feed, is_quiet_look, kept_ended, kept_of, kept_with, look_ended, look_from, look_of, look_with}
+use Rattle.pos_script.specs.LineBuffers.{Kept, Whole, TooLong, EndsInput, EndsLine, IsHeld, IsLine, StandsFor, are_plain, have_no_feed, is_blank, is_comment}
+use Rattle.pos_script.specs.LineBuffers.{is_kept_nothing, is_no_feed, is_quiet_look, kept_ended, kept_of, kept_with, look_ended, look_from, look_of, look_with}
 use Rattle.pos_script.proofs.LineLemmas.{adds_lines, adds_rest, ends_lines, ends_rest, two_parts}
 
 cond_behind : (t : Bool) (xs ys zs : List ℕ) → cond t (xs ++ ys) (xs ++ zs) ≡ xs ++ cond t ys zs
@@ -120,11 +124,6 @@ held_last_cases false line is = (grind (arith, nat_tests), quiet_is line ∙ las
 held_last : (line : List ℕ) → IsHeld (kept_of line) line
 held_last line = held_last_cases (leb (length line) 140001) line refl
 
--- whether nothing is kept
-abbrev pub is_kept_nothing : Kept → Bool
-is_kept_nothing (Whole bytes) = is_nothing bytes
-is_kept_nothing (TooLong look) = false
-
 pub nothing_long : (xs : List ℕ) → eqb (length xs) 0 ≡ is_nothing xs
 nothing_long [] = refl
 nothing_long (x ∷ xs) = grind (arith, nat_tests)
@@ -164,20 +163,46 @@ feeds_all read piece n old new free is adds stands =
       adds_to read piece old new (ap have_no_feed (sym all) ∙ free) (adds ∙ ap (λ bs. kept_with old bs) all) stands,
     )
 
+nothing_is : (xs : List ℕ) → is_nothing xs ≡ true → xs ≡ []
+nothing_is [] h = refl
+nothing_is (x ∷ xs) h = absurd (true≢false (sym h))
+
+-- a piece whose first line feed stands at a place: what is before it, with it, and what is behind it
+cut_at : (piece : List ℕ) (n : ℕ) → n < length piece → get_or piece n 0 ≡ 10
+    → piece ≡ (take n piece ++ 10 ∷ []) ++ take (length piece - (n + 1)) (drop (n + 1) piece)
+cut_at piece n lt feed =
+    let front = take n piece in
+    sym (take-append-drop n piece) ∙ ap (λ x. front ++ x) (drop_more piece n 0 lt ∙ ap (λ b. b ∷ drop (n + 1) piece) feed)
+    ∙ sym (append_assoc front (10 ∷ []) (drop (n + 1) piece)) ∙ ap (λ x. (front ++ 10 ∷ []) ++ x) (sym (take_rest piece (n + 1)))
+
+-- where nothing is kept, a piece with its first line feed at a place, before which this line stands
+pub feeds_whole : (read piece : List ℕ) (n : ℕ) (kept : Kept) (line : Line) → have_no_feed (take n piece) ≡ true → n < length piece → get_or piece n 0 ≡ 10
+    → is_kept_nothing kept ≡ true → IsLine line (without_cr (take n piece)) → StandsFor kept read
+    → (taken : List ℕ) × (piece ≡ taken ++ take (length piece - (n + 1)) (drop (n + 1) piece)) × EndsLine read taken (ended.InPiece line) kept
+feeds_whole read piece n kept line free lt feed nothing is stands =
+    let front = take n piece in
+    let none : unfinished read ≡ [] = nothing_is (unfinished read) (sym (nothing_kept (unfinished read)) ∙ ap is_kept_nothing (sym stands) ∙ nothing) in (
+      front ++ 10 ∷ [],
+      cut_at piece n lt feed,
+      (
+        without_cr (unfinished read ++ front),
+        ends_lines read front free,
+        ends_rest read front free,
+        subst (λ u. IsLine line (without_cr (u ++ front))) (sym none) is,
+      ),
+    )
+
 -- a piece with its first line feed at a place
 pub feeds_line : (read piece : List ℕ) (n : ℕ) (old mid new : Kept) → have_no_feed (take n piece) ≡ true → n < length piece → get_or piece n 0 ≡ 10
     → mid ≡ kept_with old (take n piece) → new ≡ kept_ended mid → StandsFor old read
-    → (taken : List ℕ) × (piece ≡ taken ++ take (length piece - (n + 1)) (drop (n + 1) piece)) × EndsLine read taken new
+    → (taken : List ℕ) × (piece ≡ taken ++ take (length piece - (n + 1)) (drop (n + 1) piece)) × EndsLine read taken ended.Held new
 feeds_line read piece n old mid new free lt feed adds ends stands =
     let front = take n piece in
     let line = unfinished read ++ front in
-    let cut : piece ≡ (front ++ 10 ∷ []) ++ drop (n + 1) piece =
-    sym (take-append-drop n piece) ∙ ap (λ x. front ++ x) (drop_more piece n 0 lt ∙ ap (λ b. b ∷ drop (n + 1) piece) feed)
-    ∙ sym (append_assoc front (10 ∷ []) (drop (n + 1) piece)) in
     let held : new ≡ kept_ended (kept_of line) =
     ends ∙ ap kept_ended (adds ∙ ap (λ k. kept_with k front) stands ∙ kept_more (unfinished read) front) in (
       front ++ 10 ∷ [],
-      cut ∙ ap (λ x. (front ++ 10 ∷ []) ++ x) (sym (take_rest piece (n + 1))),
+      cut_at piece n lt feed,
       (without_cr line, ends_lines read front free, ends_rest read front free, subst (λ k. IsHeld k (without_cr line)) (sym held) (held_ended line)),
     )
 
@@ -188,3 +213,15 @@ plain_byte b h = grind (arith, nat_tests)
 pub plain_no_feed : (bytes : List ℕ) → are_plain bytes ≡ true → have_no_feed bytes ≡ true
 plain_no_feed [] h = refl
 plain_no_feed (b ∷ bs) h = rw (plain_byte b (front_true (is_plain b) (are_plain bs) h)) (plain_no_feed bs (back_true (is_plain b) (are_plain bs) h))
+
+whole_cases : (t : Bool) (bytes : List ℕ) → eqb (get_or bytes (length bytes - 1) 0) 13 ≡ t → are_plain bytes ≡ true
+    → cond t (take (length bytes - 1) bytes) bytes ≡ bytes
+whole_cases false bytes is h = refl
+whole_cases true [] is h = refl
+whole_cases true (b ∷ bs) is h =
+    let last : get_or (b ∷ bs) (length (b ∷ bs) - 1) 0 ≡ 13 = grind (arith, nat_tests) in
+    absurd (true≢false (sym h ∙ list_all_at is_plain (b ∷ bs) (length (b ∷ bs) - 1) 0 (omega arith) (ap is_plain last)))
+
+-- plain bytes have no carriage return at their end
+pub plain_whole : (bytes : List ℕ) → are_plain bytes ≡ true → without_cr bytes ≡ bytes
+plain_whole bytes h = whole_cases (eqb (get_or bytes (length bytes - 1) 0) 13) bytes refl h

@@ -4,3 +4,4 @@ pub mod BufferLemmas
 pub mod WriteLemmas
 pub mod ReceiptLemmas
 pub mod Readings
+pub mod WordLemmas

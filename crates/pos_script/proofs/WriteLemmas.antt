@@ -1,5 +1,6 @@
 -- Texts that are written one after another.
-use Rattle.std.proofs.Common.{◌≡◌, ◌++◌, ◌∷◌, ◌∙◌, [], ℕ, ◌+◌, ◌<◌, List, Option, length, get_or, take, drop, sym, ap, refl, append_assoc, take-append-drop, flat_map, length-append, arith}
+use Rattle.std.proofs.Common.{◌≡◌, ◌++◌, ◌∷◌, ◌∙◌, [], ℕ, ◌+◌, ◌<◌, List, Option, length, get_or, take, drop, sym, ap, refl, append_assoc, take-append-drop}
+use Rattle.std.proofs.Common.{flat_map, length-append, arith}
 use Rattle.std.specs.Prelude.{Result, Ok, Err}
 use Rattle.std.specs.Io.KnownBytes.{Appends}
 use Rattle.std.proofs.lemmas.List.{drop_more}

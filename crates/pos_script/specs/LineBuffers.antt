@@ -2,11 +2,13 @@
 use Rattle.std.specs.Prelude.{◌≡◌, ◌<◌, ◌++◌, ℕ, Bool, true, false, not, List, [], ◌∷◌, Option, Some, None, length, nat_le, ◌==◌, if◌then◌else◌, MatchOption}
 use Rattle.std.specs.Bool.{MatchBool}
 use Rattle.std.specs.List.{list_all}
-use Rattle.pos_script.specs.Lines.{complete_lines, unfinished, lines_of, without_cr, is_plain, is_space, is_quiet, is_well_spelled}
+use Rattle.pos_script.specs.Lines.{complete_lines, unfinished, lines_of, without_cr, is_nothing, is_plain, is_space, is_quiet, is_well_spelled}
 use Rattle.pos_script.specs.declared.line_buffer.Look.{Look}
 use Rattle.pos_script.specs.declared.line_buffer.Look.TheVariants as look
 use Rattle.pos_script.specs.declared.line_buffer.Line.{Line}
 use Rattle.pos_script.specs.declared.line_buffer.Line.TheVariants as line
+use Rattle.pos_script.specs.declared.line_buffer.EndedLine.{EndedLine}
+use Rattle.pos_script.specs.declared.line_buffer.EndedLine.TheVariants as ended
 
 -- how many bytes of a line are kept: those of the longest line that isn't refused, and a carriage return
 abbrev pub most_kept : ℕ
@@ -94,26 +96,19 @@ kept_ended (TooLong look) = TooLong (look_ended look)
 abbrev pub StandsFor : Kept → List ℕ → Type 0
 StandsFor kept read = kept ≡ kept_of (unfinished read)
 
+-- whether nothing is kept
+abbrev pub is_kept_nothing : Kept → Bool
+is_kept_nothing (Whole bytes) = is_nothing bytes
+is_kept_nothing (TooLong look) = false
+
 -- what is kept is a line, or of one that is too long what decides whether it is quiet
 abbrev pub IsHeld : Kept → List ℕ → Type 0
 IsHeld (Whole bytes) line = bytes ≡ line
 IsHeld (TooLong look) line = (140000 < length line) × (is_quiet line ≡ is_quiet_look look)
 
--- behind what was read these bytes end a line, which is held then
-abbrev pub EndsLine : List ℕ → List ℕ → Kept → Type 0
-EndsLine read bytes kept =
-    (line : List ℕ) × (complete_lines (read ++ bytes) ≡ complete_lines read ++ line ∷ [])
-    × (unfinished (read ++ bytes) ≡ []) × IsHeld kept line
-
 -- behind what was read these bytes end no line
 abbrev pub EndsNone : List ℕ → List ℕ → Kept → Type 0
 EndsNone read bytes kept = (complete_lines (read ++ bytes) ≡ complete_lines read) × StandsFor kept (read ++ bytes)
-
--- what is kept after a piece behind what was read: of a piece that ends a line the rest is left, and else nothing
-abbrev pub Feeds : List ℕ → List ℕ → Option (List ℕ) → Kept → Type 0
-Feeds read piece left kept =
-    MatchOption left (EndsNone read piece kept)
-    (λ rest. (taken : List ℕ) × (piece ≡ taken ++ rest) × EndsLine read taken kept)
 
 -- whether there is a last line, which lacks its line feed; it is held where there is
 abbrev pub EndsInput : List ℕ → Bool → Kept → Type 0
@@ -127,3 +122,21 @@ IsLine line.Quiet bytes = is_quiet bytes ≡ true
 IsLine line.Misspelled bytes = (is_quiet bytes ≡ false) × (is_well_spelled bytes ≡ false)
 IsLine (line.Words words) bytes =
     (is_quiet bytes ≡ false) × (is_well_spelled bytes ≡ true) × (words.now ≡ bytes)
+
+-- a line that a piece ended is what is kept, or is given
+abbrev pub IsEnded : EndedLine → Kept → List ℕ → Type 0
+IsEnded ended.Held kept bytes = IsHeld kept bytes
+IsEnded (ended.InPiece given) kept bytes = IsLine given bytes
+
+-- behind what was read these bytes end a line
+abbrev pub EndsLine : List ℕ → List ℕ → EndedLine → Kept → Type 0
+EndsLine read bytes ended kept =
+    (line : List ℕ) × (complete_lines (read ++ bytes) ≡ complete_lines read ++ line ∷ [])
+    × (unfinished (read ++ bytes) ≡ []) × IsEnded ended kept line
+
+-- what is kept after a piece behind what was read: of a piece that ends a line the line is told and the rest is left,
+-- and else nothing
+abbrev pub Feeds : List ℕ → List ℕ → Option (EndedLine × List ℕ) → Kept → Type 0
+Feeds read piece found kept =
+    MatchOption found (EndsNone read piece kept)
+    (λ left. (taken : List ℕ) × (piece ≡ taken ++ left.1) × EndsLine read taken left.0 kept)

@@ -356,6 +356,7 @@ fn read_behind_verb<'a>(
 /// What the words of a well spelled line ask that isn't quiet. WrongShape is answered where its shape is wrong, before
 /// any memory is asked for (docs/CONSOLE.md, "Lines", "Methods" and "Words"), and NoMemory where there is none for what
 /// a call or an input keeps of it.
+#[inline(always)]
 pub fn read_words(alloc: Global, line: &[u8]) -> Result<Command<'_>, LineFault>
     ensures { Reads (request_of_words (words_of line.now)) result }
 {

@@ -17,7 +17,7 @@ mod write;
 pub use arguments::LineFault;
 pub use command::{Command, read_words};
 pub use laws::{lines_fall_in_two, lines_go_on};
-pub use line_buffer::{Line, LineBuffer};
+pub use line_buffer::{EndedLine, Line, LineBuffer};
 pub use print::print_line;
 pub use reply::Reply;
 pub use write::WriteFault;

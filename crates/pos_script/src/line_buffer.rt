@@ -1,7 +1,7 @@
 //! A script that comes in pieces, line by line.
 ghost use Rattle.std.specs.Prelude.{◌≡◌, ◌<◌, ◌≤◌, ◌++◌, [], ℕ, true, false, List, length, take, slice_index, option_map, IfOk, IfSome};
 ghost use Rattle.pos_script.specs.Lines.{is_plain, unfinished, without_cr};
-ghost use Rattle.pos_script.specs.LineBuffers.{EndsInput, Feeds, IsHeld, IsLine, StandsFor, are_plain, have_no_feed, is_blank, is_quiet_look, kept_ended, kept_with, look_ended, look_from, look_of, look_with};
+ghost use Rattle.pos_script.specs.LineBuffers.{EndsInput, Feeds, IsEnded, IsHeld, IsLine, StandsFor, are_plain, have_no_feed, is_blank, is_kept_nothing, is_quiet_look, kept_ended, kept_with, look_ended, look_from, look_of, look_with};
 
 use crate::lines::{all_plain, all_spaces, is_plain_byte, is_quiet_line, strip_cr};
 use pos_service::NoMemory;
@@ -34,6 +34,15 @@ pub enum Line<'a> {
     Misspelled,
     /// It is well spelled, and these are its bytes.
     Words(&'a [u8]),
+}
+
+/// Where a line is that a piece ended.
+#[derive(Clone, Copy)]
+pub enum EndedLine<'a> {
+    /// The buffer holds it.
+    Held,
+    /// The piece has it whole, and nothing of it was put into the buffer.
+    InPiece(Line<'a>),
 }
 
 /// Whether eight bytes are plain, all looked at together.
@@ -174,6 +183,32 @@ fn is_passed_over(look: Look) -> bool
     }
 }
 
+/// The line of these bytes, of which it is said whether all are plain.
+fn line_of(bytes: &[u8], is_plain: bool) -> Line<'_>
+    requires { is_plain ≡ are_plain bytes.now }
+    ensures { IsLine result bytes.now }
+{
+    if is_quiet_line(bytes) {
+        return Line::Quiet;
+    }
+    if bytes.len() <= 140_000 && is_plain {
+        return Line::Words(bytes);
+    }
+    Line::Misspelled
+}
+
+/// The line of these bytes before a line feed, of which it is said whether all are plain.
+fn line_at_feed(bytes: &[u8], is_plain: bool) -> Line<'_>
+    requires { is_plain ≡ are_plain bytes.now }
+    ensures { IsLine result (without_cr bytes.now) }
+{
+    if is_plain {
+        return line_of(bytes, true);
+    }
+    let line = strip_cr(bytes);
+    line_of(line, all_plain(line))
+}
+
 /// What was read of a line of a script, which comes in pieces (docs/CONSOLE.md, "Lines"). Want of memory is met when it
 /// is made, and never later.
 #[derive(Drop)]
@@ -211,20 +246,35 @@ impl LineBuffer {
     }
 
     /// Takes from a piece, which comes behind what was read, the bytes up to and with the first line feed, and gives
-    /// what it leaves: then a line is held, until the buffer is cleared for the next. Takes all of a piece without a
-    /// line feed, and gives nothing.
-    pub fn feed<'a>(&mut self, piece: &'a [u8]) -> Option<&'a [u8]>
+    /// the line that they end and what it leaves: then the line is held, if the piece doesn't have all of it, until the
+    /// buffer is cleared for the next. Takes all of a piece without a line feed, and gives nothing.
+    #[inline(always)]
+    pub fn feed<'a>(&mut self, piece: &'a [u8]) -> Option<(EndedLine<'a>, &'a [u8])>
         ensures lines { (read : List ℕ) → StandsFor self.old read
-            → Feeds read piece.now (option_map (λ rest. rest.now) result) self.new }
-        ensures shorter { IfSome result (λ rest. length rest.now < length piece.now) }
+            → Feeds read piece.now (option_map (λ found. (found.0, found.1.now)) result) self.new }
+        ensures shorter { IfSome result (λ found. length found.1.now < length piece.now) }
     {
         let (end, is_plain) = find_end(piece);
+        if end < piece.len() && self.is_empty() {
+            let line = line_at_feed(&piece[..end], is_plain);
+            return Some((EndedLine::InPiece(line), &piece[end + 1..]));
+        }
         self.add(&piece[..end], is_plain);
         if end == piece.len() {
             return None;
         }
         self.end_line();
-        Some(&piece[end + 1..])
+        Some((EndedLine::Held, &piece[end + 1..]))
+    }
+
+    /// A line that a piece ended.
+    pub fn ended_line<'a>(&'a self, ended: EndedLine<'a>) -> Line<'a>
+        ensures { (line : List ℕ) → IsEnded ended.entry self.now line → IsLine result line }
+    {
+        match ended {
+            EndedLine::Held => self.line(),
+            EndedLine::InPiece(line) => line,
+        }
     }
 
     /// Adds bytes to a line, of which it is said whether all are plain.
@@ -259,7 +309,8 @@ impl LineBuffer {
 
     /// Whether nothing is held: at the end of the input, whether there is no last line that lacks its line feed.
     pub fn is_empty(&self) -> bool
-        ensures { (read : List ℕ) → StandsFor self.now read → EndsInput read result self.now }
+        ensures kept { result ≡ is_kept_nothing self.now }
+        ensures end { (read : List ℕ) → StandsFor self.now read → EndsInput read result self.now }
     {
         match self.passed {
             Some(_) => false,
@@ -278,14 +329,7 @@ impl LineBuffer {
                 Line::Misspelled
             };
         }
-        let bytes = self.bytes.as_slice();
-        if is_quiet_line(bytes) {
-            return Line::Quiet;
-        }
-        if bytes.len() <= 140_000 && self.is_plain {
-            return Line::Words(bytes);
-        }
-        Line::Misspelled
+        line_of(self.bytes.as_slice(), self.is_plain)
     }
 
     /// Makes room for the next line.

@@ -225,6 +225,7 @@ fn print_detach_fault<W: Write>(writer: &mut W, fault: DetachFault) -> Result<()
 }
 
 /// Writes what a counter answers.
+#[inline(always)]
 fn print_response<W: Write>(writer: &mut W, response: Response<()>) -> Result<(), WriteFault>
     ensures { Writes (W.contents writer.old) (W.contents writer.new) (response_text response ++ 10 ∷ []) result }
 {
@@ -247,6 +248,7 @@ fn print_response<W: Write>(writer: &mut W, response: Response<()>) -> Result<()
 }
 
 /// Writes the reply to a line, as a line of its own.
+#[inline(always)]
 fn print_reply<W: Write>(writer: &mut W, reply: Reply) -> Result<(), WriteFault>
     ensures { Writes (W.contents writer.old) (W.contents writer.new) (reply_text reply ++ 10 ∷ []) result }
 {

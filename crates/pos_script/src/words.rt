@@ -7,11 +7,15 @@ ghost use Rattle.pos_script.specs.Words.{value_named, property_named, scanner_pr
 use pos_service::{Bytes, ErrorReply, NoMemory, Property, Value};
 use std::alloc::Global;
 
-/// Whether a word is this text.
+/// Whether a word is this text. In place where it is asked, so that a text of few bytes is compared at once.
+#[inline(always)]
 pub fn is(word: &[u8], text: &str) -> bool
     ensures { result ≡ bytes_eq word.now text.now }
 {
-    word == text.as_bytes()
+    if word.len() != text.len() {
+        return false;
+    }
+    word.starts_with(text.as_bytes())
 }
 
 fn is_digit_byte(b: u8) -> bool

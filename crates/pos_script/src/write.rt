@@ -9,7 +9,7 @@ use std::io::Write;
 pub struct WriteFault;
 
 /// Writes all bytes, and stops at the first write that fails or takes none.
-pub fn write_bytes<W: Write>(writer: &mut W, bytes: &[u8]) -> Result<(), WriteFault>
+fn write_rest<W: Write>(writer: &mut W, bytes: &[u8]) -> Result<(), WriteFault>
     ensures { Writes (W.contents writer.old) (W.contents writer.new) bytes.now result }
 {
     let mut rest = bytes;
@@ -23,7 +23,29 @@ pub fn write_bytes<W: Write>(writer: &mut W, bytes: &[u8]) -> Result<(), WriteFa
     Ok(())
 }
 
+/// Writes all bytes, and stops at the first write that fails or takes none. Most often one write takes them all: so
+/// that is looked at first, in place where it is asked.
+#[inline(always)]
+pub fn write_bytes<W: Write>(writer: &mut W, bytes: &[u8]) -> Result<(), WriteFault>
+    ensures { Writes (W.contents writer.old) (W.contents writer.new) bytes.now result }
+{
+    if bytes.is_empty() {
+        return Ok(());
+    }
+    let Ok(count) = writer.write(bytes) else {
+        return Err(WriteFault);
+    };
+    if count == bytes.len() {
+        return Ok(());
+    }
+    if count == 0 {
+        return Err(WriteFault);
+    }
+    write_rest(writer, &bytes[count..])
+}
+
 /// Writes texts one after another.
+#[inline(always)]
 pub fn write_parts<W: Write>(writer: &mut W, parts: &[&str]) -> Result<(), WriteFault>
     ensures { Writes (W.contents writer.old) (W.contents writer.new) (flat_map (λ part. part.now) parts.now) result }
 {

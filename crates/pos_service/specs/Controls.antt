@@ -12,7 +12,8 @@ use Rattle.pos_service.specs.declared.code.Code.{Code}
 use Rattle.pos_service.specs.declared.order.Order.{Order}
 use Rattle.pos_service.specs.declared.scan.Scan.{Scan}
 use Rattle.pos_service.specs.Displays.{default_cursor}
-use Rattle.pos_service.specs.Events.{EventList, Enqueued, Data, Error, Complete, no_events, event_of, scan_of, enqueued, all_enqueued, input_cleared, input_failed, output_cleared}
+use Rattle.pos_service.specs.Events.{EventList, Enqueued, Data, Error, Complete, no_events, event_of, scan_of, enqueued, all_enqueued, input_cleared}
+use Rattle.pos_service.specs.Events.{input_failed, output_cleared}
 use Rattle.pos_service.specs.Events.{deliverable as deliverable_in, delivered as delivered_in}
 use Rattle.pos_service.specs.Output.{Output, is_outstanding, no_output, with_request, request_done, request_failed, output_deleted, output_after}
 

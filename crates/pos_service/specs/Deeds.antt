@@ -1,6 +1,7 @@
 -- What a call comes to that nothing refuses, at a device with a peripheral (common chapter, and those of the
 -- categories).
-use Rattle.std.specs.Prelude.{◌≡◌, ◌⊎◌, ⊤, Bool, true, false, ℕ, ◌==◌, List, [], ◌∷◌, Option, Some, None, Result, IsTrue, MatchOption, MatchResult, slice_get, slice_set}
+use Rattle.std.specs.Prelude.{◌≡◌, ◌⊎◌, ⊤, Bool, true, false, ℕ, ◌==◌, List, [], ◌∷◌, Option, Some, None, Result, IsTrue, MatchOption, MatchResult, slice_get}
+use Rattle.std.specs.Prelude.{slice_set}
 use Rattle.pos_service.specs.declared.answer.Answer.{Answer}
 use Rattle.pos_service.specs.declared.answer.Answer.TheVariants as answer
 use Rattle.pos_service.specs.declared.answer.Value.TheVariants as value
@@ -22,7 +23,7 @@ use Rattle.pos_service.specs.Controls.{Control, all_listening, queued, with_plac
 use Rattle.pos_service.specs.Output.{last_output_id}
 use Rattle.pos_service.specs.Peripherals.{Performs, PrintersTake, Rose, counted, order_fits, signs_of}
 use Rattle.pos_service.specs.Refusals.{Row, Decided, first_refusal, when}
-use Rattle.pos_service.specs.Stations.{Station, SameStation, Effect}
+use Rattle.pos_service.specs.Hardware.{Hardware, SameHardware, Effect}
 use Rattle.pos_service.specs.Statuses.{heard_signs}
 
 -- One more order was given than before; or, where memory was wanted before there was room for what comes of it, none.
@@ -33,22 +34,22 @@ GivesOne outcome old new = MatchResult outcome
 
 -- The peripheral has carried out an order, and each control that listens hears the statuses that have changed.
 pub record CarriedOut (given : Order) (place : ℕ)
-    (old : List Control) (before : Station) (new : List Control) (after : Station) : Type 0 where
+    (old : List Control) (before : Hardware) (new : List Control) (after : Hardware) : Type 0 where
   pub plant : Performs given before.plant reply.Done after.plant
-  pub station : after ≡ record before { plant = after.plant }
+  pub hardware : after ≡ record before { plant = after.plant }
   pub controls : new ≡ all_listening place
       (heard_signs (signs_of before.kind before.plant) (signs_of after.kind after.plant)) old
 
 -- The peripheral has said why it does nothing, and nothing has changed.
 pub record Hindered (given : Order) (said : Reply)
-    (old : List Control) (before : Station) (new : List Control) (after : Station) : Type 0 where
+    (old : List Control) (before : Hardware) (new : List Control) (after : Hardware) : Type 0 where
   pub plant : Performs given before.plant said after.plant
-  pub same : SameStation old before new after
+  pub same : SameHardware old before new after
 
 -- The line to the device fails, and nothing else changes.
-pub record LineFailed (old : List Control) (before : Station) (new : List Control) (after : Station) : Type 0 where
+pub record LineFailed (old : List Control) (before : Hardware) (new : List Control) (after : Hardware) : Type 0 where
   pub failures : Rose before.failures after.failures
-  pub station : after ≡ record before { failures = after.failures }
+  pub hardware : after ≡ record before { failures = after.failures }
   pub controls : new ≡ old
 
 -- What comes of an order that the peripheral says this to.
@@ -88,7 +89,7 @@ Follows reply.Offline what number old new = new ≡ old
 -- The peripheral is given an order; it says something to it, and the controls that listen hear what has changed; then
 -- the control with the number changes, where the order was done.
 pub record GivesOrder (given : Order) (what : Change) (number place : ℕ) (result : Answer)
-    (old : List Control) (before : Station) (new : List Control) (after : Station) : Type 0 where
+    (old : List Control) (before : Hardware) (new : List Control) (after : Hardware) : Type 0 where
   pub said : Reply
   pub heard : List Control
   pub ordered : Ordered given place said old before heard after
@@ -97,17 +98,17 @@ pub record GivesOrder (given : Order) (what : Change) (number place : ℕ) (resu
 
 -- The control with a number has changed, which is done and gives nothing, and nothing else changes.
 pub record ChangesItself (what : Change) (number : ℕ) (result : Answer)
-    (old : List Control) (before : Station) (new : List Control) (after : Station) : Type 0 where
+    (old : List Control) (before : Hardware) (new : List Control) (after : Hardware) : Type 0 where
   pub done : result ≡ answer.Done value.Empty
   pub controls : ChangesOne (changed what) number old new
-  pub station : after ≡ before
+  pub hardware : after ≡ before
 
 -- The request of the control with a number is queued behind its others, and nothing else changes.
 pub record Queued (given : Order) (number : ℕ) (result : Answer)
-    (old : List Control) (before : Station) (new : List Control) (after : Station) : Type 0 where
+    (old : List Control) (before : Hardware) (new : List Control) (after : Hardware) : Type 0 where
   pub done : result ≡ answer.Done value.Empty
   pub controls : ChangesOne (queued given) number old new
-  pub station : after ≡ before
+  pub hardware : after ≡ before
 
 -- the refusal of a request for which no OutputID is left
 abbrev pub id_rows : Control → List Row
@@ -116,7 +117,7 @@ id_rows control = when (control.writer.output.next == last_output_id) code.Failu
 -- A request of the control with a number is queued, where an OutputID is left for it.
 abbrev pub QueuesOrder : Order → ℕ → Answer → Effect
 QueuesOrder given number result old before new after = MatchOption (slice_get old number) ⊥ (λ control.
-    Decided (id_rows control) result (SameStation old before new after)
+    Decided (id_rows control) result (SameHardware old before new after)
     (Queued given number result old before new after))
 
 -- What the call of the control with a number comes to, with the device at a place.

@@ -19,5 +19,5 @@ pub mod Receipts
 pub mod Refusals
 pub mod Requests
 pub mod ScannerCalls
-pub mod Stations
+pub mod Hardware
 pub mod Statuses

@@ -1,6 +1,7 @@
 -- The calls of a receipt printer, and the work on the output that waits for it (chapter POS Printer, and common
 -- chapter, asynchronous output and error handling).
-use Rattle.std.specs.Prelude.{◌≡◌, ℕ, ℤ, pos, negsuc, nat_abs, Bool, false, not, ◌&&◌, ◌==◌, List, [], ◌∷◌, Option, Some, None, Result, Ok, MatchOption, MatchResult, slice_get, if◌then◌else◌}
+use Rattle.std.specs.Prelude.{◌≡◌, ℕ, ℤ, pos, negsuc, nat_abs, Bool, false, not, ◌&&◌, ◌==◌, List, [], ◌∷◌, Option, Some, None, Result, Ok, MatchOption}
+use Rattle.std.specs.Prelude.{MatchResult, slice_get, if◌then◌else◌}
 use Rattle.std.specs.Option.{option_map, option_and_then}
 use Rattle.pos_service.specs.declared.call.Call.{Call}
 use Rattle.pos_service.specs.declared.call.Call.TheVariants as call
@@ -24,7 +25,7 @@ use Rattle.pos_service.specs.Numbers.{is_up_to}
 use Rattle.pos_service.specs.Output.{is_outstanding, request_to_do}
 use Rattle.pos_service.specs.Receipts.{is_printable_text}
 use Rattle.pos_service.specs.Refusals.{Row, when}
-use Rattle.pos_service.specs.Stations.{Station, SameStation, Effect}
+use Rattle.pos_service.specs.Hardware.{Hardware, SameHardware, Effect}
 
 -- the station of the receipt
 abbrev pub is_receipt : ℤ → Bool
@@ -108,7 +109,7 @@ after_work id said control = output_failed (code_by said) (extended_by said) con
 -- A request is worked on: the printer is given its order, and then it is done or has failed. So the statuses that have
 -- changed come before its OutputCompleteEvent.
 pub record WorksOn (due : DueRequest) (place : ℕ) (result : Worked)
-    (old : List Control) (before : Station) (new : List Control) (after : Station) : Type 0 where
+    (old : List Control) (before : Hardware) (new : List Control) (after : Hardware) : Type 0 where
   pub said : Reply
   pub controls : List Control
   pub ordered : Ordered due.given place said old before controls after
@@ -124,7 +125,7 @@ OrdersOfWork outcome old new = GivesOne outcome old new
 -- Memory is wanted for such a request alone, and then nothing changes.
 abbrev pub WorksAt : Option ℕ → ℕ → Result Worked NoMemory → Effect
 WorksAt holder place outcome old before new after = MatchOption (due_request_at before.kind place holder old)
-    ((outcome ≡ Ok worked.Idle) × SameStation old before new after)
+    ((outcome ≡ Ok worked.Idle) × SameHardware old before new after)
     (λ work. MatchResult outcome
     (λ result. WorksOn work place result old before new after)
-    (λ want. SameStation old before new after))
+    (λ want. SameHardware old before new after))

@@ -1,5 +1,6 @@
 -- Laying character by character makes what the chunks of whole segments make.
-use Rattle.std.proofs.Common.{◌≡◌, ◌≢◌, ◌++◌, ◌∷◌, ◌⊎◌, inl, inr, ℕ, suc, zero, ◌<◌, ◌≤◌, List, [], Bool, true, false, cond, take, drop, length, leb, eqb, ap, sym, ◌∙◌, refl, arith, append_assoc, length-drop}
+use Rattle.std.proofs.Common.{◌≡◌, ◌≢◌, ◌++◌, ◌∷◌, ◌⊎◌, inl, inr, ℕ, suc, zero, ◌<◌, ◌≤◌, List, [], Bool, true, false, cond, take, drop, length, leb, eqb, ap}
+use Rattle.std.proofs.Common.{sym, ◌∙◌, refl, arith, append_assoc, length-drop}
 use Rattle.std.proofs.lemmas.Bool.Decides.{nat_tests}
 use Rattle.std.proofs.lemmas.List.{length-map, take_at, drop_at, take-append-le, drop-append-le, length_push}
 use Rattle.pos_service.specs.declared.receipt_text.Alignment.{Alignment}

@@ -1,11 +1,13 @@
 -- A run over the pieces makes what the definition by segments says.
-use Rattle.std.proofs.Common.{◌≡◌, ◌++◌, ◌∷◌, ℕ, suc, ◌+◌, ◌-◌, ◌<◌, ◌≤◌, List, [], Bool, true, false, cond, map, replicate, length, eqb, ap, sym, ◌∙◌, refl, arith, append_assoc}
+use Rattle.std.proofs.Common.{◌≡◌, ◌++◌, ◌∷◌, ℕ, suc, ◌+◌, ◌-◌, ◌<◌, ◌≤◌, List, [], Bool, true, false, cond, map, replicate, length, eqb, ap, sym, ◌∙◌, refl}
+use Rattle.std.proofs.Common.{arith, append_assoc}
 use Rattle.std.proofs.lemmas.Bool.Decides.{nat_tests}
 use Rattle.std.proofs.lemmas.List.{append-nil, length-map, length_push}
 use Rattle.pos_service.specs.declared.receipt_text.PrintedCharacter.{PrintedCharacter}
 use Rattle.pos_service.specs.declared.receipt_text.Piece.{Piece}
 use Rattle.pos_service.specs.declared.receipt_text.Piece.TheVariants as piece
-use Rattle.pos_service.specs.Receipts.{Item, Line, CutAt, Style, plain, SegmentCharacter, in_style, Printout, after_items, characters_of, in_chunks, chunks_of, lines_of, printed_from, lines_needed, printed_by}
+use Rattle.pos_service.specs.Receipts.{Item, Line, CutAt, Style, plain, SegmentCharacter, in_style, Printout, after_items, characters_of, in_chunks, chunks_of}
+use Rattle.pos_service.specs.Receipts.{lines_of, printed_from, lines_needed, printed_by}
 use Rattle.pos_sims.specs.Tapes.{put, pushed, ended, Work, end_line, end_begun, put_character, add_cut, step, steps}
 use Rattle.pos_sims.proofs.ChunkLemmas.{chunked_more, put_behind, chunked_some, fitting}
 use Rattle.std.proofs.lemmas.List.Sums.{fold-append}

@@ -1,8 +1,12 @@
 -- Cells in turn: what a ring shows as its rows are blanked and its first row changes.
-use Rattle.std.proofs.Common.{◌≡◌, ◌++◌, inl, inr, ℕ, ◌+◌, ◌-◌, ◌*◌, ◌<◌, ◌≤◌, List, [], true, false, length, get_or, set, subst, take, drop, ap, sym, ◌∙◌, refl, arith}
+use Rattle.std.proofs.Common.{◌≡◌, ◌++◌, inl, inr, ℕ, ◌+◌, ◌-◌, ◌*◌, ◌<◌, ◌≤◌, List, [], true, false, length, get_or, set, subst, take, drop, ap, sym, ◌∙◌}
+use Rattle.std.proofs.Common.{refl, arith}
 use Rattle.std.specs.Prelude.{replicate, nat_lt, nat_le, if◌then◌else◌}
 use Rattle.std.proofs.lemmas.Bool.Decides.{nat_tests}
-use Rattle.std.proofs.lemmas.List.{append-nil, append_assoc, drop-append-le, drop-drop, drop-set-add, drop-set-lt, drop-take, drop_all, drop_at, get_or-append_right, get_or-drop, get_or-replicate, get_or-take, get_or_append_left, get_or_past, length-append, length-drop, length-replicate, length-take, length-take-le, set-append_left, set-append_right, take-append-drop, take-set-le, take-take, take_all, take_at}
+use Rattle.std.proofs.lemmas.List.{append-nil, append_assoc, drop-append-le, drop-drop, drop-set-add, drop-set-lt, drop-take, drop_all, drop_at}
+use Rattle.std.proofs.lemmas.List.{get_or-append_right, get_or-drop, get_or-replicate, get_or-take, get_or_append_left, get_or_past, length-append, length-drop}
+use Rattle.std.proofs.lemmas.List.{length-replicate, length-take, length-take-le, set-append_left, set-append_right, take-append-drop, take-set-le, take-take}
+use Rattle.std.proofs.lemmas.List.{take_all, take_at}
 use Rattle.std.proofs.Math.Seq.{take-set-lt}
 use Rattle.std.proofs.Math.Nat.{mul-le-mul_right}
 use Rattle.pos_service.specs.declared.display_text.DisplayCell.{DisplayCell}

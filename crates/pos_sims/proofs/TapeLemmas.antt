@@ -1,5 +1,6 @@
 -- Items by marks, and what is added at the end.
-use Rattle.std.proofs.Common.{◌≡◌, ◌++◌, ◌∷◌, ℕ, ◌+◌, ◌-◌, ◌≤◌, List, [], Bool, true, false, cond, take, drop, length, ap, ◌∙◌, refl, arith, append_assoc, length-drop}
+use Rattle.std.proofs.Common.{◌≡◌, ◌++◌, ◌∷◌, ℕ, ◌+◌, ◌-◌, ◌≤◌, List, [], Bool, true, false, cond, take, drop, length, ap, ◌∙◌, refl, arith, append_assoc}
+use Rattle.std.proofs.Common.{length-drop}
 use Rattle.std.proofs.lemmas.List.{take-append-le, drop-append-le, drop-drop, drop_all, take_rest}
 use Rattle.pos_service.specs.declared.receipt_text.Alignment.{Alignment}
 use Rattle.pos_service.specs.declared.receipt_text.PrintedCharacter.{PrintedCharacter}

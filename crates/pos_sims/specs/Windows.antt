@@ -1,9 +1,11 @@
 -- A text on a display's window, as it is laid character by character.
-use Rattle.std.specs.Prelude.{◌≡◌, ℕ, ◌+◌, ◌-◌, ◌*◌, ◌%◌, ◌≤◌, ◌<◌, List, [], length, get_or, nat_lt, nat_le, if◌then◌else◌}
+use Rattle.std.specs.Prelude.{◌≡◌, ℕ, ◌+◌, ◌-◌, ◌*◌, ◌%◌, ◌≤◌, ◌<◌, ◌&&◌, ◌++◌, ◌==◌, Bool, not, List, [], length, take, drop, map, get_or, nat_lt, nat_le}
+use Rattle.std.specs.Prelude.{if◌then◌else◌}
+use Rattle.pos_service.specs.declared.display_text.Attribute.{Attribute}
 use Rattle.pos_service.specs.declared.display_text.DisplayCell.{DisplayCell}
 use Rattle.pos_service.specs.declared.display_text.Place.{Place}
 use Rattle.pos_sims.specs.declared.laying.Manner.{Manner}
-use Rattle.pos_service.specs.Displays.{Display, Strip, rows_above, shown_at, blank, with_text, text_from, IsWindow}
+use Rattle.pos_service.specs.Displays.{Display, Strip, cell_with, rows_above, shown_at, blank, with_text, text_from, IsWindow}
 
 -- the cells of a display, row by row
 abbrev pub Cells : Type 0
@@ -15,6 +17,19 @@ pub record IsWithin (manner : Manner) (cells : List DisplayCell) (place : Place)
   pub some : 1 ≤ manner.columns
   pub row : place.row < manner.rows
   pub column : place.column ≤ manner.columns
+
+-- a display has the size that a text is laid for
+pub record IsOfManner (manner : Manner) (display : Display) : Type 0 where
+  pub rows : display.rows ≡ manner.rows
+  pub columns : display.columns ≡ manner.columns
+
+-- cells over which characters with an attribute stand, from a place on
+abbrev pub with_run_at : ℕ → Attribute → List ℕ → List DisplayCell → List DisplayCell
+with_run_at at attribute run cells = take at cells ++ (map (cell_with attribute) run ++ drop (at + length run) cells)
+
+-- whether a byte of a text is a character: neither a line feed nor a carriage return
+abbrev pub is_character : ℕ → Bool
+is_character b = not (b == 10) && not (b == 13)
 
 -- The cells are the window at the end of the strip, the place is the strip's, and below the window the strip is blank.
 pub record Follows (manner : Manner) (old : Cells) (strip : Strip) (cells : Cells) (place : Place) : Type 0 where

@@ -1,18 +1,24 @@
-ghost use Rattle.std.specs.Prelude.{◌≡◌, ◌<◌, length, set};
+ghost use Rattle.std.specs.Prelude.{◌≡◌, ◌+◌, ◌*◌, ◌<◌, ◌≤◌, length};
 ghost use Rattle.pos_service.specs.Displays.{Display};
-ghost use Rattle.pos_sims.specs.Windows.{SameSize, ShiftsToFront};
+ghost use Rattle.pos_sims.specs.Windows.{SameSize, ShiftsToFront, with_run_at};
 
-use pos_service::display_text::DisplayCell;
+use pos_service::display_text::{Attribute, Place};
 
 /// The cells of a window, as a text is laid on them.
 pub(crate) trait Grid {
     /// The window's size, and its cells row by row.
     ghost shown: { Self → Display };
 
-    /// Puts a cell at a place among the cells.
-    fn put_cell(&mut self, at: usize, cell: DisplayCell)
-        requires { at < length (shown self.old).cells }
-        ensures { shown self.new ≡ record (shown self.old) { cells = set (shown self.old).cells at cell } };
+    /// Puts characters with an attribute into a row, from a place on, one behind the other.
+    fn put_run(&mut self, place: Place, attribute: Attribute, characters: &[u8])
+        requires count { length (shown self.old).cells ≡ (shown self.old).rows * (shown self.old).columns }
+        requires row { place.row < (shown self.old).rows }
+        requires columns { place.column + length characters.now ≤ (shown self.old).columns }
+        requires some { 1 ≤ length characters.now }
+        ensures { shown self.new ≡ record (shown self.old) {
+          cells = with_run_at (place.row * (shown self.old).columns + place.column) attribute characters.now
+              (shown self.old).cells;
+        } };
 
     /// Each row is the one that stood below it, and the last is blank.
     fn feed_row(&mut self)

@@ -1,5 +1,6 @@
-ghost use Rattle.std.specs.Prelude.{◌≡◌, ◌≢◌, ◌<◌, [], ◌∷◌};
-ghost use Rattle.pos_sims.specs.Windows.{IsWithin, Lays, SameSize, ShowsOver};
+ghost use Rattle.std.specs.Prelude.{◌≡◌, ◌+◌, ◌<◌, ◌≤◌, true, false, [], ◌∷◌, length, slice_index, take};
+ghost use Rattle.std.specs.List.{list_all};
+ghost use Rattle.pos_sims.specs.Windows.{IsOfManner, IsWithin, Lays, SameSize, ShowsOver, is_character, with_run_at};
 
 use crate::grid::Grid;
 use pos_service::display_text::{Attribute, DisplayCell, Place};
@@ -15,7 +16,7 @@ pub(crate) struct Manner {
 /// The place is at the start of the next row. Below the last row the cells scroll.
 fn next_row<W: Grid>(window: &mut W, manner: Manner, place: Place) -> Place
     requires within { IsWithin manner (W.Grid.shown window.old).cells place }
-    requires width { (W.Grid.shown window.old).columns ≡ manner.columns }
+    requires size { IsOfManner manner (W.Grid.shown window.old) }
     ensures follows { let shown = W.Grid.shown in
         Lays manner (shown window.old).cells place (10 ∷ []) (shown window.new).cells result }
     ensures within { IsWithin manner (W.Grid.shown window.new).cells result }
@@ -35,35 +36,49 @@ fn next_row<W: Grid>(window: &mut W, manner: Manner, place: Place) -> Place
     }
 }
 
-/// A character in a column of the display.
-fn put<W: Grid>(window: &mut W, manner: Manner, place: Place, character: u8) -> Place
-    requires within { IsWithin manner (W.Grid.shown window.old).cells place }
-    requires width { (W.Grid.shown window.old).columns ≡ manner.columns }
-    requires free { place.column < manner.columns }
-    requires printed { (character ≢ 10) × (character ≢ 13) }
-    ensures follows { let shown = W.Grid.shown in
-        Lays manner (shown window.old).cells place (character ∷ []) (shown window.new).cells result }
-    ensures within { IsWithin manner (W.Grid.shown window.new).cells result }
-    ensures size { SameSize (W.Grid.shown window.old) (W.Grid.shown window.new) }
+/// Puts characters with an attribute over cells, from a place on.
+pub(crate) fn put_characters(
+    cells: &mut [DisplayCell],
+    at: usize,
+    attribute: Attribute,
+    characters: &[u8],
+)
+    requires { at + length characters.now ≤ length cells.old }
+    ensures { cells.new ≡ with_run_at at attribute characters.now cells.old }
 {
-    let at = place.row as usize * manner.columns as usize + place.column as usize;
-    window.put_cell(
-        at,
-        DisplayCell {
-            character,
-            attribute: manner.attribute,
-        },
-    );
-    Place {
-        row: place.row,
-        column: place.column + 1,
+    for place in 0..characters.len() {
+        cells[at + place] = DisplayCell {
+            character: characters[place],
+            attribute,
+        };
     }
 }
 
-/// One byte of a text. A character right of the last column goes to the next row first.
+/// Characters for which there is room in the row.
+fn lay_run<W: Grid>(window: &mut W, manner: Manner, place: Place, characters: &[u8]) -> Place
+    requires within { IsWithin manner (W.Grid.shown window.old).cells place }
+    requires size { IsOfManner manner (W.Grid.shown window.old) }
+    requires room { place.column + length characters.now ≤ manner.columns }
+    requires some { 1 ≤ length characters.now }
+    requires printed { list_all is_character characters.now ≡ true }
+    ensures follows { let shown = W.Grid.shown in
+        Lays manner (shown window.old).cells place characters.now (shown window.new).cells result }
+    ensures within { IsWithin manner (W.Grid.shown window.new).cells result }
+    ensures size { SameSize (W.Grid.shown window.old) (W.Grid.shown window.new) }
+{
+    window.put_run(place, manner.attribute, characters);
+    Place {
+        row: place.row,
+        column: place.column + characters.len() as u32,
+    }
+}
+
+/// One byte of a text for which there is no room in the row: a line feed, a carriage return, or a character right of
+/// the last column, which goes to the next row first.
 fn lay_byte<W: Grid>(window: &mut W, manner: Manner, place: Place, byte: u8) -> Place
     requires within { IsWithin manner (W.Grid.shown window.old).cells place }
-    requires width { (W.Grid.shown window.old).columns ≡ manner.columns }
+    requires size { IsOfManner manner (W.Grid.shown window.old) }
+    requires full { place.column < manner.columns → is_character byte ≡ false }
     ensures follows { let shown = W.Grid.shown in
         Lays manner (shown window.old).cells place (byte ∷ []) (shown window.new).cells result }
     ensures within { IsWithin manner (W.Grid.shown window.new).cells result }
@@ -78,23 +93,88 @@ fn lay_byte<W: Grid>(window: &mut W, manner: Manner, place: Place, byte: u8) -> 
             column: 0,
         };
     }
-    if place.column == manner.columns {
-        let start = next_row(window, manner, place);
-        return put(window, manner, start, byte);
+    let start = next_row(window, manner, place);
+    lay_run(window, manner, start, &[byte])
+}
+
+/// Whether a byte of a text is a character: neither a line feed nor a carriage return.
+fn is_character_byte(b: u8) -> bool
+    ensures { result ≡ is_character b }
+{
+    b != b'\n' && b != b'\r'
+}
+
+/// Whether all bytes are characters, all looked at together.
+fn are_characters(bytes: &[u8]) -> bool
+    ensures { result ≡ list_all is_character bytes.now }
+{
+    let mut all = true;
+    for byte in bytes {
+        all &= is_character_byte(*byte);
     }
-    put(window, manner, place, byte)
+    all
+}
+
+/// A place in a text before which all bytes are characters, found by eights.
+fn skip_eights(bytes: &[u8]) -> usize
+    ensures bound { result ≤ length bytes.now }
+    ensures printed { list_all is_character (take result bytes.now) ≡ true }
+{
+    let mut place = 0;
+    while bytes.len() - place >= 8 && are_characters(&bytes[place..place + 8]) {
+        place += 8;
+    }
+    place
+}
+
+/// How many characters stand at the front of a text, so many at most.
+fn count_characters(bytes: &[u8], most: usize) -> usize
+    ensures bound { result ≤ length bytes.now }
+    ensures most { result ≤ most }
+    ensures printed { list_all is_character (take result bytes.now) ≡ true }
+    ensures end { result < most → result < length bytes.now → is_character (slice_index bytes.now result) ≡ false }
+{
+    let most = most.min(bytes.len());
+    for place in skip_eights(&bytes[..most])..most {
+        if !is_character_byte(bytes[place]) {
+            return place;
+        }
+    }
+    most
+}
+
+/// The front of a text: its characters for which there is room in the row, or else one byte; and how many bytes they
+/// are.
+fn lay_front<W: Grid>(window: &mut W, manner: Manner, place: Place, bytes: &[u8]) -> (Place, usize)
+    requires within { IsWithin manner (W.Grid.shown window.old).cells place }
+    requires size { IsOfManner manner (W.Grid.shown window.old) }
+    requires some { 1 ≤ length bytes.now }
+    ensures count { (1 ≤ result.1) × (result.1 ≤ length bytes.now) }
+    ensures follows { let shown = W.Grid.shown in
+        Lays manner (shown window.old).cells place (take result.1 bytes.now) (shown window.new).cells result.0 }
+    ensures within { IsWithin manner (W.Grid.shown window.new).cells result.0 }
+    ensures size { SameSize (W.Grid.shown window.old) (W.Grid.shown window.new) }
+{
+    let count = count_characters(bytes, (manner.columns - place.column) as usize);
+    if count == 0 {
+        return (lay_byte(window, manner, place, bytes[0]), 1);
+    }
+    (lay_run(window, manner, place, &bytes[..count]), count)
 }
 
 /// A text from a place on.
 pub(crate) fn lay_text<W: Grid>(window: &mut W, manner: Manner, start: Place, bytes: &[u8])
     requires within { IsWithin manner (W.Grid.shown window.old).cells start }
-    requires width { (W.Grid.shown window.old).columns ≡ manner.columns }
+    requires size { IsOfManner manner (W.Grid.shown window.old) }
     ensures window { let shown = W.Grid.shown in
         ShowsOver manner (shown window.old).cells start bytes.now (shown window.new).cells }
     ensures size { SameSize (W.Grid.shown window.old) (W.Grid.shown window.new) }
 {
     let mut place = start;
-    for byte in bytes {
-        place = lay_byte(window, manner, place, *byte);
+    let mut done = 0;
+    while done < bytes.len() {
+        let (reached, count) = lay_front(window, manner, place, &bytes[done..]);
+        place = reached;
+        done += count;
     }
 }

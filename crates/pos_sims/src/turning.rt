@@ -1,5 +1,5 @@
-ghost use Rattle.std.specs.Prelude.{◌≡◌, ◌+◌, ◌*◌, ◌<◌, ◌≤◌, true, vec_len, IfOk};
-ghost use Rattle.pos_service.specs.Displays.{ShowsText, Scrolls, blank_display, is_cursor_place, most_units};
+ghost use Rattle.std.specs.Prelude.{◌≡◌, ◌+◌, ◌*◌, ◌<◌, ◌≤◌, true, length, replicate, vec_len, IfOk};
+ghost use Rattle.pos_service.specs.Displays.{ShowsText, Scrolls, blank, blank_display, is_cursor_place, most_units};
 ghost use Rattle.pos_service.specs.declared.kind.Kind.TheVariants as kind;
 ghost use Rattle.pos_service.specs.declared.plant.Form.TheVariants as form;
 ghost use Rattle.pos_service.specs.Peripherals.{IsInRange, IsFormOf};
@@ -7,12 +7,24 @@ ghost use Rattle.pos_sims.specs.Rings.{IsAbove, IsBelow, StandsAt, blanked, show
 ghost use Rattle.pos_sims.specs.Windows.{SameSize, ShiftsToEnd, ShiftsToFront};
 
 use crate::grid::Grid;
-use crate::laying::{Manner, lay_text};
+use crate::laying::{Manner, lay_text, put_characters};
 use crate::ring::Ring;
 use crate::scrolling::{move_to_end, move_to_front};
 use pos_service::display_text::{Attribute, BLANK, Direction, DisplayCell, Place};
 use pos_service::{Kind, NoMemory};
 use std::alloc::Global;
+
+/// A blank row of the longest.
+const BLANK_ROW: [DisplayCell; 80] = [BLANK; 80];
+
+/// Blanks cells, no more than the longest row has: copied at once, which is faster than one by one.
+fn blank_row(cells: &mut [DisplayCell])
+    requires { length cells.old ≤ 80 }
+    ensures { cells.new ≡ replicate (length cells.old) blank }
+{
+    let len = cells.len();
+    cells.copy_from_slice(&BLANK_ROW[..len]);
+}
 
 /// The row below a row of a ring of so many.
 fn below(row: u32, rows: u32) -> u32
@@ -111,7 +123,7 @@ impl Ring {
         ensures columns { self.new.columns ≡ self.old.columns }
     {
         let (start, columns) = (self.start(), self.columns as usize);
-        self.cells[start..start + columns].fill(BLANK);
+        blank_row(&mut self.cells[start..start + columns]);
     }
 
     /// Each row is the one that stood above it, and the first is blank.
@@ -185,9 +197,10 @@ impl Ring {
 impl Grid for Ring {
     ghost shown = { λ ring. shown_on ring };
 
-    fn put_cell(&mut self, at: usize, cell: DisplayCell) {
-        let place = in_ring(at, self.start(), self.cells.len());
-        self.cells[place] = cell;
+    fn put_run(&mut self, place: Place, attribute: Attribute, characters: &[u8]) {
+        let at = place.row as usize * self.columns as usize + place.column as usize;
+        let first = in_ring(at, self.start(), self.cells.len());
+        put_characters(self.cells.as_mut_slice(), first, attribute, characters);
     }
 
     fn feed_row(&mut self) {

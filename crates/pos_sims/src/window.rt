@@ -5,7 +5,7 @@ ghost use Rattle.pos_service.specs.Displays.{ShowsText, Scrolls, blank_display, 
 ghost use Rattle.pos_service.specs.Peripherals.{IsInRange, IsFormOf};
 
 use crate::grid::Grid;
-use crate::laying::{Manner, lay_text};
+use crate::laying::{Manner, lay_text, put_characters};
 use crate::scrolling::{scroll_cells, shift_to_front};
 use pos_service::display_text::{Attribute, BLANK, Direction, DisplayCell, Place};
 use pos_service::{Kind, NoMemory};
@@ -118,8 +118,9 @@ impl Window {
 impl Grid for Window {
     ghost shown = { λ window. window };
 
-    fn put_cell(&mut self, at: usize, cell: DisplayCell) {
-        self.cells[at] = cell;
+    fn put_run(&mut self, place: Place, attribute: Attribute, characters: &[u8]) {
+        let at = place.row as usize * self.columns as usize + place.column as usize;
+        put_characters(self.cells.as_mut_slice(), at, attribute, characters);
     }
 
     fn feed_row(&mut self) {

@@ -1,7 +1,7 @@
 // Spellings of files and of groups, their bounds, and refused growths.
-use crate::support::{BODY, GROUP};
+use crate::shared_disks::{BODY, GROUP};
 use pos_dir::{
-    Change, Directory, DirectoryFault, Group, LAYOUT_1, LAYOUT_2, Limits, Name, apply_group,
+    Change, Directory, DirectoryFault, Group, LAYOUT_1, LAYOUT_2, LentBytes, Limits, apply_group,
     check_group, decode, decode_group, encode, encode_group,
 };
 use std::alloc::Global;
@@ -63,7 +63,7 @@ fn spell_empty_files(alloc: Global, count: u16) -> Result<Vec<u8>, DirectoryFaul
 // The answer to a group that creates A with so many bytes.
 fn check_create(alloc: Global, directory: &Directory, size: u32) -> Result<(), DirectoryFault> {
     let mut group = Group::new(alloc);
-    let name = Name::from_vec(Vec::from_slice(alloc, &[0x41])?);
+    let name = LentBytes::from_slice(&[0x41]);
     match group.push(Change::Create { name, size }) {
         Ok(()) => check_group(directory, &group),
         Err((fault, _)) => Err(fault),

@@ -1,7 +1,7 @@
 // Crashes of a disk in memory, behind writes of which one fails.
 ghost use Rattle.std.specs.Prelude.{◌≡◌, ◌≤◌};
 
-use crate::support::{bytes_of, disk_of, has};
+use crate::shared_disks::{bytes_of, disk_of, has};
 use pos_disk::{Disk, DiskFault, Fill, FuseDisk, MemDisk};
 use std::alloc::Global;
 use std::test::Fail;

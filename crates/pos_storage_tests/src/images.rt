@@ -2,7 +2,7 @@
 ghost use Rattle.std.specs.Prelude.{IfOk};
 ghost use Rattle.pos_image.specs.Images.{IsReady};
 
-use crate::support::{FORMATTED, FOURTH, SECOND, THIRD, bytes_of, disk_of, has};
+use crate::shared_disks::{FORMATTED, FOURTH, SECOND, THIRD, bytes_of, disk_of, has};
 use pos_disk::{Disk, Fill, FuseDisk, MemDisk};
 use pos_image::{ImageFault, Images, Layout};
 use std::alloc::Global;

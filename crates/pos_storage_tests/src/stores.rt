@@ -1,6 +1,9 @@
 // The files of a store: on the disk, after a stop at each call of it, and after refused growths.
-use crate::support::{BODY, FORMATTED, GROUP, SECOND, THIRD, bytes_of, disk_of, has};
-use pos_dir::{DirectoryFault, Group, decode_group};
+ghost use Rattle.std.specs.Prelude.{◌≡◌, true};
+ghost use Rattle.pos_store.specs.Commits.{IsApplicable};
+
+use crate::shared_disks::{BODY, FORMATTED, GROUP, SECOND, THIRD, bytes_of, disk_of, has};
+use pos_dir::{DirectoryFault, Group, check_group, decode_group};
 use pos_disk::{Disk, DiskFault, Fill, FuseDisk, MemDisk};
 use pos_image::{ImageFault, Layout};
 use pos_store::{Mode, Store, StoreFault};
@@ -52,7 +55,7 @@ fn is_after<D: Disk>(store: &Store<D>) -> Result<bool, StoreFault> {
 }
 
 // A recovery and a commit, each once more where a growth was refused, if nothing had changed then.
-fn carry_out<D: Disk>(store: &mut Store<D>, group: &Group) -> Result<(), StoreFault> {
+fn carry_out<D: Disk>(store: &mut Store<D>, group: &Group<'_>) -> Result<(), StoreFault> {
     if store.recover() == Err(StoreFault::NoMemory) && store.mode() == Mode::Off {
         store.recover()?;
     }
@@ -62,10 +65,20 @@ fn carry_out<D: Disk>(store: &mut Store<D>, group: &Group) -> Result<(), StoreFa
     }
 }
 
-// A commit of a group, which isn't empty here.
-fn commit<D: Disk>(store: &mut Store<D>, group: &Group) -> Result<(), StoreFault> {
-    if group.len() == 0 {
-        return Err(StoreFault::Refused(DirectoryFault::NoFile));
+// Whether a group may be committed: it is applicable to the files of a store that is ready.
+fn may_commit<D: Disk>(store: &Store<D>, group: &Group<'_>) -> bool
+    ensures { result ≡ true → IsApplicable store.now.layout store.now.state group.now }
+{
+    match store.files() {
+        Some(directory) => check_group(directory, group).is_ok(),
+        None => true,
+    }
+}
+
+// A commit of a group, which isn't empty and is applicable here.
+fn commit<D: Disk>(store: &mut Store<D>, group: &Group<'_>) -> Result<(), StoreFault> {
+    if group.len() == 0 || !may_commit(store, group) {
+        return Err(StoreFault::Damaged);
     }
     store.commit(group)
 }
@@ -290,9 +303,14 @@ fn each_stop_of_a_migration(rt: HostRuntime) -> Result<(), Fail> {
 
 #[test]
 fn faults_are_told(rt: HostRuntime) -> Result<(), Fail> {
-    let refused = StoreFault::Refused(DirectoryFault::NoRoom);
-    let text = format!(in rt.alloc(); "{DiskFault}; {refused}; {}", ImageFault::TooSmall)?;
-    let wanted = "the disk failed; the group is refused: there is no room; the disk is too small";
+    let no_room = DirectoryFault::NoRoom;
+    let text = format!(in rt.alloc();
+        "{DiskFault}; {no_room}; {}; {}",
+        StoreFault::Exhausted,
+        ImageFault::TooSmall
+    )?;
+    let wanted =
+        "the disk failed; there is no room; the sequences have run out; the disk is too small";
     assert_eq!(rt; text.as_str(), wanted);
     Ok(())
 }

@@ -18,10 +18,10 @@ use Rattle.pos_log.specs.Logs.{LogView, log_over, IsLogReady, KeepsRecords, HasO
 use Rattle.pos_store.proofs.FilesOnDisk.{shows_now, still_holds, holds_more, holds_new, old_or_new_holds, leaves_files, ready_with}
 use Rattle.pos_store.specs.Commits.{Commits, IsExhausted, IsLast, left_by, fits_behind, sequence_after, tail_after}
 use Rattle.pos_store.specs.Layouts.{limits_of}
-use Rattle.pos_store.specs.Modes.{Ready, view_of}
+use Rattle.pos_store.specs.StoreViews.{Ready, view_of}
 use Rattle.pos_store.specs.Standing.{Stands, LeavesOneOf, HoldsFiles, IsStep, StandsForEither, StandsForOneOf}
 use Rattle.pos_store.specs.declared.fault.StoreFault.TheVariants as fault
-use Rattle.pos_store.specs.declared.parts.Parts.TheVariants as parts
+use Rattle.pos_store.specs.declared.disk_or_log.DiskOrLog.TheVariants as which
 
 -- the same images over another disk are of the same layout
 pub same_layout : {D : Type 0} (log new : LogView D) (disk : D) (tail : ℕ) → new ≡ log_over (record log.images { disk = disk }) tail
@@ -102,7 +102,7 @@ module _ {D : Type 0} (bound : Ghosts D) (log : LogView D) (files after : List F
       → (bound.honest log.images.disk → (bytes : List ℕ) → CountsNow (bound.state failed) (bound.state log.images.disk).moment bytes)
       → (bound.honest log.images.disk → Rises (bound.state log.images.disk).failures (bound.state failed).failures)
       → KeepsDisk bound log.images.disk failed
-      → Commits bound (ready_with log files) changes (Err fault.Device) (view_of (parts.Off failed now))
+      → Commits bound (ready_with log files) changes (Err fault.Device) (view_of (which.Off failed now))
   failed_commits failed now then_sequence kept is more any_moment counts device keeps = record {
     answer = rw given.outcome (more, refl);
     layout = kept;

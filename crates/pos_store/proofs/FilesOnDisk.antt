@@ -15,7 +15,7 @@ use Rattle.pos_log.proofs.Emptied.{no_records}
 use Rattle.pos_log.specs.Logs.{LogView, HasNoRecords, HasOldOrNew}
 use Rattle.pos_log.specs.Records.{HoldsRecords}
 use Rattle.pos_store.specs.Layouts.{limits_of}
-use Rattle.pos_store.specs.Modes.{StoreView, Ready}
+use Rattle.pos_store.specs.StoreViews.{StoreView, Ready}
 use Rattle.pos_store.specs.Standing.{Stands, HoldsFiles, IsStep, Applies, StandsFor, LeavesOneOf}
 
 -- the texts lead one step further

@@ -5,5 +5,5 @@ pub mod FilesOnDisk
 pub mod Found
 mod Migrated
 pub mod Passing
-mod Recovered
-mod Stepped
+pub mod Recovered
+pub mod Stepped

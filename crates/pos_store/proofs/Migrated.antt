@@ -15,11 +15,11 @@ use Rattle.pos_store.proofs.FilesOnDisk.{shows_now, holds_new, old_or_new_holds,
 use Rattle.pos_store.proofs.Passing.{stays}
 use Rattle.pos_store.specs.Layouts.{limits_of}
 use Rattle.pos_store.specs.Migrations.{Migrates, AnswersMigration}
-use Rattle.pos_store.specs.Modes.{Ready, view_of}
+use Rattle.pos_store.specs.StoreViews.{Ready, view_of}
 use Rattle.pos_store.specs.Standing.{Stands, HoldsFiles, StandsForEither, StandsForOneOf}
 use Rattle.pos_store.specs.declared.fault.StoreFault.{StoreFault}
 use Rattle.pos_store.specs.declared.fault.StoreFault.TheVariants as fault
-use Rattle.pos_store.specs.declared.parts.Parts.TheVariants as parts
+use Rattle.pos_store.specs.declared.disk_or_log.DiskOrLog.TheVariants as which
 
 -- a log that is ready, with files
 module _ {D : Type 0} (bound : Ghosts D) (log : LogView D) (files : List File) (ready : IsLogReady bound log)
@@ -87,7 +87,7 @@ module _ {D : Type 0} (bound : Ghosts D) (log : LogView D) (files : List File) (
       -- a migration that met a fault of the disk
       pub failed_migrates : Renews bound log Layout2 body 1 (Err images.Device) new
           → (bound.honest log.images.disk → (bytes : List ℕ) → CountsNow (bound.state new.images.disk) (bound.state log.images.disk).moment bytes)
-          → Migrates bound (ready_with log files) (Err fault.Device) (view_of (parts.Off new.images.disk (layout_of new.images.slot)))
+          → Migrates bound (ready_with log files) (Err fault.Device) (view_of (which.Off new.images.disk (layout_of new.images.slot)))
       failed_migrates renews counts =
           let moments : bound.honest log.images.disk → LeavesOnly (bound.state log.images.disk) (bound.state new.images.disk) Around =
           λ h. weaker (bound.state log.images.disk) (bound.state new.images.disk) _ _ (moving_stands h) (renews.any_moment h) in

@@ -3,7 +3,7 @@ use Rattle.std.proofs.Common.{inl, inr, ⊎_elim, ℕ, List, [], ◌∷◌}
 use Rattle.pos_disk.proofs.Moments.{started, weaker}
 use Rattle.pos_disk.specs.State.{DiskState, MayLeave}
 use Rattle.pos_image.specs.declared.layout.Layout.{Layout}
-use Rattle.pos_store.specs.Modes.{StoreState, Off, Ready, LeavesItsFiles, settled}
+use Rattle.pos_store.specs.StoreViews.{StoreState, Off, Ready, LeavesItsFiles, settled}
 use Rattle.pos_store.specs.Standing.{Standing, Stands, StandsForOneOf, StandsForEither, LeavesOneOf, Passes}
 
 -- a disk that no call has touched

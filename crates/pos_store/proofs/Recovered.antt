@@ -20,7 +20,7 @@ use Rattle.pos_image.specs.declared.fault.ImageFault.TheVariants as images
 use Rattle.pos_image.specs.declared.layout.Layout.{Layout}
 use Rattle.pos_store.proofs.Found.{finds_so, recovers_one, writable}
 use Rattle.pos_store.specs.Layouts.{limits_of}
-use Rattle.pos_store.specs.Modes.{StoreView, Off, LeavesItsFiles}
+use Rattle.pos_store.specs.StoreViews.{StoreView, Off, LeavesItsFiles}
 use Rattle.pos_store.specs.Recoveries.{FindsStanding, DiskStandsFor, EndsAt, Recovers}
 use Rattle.pos_store.specs.Standing.{Standing, Unformatted, Damaged, StandsFor, Applies}
 use Rattle.pos_log.specs.declared.fault.LogFault.{LogFault}

@@ -1,5 +1,6 @@
 -- What a commit answers, and what a crash during it may leave.
-use Rattle.std.specs.Prelude.{◌≡◌, ◌⊎◌, ◌≤◌, ◌+◌, ◌^◌, ℕ, Bool, true, false, nat_le, if◌then◌else◌, List, [], ◌∷◌, length, Result, Ok, Err, IsErr, IsErrOf, ⊤, MatchResult}
+use Rattle.std.specs.Prelude.{◌≡◌, ◌⊎◌, ◌≤◌, ◌+◌, ◌^◌, ℕ, Bool, true, false, nat_le, if◌then◌else◌, List, [], ◌∷◌, length, Result, Ok, Err, IsOk, IsErr}
+use Rattle.std.specs.Prelude.{IsErrOf, ⊤, MatchResult}
 use Rattle.pos_disk.specs.State.{DiskState, Rises, HasNotFailed}
 use Rattle.pos_disk.specs.Keeps.{KeepsDisk}
 use Rattle.pos_disk.specs.declared.device.Disk.{Ghosts}
@@ -13,7 +14,7 @@ use Rattle.pos_image.specs.declared.layout.Layout.{Layout}
 use Rattle.pos_image.specs.Layout.{log_place, slot_size}
 use Rattle.pos_log.specs.Records.{end_of}
 use Rattle.pos_store.specs.Layouts.{limits_of}
-use Rattle.pos_store.specs.Modes.{StoreState, StoreView, Off, Ready, settled}
+use Rattle.pos_store.specs.StoreViews.{StoreState, StoreView, Off, Ready, settled}
 use Rattle.pos_store.specs.Standing.{Standing, Stands, Passes}
 use Rattle.pos_store.specs.declared.draft.Draft.{Draft}
 use Rattle.pos_store.specs.declared.draft.Draft.TheVariants as draft
@@ -71,15 +72,20 @@ PutsDown sequence after old changes (Err fault.Device) new =
     ¬ (IsExhausted old.layout old.tail changes sequence) × (new.state ≡ Off)
 PutsDown sequence after old changes (Err other) new = ⊥
 
--- what a commit answers, and the store after it, by the state before it: a store that is off says so, and a group is
--- put down, or refused with the fault of its first change that isn't applicable
+-- a group is applicable to the files of a store that is ready
+abbrev pub IsApplicable : Layout → StoreState → List Change → Type 0
+IsApplicable layout Off changes = ⊤
+IsApplicable layout (Ready files sequence) changes = IsOk (outcome_of_all (limits_of layout) files changes)
+
+-- what a commit answers, and the store after it, by the state before it: a store that is off says so, and else the
+-- group, which is applicable, is put down
 abbrev pub Answers : {D : Type 0} → StoreState → StoreView D → List Change → Result (Unit {0}) StoreFault
     → StoreView D → Type 0
 Answers Off old changes result new = (result ≡ Err fault.Off) × (new ≡ old)
 Answers (Ready files sequence) old changes result new =
     MatchResult (outcome_of_all (limits_of old.layout) files changes)
     (λ after. PutsDown sequence after old changes result new)
-    (λ refusal. (result ≡ Err (fault.Refused refusal)) × (new ≡ old))
+    (λ refusal. ⊥)
 
 -- the files before a group, and those after the whole of it, with the sequence that they have then
 abbrev pub before_or_after : Layout → List File → ℕ → ℕ → Result (List File) DirectoryFault → List Standing

@@ -7,7 +7,7 @@ use Rattle.pos_dir.specs.declared.file.File.{File}
 use Rattle.pos_image.specs.Layout.{log_place}
 use Rattle.pos_image.specs.declared.layout.Layout.{Layout}
 use Rattle.pos_image.specs.declared.layout.Layout.TheVariants.{Layout1, Layout2}
-use Rattle.pos_store.specs.Modes.{StoreState, StoreView, Off, Ready, settled}
+use Rattle.pos_store.specs.StoreViews.{StoreState, StoreView, Off, Ready, settled}
 use Rattle.pos_store.specs.Standing.{Stands, Passes}
 use Rattle.pos_store.specs.declared.fault.StoreFault.{StoreFault}
 use Rattle.pos_store.specs.declared.fault.StoreFault.TheVariants as fault

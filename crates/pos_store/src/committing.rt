@@ -1,52 +1,49 @@
 // A change of the files, from one whole store to the next.
-ghost use Rattle.std.specs.Prelude.{◌≡◌, ◌<◌, Err, OnErr, MatchResult, length};
+ghost use Rattle.std.specs.Prelude.{◌≡◌, ◌<◌, Ok, OnErr, IsOk, MatchResult, length};
 ghost use Rattle.pos_dir.specs.Changes.{outcome_of_all};
 ghost use Rattle.pos_image.specs.Layout.{layout_of};
 ghost use Rattle.pos_log.specs.Logs.{IsLogReady};
-ghost use Rattle.pos_store.specs.Commits.{Commits, IsDraft, IsUnmade};
+ghost use Rattle.pos_store.specs.Commits.{Commits, IsApplicable, IsDraft, IsUnmade};
 ghost use Rattle.pos_store.specs.Layouts.{limits_of};
-ghost use Rattle.pos_store.specs.Modes.{HasItsFiles, view_of};
+ghost use Rattle.pos_store.specs.StoreViews.{HasItsFiles, view_of};
 
+use crate::disk_or_log::{DiskOrLog, turn_off};
 use crate::draft::Draft;
-use crate::fault::{StoreFault, tell_directory};
-use crate::parts::{Parts, turn_off};
+use crate::fault::StoreFault;
 use pos_dir::laws::is_group;
-use pos_dir::{
-    Directory, Group, apply_and_encode, apply_applicable, check_group, encode_group, measure_group,
-};
+use pos_dir::{Directory, Group, apply_and_encode, apply_applicable, encode_group, measure_group};
 use pos_disk::Disk;
 use pos_log::Log;
 use std::alloc::Global;
 
-// Applies a group to the files, and makes what goes to the disk for it: its record where that fits behind the log, else
-// the body of a new image. The disk has no part in it, and all memory that the commit takes is taken here.
+// Applies a group that is applicable to the files, and makes what goes to the disk for it: its record where that fits
+// behind the log, else the body of a new image. The disk has no part in it, and all memory that the commit takes is
+// taken here.
 fn make_draft<D: Disk>(
     alloc: Global,
     log: &Log<D>,
     directory: &mut Directory,
-    group: &Group,
+    group: &Group<'_>,
 ) -> Result<Draft, StoreFault>
     requires ready { IsLogReady D.Disk log.now }
     requires limits { directory.old.limits ≡ limits_of (layout_of log.now.images.slot) }
-    ensures made { MatchResult (outcome_of_all directory.old.limits directory.old.files group.now)
-        (λ after. MatchResult result
-        (λ draft. (directory.new.files ≡ after)
-        × IsDraft (layout_of log.now.images.slot) log.now.tail group.now log.now.images.sequence after draft)
-        (λ fault. IsUnmade (layout_of log.now.images.slot) log.now.tail group.now log.now.images.sequence fault))
-        (λ refusal. result ≡ Err (StoreFault.Refused refusal)) }
+    requires applicable { IsOk (outcome_of_all directory.old.limits directory.old.files group.now) }
+    ensures made { MatchResult result
+        (λ draft. (outcome_of_all directory.old.limits directory.old.files group.now ≡ Ok directory.new.files)
+        × IsDraft (layout_of log.now.images.slot) log.now.tail group.now log.now.images.sequence
+        directory.new.files draft)
+        (λ fault. IsUnmade (layout_of log.now.images.slot) log.now.tail group.now log.now.images.sequence
+        fault) }
     ensures limits { directory.new.limits ≡ directory.old.limits }
     ensures unchanged { OnErr result (directory.new ≡ directory.old) }
 {
-    if let Err(fault) = check_group(directory, group) {
-        return Err(tell_directory(fault));
-    }
     if !log.fits(measure_group(group)) {
         if log.sequence() == u64::MAX {
             return Err(StoreFault::Exhausted);
         }
         return match apply_and_encode(alloc, directory, group) {
             Ok(body) => Ok(Draft::Image(body)),
-            Err(fault) => Err(tell_directory(fault)),
+            Err(_) => Err(StoreFault::NoMemory),
         };
     }
     let Ok(text) = encode_group(alloc, group) else {
@@ -58,31 +55,33 @@ fn make_draft<D: Disk>(
     }
 }
 
-/// Commits a group: its record goes behind the current image where it fits, else a new image has the files after it.
+/// Commits a group that is applicable: its record goes behind the current image where it fits, else a new image has
+/// the files after it.
 pub fn commit_group<D: Disk>(
-    parts: Parts<D>,
-    call: (Global, &Group),
-) -> (Parts<D>, Result<(), StoreFault>)
-    requires sound { HasItsFiles D.Disk parts }
+    disk_or_log: DiskOrLog<D>,
+    call: (Global, &Group<'_>),
+) -> (DiskOrLog<D>, Result<(), StoreFault>)
+    requires sound { HasItsFiles D.Disk disk_or_log }
     requires some { 0 < length call.1.now }
+    requires applicable { IsApplicable (view_of disk_or_log).layout (view_of disk_or_log).state call.1.now }
     ensures sound { HasItsFiles D.Disk result.0 }
-    ensures commits { Commits D.Disk (view_of parts) call.entry.1.now result.1 (view_of result.0) }
+    ensures commits { Commits D.Disk (view_of disk_or_log) call.entry.1.now result.1 (view_of result.0) }
 {
     let (alloc, group) = call;
     is_group(group);
-    let (mut log, mut directory) = match parts {
-        Parts::Off(disk, layout) => return (Parts::Off(disk, layout), Err(StoreFault::Off)),
-        Parts::Ready(log, directory) => (log, directory),
+    let (mut log, mut directory) = match disk_or_log {
+        DiskOrLog::Off(disk, layout) => return (DiskOrLog::Off(disk, layout), Err(StoreFault::Off)),
+        DiskOrLog::Ready(log, directory) => (log, directory),
     };
     match make_draft(alloc, &log, &mut directory, group) {
         Ok(Draft::Record(text)) => match log.append(&text) {
-            Ok(()) => (Parts::Ready(log, directory), Ok(())),
+            Ok(()) => (DiskOrLog::Ready(log, directory), Ok(())),
             Err(_) => (turn_off(log), Err(StoreFault::Device)),
         },
         Ok(Draft::Image(body)) => match log.renew(body) {
-            Ok(()) => (Parts::Ready(log, directory), Ok(())),
+            Ok(()) => (DiskOrLog::Ready(log, directory), Ok(())),
             Err(_) => (turn_off(log), Err(StoreFault::Device)),
         },
-        Err(fault) => (Parts::Ready(log, directory), Err(fault)),
+        Err(fault) => (DiskOrLog::Ready(log, directory), Err(fault)),
     }
 }

@@ -1,5 +1,5 @@
 ghost use Rattle.std.specs.Prelude.{◌≡◌, ◌≢◌};
-ghost use Rattle.pos_store.specs.Faults.{refusal, broken, Tells, TellsLog};
+ghost use Rattle.pos_store.specs.Faults.{broken, Tells, TellsLog};
 
 use pos_dir::DirectoryFault;
 use pos_image::ImageFault;
@@ -13,9 +13,6 @@ pub enum StoreFault {
     /// The store is off: its files are not known.
     #[error("the store is off")]
     Off,
-    /// A change of the group isn't applicable.
-    #[error("the group is refused: {0}")]
-    Refused(DirectoryFault),
     /// The group doesn't fit behind the log, and the sequence is 18,446,744,073,709,551,615, the last one.
     #[error("the sequences have run out")]
     Exhausted,
@@ -35,16 +32,6 @@ pub enum StoreFault {
     /// A disk that is to be moved to layout 2 has it.
     #[error("the disk has layout 2 already")]
     AlreadyLayout2,
-}
-
-/// Why a directory refuses a call, in a store's words.
-pub fn tell_directory(fault: DirectoryFault) -> StoreFault
-    ensures { result ≡ refusal fault }
-{
-    match fault {
-        DirectoryFault::NoMemory => StoreFault::NoMemory,
-        other => StoreFault::Refused(other),
-    }
 }
 
 /// Why images refuse a call, in a store's words.

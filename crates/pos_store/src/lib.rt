@@ -3,13 +3,13 @@
 #![tactic(auto)]
 
 mod committing;
+mod disk_or_log;
 mod draft;
 mod fault;
 pub mod laws;
 mod layouts;
 mod migrating;
 mod mode;
-mod parts;
 mod recovering;
 mod store;
 

@@ -1,13 +1,13 @@
 // A recovery of the files, from one whole store to the next.
 ghost use Rattle.std.specs.Prelude.{◌≡◌, ◌⊎◌, List, length, map, OnOk, OnErr, IfErr, IsErrOf};
 ghost use Rattle.pos_dir.specs.declared.file.File.{File};
-ghost use Rattle.pos_store.specs.Modes.{HasItsFiles, view_of};
+ghost use Rattle.pos_store.specs.StoreViews.{HasItsFiles, view_of};
 ghost use Rattle.pos_store.specs.Recoveries.{Recovers};
 ghost use Rattle.pos_store.specs.Standing.{Applies, IsStep};
 
+use crate::disk_or_log::DiskOrLog;
 use crate::fault::{StoreFault, tell_broken, tell_images, tell_log};
 use crate::layouts::limits_of;
-use crate::parts::Parts;
 use pos_dir::{Directory, DirectoryFault, apply_group, decode, decode_group};
 use pos_disk::Disk;
 use pos_image::Images;
@@ -60,41 +60,47 @@ fn apply_texts(
 }
 
 /// Recovers the files of a disk. A store that is ready has them.
-pub fn recover_files<D: Disk>(parts: Parts<D>, alloc: Global) -> (Parts<D>, Result<(), StoreFault>)
-    requires sound { HasItsFiles D.Disk parts }
+pub fn recover_files<D: Disk>(
+    disk_or_log: DiskOrLog<D>,
+    alloc: Global,
+) -> (DiskOrLog<D>, Result<(), StoreFault>)
+    requires sound { HasItsFiles D.Disk disk_or_log }
     ensures sound { HasItsFiles D.Disk result.0 }
-    ensures recovers { Recovers D.Disk (view_of parts) result.1 (view_of result.0) }
+    ensures recovers { Recovers D.Disk (view_of disk_or_log) result.1 (view_of result.0) }
 {
-    let (disk, layout) = match parts {
-        Parts::Off(disk, layout) => (disk, layout),
-        Parts::Ready(log, directory) => return (Parts::Ready(log, directory), Ok(())),
+    let (disk, layout) = match disk_or_log {
+        DiskOrLog::Off(disk, layout) => (disk, layout),
+        DiskOrLog::Ready(log, directory) => return (DiskOrLog::Ready(log, directory), Ok(())),
     };
     let images = match Images::open(alloc, disk) {
         Ok(images) => images,
-        Err((fault, disk)) => return (Parts::Off(disk, layout), Err(tell_images(fault))),
+        Err((fault, disk)) => return (DiskOrLog::Off(disk, layout), Err(tell_images(fault))),
     };
     let limits = limits_of(images.layout());
     let mut directory = match decode(alloc, images.body(), limits) {
         Ok(directory) => directory,
         Err(DirectoryFault::Malformed) => {
             return (
-                Parts::Off(images.into_disk(), layout),
+                DiskOrLog::Off(images.into_disk(), layout),
                 Err(StoreFault::Damaged),
             );
         }
         Err(_) => return (
-            Parts::Off(images.into_disk(), layout),
+            DiskOrLog::Off(images.into_disk(), layout),
             Err(StoreFault::NoMemory),
         ),
     };
     match Log::open(alloc, images) {
         Ok((log, texts)) => match apply_texts(alloc, &mut directory, &texts) {
-            Ok(()) => (Parts::Ready(log, directory), Ok(())),
+            Ok(()) => (DiskOrLog::Ready(log, directory), Ok(())),
             Err(fault) => (
-                Parts::Off(log.into_images().into_disk(), layout),
+                DiskOrLog::Off(log.into_images().into_disk(), layout),
                 Err(fault),
             ),
         },
-        Err((fault, images)) => (Parts::Off(images.into_disk(), layout), Err(tell_log(fault))),
+        Err((fault, images)) => (
+            DiskOrLog::Off(images.into_disk(), layout),
+            Err(tell_log(fault)),
+        ),
     }
 }

@@ -1,10 +1,10 @@
 ghost use Rattle.std.specs.Prelude.{◌≡◌, ◌<◌, length, IfSome};
 
 use crate::committing::commit_group;
+use crate::disk_or_log::DiskOrLog;
 use crate::fault::StoreFault;
 use crate::migrating::migrate_files;
 use crate::mode::Mode;
-use crate::parts::Parts;
 use crate::recovering::recover_files;
 use core::mem::replace_with;
 use pos_dir::{Directory, Group};
@@ -18,25 +18,25 @@ use std::marker::Model;
 #[derive(Drop)]
 pub struct Store<D: Disk> {
     alloc: Global,
-    pub(crate) parts: Parts<D>,
+    pub(crate) disk_or_log: DiskOrLog<D>,
 }
 
 impl<D: Disk> Model for Store<D> {
-    ghost use Rattle.pos_store.specs.Modes.{StoreView, view_of, HasItsFiles};
+    ghost use Rattle.pos_store.specs.StoreViews.{StoreView, view_of, HasItsFiles};
 
     ghost Value = { StoreView D };
 
-    ghost view = { λ s. view_of s.parts };
+    ghost view = { λ s. view_of s.disk_or_log };
 
-    ghost invariant = { λ s. HasItsFiles D.Disk s.parts };
+    ghost invariant = { λ s. HasItsFiles D.Disk s.disk_or_log };
 }
 
 impl<D: Disk> Store<D> {
     ghost use Rattle.std.specs.Option.{option_map};
     ghost use Rattle.pos_disk.specs.State.{IsAtRest};
     ghost use Rattle.pos_image.specs.declared.layout.Layout.TheVariants.{Layout1};
-    ghost use Rattle.pos_store.specs.Modes.{Off, WhenReady, files_of, mode_of};
-    ghost use Rattle.pos_store.specs.Commits.{Commits};
+    ghost use Rattle.pos_store.specs.StoreViews.{Off, WhenReady, files_of, mode_of};
+    ghost use Rattle.pos_store.specs.Commits.{Commits, IsApplicable};
     ghost use Rattle.pos_store.specs.Layouts.{limits_of};
     ghost use Rattle.pos_store.specs.Migrations.{Migrates};
     ghost use Rattle.pos_store.specs.Recoveries.{Recovers};
@@ -47,7 +47,7 @@ impl<D: Disk> Store<D> {
     {
         Store {
             alloc,
-            parts: Parts::Off(disk, Layout::Layout1),
+            disk_or_log: DiskOrLog::Off(disk, Layout::Layout1),
         }
     }
 
@@ -63,24 +63,25 @@ impl<D: Disk> Store<D> {
     pub fn recover(&mut self) -> Result<(), StoreFault>
         ensures { Recovers D.Disk self.old result self.new }
     {
-        replace_with(&mut self.parts, self.alloc, recover_files)
+        replace_with(&mut self.disk_or_log, self.alloc, recover_files)
     }
 
-    /// Carries out all changes of a group, or none. At Ok they are on the disk: as a record behind the
-    /// current image where it fits, which leaves the sequence, else in a new image. An append takes no
-    /// time for the bytes of other files.
+    /// Carries out all changes of a group, which is applicable to the files, or none; it isn't checked again
+    /// (`pos_dir::check_group` tells whether a group is applicable). At Ok they are on the disk: as a record behind
+    /// the current image where it fits, which leaves the sequence, else in a new image. An append takes no time for
+    /// the bytes of other files.
     ///
     /// # Errors
     ///
-    /// `Off` where the store is off, `Refused` with the fault of the first change that isn't
-    /// applicable, `NoMemory`, `Exhausted` where the group doesn't fit and the sequence is the last one:
-    /// nothing has changed, and the disk wasn't written. `Device` where the disk failed: the store is off, and the next
-    /// recovery finds the files before the group or those after it.
-    pub fn commit(&mut self, group: &Group) -> Result<(), StoreFault>
-        requires { 0 < length group.now }
+    /// `Off` where the store is off, `NoMemory`, `Exhausted` where the group doesn't fit and the sequence is the last
+    /// one: nothing has changed, and the disk wasn't written. `Device` where the disk failed: the store is off, and the
+    /// next recovery finds the files before the group or those after it.
+    pub fn commit(&mut self, group: &Group<'_>) -> Result<(), StoreFault>
+        requires some { 0 < length group.now }
+        requires applicable { IsApplicable self.old.layout self.old.state group.now }
         ensures { Commits D.Disk self.old group.now result self.new }
     {
-        replace_with(&mut self.parts, (self.alloc, group), commit_group)
+        replace_with(&mut self.disk_or_log, (self.alloc, group), commit_group)
     }
 
     /// Moves a disk of layout 1 to layout 2, in place: the files stay, and are in the first image of layout 2
@@ -95,7 +96,7 @@ impl<D: Disk> Store<D> {
     pub fn migrate(&mut self) -> Result<(), StoreFault>
         ensures { Migrates D.Disk self.old result self.new }
     {
-        replace_with(&mut self.parts, self.alloc, migrate_files)
+        replace_with(&mut self.disk_or_log, self.alloc, migrate_files)
     }
 
     /// The files, within the limits of its layout, or None while the store is off.
@@ -103,9 +104,9 @@ impl<D: Disk> Store<D> {
         ensures files { option_map (λ directory. directory.now.files) result ≡ files_of self.now.state }
         ensures limits { IfSome result (λ directory. directory.now.limits ≡ limits_of self.now.layout) }
     {
-        match &self.parts {
-            Parts::Off(_, _) => None,
-            Parts::Ready(_, directory) => Some(directory),
+        match &self.disk_or_log {
+            DiskOrLog::Off(_, _) => None,
+            DiskOrLog::Ready(_, directory) => Some(directory),
         }
     }
 
@@ -113,9 +114,9 @@ impl<D: Disk> Store<D> {
     pub fn layout(&self) -> Layout
         ensures { result ≡ self.now.layout }
     {
-        match &self.parts {
-            Parts::Off(_, layout) => *layout,
-            Parts::Ready(log, _) => log.layout(),
+        match &self.disk_or_log {
+            DiskOrLog::Off(_, layout) => *layout,
+            DiskOrLog::Ready(log, _) => log.layout(),
         }
     }
 
@@ -123,9 +124,9 @@ impl<D: Disk> Store<D> {
     pub fn mode(&self) -> Mode
         ensures { result ≡ mode_of self.now.state }
     {
-        match &self.parts {
-            Parts::Off(_, _) => Mode::Off,
-            Parts::Ready(log, _) => Mode::Ready {
+        match &self.disk_or_log {
+            DiskOrLog::Off(_, _) => Mode::Off,
+            DiskOrLog::Ready(log, _) => Mode::Ready {
                 sequence: log.sequence(),
             },
         }
@@ -136,9 +137,9 @@ impl<D: Disk> Store<D> {
         ensures disk { result ≡ self.disk }
         ensures at_rest { D.honest self.disk → WhenReady self.state (IsAtRest (D.state self.disk)) }
     {
-        match self.parts {
-            Parts::Off(disk, _) => disk,
-            Parts::Ready(log, _) => log.into_images().into_disk(),
+        match self.disk_or_log {
+            DiskOrLog::Off(disk, _) => disk,
+            DiskOrLog::Ready(log, _) => log.into_images().into_disk(),
         }
     }
 }

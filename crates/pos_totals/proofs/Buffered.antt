@@ -1,5 +1,6 @@
 -- Changes that are buffered: they stay so whatever changes the files, and all of them make one group.
-use Rattle.std.proofs.Common.{◌≡◌, ◌∙◌, ℕ, zero, suc, ◌+◌, ◌≤◌, ℤ, pos, negsuc, nat_abs, true, false, not, List, [], ◌∷◌, length, replicate, Option, Some, None, Ok, refl, sym, ap, subst, arith}
+use Rattle.std.proofs.Common.{◌≡◌, ◌∙◌, ℕ, zero, suc, ◌+◌, ◌≤◌, ℤ, pos, negsuc, nat_abs, true, false, not, List, [], ◌∷◌, length, replicate, Option, Some, None}
+use Rattle.std.proofs.Common.{Ok, refl, sym, ap, subst, arith}
 use Rattle.std.specs.Prelude.{is_none, is_some, slice_set}
 use Rattle.std.specs.List.{find, list_any, AllByRecursion}
 use Rattle.std.proofs.lemmas.Bool.{eqb-true}
@@ -7,7 +8,8 @@ use Rattle.std.proofs.Math.ListN.{length-replicate}
 use Rattle.pos_dir.specs.Changes.{outcome_of_all, and_then}
 use Rattle.pos_dir.specs.declared.change.Change.{Change as FileChange}
 use Rattle.pos_image.specs.declared.layout.Layout.{Layout}
-use Rattle.pos_totals.specs.HardTotals.{File, Mode, Off, Ready, Change, Create, Delete, Rename, Write, SetAll, totals_limits, transaction_at, without_transactions}
+use Rattle.pos_totals.specs.HardTotals.{File, Mode, Off, Ready, Change, Create, Delete, Rename, Write, SetAll, totals_limits, transaction_at}
+use Rattle.pos_totals.specs.HardTotals.{without_transactions}
 use Rattle.pos_totals.specs.TotalsFiles.{is_called, is_named, is_range, is_range_of, with_each, overwritten}
 use Rattle.pos_totals.specs.TotalsChanges.{change_rows, files_after, files_after_all, next_after, next_after_all}
 use Rattle.pos_totals.specs.TotalsCommits.{is_of_none}
@@ -15,7 +17,8 @@ use Rattle.pos_service.specs.Refusals.{first_refusal}
 use Rattle.pos_store.specs.Layouts.{limits_of}
 use Rattle.pos_totals.proofs.Grouped.{Makes, made_write, made_set_all, neither, some_file, ranged, range_fits, only_called}
 use Rattle.pos_totals.proofs.Handled.{all_so, same_tags}
-use Rattle.pos_totals.proofs.Outlined.{outline, outlines, same_buffered, same_group, same_gone, same_distinct, outlines_kept, all_files, write_keeps, one_meets, found_has, all_left, all_more}
+use Rattle.pos_totals.proofs.Outlined.{outline, outlines, same_buffered, same_group, same_gone, same_distinct, outlines_kept, all_files, write_keeps, one_meets}
+use Rattle.pos_totals.proofs.Outlined.{found_has, all_left, all_more}
 use Rattle.pos_totals.specs.Buffers.{IsGiven, IsBuffered, MayHold, HaveBuffers}
 use Rattle.pos_totals.specs.Groups.{group_of}
 use Rattle.pos_totals.specs.Views.{plain, handles_of, tags_of, AreDistinct}

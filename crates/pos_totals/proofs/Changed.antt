@@ -1,11 +1,13 @@
 -- What a change of the totals did, by what its table says and by what the store did.
-use Rattle.std.proofs.Common.{◌≡◌, ◌∙◌, inl, inr, ⊎_elim, ◌⊎◌, ℕ, ◌+◌, ℤ, pos, negsuc, ◌^◌, ◌<◌, ◌≤◌, Bool, true, false, not, ◌&&◌, ◌||◌, cond, List, [], ◌∷◌, ◌++◌, length, Option, Some, None, Result, Ok, Err, MatchOption, IfSome, refl, sym, ap, subst, arith}
+use Rattle.std.proofs.Common.{◌≡◌, ◌∙◌, inl, inr, ⊎_elim, ◌⊎◌, ℕ, ◌+◌, ℤ, pos, negsuc, ◌^◌, ◌<◌, ◌≤◌, Bool, true, false, not, ◌&&◌, ◌||◌, cond, List, [], ◌∷◌}
+use Rattle.std.proofs.Common.{◌++◌, length, Option, Some, None, Result, Ok, Err, MatchOption, IfSome, refl, sym, ap, subst, arith}
 use Rattle.std.specs.Prelude.{slice_set, nat_eq, nat_lt, nat_le, is_none, is_some}
 use Rattle.std.specs.List.{find, AllByRecursion}
 use Rattle.std.specs.Option.{option_map}
 use Rattle.std.proofs.lemmas.Bool.{and_parts, not-false, ltb-true, leb-true, eqb-true, eqb-false, eq-eqb}
 use Rattle.std.proofs.lemmas.List.{length-map}
 use Rattle.pos_dir.specs.declared.change.Change.{Change as FileChange}
+use Rattle.pos_dir.specs.declared.change.Change.TheVariants as file
 use Rattle.pos_disk.specs.State.{MayLeave}
 use Rattle.pos_disk.specs.declared.device.Disk.{Ghosts}
 use Rattle.pos_dir.specs.Files.{IsDirectory}
@@ -18,16 +20,18 @@ use Rattle.pos_service.specs.declared.answer.Value.TheVariants as value
 use Rattle.pos_service.specs.declared.code.Code.TheVariants as code
 use Rattle.pos_service.specs.declared.memory.NoMemory.{NoMemory}
 use Rattle.pos_service.specs.Claims.{is_foreign}
-use Rattle.pos_totals.specs.HardTotals.{File, Off, Ready, Totals, Change, Create, Delete, Write, SetAll, last_number, totals_limits, after_disk_fault, transaction_at, with_transaction}
+use Rattle.pos_totals.specs.HardTotals.{File, Off, Ready, Totals, Change, Create, Delete, Write, SetAll, last_number, totals_limits, after_disk_fault}
+use Rattle.pos_totals.specs.HardTotals.{transaction_at, with_transaction}
 use Rattle.pos_totals.specs.TotalsFiles.{is_name, is_named, is_called, has_file, has_room, free_data, is_foreign_file, is_range_of}
 use Rattle.pos_service.specs.Numbers.{is_natural, is_up_to}
-use Rattle.pos_totals.specs.TotalsChanges.{is_create, change_rows, refusals_of_change, group_by_change, number_rows, files_after, next_after, after_changes, given_by, spent_by, cost_of, cost_of_all, is_over, Changed, DoesChange, Done, RunsOut}
+use Rattle.pos_totals.specs.TotalsChanges.{is_create, change_rows, refusals_of_change, group_by_change, number_rows, files_after, next_after, after_changes}
+use Rattle.pos_totals.specs.TotalsChanges.{given_by, spent_by, cost_of, cost_of_all, is_over, Changed, DoesChange, Done, RunsOut}
 use Rattle.pos_totals.specs.TotalsClaims.{is_foreign_claim}
 use Rattle.pos_service.specs.Refusals.{first_refusal, Decided}
-use Rattle.pos_store.specs.Commits.{Commits, sequence_after}
+use Rattle.pos_store.specs.Commits.{Commits, IsApplicable, sequence_after}
 use Rattle.pos_store.specs.Layouts.{limits_of}
-use Rattle.pos_store.specs.Modes.{StoreState as State, LeavesItsFiles}
-use Rattle.pos_store.specs.Modes.{Off as StoreOff, Ready as StoreReady, StoreView}
+use Rattle.pos_store.specs.StoreViews.{StoreState as State, LeavesItsFiles}
+use Rattle.pos_store.specs.StoreViews.{Off as StoreOff, Ready as StoreReady, StoreView}
 use Rattle.pos_store.specs.declared.fault.StoreFault.{StoreFault}
 use Rattle.pos_store.specs.declared.fault.StoreFault.TheVariants as fault
 use Rattle.pos_totals.proofs.Apart.{apart_after, files_apart}
@@ -38,17 +42,19 @@ use Rattle.pos_totals.proofs.Largest.{most_bytes, most_files}
 use Rattle.pos_totals.proofs.Pairs.{plain_of, tags_in, numbers_in, called_again}
 use Rattle.pos_totals.proofs.Outlined.{found_has}
 use Rattle.pos_totals.proofs.Places.{found_inside}
-use Rattle.pos_totals.proofs.Putting.{open_table, closed_table, follows, their_files, leaves_found, sound_as, view_at, sound_files, idles, rests, put_down, put_group, doubt_group}
-use Rattle.pos_totals.specs.Buffers.{IsGiven, IsBuffered, IsAsked, is_bufferable, cost_of_checked, HasLeft, MayBuffer, Buffers, HaveBuffers, transactions_after, with_buffered}
+use Rattle.pos_totals.proofs.Putting.{open_table, closed_table, follows, their_files, leaves_found, sound_as, view_at, sound_files, idles, rests, group_applies}
+use Rattle.pos_totals.proofs.Putting.{put_down, put_group, doubt_group}
+use Rattle.pos_totals.specs.Buffers.{IsGiven, IsBuffered, IsAsked, is_bufferable, cost_of_made, HasLeft, MayBuffer, Buffers, HaveBuffers, transactions_after}
+use Rattle.pos_totals.specs.Buffers.{with_buffered}
 use Rattle.pos_totals.specs.Changes.{Changes, HasFailed, IsOneGroup}
-use Rattle.pos_totals.specs.Checks.{ChecksAt, Passes, file_change_of, answer_of}
+use Rattle.pos_totals.specs.Checks.{ChecksAt, Passes, answer_of}
 use Rattle.pos_totals.specs.Groups.{file_change, group_of}
 use Rattle.pos_totals.specs.Numbering.{lacks, HasPlace, given_after, following, value_after}
-use Rattle.pos_totals.specs.Views.{TotalsView, plain, tag_of, tags_of, handles_of, totals_of, view_of, with_tags, AreDistinct, AreHandles, HasDirectory, HasItsFiles, IsSound}
+use Rattle.pos_totals.specs.Views.{TotalsView, plain, tag_of, tags_of, handles_of, totals_of, view_of, with_tags, AreDistinct, AreHandles, HasDirectory}
+use Rattle.pos_totals.specs.Views.{HasItsFiles, IsSound}
 use Rattle.pos_totals.specs.declared.handles.Tag.{Tag}
 use Rattle.pos_totals.specs.declared.holdings.Holdings.{Holdings}
 use Rattle.pos_totals.specs.declared.request.Checked.{Checked}
-use Rattle.pos_totals.specs.declared.request.Checked.TheVariants as checked
 
 -- ---- the table of a change
 
@@ -160,20 +166,23 @@ wants state holdings control change made checks want DiskFailed = (passed state 
 -- ---- a change that is buffered
 
 -- in a transaction nothing but a Write or a SetAll is let through
-may_be_buffered : (layout : Layout) (files : List File) (control spent : ℕ) (change : Change) (made : Checked)
-    → Passes (totals_limits layout) files control (Some spent) change made
-    → is_bufferable made ≡ true
-may_be_buffered layout files control spent change (checked.Write index number place text) passes = refl
-may_be_buffered layout files control spent change (checked.SetAll index number n) passes = refl
-may_be_buffered layout files control spent (Write handle offset bytes) other passes = absurd (let m = passes.made in cc)
-may_be_buffered layout files control spent (SetAll handle n) other passes = absurd (let m = passes.made in cc)
-may_be_buffered layout files control spent other made passes = absurd (let r = passes.unrefused in cc)
+may_be_buffered : (layout : Layout) (files : List File) (control spent : ℕ) (change : Change) (named : Option ℕ) (made : FileChange)
+    → first_refusal (change_rows (totals_limits layout) files control (Some spent) change) ≡ None → file_change files change ≡ made
+    → IsAsked change named made → is_bufferable named made ≡ true
+may_be_buffered layout files control spent change (Some handle) (file.Write index offset bytes) unrefused is asked = refl
+may_be_buffered layout files control spent change (Some handle) (file.SetAll index n) unrefused is asked = refl
+may_be_buffered layout files control spent change None (file.Write index offset bytes) unrefused is asked = absurd asked
+may_be_buffered layout files control spent change None (file.SetAll index n) unrefused is asked = absurd asked
+may_be_buffered layout files control spent (Write handle offset bytes) named other unrefused is asked = absurd cc
+may_be_buffered layout files control spent (SetAll handle n) named other unrefused is asked = absurd cc
+may_be_buffered layout files control spent other named made unrefused is asked = absurd cc
 
 -- it costs what was asked for
-cost_is : (change : Change) (made : Checked) → is_bufferable made ≡ true → IsAsked change made → cost_of change ≡ cost_of_checked made
-cost_is change (checked.Write index handle offset bytes) may asked = ap cost_of asked
-cost_is change (checked.SetAll index handle n) may asked = ap cost_of asked
-cost_is change other may asked = absurd cc
+cost_is : (change : Change) (named : Option ℕ) (made : FileChange) → is_bufferable named made ≡ true → IsAsked change named made
+    → cost_of change ≡ cost_of_made made
+cost_is change (Some handle) (file.Write index offset bytes) may asked = ap cost_of asked
+cost_is change (Some handle) (file.SetAll index n) may asked = ap cost_of asked
+cost_is change named other may asked = absurd cc
 
 -- and that is left
 is_left : (layout : Layout) (files : List File) (control spent : ℕ) (change : Change)
@@ -203,20 +212,22 @@ may_buffer (StoreReady files sequence) holdings control change made checks insid
   where
     by : (o : Option (List Change)) → is_some o ≡ true
         → Passes (totals_limits holdings.layout) (with_tags holdings.handles.given files) control (option_map cost_of_all o) change made
-        → (is_bufferable made ≡ true) × HasLeft o (cost_of_checked made)
+        → (is_bufferable made.handle made.change ≡ true) × HasLeft o (cost_of_made made.change)
     by None some passes = absurd cc
     by (Some buffer) some passes =
-        let may = may_be_buffered holdings.layout (with_tags holdings.handles.given files) control (cost_of_all buffer) change made passes in (
+        let may = may_be_buffered holdings.layout (with_tags holdings.handles.given files) control (cost_of_all buffer) change made.handle made.change
+        passes.unrefused passes.made passes.asked in (
           may,
           let left = is_left holdings.layout (with_tags holdings.handles.given files) control (cost_of_all buffer) change passes.unrefused in omega
-              (arith, left, cost_is change made may passes.asked),
+              (arith, left, cost_is change made.handle made.change may passes.asked),
         )
 
 -- a buffered change is the one that was asked for
-same_asked : (change other : Change) (made : Checked) → is_bufferable made ≡ true → IsAsked change made → IsAsked other made → other ≡ change
-same_asked change other (checked.Write index handle offset bytes) may asked again = again ∙ sym asked
-same_asked change other (checked.SetAll index handle n) may asked again = again ∙ sym asked
-same_asked change other made may asked again = absurd cc
+same_asked : (change other : Change) (named : Option ℕ) (made : FileChange) → is_bufferable named made ≡ true → IsAsked change named made
+    → IsAsked other named made → other ≡ change
+same_asked change other (Some handle) (file.Write index offset bytes) may asked again = again ∙ sym asked
+same_asked change other (Some handle) (file.SetAll index n) may asked again = again ∙ sym asked
+same_asked change other named made may asked again = absurd cc
 
 inside_some : (transaction : Option (List Change)) → is_some transaction ≡ true → (buffer : List Change) × (transaction ≡ Some buffer)
 inside_some None some = absurd cc
@@ -304,7 +315,8 @@ module _ {D : Type 0} (bound : Ghosts D) (disk : D)
       let some = inside_some (transaction_at holdings.transactions control) inside in
       let may = may_buffer (StoreReady files sequence) holdings control change made checks inside in
       let is : new ≡ (with_change some.0).transactions =
-      did.1.added ∙ ap (with_buffered holdings.transactions control) (same_asked change did.1.change made may.bufferable checks.1.asked did.1.asked)
+      did.1.added ∙ ap (with_buffered holdings.transactions control)
+      (same_asked change did.1.change made.handle made.change may.bufferable checks.1.asked did.1.asked)
       ∙ ap (λ (t : Option (List Change)). slice_set holdings.transactions control (option_map (λ b. b ++ change ∷ []) t)) some.1 in
       rw (is, did.0) (is_added some.0 some.1)
 
@@ -314,14 +326,14 @@ lacks_is : (files : List File) (change : Change) (next : ℕ) → lacks next (fi
 lacks_is files (Create name size) next = refl
 lacks_is files other next = refl
 
-lacks_so : (files : List File) (change : Change) (next : ℕ) (made : Checked) (b : Bool) → file_change files change ≡ file_change_of made
-    → lacks next (file_change_of made) ≡ b → (is_create change && nat_eq next last_number) ≡ b
+lacks_so : (files : List File) (change : Change) (next : ℕ) (made : Checked) (b : Bool) → file_change files change ≡ made.change
+    → lacks next made.change ≡ b → (is_create change && nat_eq next last_number) ≡ b
 lacks_so files change next made b same lacking = sym (lacks_is files change next) ∙ ap (lacks next) same ∙ lacking
 
 -- the answer of a change that has no handle
 pub lacking : (state : State) (holdings : Holdings) (control : ℕ) (change : Change) (made : Checked)
     → ChecksAt (totals_of state holdings) control change (Ok made) → is_some (transaction_at holdings.transactions control) ≡ false
-    → lacks holdings.handles.next (file_change_of made) ≡ true
+    → lacks holdings.handles.next made.change ≡ true
     → (DiskFailed : Type 0) → Changed DiskFailed (totals_of state holdings) control change (Ok (answer.Refused code.Failure 0))
     (totals_of state holdings)
 lacking StoreOff holdings control change made checks free out DiskFailed = absurd checks.1
@@ -332,6 +344,19 @@ lacking (StoreReady files sequence) holdings control change made checks free out
     (does_outside DiskFailed before control change _ before (outside (transaction_at holdings.transactions control) free)
     (closed_table (number_rows before change) _ (answer.Refused code.Failure 0) _ _
     (ap (λ b. cond b (Some (answer.Refused code.Failure 0)) None) lacking) refl refl))
+
+-- the group of a change that is let through is applicable
+pub applicable : {layout : Layout} (state : State) (holdings : Holdings) (control : ℕ) (change : Change) (made : Checked)
+    → HasDirectory holdings.layout state → IsSound layout state holdings → ChecksAt (totals_of state holdings) control change (Ok made)
+    → IsApplicable layout state (made.change ∷ [])
+applicable StoreOff holdings control change made directory sound checks = absurd checks.1
+applicable {layout = layout} (StoreReady files sequence) holdings control change made directory sound checks =
+    let xs = with_tags holdings.handles.given files in
+    let both = sound_files holdings.layout holdings.handles.given files holdings.handles.next directory sound.handles in
+    let one = makes_group holdings.layout xs control (spent_by (totals_of (StoreReady files sequence) holdings) control) change
+    holdings.handles.next both.0 both.1 checks.1.unrefused in
+    subst (λ (made : FileChange). IsApplicable layout (StoreReady files sequence) (made ∷ [])) checks.1.made
+    (group_applies layout files sequence holdings (change ∷ []) sound.found sound.handles one)
 
 -- the tags have a place for what the change does to them
 has_place : (layout : Layout) (files : List File) (control : ℕ) (spent : Option ℕ) (change : Change) (next : ℕ)
@@ -354,12 +379,12 @@ has_place layout files control spent (Delete name) next unrefused left small =
 has_place layout files control spent other next unrefused left small = tt
 
 pub place : {layout : Layout} (state : State) (holdings : Holdings) (control : ℕ) (change : Change) (made : Checked) → IsSound layout state holdings
-    → ChecksAt (totals_of state holdings) control change (Ok made) → lacks holdings.handles.next (file_change_of made) ≡ false → holdings.handles.next < 2 ^ 64
-    → HasPlace holdings.handles.given holdings.handles.next (file_change_of made)
+    → ChecksAt (totals_of state holdings) control change (Ok made) → lacks holdings.handles.next made.change ≡ false → holdings.handles.next < 2 ^ 64
+    → HasPlace holdings.handles.given holdings.handles.next made.change
 place StoreOff holdings control change made sound checks left small = absurd checks.1
 place (StoreReady files sequence) holdings control change made sound checks left small =
     let xs = with_tags holdings.handles.given files in
-    subst (λ (tags : List Tag). HasPlace tags holdings.handles.next (file_change_of made)) (tags_in holdings.handles.given files sound.handles.count)
+    subst (λ (tags : List Tag). HasPlace tags holdings.handles.next made.change) (tags_in holdings.handles.given files sound.handles.count)
     (subst (λ (file : FileChange). HasPlace (tags_of xs) holdings.handles.next file) checks.1.made
     (has_place holdings.layout xs control (spent_by (totals_of (StoreReady files sequence) holdings) control) change holdings.handles.next checks.1.unrefused
     (lacks_so xs change holdings.handles.next made false checks.1.made left) small))
@@ -473,8 +498,6 @@ module _ {D : Type 0} (bound : Ghosts D) (disk : D)
       → Changes bound (view_of ready_store holdings) control change (answer_of cause)
       (view_of new (refused_holdings holdings cause)) × IsSound new.layout new.state (refused_holdings holdings cause)
   failed new fault.Off left commits = absurd (put_down bound disk files sequence tail holdings change [] sound.handles one (Err fault.Off) new commits.answer)
-  failed new (fault.Refused refusal) left commits =
-      absurd (put_down bound disk files sequence tail holdings change [] sound.handles one (Err (fault.Refused refusal)) new commits.answer)
   failed new fault.AlreadyLayout2 left commits =
       absurd (put_down bound disk files sequence tail holdings change [] sound.handles one (Err fault.AlreadyLayout2) new commits.answer)
   failed new fault.Unformatted left commits =
@@ -536,11 +559,11 @@ module _ {D : Type 0} (bound : Ghosts D) (disk : D)
   pub store_done : (layout : Layout) (state : State) (tail : ℕ) (new : StoreView D) → HasDirectory holdings.layout state
       → IsSound layout state holdings → (bound.honest disk → LeavesItsFiles layout state (bound.state disk))
       → ChecksAt (totals_of state holdings) control change (Ok made)
-      → is_some (transaction_at holdings.transactions control) ≡ false → lacks holdings.handles.next (file_change_of made) ≡ false
-      → Commits bound (record { disk = disk; layout = layout; state = state; tail = tail }) (file_change_of made ∷ []) (Ok tt) new
-      → Changes bound (view_at disk state holdings) control change (Ok (answer.Done (value_after holdings.handles.next (file_change_of made))))
-      (view_of new (kept_holdings holdings (file_change_of made)))
-      × IsSound new.layout new.state (kept_holdings holdings (file_change_of made))
+      → is_some (transaction_at holdings.transactions control) ≡ false → lacks holdings.handles.next made.change ≡ false
+      → Commits bound (record { disk = disk; layout = layout; state = state; tail = tail }) (made.change ∷ []) (Ok tt) new
+      → Changes bound (view_at disk state holdings) control change (Ok (answer.Done (value_after holdings.handles.next made.change)))
+      (view_of new (kept_holdings holdings made.change))
+      × IsSound new.layout new.state (kept_holdings holdings made.change)
   store_done layout StoreOff tail new directory sound leaves checks free left commits = absurd checks.1
   store_done layout (StoreReady files sequence) tail new directory sound leaves checks free there commits =
       let xs = with_tags holdings.handles.given files in
@@ -562,8 +585,8 @@ module _ {D : Type 0} (bound : Ghosts D) (disk : D)
   pub store_refused : (layout : Layout) (state : State) (tail : ℕ) (new : StoreView D) (cause : StoreFault) → HasDirectory holdings.layout state
       → IsSound layout state holdings → (bound.honest disk → LeavesItsFiles layout state (bound.state disk))
       → ChecksAt (totals_of state holdings) control change (Ok made)
-      → is_some (transaction_at holdings.transactions control) ≡ false → lacks holdings.handles.next (file_change_of made) ≡ false
-      → Commits bound (record { disk = disk; layout = layout; state = state; tail = tail }) (file_change_of made ∷ []) (Err cause) new
+      → is_some (transaction_at holdings.transactions control) ≡ false → lacks holdings.handles.next made.change ≡ false
+      → Commits bound (record { disk = disk; layout = layout; state = state; tail = tail }) (made.change ∷ []) (Err cause) new
       → Changes bound (view_at disk state holdings) control change (answer_of cause)
       (view_of new (refused_holdings holdings cause)) × IsSound new.layout new.state (refused_holdings holdings cause)
   store_refused layout StoreOff tail new cause directory sound leaves checks free left commits = absurd checks.1

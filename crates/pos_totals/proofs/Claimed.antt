@@ -1,5 +1,6 @@
 -- Claims: the tags with other claims are those of the files with other claims.
-use Rattle.std.proofs.Common.{◌≡◌, ◌∙◌, ℕ, ◌<◌, ℤ, pos, Bool, true, false, not, ◌&&◌, ◌||◌, cond, List, [], ◌∷◌, ◌++◌, length, map, Option, Some, None, Ok, refl, sym, ap, subst, arith}
+use Rattle.std.proofs.Common.{◌≡◌, ◌∙◌, ℕ, ◌<◌, ℤ, pos, Bool, true, false, not, ◌&&◌, ◌||◌, cond, List, [], ◌∷◌, ◌++◌, length, map, Option, Some, None, Ok}
+use Rattle.std.proofs.Common.{refl, sym, ap, subst, arith}
 use Rattle.std.specs.Prelude.{nat_eq, slice_set}
 use Rattle.std.specs.List.{find, list_any, AllByRecursion}
 use Rattle.std.proofs.lemmas.List.{length-map}
@@ -13,8 +14,8 @@ use Rattle.pos_totals.specs.TotalsArrangements.{ClaimFile, ReleaseFile, claimed,
 use Rattle.pos_totals.specs.TotalsFiles.{is_called, with_each, has_file, is_foreign_file}
 use Rattle.pos_totals.specs.TotalsClaims.{is_own_claim, is_foreign_claim, foreign_area, without_control}
 use Rattle.pos_service.specs.Refusals.{first_refusal}
-use Rattle.pos_store.specs.Modes.{StoreState as State}
-use Rattle.pos_store.specs.Modes.{Off as StoreOff, Ready as StoreReady}
+use Rattle.pos_store.specs.StoreViews.{StoreState as State}
+use Rattle.pos_store.specs.StoreViews.{Off as StoreOff, Ready as StoreReady}
 use Rattle.pos_totals.proofs.Apart.{apart_claimed, apart_dropped, apart_released, apart_so}
 use Rattle.pos_totals.proofs.Buffered.{holds_so, held_with, none_held}
 use Rattle.pos_totals.proofs.Grouped.{neither, not_refused}

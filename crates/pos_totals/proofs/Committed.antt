@@ -1,5 +1,6 @@
 -- What a commit did, by what its table says and by what the store did.
-use Rattle.std.proofs.Common.{◌≡◌, ◌∙◌, inl, inr, ⊎_elim, ◌⊎◌, ℕ, zero, suc, true, false, cond, List, [], ◌∷◌, length, Option, Some, None, Ok, Err, refl, sym, ap, subst, arith}
+use Rattle.std.proofs.Common.{◌≡◌, ◌∙◌, inl, inr, ⊎_elim, ◌⊎◌, ℕ, zero, suc, true, false, cond, List, [], ◌∷◌, length, Option, Some, None, Ok, Err, refl, sym}
+use Rattle.std.proofs.Common.{ap, subst, arith}
 use Rattle.std.specs.Prelude.{nat_eq, is_none, slice_set}
 use Rattle.std.specs.List.{list_any, AllByRecursion}
 use Rattle.std.proofs.lemmas.Bool.{eq-eqb}
@@ -17,14 +18,15 @@ use Rattle.pos_service.specs.declared.code.Code.TheVariants as code
 use Rattle.pos_service.specs.declared.memory.NoMemory.{NoMemory}
 use Rattle.pos_service.specs.Claims.{is_foreign}
 use Rattle.pos_totals.specs.TotalsRows.{while_ready}
-use Rattle.pos_totals.specs.HardTotals.{files_of, File, Mode, Off, Ready, Totals, Change, last_number, changes_in, transaction_at, transaction_of, with_transaction, without_transactions, after_disk_fault}
+use Rattle.pos_totals.specs.HardTotals.{files_of, File, Mode, Off, Ready, Totals, Change, last_number, changes_in, transaction_at, transaction_of}
+use Rattle.pos_totals.specs.HardTotals.{with_transaction, without_transactions, after_disk_fault}
 use Rattle.pos_totals.specs.TotalsCommits.{is_of_none, is_of_foreign, commit_rows, refusals_of_commit, group_by_commit, DoesCommit, Committed}
 use Rattle.pos_totals.specs.TotalsChanges.{after_changes, files_after_all, Done, RunsOut}
 use Rattle.pos_service.specs.Refusals.{first_refusal}
-use Rattle.pos_store.specs.Commits.{Commits, sequence_after}
+use Rattle.pos_store.specs.Commits.{Commits, IsApplicable, sequence_after}
 use Rattle.pos_store.specs.Layouts.{limits_of}
-use Rattle.pos_store.specs.Modes.{StoreState as State, LeavesItsFiles}
-use Rattle.pos_store.specs.Modes.{Off as StoreOff, Ready as StoreReady, StoreView}
+use Rattle.pos_store.specs.StoreViews.{StoreState as State, LeavesItsFiles}
+use Rattle.pos_store.specs.StoreViews.{Off as StoreOff, Ready as StoreReady, StoreView}
 use Rattle.pos_store.specs.declared.fault.StoreFault.{StoreFault}
 use Rattle.pos_store.specs.declared.fault.StoreFault.TheVariants as fault
 use Rattle.pos_totals.proofs.Buffered.{makes_all, outlines_after, tags_after, next_stays, held_at, held_with, holds_so, none_held, none_hold}
@@ -32,12 +34,14 @@ use Rattle.pos_totals.proofs.Changed.{committed_found, refused_holdings}
 use Rattle.pos_totals.proofs.Grouped.{not_refused}
 use Rattle.pos_totals.proofs.Outlined.{same_buffered}
 use Rattle.pos_totals.proofs.Pairs.{tags_in, called_again}
-use Rattle.pos_totals.proofs.Putting.{open_table, closed_table, follows, their_files, leaves_found, sound_as, view_at, sound_files, idles, rests, put_down, put_group, doubt_group}
+use Rattle.pos_totals.proofs.Putting.{open_table, closed_table, follows, their_files, leaves_found, sound_as, view_at, sound_files, idles, rests, group_applies}
+use Rattle.pos_totals.proofs.Putting.{put_down, put_group, doubt_group}
 use Rattle.pos_totals.specs.Buffers.{IsBuffered}
 use Rattle.pos_totals.specs.Changes.{CommitsBuffer, HasFailed, IsOneGroup}
 use Rattle.pos_totals.specs.Checks.{answer_of, Gathers}
 use Rattle.pos_totals.specs.Groups.{group_of}
-use Rattle.pos_totals.specs.Views.{TotalsView, plain, plain_file, tag_of, tags_of, mode_of, totals_of, view_of, with_tags, HasDirectory, IsSound, LeavesTheirFiles}
+use Rattle.pos_totals.specs.Views.{TotalsView, plain, plain_file, tag_of, tags_of, mode_of, totals_of, view_of, with_tags, HasDirectory, IsSound}
+use Rattle.pos_totals.specs.Views.{LeavesTheirFiles}
 use Rattle.pos_totals.specs.declared.handles.Tag.{Tag}
 use Rattle.pos_totals.specs.declared.holdings.Holdings.{Holdings}
 
@@ -291,8 +295,6 @@ module _ {D : Type 0} (bound : Ghosts D) (disk : D)
       → CommitsBuffer bound (view_of ready_store holdings) control (answer_of cause)
       (view_of new (refused_holdings holdings cause)) × IsSound new.layout new.state (refused_holdings holdings cause)
   failed new fault.Off commits = absurd (put_down bound disk files sequence tail holdings first others sound.handles one (Err fault.Off) new commits.answer)
-  failed new (fault.Refused refusal) commits =
-      absurd (put_down bound disk files sequence tail holdings first others sound.handles one (Err (fault.Refused refusal)) new commits.answer)
   failed new fault.AlreadyLayout2 commits =
       absurd (put_down bound disk files sequence tail holdings first others sound.handles one (Err fault.AlreadyLayout2) new commits.answer)
   failed new fault.Unformatted commits =
@@ -328,6 +330,17 @@ module _ {D : Type 0} (bound : Ghosts D) (disk : D)
       )
 
 -- ---- the same for a store in any state, by the plan
+
+-- the group of a commit that is let through is applicable
+pub applicable : (layout : Layout) (state : State) (holdings : Holdings) (control : ℕ) (group : List FileChange) → HasDirectory holdings.layout state
+    → IsSound layout state holdings → first_refusal (refusals_of_commit (totals_of state holdings) control) ≡ None
+    → Gathers (files_of (totals_of state holdings).mode) (transaction_at holdings.transactions control) group → IsApplicable layout state group
+applicable layout StoreOff holdings control group directory sound passes gathered = absurd (off_refused holdings control passes)
+applicable layout (StoreReady files sequence) holdings control group directory sound passes gathered =
+    subst (λ (g : List FileChange). IsApplicable layout (StoreReady files sequence) g) (sym gathered.made)
+    (group_applies layout files sequence holdings (gathered.first ∷ gathered.others) sound.found sound.handles
+    (one_group files sequence holdings control (gathered.first ∷ gathered.others) directory
+    (sound_as layout holdings.layout (StoreReady files sequence) holdings refl sound) passes gathered.buffered))
 
 module _ {D : Type 0} (bound : Ghosts D) (disk : D)
     (only : bound.honest disk → (bytes : List ℕ) → (bound.state disk).left_since (bound.state disk).moment bytes → MayLeave (bound.state disk) bytes)

@@ -8,7 +8,7 @@ use Rattle.pos_dir.specs.declared.file.File.{File as PlainFile}
 use Rattle.pos_dir.specs.declared.limits.Limits.{Limits}
 use Rattle.pos_image.specs.declared.layout.Layout.{Layout}
 use Rattle.pos_store.specs.Layouts.{limits_of}
-use Rattle.pos_store.specs.Modes.{StoreState as State, Off as StoreOff, Ready as StoreReady, files_of as store_files_of}
+use Rattle.pos_store.specs.StoreViews.{StoreState as State, Off as StoreOff, Ready as StoreReady, files_of as store_files_of}
 use Rattle.pos_totals.specs.HardTotals.{File}
 use Rattle.pos_service.specs.Numbers.{is_natural}
 use Rattle.pos_totals.specs.TotalsFiles.{is_named, is_called}

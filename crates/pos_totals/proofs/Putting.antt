@@ -1,6 +1,7 @@
 -- A group that is put on the disk: what the store did, and what it says of the totals.
-use Rattle.std.proofs.Common.{◌≡◌, ◌⊎◌, inl, inr, ⊎_elim, ℕ, ◌+◌, Bool, true, false, cond, List, [], ◌∷◌, map, Option, Some, None, Result, Ok, Err, IsErrOf, MatchOption, MatchResult, refl, sym, ap, subst, arith}
-use Rattle.std.specs.Prelude.{nat_eq}
+use Rattle.std.proofs.Common.{◌≡◌, ◌⊎◌, inl, inr, ⊎_elim, ℕ, ◌+◌, Bool, true, false, cond, List, [], ◌∷◌, map, Option, Some, None, Result, Ok, Err, IsErrOf}
+use Rattle.std.proofs.Common.{MatchOption, MatchResult, refl, sym, ap, subst, arith}
+use Rattle.std.specs.Prelude.{nat_eq, IsOk}
 use Rattle.std.proofs.lemmas.Bool.{eqb-true}
 use Rattle.pos_dir.specs.Changes.{outcome_of_all}
 use Rattle.pos_dir.specs.Files.{IsDirectory}
@@ -18,19 +19,20 @@ use Rattle.pos_service.specs.declared.memory.NoMemory.{NoMemory}
 use Rattle.pos_totals.specs.HardTotals.{File, Mode, Off, Ready, Totals, Change, IsAmong, last_number, next_sequences}
 use Rattle.pos_totals.specs.TotalsChanges.{files_after_all}
 use Rattle.pos_service.specs.Refusals.{Row, first_refusal, Decided}
-use Rattle.pos_store.specs.Commits.{Commits, PutsDown, IsExhausted, fits_behind, sequence_after}
+use Rattle.pos_store.specs.Commits.{Commits, IsApplicable, PutsDown, IsExhausted, fits_behind, sequence_after}
 use Rattle.pos_store.specs.Commits as store
 use Rattle.pos_store.specs.Layouts.{limits_of}
 use Rattle.pos_store.proofs.Passing.{stays, wider}
-use Rattle.pos_store.specs.Modes.{StoreState as State, LeavesItsFiles, settled as store_settled}
-use Rattle.pos_store.specs.Modes.{Off as StoreOff, Ready as StoreReady, StoreView}
+use Rattle.pos_store.specs.StoreViews.{StoreState as State, LeavesItsFiles, settled as store_settled}
+use Rattle.pos_store.specs.StoreViews.{Off as StoreOff, Ready as StoreReady, StoreView}
 use Rattle.pos_store.specs.Standing.{Standing, Stands, StandsFor, StandsForOneOf, LeavesOneOf, Passes}
 use Rattle.pos_store.specs.declared.fault.StoreFault.{StoreFault}
 use Rattle.pos_store.specs.declared.fault.StoreFault.TheVariants as fault
 use Rattle.pos_totals.proofs.Pairs.{plain_of, numbers_in}
 use Rattle.pos_totals.specs.Changes.{PutsGroup, IsOneGroup, IsDone, before_or_after, in_doubt, left_after, settled}
 use Rattle.pos_totals.specs.Groups.{group_of}
-use Rattle.pos_totals.specs.Views.{TotalsView, plain, stored, handles_of, mode_of, totals_of, view_of, with_tags, AreDistinct, AreHandles, HasHandles, HasLayout, IsSound, TurnsOff, WhenOff, LeavesTheirFiles}
+use Rattle.pos_totals.specs.Views.{TotalsView, plain, stored, handles_of, mode_of, totals_of, view_of, with_tags, AreDistinct, AreHandles, HasHandles}
+use Rattle.pos_totals.specs.Views.{HasLayout, IsSound, TurnsOff, WhenOff, LeavesTheirFiles}
 use Rattle.pos_totals.specs.declared.handles.Tag.{Tag}
 use Rattle.pos_totals.specs.declared.holdings.Holdings.{Holdings}
 
@@ -150,6 +152,19 @@ never_failed old new counts = ⊎_elim (λ is. absurd cc) (λ same. same) counts
 
 -- ---- a group that the store takes
 
+-- a group of the files without their handles is applicable to the files of the store
+pub group_applies : (layout : Layout) (files : List PlainFile) (sequence : ℕ) (holdings : Holdings) (changes : List Change) → layout ≡ holdings.layout
+    → AreHandles holdings.handles.given files holdings.handles.next → IsOneGroup (totals_of (StoreReady files sequence) holdings) changes
+    → IsApplicable layout (StoreReady files sequence) (group_of (with_tags holdings.handles.given files) changes)
+group_applies layout files sequence holdings changes found sound group =
+    let xs = with_tags holdings.handles.given files in
+    let made = subst
+    (λ (fs : List PlainFile). outcome_of_all (limits_of holdings.layout) fs (group_of xs changes)
+    ≡ Ok (plain (files_after_all holdings.handles.next xs changes)))
+    (plain_of holdings.handles.given files sound.count) group in
+    subst (λ (l : Layout). IsApplicable l (StoreReady files sequence) (group_of xs changes)) (sym found)
+    (subst (λ (o : Result (List PlainFile) DirectoryFault). IsOk o) (sym made) refl)
+
 module _ {D : Type 0} (bound : Ghosts D) (disk : D) (files : List PlainFile) (sequence tail : ℕ) (holdings : Holdings) (change : Change) (changes : List Change)
     (sound : AreHandles holdings.handles.given files holdings.handles.next)
     (group : IsOneGroup (totals_of (StoreReady files sequence) holdings) (change ∷ changes)) where
@@ -204,7 +219,7 @@ module _ {D : Type 0} (bound : Ghosts D) (disk : D) (files : List PlainFile) (se
       → PutsDown sequence (plain after) old_store all result new
   put_down result new answers =
       subst (λ (o : Result (List PlainFile) DirectoryFault). MatchResult o (λ next. PutsDown sequence next old_store all result new)
-      (λ refusal. (result ≡ Err (fault.Refused refusal)) × (new ≡ old_store)))
+      (λ refusal. ⊥))
       made answers
 
   -- the group was put down

@@ -1,5 +1,6 @@
 -- What a recovery of the totals did, by what the store found and the handles that were left.
-use Rattle.std.proofs.Common.{◌≡◌, ◌∙◌, ◌↔◌, inl, inr, ⊎_elim, ◌≤◌, ◌<◌, ◌+◌, ℕ, List, true, false, length, Some, Result, Ok, Err, IsErrOf, refl, sym, ap, subst, arith}
+use Rattle.std.proofs.Common.{◌≡◌, ◌∙◌, ◌↔◌, inl, inr, ⊎_elim, ◌≤◌, ◌<◌, ◌+◌, ℕ, List, true, false, length, Some, Result, Ok, Err, IsErrOf, refl, sym, ap}
+use Rattle.std.proofs.Common.{subst, arith}
 use Rattle.std.specs.Prelude.{is_some}
 use Rattle.std.proofs.lemmas.Option.{same_Some}
 use Rattle.pos_dir.specs.declared.file.File.{File as PlainFile}
@@ -7,8 +8,8 @@ use Rattle.pos_disk.specs.declared.device.Disk.{Ghosts}
 use Rattle.pos_image.specs.declared.layout.Layout.{Layout}
 use Rattle.pos_image.specs.declared.layout.Layout.TheVariants.{Layout1}
 use Rattle.pos_totals.specs.HardTotals.{Ready, last_number}
-use Rattle.pos_store.specs.Modes.{StoreState as State, LeavesItsFiles}
-use Rattle.pos_store.specs.Modes.{Off as StoreOff, Ready as StoreReady, StoreView, mode_of as store_mode_of, files_of as store_files_of}
+use Rattle.pos_store.specs.StoreViews.{StoreState as State, LeavesItsFiles}
+use Rattle.pos_store.specs.StoreViews.{Off as StoreOff, Ready as StoreReady, StoreView, mode_of as store_mode_of, files_of as store_files_of}
 use Rattle.pos_store.proofs.Passing.{settles}
 use Rattle.pos_store.specs.Recoveries as store
 use Rattle.pos_store.specs.Standing.{Standing, Stands, StandsFor}
@@ -52,7 +53,6 @@ told_finds : (P : Standing → Type 0) (holdings : Holdings) (why : StoreFault) 
     → store.FindsStanding P (Err why) layout state → told_as why ≡ Some result
     → FindsFiles P (totals_of StoreOff holdings) (Err result) (totals_of state holdings)
 told_finds P holdings cause.Off result layout state finds tells = absurd finds
-told_finds P holdings (cause.Refused refusal) result layout state finds tells = absurd finds
 told_finds P holdings cause.Exhausted result layout state finds tells = absurd finds
 told_finds P holdings cause.AlreadyLayout2 result layout state finds tells = absurd finds
 told_finds P holdings cause.Unformatted result layout state finds tells =
@@ -128,7 +128,6 @@ off_recovers bound disk layout tail holdings result mid told new recovers same f
 
 no_files : (P : Standing → Type 0) (why : StoreFault) (layout : Layout) (state : State) → store.FindsStanding P (Err why) layout state → state ≡ StoreOff
 no_files P cause.Off layout state finds = absurd finds
-no_files P (cause.Refused refusal) layout state finds = absurd finds
 no_files P cause.Exhausted layout state finds = absurd finds
 no_files P cause.AlreadyLayout2 layout state finds = absurd finds
 no_files P cause.Unformatted layout state finds = finds.1
@@ -138,7 +137,6 @@ no_files P cause.Device layout state finds = finds
 
 told_device : (why : StoreFault) → told_as why ≡ Some fault.Device → why ≡ cause.Device
 told_device cause.Off tells = absurd cc
-told_device (cause.Refused refusal) tells = absurd cc
 told_device cause.Exhausted tells = absurd cc
 told_device cause.AlreadyLayout2 tells = absurd cc
 told_device cause.Unformatted tells = absurd cc
@@ -161,7 +159,6 @@ pub is_told : {D : Type 0} (bound : Ghosts D) (disk : D) (layout : Layout) (stat
     → is_some (told_as why) ≡ true
 is_told bound disk layout (StoreReady files sequence) tail why mid off recovers = absurd cc
 is_told bound disk layout StoreOff tail cause.Off mid off recovers = absurd recovers.answer
-is_told bound disk layout StoreOff tail (cause.Refused refusal) mid off recovers = absurd recovers.answer
 is_told bound disk layout StoreOff tail cause.Exhausted mid off recovers = absurd recovers.answer
 is_told bound disk layout StoreOff tail cause.AlreadyLayout2 mid off recovers = absurd recovers.answer
 is_told bound disk layout StoreOff tail cause.Unformatted mid off recovers = refl

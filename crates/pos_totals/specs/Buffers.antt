@@ -1,5 +1,6 @@
 -- What may be buffered in transactions.
-use Rattle.std.specs.Prelude.{◌≡◌, ◌<◌, ◌≤◌, ◌+◌, ℕ, ℤ, pos, negsuc, nat_abs, Bool, true, false, List, [], ◌∷◌, ◌++◌, length, Option, Some, None, IfSome, Result, Ok, Err, slice_set, ⊤}
+use Rattle.std.specs.Prelude.{◌≡◌, ◌<◌, ◌≤◌, ◌+◌, ℕ, ℤ, pos, negsuc, nat_abs, Bool, true, false, List, [], ◌∷◌, ◌++◌, length, Option, Some, None, IfSome}
+use Rattle.std.specs.Prelude.{Result, Ok, Err, slice_set, ⊤}
 use Rattle.std.specs.List.{AllByRecursion}
 use Rattle.std.specs.Option.{option_map}
 use Rattle.pos_dir.specs.declared.limits.TheConstants.{LAYOUT_2}
@@ -16,7 +17,6 @@ use Rattle.pos_dir.specs.declared.change.Change.TheVariants as file
 use Rattle.pos_store.specs.declared.fault.StoreFault.{StoreFault}
 use Rattle.pos_store.specs.declared.fault.StoreFault.TheVariants as fault
 use Rattle.pos_totals.specs.declared.request.Checked.{Checked}
-use Rattle.pos_totals.specs.declared.request.Checked.TheVariants as checked
 use Rattle.pos_totals.specs.declared.transactions.Action.{Action}
 use Rattle.pos_totals.specs.declared.transactions.Action.TheVariants as action
 
@@ -68,29 +68,25 @@ MayHold (Ready files sequence) next transaction = IfSome transaction (AllByRecur
 abbrev pub HaveBuffers : Mode → ℕ → List (Option (List Change)) → Type 0
 HaveBuffers mode next transactions = AllByRecursion (MayHold mode next) transactions
 
--- a checked change may be buffered
-abbrev pub is_bufferable : Checked → Bool
-is_bufferable (checked.Create name size) = false
-is_bufferable (checked.Delete index) = false
-is_bufferable (checked.Rename index name) = false
-is_bufferable (checked.Write index handle offset bytes) = true
-is_bufferable (checked.SetAll index handle n) = true
+-- a change of the directory may be buffered, of a file with this handle
+abbrev pub is_bufferable : Option ℕ → FileChange → Bool
+is_bufferable (Some handle) (file.Write index offset bytes) = true
+is_bufferable (Some handle) (file.SetAll index n) = true
+is_bufferable named other = false
 
--- a checked change that may be buffered was asked for as this one
-abbrev pub IsAsked : Change → Checked → Type 0
-IsAsked change (checked.Create name size) = ⊤
-IsAsked change (checked.Delete index) = ⊤
-IsAsked change (checked.Rename index name) = ⊤
-IsAsked change (checked.Write index handle offset bytes) = change ≡ Write (pos handle) (pos offset) bytes.now
-IsAsked change (checked.SetAll index handle n) = change ≡ SetAll (pos handle) (pos n)
+-- a change of the directory that may be buffered, of a file with this handle, was asked for as this one
+abbrev pub IsAsked : Change → Option ℕ → FileChange → Type 0
+IsAsked change (Some handle) (file.Write index offset bytes) = change ≡ Write (pos handle) (pos offset) bytes
+IsAsked change (Some handle) (file.SetAll index n) = change ≡ SetAll (pos handle) (pos n)
+IsAsked change None (file.Write index offset bytes) = ⊥
+IsAsked change None (file.SetAll index n) = ⊥
+IsAsked change named other = ⊤
 
 -- what it costs
-abbrev pub cost_of_checked : Checked → ℕ
-cost_of_checked (checked.Create name size) = 0
-cost_of_checked (checked.Delete index) = 0
-cost_of_checked (checked.Rename index name) = 0
-cost_of_checked (checked.Write index handle offset bytes) = length bytes.now + 16
-cost_of_checked (checked.SetAll index handle n) = 16
+abbrev pub cost_of_made : FileChange → ℕ
+cost_of_made (file.Write index offset bytes) = length bytes + 16
+cost_of_made (file.SetAll index n) = 16
+cost_of_made other = 0
 
 -- a transaction has so much left, whatever the layout of the disk
 abbrev pub HasLeft : Option (List Change) → ℕ → Type 0
@@ -99,8 +95,8 @@ HasLeft (Some buffer) cost = cost_of_all buffer + cost ≤ LAYOUT_2.bytes
 
 -- A checked change may be buffered, and the control is in a transaction that has enough left for it.
 pub record MayBuffer (transactions : List (Option (List Change))) (control : ℕ) (made : Checked) : Type 0 where
-  pub bufferable : is_bufferable made ≡ true
-  pub left : HasLeft (transaction_at transactions control) (cost_of_checked made)
+  pub bufferable : is_bufferable made.handle made.change ≡ true
+  pub left : HasLeft (transaction_at transactions control) (cost_of_made made.change)
 
 -- the transactions with one more change behind those that a control has buffered
 abbrev pub with_buffered : List (Option (List Change)) → ℕ → Change → List (Option (List Change))
@@ -111,7 +107,7 @@ with_buffered transactions control change =
 pub record Adds (old : List (Option (List Change))) (control : ℕ) (made : Checked)
     (new : List (Option (List Change))) : Type 0 where
   pub change : Change
-  pub asked : IsAsked change made
+  pub asked : IsAsked change made.handle made.change
   pub added : new ≡ with_buffered old control change
 
 -- what a call does that buffers a change; want of memory changes nothing
@@ -125,7 +121,6 @@ abbrev pub transactions_after : StoreFault → List (Option (List Change)) → L
 transactions_after fault.Device transactions = without_transactions transactions
 transactions_after fault.NoMemory transactions = transactions
 transactions_after fault.Off transactions = transactions
-transactions_after (fault.Refused refusal) transactions = transactions
 transactions_after fault.Exhausted transactions = transactions
 transactions_after fault.Unformatted transactions = transactions
 transactions_after fault.Damaged transactions = transactions

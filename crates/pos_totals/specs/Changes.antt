@@ -13,7 +13,7 @@ use Rattle.pos_totals.specs.TotalsChanges.{files_after_all, Changed, group_by_ch
 use Rattle.pos_totals.specs.TotalsCommits.{Committed, group_by_commit}
 use Rattle.pos_totals.specs.TotalsArrangements.{Arrangement, Arranges}
 use Rattle.pos_store.specs.Layouts.{limits_of}
-use Rattle.pos_store.specs.Modes as store
+use Rattle.pos_store.specs.StoreViews as store
 use Rattle.pos_store.specs.Standing.{Standing, Stands, LeavesOneOf, Passes}
 use Rattle.pos_totals.specs.Groups.{group_of}
 use Rattle.pos_totals.specs.Views.{TotalsView, plain, stored, TurnsOff, WhenOff}

@@ -5,25 +5,30 @@ use Rattle.std.specs.Option.{option_map}
 use Rattle.pos_dir.specs.Changes.{flaw_of}
 use Rattle.pos_dir.specs.Files.{IsDirectory}
 use Rattle.pos_dir.specs.declared.change.Change.{Change as FileChange}
-use Rattle.pos_dir.specs.declared.change.Change.TheVariants as file
 use Rattle.pos_dir.specs.declared.limits.TheConstants.{LAYOUT_2}
 use Rattle.pos_service.specs.declared.answer.Answer.{Answer}
 use Rattle.pos_service.specs.declared.answer.Answer.TheVariants as answer
 use Rattle.pos_service.specs.declared.code.Code.TheVariants as code
 use Rattle.pos_service.specs.declared.memory.NoMemory.{NoMemory}
 use Rattle.pos_service.specs.Claims.{is_foreign}
-use Rattle.pos_totals.specs.HardTotals.{File, Mode, Off, Ready, Totals, Change, Create, Delete, Rename, Write, SetAll, TotalsLimits, totals_limits, transaction_of, files_of}
+use Rattle.pos_totals.specs.HardTotals.{File, Mode, Off, Ready, Totals, Change, Create, Delete, Rename, Write, SetAll, TotalsLimits, totals_limits}
+use Rattle.pos_totals.specs.HardTotals.{transaction_of, files_of}
 use Rattle.pos_totals.specs.TotalsChanges.{change_rows, refusals_of_change, spent_by}
 use Rattle.pos_totals.specs.TotalsArrangements.{Arrangement, arrangement_rows, refusals_of_arrangement}
 use Rattle.pos_totals.specs.TotalsCommits.{refusals_of_commit}
 use Rattle.pos_totals.specs.TotalsQuestions.{Question, question_rows, told_of}
 use Rattle.pos_service.specs.Refusals.{Row, first_refusal, Decided}
+use Rattle.pos_disk.specs.declared.device.Disk.{Ghosts}
+use Rattle.pos_store.specs.Commits.{Commits}
 use Rattle.pos_store.specs.Layouts.{limits_of}
+use Rattle.pos_store.specs.StoreViews.{StoreView}
 use Rattle.pos_store.specs.declared.fault.StoreFault.{StoreFault}
 use Rattle.pos_store.specs.declared.fault.StoreFault.TheVariants as fault
 use Rattle.pos_totals.specs.Buffers.{IsAsked}
 use Rattle.pos_totals.specs.Groups.{index_of, file_change, group_of}
 use Rattle.pos_totals.specs.Views.{with_tags}
+use Rattle.pos_totals.specs.declared.committing.Commitment.{Commitment}
+use Rattle.pos_totals.specs.declared.committing.Commitment.TheVariants as commitment
 use Rattle.pos_totals.specs.declared.committing.Plan.{Plan}
 use Rattle.pos_totals.specs.declared.committing.Plan.TheVariants as plan
 use Rattle.pos_totals.specs.declared.files.Files.{Files}
@@ -32,7 +37,6 @@ use Rattle.pos_totals.specs.declared.request.Caller.{Caller}
 use Rattle.pos_totals.specs.declared.request.Request.{Request}
 use Rattle.pos_totals.specs.declared.request.Request.TheVariants as request
 use Rattle.pos_totals.specs.declared.request.Checked.{Checked}
-use Rattle.pos_totals.specs.declared.request.Checked.TheVariants as checked
 
 -- the change that a request asks for
 abbrev pub change_of : Request → Change
@@ -41,14 +45,6 @@ change_of (request.Delete name) = Delete name.now
 change_of (request.Rename handle name) = Rename handle name.now
 change_of (request.Write handle offset bytes) = Write handle offset bytes.now
 change_of (request.SetAll handle n) = SetAll handle n
-
--- the change of the directory that a checked request is
-abbrev pub file_change_of : Checked → FileChange
-file_change_of (checked.Create name size) = file.Create name.now size
-file_change_of (checked.Delete index) = file.Delete index
-file_change_of (checked.Rename index name) = file.Rename index name.now
-file_change_of (checked.Write index handle offset bytes) = file.Write index offset bytes.now
-file_change_of (checked.SetAll index handle n) = file.SetAll index n
 
 -- the files with their tags
 abbrev pub files_in : Files → List File
@@ -100,9 +96,9 @@ MayTellIn files control question outcome =
 pub record Passes (limits : TotalsLimits) (files : List File) (control : ℕ) (spent : Option ℕ) (change : Change)
     (checked : Checked) : Type 0 where
   pub unrefused : first_refusal (change_rows limits files control spent change) ≡ None
-  pub made : file_change files change ≡ file_change_of checked
-  pub flawless : flaw_of (file_change_of checked) ≡ None
-  pub asked : IsAsked change checked
+  pub made : file_change files change ≡ checked.change
+  pub flawless : flaw_of checked.change ≡ None
+  pub asked : IsAsked change checked.handle checked.change
 
 -- what a check of a change by its table finds
 abbrev pub Checks : TotalsLimits → List File → Caller → Change → Result Checked Answer → Type 0
@@ -155,11 +151,33 @@ abbrev pub PlansAt : Totals → ℕ → Result Plan NoMemory → Type 0
 PlansAt totals control result =
     Plans (refusals_of_commit totals control) (files_of totals.mode) (transaction_of totals control) result
 
+-- A group was made of what is buffered, which isn't nothing, and the store has answered it.
+pub record PutsBuffer {D : Type 0} (bound : Ghosts D) (old : StoreView D) (files : List File)
+    (transaction : Option (List Change)) (result : Result (Unit {0}) StoreFault) (new : StoreView D) : Type 0 where
+  pub group : List FileChange
+  pub gathered : Gathers files transaction group
+  pub commits : Commits bound old group result new
+
+-- what becomes of a commit, by its table, and then by the store
+abbrev pub CommitsAt : {D : Type 0} → Ghosts D → StoreView D → Totals → ℕ → Result Commitment NoMemory
+    → StoreView D → Type 0
+CommitsAt bound old totals control (Ok (commitment.Refused refusal)) new =
+    (first_refusal (refusals_of_commit totals control) ≡ Some refusal) × (new ≡ old)
+CommitsAt bound old totals control (Ok commitment.Nothing) new =
+    (first_refusal (refusals_of_commit totals control) ≡ None) × (transaction_of totals control ≡ Some []) × (new ≡ old)
+CommitsAt bound old totals control (Ok commitment.Done) new =
+    (first_refusal (refusals_of_commit totals control) ≡ None)
+    × PutsBuffer bound old (files_of totals.mode) (transaction_of totals control) (Ok tt) new
+CommitsAt bound old totals control (Ok (commitment.Failed cause)) new =
+    (first_refusal (refusals_of_commit totals control) ≡ None)
+    × PutsBuffer bound old (files_of totals.mode) (transaction_of totals control) (Err cause) new
+CommitsAt bound old totals control (Err want) new =
+    (first_refusal (refusals_of_commit totals control) ≡ None) × (new ≡ old)
+
 -- what a change is answered that the store refuses
 abbrev pub answer_of : StoreFault → Result Answer NoMemory
 answer_of fault.NoMemory = Err (record {})
 answer_of fault.Off = Ok (answer.Refused code.Failure 0)
-answer_of (fault.Refused refusal) = Ok (answer.Refused code.Failure 0)
 answer_of fault.Exhausted = Ok (answer.Refused code.Failure 0)
 answer_of fault.Unformatted = Ok (answer.Refused code.Failure 0)
 answer_of fault.Damaged = Ok (answer.Refused code.Failure 0)

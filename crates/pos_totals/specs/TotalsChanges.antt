@@ -1,5 +1,6 @@
 -- Changes of the files: create, delete, rename, write, setAll (chapter Hard Totals).
-use Rattle.std.specs.Prelude.{◌≡◌, ◌⊎◌, ℕ, ◌+◌, pos, nat_abs, Bool, true, false, not, ◌&&◌, ◌||◌, List, [], ◌∷◌, ◌++◌, length, replicate, sum_by, Option, Some, None, is_some, is_none, nat_eq, nat_le, Result, MatchOption, MatchResult, if◌then◌else◌}
+use Rattle.std.specs.Prelude.{◌≡◌, ◌⊎◌, ℕ, ◌+◌, pos, nat_abs, Bool, true, false, not, ◌&&◌, ◌||◌, List, [], ◌∷◌, ◌++◌, length, replicate, sum_by, Option, Some}
+use Rattle.std.specs.Prelude.{None, is_some, is_none, nat_eq, nat_le, Result, MatchOption, MatchResult, if◌then◌else◌}
 use Rattle.std.specs.List.{find, filter}
 use Rattle.std.specs.Option.{option_map}
 use Rattle.pos_service.specs.declared.answer.Answer.{Answer}
@@ -10,7 +11,8 @@ use Rattle.pos_service.specs.declared.code.Code.TheVariants as code
 use Rattle.pos_service.specs.declared.memory.NoMemory.{NoMemory}
 use Rattle.pos_service.specs.Numbers.{is_natural, is_up_to}
 use Rattle.pos_service.specs.Refusals.{Row, when, first_refusal, Decided}
-use Rattle.pos_totals.specs.HardTotals.{TotalsLimits, totals_limits, last_number, IsAmong, File, Mode, Off, Ready, Change, Create, Delete, Rename, Write, SetAll, Totals, transaction_of, in_transaction, sequences_after, after_disk_fault, with_transaction, is_last}
+use Rattle.pos_totals.specs.HardTotals.{TotalsLimits, totals_limits, last_number, IsAmong, File, Mode, Off, Ready, Change, Create, Delete, Rename, Write}
+use Rattle.pos_totals.specs.HardTotals.{SetAll, Totals, transaction_of, in_transaction, sequences_after, after_disk_fault, with_transaction, is_last}
 use Rattle.pos_totals.specs.TotalsFiles.{is_name, is_named, is_called, has_file, is_foreign_file, has_room, is_range_of, overwritten, with_each}
 use Rattle.pos_totals.specs.TotalsRows.{when_no_room, while_ready, when_foreign_area}
 

@@ -1,10 +1,10 @@
 //! A change of the files, from its table to the disk.
 ghost use Rattle.std.specs.Prelude.{◌≡◌, ◌<◌, length, IfOk, MatchResult, None, true, ◌∷◌, []};
 ghost use Rattle.pos_dir.specs.Changes.{flaw_of};
-ghost use Rattle.pos_store.specs.Commits.{Commits};
+ghost use Rattle.pos_store.specs.Commits.{Commits, IsApplicable};
 ghost use Rattle.pos_totals.specs.Changes.{Changes};
 ghost use Rattle.pos_totals.specs.Buffers.{is_bufferable, transactions_after, Buffers, IsAsked, MayBuffer};
-ghost use Rattle.pos_totals.specs.Checks.{change_of, file_change_of, answer_of, ChecksAt};
+ghost use Rattle.pos_totals.specs.Checks.{change_of, answer_of, ChecksAt};
 ghost use Rattle.pos_totals.specs.Views.{HasDirectory, IsSound, totals_of, view_of};
 
 use crate::checking::check;
@@ -12,7 +12,7 @@ use crate::files::see_files;
 use crate::holdings::Holdings;
 use crate::request::{Caller, Checked, Request};
 use crate::transactions::{Action, Buffered, Transactions};
-use pos_dir::{Bytes, Change, Group, Name};
+use pos_dir::{Bytes, Change, Group};
 use pos_disk::Disk;
 use pos_service::claims::is_foreign;
 use pos_service::{Answer, Code, NoMemory, Value};
@@ -41,26 +41,30 @@ pub fn change<D: Disk>(
     if holdings.transactions.is_open(control) {
         return buffer_change(alloc, &mut holdings.transactions, control, &checked);
     }
-    let group = match make_group(alloc, &checked) {
+    let group = match make_group(alloc, checked.change) {
         Ok(group) => group,
         Err(NoMemory) => return Err(NoMemory),
     };
-    if holdings.handles.lack(&checked) {
+    let Some(change) = group.first() else {
+        unreachable!()
+    };
+    if holdings.handles.lack(change) {
         return Ok(Answer::Refused(Code::Failure, 0));
     }
     match put_group(store, &mut holdings.transactions, &group) {
-        Ok(()) => Ok(Answer::Done(holdings.handles.keep(&checked))),
+        Ok(()) => Ok(Answer::Done(holdings.handles.keep(change))),
         Err(fault) => answer_fault(fault),
     }
 }
 
-/// Puts a group on the disk. A fault of the disk ends all transactions.
-pub fn put_group<D: Disk>(
+/// Puts a group that is applicable on the disk. A fault of the disk ends all transactions.
+fn put_group<D: Disk>(
     store: &mut Store<D>,
     transactions: &mut Transactions,
-    group: &Group,
+    group: &Group<'_>,
 ) -> Result<(), StoreFault>
-    requires { 0 < length group.now }
+    requires some { 0 < length group.now }
+    requires applicable { IsApplicable store.old.layout store.old.state group.now }
     ensures commits { Commits D.Disk store.old group.now result store.new }
     ensures transactions { MatchResult result (λ done. transactions.new ≡ transactions.old)
         (λ fault. transactions.new ≡ transactions_after fault transactions.old) }
@@ -75,7 +79,7 @@ pub fn put_group<D: Disk>(
 }
 
 /// Ends all transactions at a fault of the disk.
-fn end_at(fault: StoreFault, transactions: &mut Transactions)
+pub fn end_at(fault: StoreFault, transactions: &mut Transactions)
     ensures { transactions.new ≡ transactions_after fault transactions.old }
 {
     match fault {
@@ -111,25 +115,25 @@ fn buffer_change(
 
 /// A change that may be buffered, with its bytes in memory of its own.
 fn copy_change(alloc: Global, checked: &Checked<'_>) -> Result<Buffered, NoMemory>
-    requires { is_bufferable checked.now ≡ true }
-    ensures { IfOk result (λ change. IsAsked change checked.now) }
+    requires { is_bufferable checked.now.handle checked.now.change ≡ true }
+    ensures { IfOk result (λ change. IsAsked change checked.now.handle checked.now.change) }
 {
-    match checked {
-        Checked::Write {
+    let Some(handle) = checked.handle else {
+        unreachable!()
+    };
+    match &checked.change {
+        Change::Write {
             index: _,
-            handle,
             offset,
             bytes,
         } => {
-            let bytes = Bytes::from_vec(Vec::from_slice(alloc, bytes)?);
+            let bytes = Bytes::from_vec(Vec::from_slice(alloc, bytes.as_slice())?);
             let offset = *offset;
-            Ok(Buffered::new(*handle, Action::Write { offset, bytes }))
+            Ok(Buffered::new(handle, Action::Write { offset, bytes }))
         }
-        Checked::SetAll {
-            index: _,
-            handle,
-            value,
-        } => Ok(Buffered::new(*handle, Action::SetAll { value: *value })),
+        Change::SetAll { index: _, value } => {
+            Ok(Buffered::new(handle, Action::SetAll { value: *value }))
+        }
         _ => unreachable!(),
     }
 }
@@ -156,57 +160,14 @@ fn check_request<'a, D: Disk>(
     }
 }
 
-/// The group of the one change of the directory that a checked change is.
-fn make_group(alloc: Global, checked: &Checked<'_>) -> Result<Group, NoMemory>
-    requires { flaw_of (file_change_of checked.now) ≡ None }
-    ensures { IfOk result (λ group. group ≡ file_change_of checked.now ∷ []) }
+/// The group of one change.
+fn make_group<'a>(alloc: Global, change: Change<'a>) -> Result<Group<'a>, NoMemory>
+    requires { flaw_of change ≡ None }
+    ensures { IfOk result (λ group. group ≡ change.entry ∷ []) }
 {
-    let change = make_change(alloc, checked)?;
     let mut group = Group::new(alloc);
     match group.push(change) {
         Ok(()) => Ok(group),
         Err((_, _)) => Err(NoMemory),
     }
-}
-
-/// The change of the directory that a checked change is.
-fn make_change(alloc: Global, checked: &Checked<'_>) -> Result<Change, NoMemory>
-    ensures { IfOk result (λ change. change ≡ file_change_of checked.now) }
-{
-    match checked {
-        Checked::Create { name, size } => Ok(Change::Create {
-            name: copy_name(alloc, name)?,
-            size: *size,
-        }),
-        Checked::Delete { index } => Ok(Change::Delete { index: *index }),
-        Checked::Rename { index, name } => Ok(Change::Rename {
-            index: *index,
-            name: copy_name(alloc, name)?,
-        }),
-        Checked::Write {
-            index,
-            handle: _,
-            offset,
-            bytes,
-        } => Ok(Change::Write {
-            index: *index,
-            offset: *offset,
-            bytes: Bytes::from_vec(Vec::from_slice(alloc, bytes)?),
-        }),
-        Checked::SetAll {
-            index,
-            handle: _,
-            value,
-        } => Ok(Change::SetAll {
-            index: *index,
-            value: *value,
-        }),
-    }
-}
-
-/// The same name in memory of its own.
-fn copy_name(alloc: Global, name: &[u8]) -> Result<Name, NoMemory>
-    ensures { IfOk result (λ copy. copy ≡ name.now) }
-{
-    Ok(Name::from_vec(Vec::from_slice(alloc, name)?))
 }

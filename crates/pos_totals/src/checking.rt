@@ -9,7 +9,7 @@ use crate::files::{Files, find_handle, find_name, has_room, totals_size};
 use crate::numbers::{to_byte, to_range};
 use crate::request::{Caller, Checked, Request};
 use crate::transactions::COST_OF_CHANGE;
-use pos_dir::is_name;
+use pos_dir::{Change, LentBytes, is_name};
 use pos_image::Layout;
 use pos_service::claims::is_foreign;
 use pos_service::numbers::to_natural;
@@ -62,9 +62,12 @@ fn check_create<'a>(
     if !has_room(files, size) {
         return Err(Answer::Refused(Code::Extended, ETOT_NOROOM));
     }
-    Ok(Checked::Create {
-        name,
-        size: size as u32,
+    Ok(Checked {
+        handle: None,
+        change: Change::Create {
+            name: LentBytes::from_slice(name),
+            size: size as u32,
+        },
     })
 }
 
@@ -82,7 +85,10 @@ fn check_delete<'a>(files: Files<'_>, caller: Caller, name: &'a [u8]) -> Result<
     if is_foreign(caller.control, found.claim) {
         return Err(Answer::Refused(Code::Claimed, 0));
     }
-    Ok(Checked::Delete { index: found.index })
+    Ok(Checked {
+        handle: None,
+        change: Change::Delete { index: found.index },
+    })
 }
 
 /// A file with the handle, and a good name that no file has.
@@ -110,9 +116,12 @@ fn check_rename<'a>(
     if is_foreign(caller.control, found.claim) {
         return Err(Answer::Refused(Code::Claimed, 0));
     }
-    Ok(Checked::Rename {
-        index: found.index,
-        name,
+    Ok(Checked {
+        handle: Some(found.handle),
+        change: Change::Rename {
+            index: found.index,
+            name: LentBytes::from_slice(name),
+        },
     })
 }
 
@@ -139,11 +148,13 @@ fn check_write<'a>(
     if is_too_costly(files.layout, caller.spent, bytes.len()) {
         return Err(Answer::Refused(Code::Extended, ETOT_NOROOM));
     }
-    Ok(Checked::Write {
-        index: found.index,
-        handle: found.handle,
-        offset: start as u32,
-        bytes,
+    Ok(Checked {
+        handle: Some(found.handle),
+        change: Change::Write {
+            index: found.index,
+            offset: start as u32,
+            bytes: LentBytes::from_slice(bytes),
+        },
     })
 }
 
@@ -169,10 +180,12 @@ fn check_set_all<'a>(
     if is_too_costly(files.layout, caller.spent, 0) {
         return Err(Answer::Refused(Code::Extended, ETOT_NOROOM));
     }
-    Ok(Checked::SetAll {
-        index: found.index,
-        handle: found.handle,
-        value,
+    Ok(Checked {
+        handle: Some(found.handle),
+        change: Change::SetAll {
+            index: found.index,
+            value,
+        },
     })
 }
 

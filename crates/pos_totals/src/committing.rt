@@ -1,15 +1,15 @@
 //! A commit of what a control has buffered, from its table to the disk.
 ghost use Rattle.std.specs.Prelude.{◌≡◌, Some, IfOk};
-ghost use Rattle.std.specs.List.{list_any};
 ghost use Rattle.std.specs.Option.{option_map};
 ghost use Rattle.pos_totals.specs.TotalsChanges.{changed_file};
-ghost use Rattle.pos_totals.specs.TotalsCommits.{commit_rows, is_of_foreign, is_of_none};
+ghost use Rattle.pos_totals.specs.TotalsCommits.{commit_rows};
+ghost use Rattle.pos_service.specs.Refusals.{first_refusal};
 ghost use Rattle.pos_totals.specs.Changes.{CommitsBuffer};
-ghost use Rattle.pos_totals.specs.Checks.{file_of, files_in, AreFiles, Plans, PlansAt};
+ghost use Rattle.pos_totals.specs.Checks.{file_of, files_in, AreFiles, CommitsAt, Plans, PlansAt};
 ghost use Rattle.pos_totals.specs.Groups.{file_change, group_of};
 ghost use Rattle.pos_totals.specs.Views.{HasDirectory, IsSound, totals_of, view_of};
 
-use crate::changing::{answer_fault, put_group};
+use crate::changing::{answer_fault, end_at};
 use crate::files::{Files, Found, find_handle, find_index, see_files};
 use crate::holdings::Holdings;
 use crate::transactions::Buffered;
@@ -17,19 +17,29 @@ use pos_dir::{Change, Group};
 use pos_disk::Disk;
 use pos_service::claims::is_foreign;
 use pos_service::{Answer, Code, NoMemory, Value};
-use pos_store::Store;
 use pos_store::laws::leaves_its_files;
+use pos_store::{Store, StoreFault};
 use std::alloc::Global;
 
 /// What a commit comes to: it is refused, there is nothing to do, or there is a group to be put on the disk.
 #[derive(Drop)]
-pub enum Plan {
+pub enum Plan<'a> {
     Refused(Answer),
     Nothing,
-    Group(Group),
+    Group(Group<'a>),
 }
 
-/// Commits what a control has buffered: by its table, then want of memory, then the disk.
+/// What became of a commit: it was refused, there was nothing to do, the group is on the disk, or the store refused it.
+#[derive(Drop)]
+pub enum Commitment {
+    Refused(Answer),
+    Nothing,
+    Done,
+    Failed(StoreFault),
+}
+
+/// Commits what a control has buffered: by its table, then want of memory, then the disk. A fault of the disk ends all
+/// transactions.
 pub fn commit_trans<D: Disk>(
     alloc: Global,
     store: &mut Store<D>,
@@ -42,31 +52,53 @@ pub fn commit_trans<D: Disk>(
         (view_of store.new holdings.new) }
 {
     leaves_its_files(store);
-    let group = match make_plan(alloc, store, holdings, control) {
-        Ok(Plan::Refused(refusal)) => return Ok(refusal),
-        Ok(Plan::Nothing) => {
-            holdings.transactions.set(control, None);
-            return Ok(Answer::Done(Value::Empty));
-        }
-        Ok(Plan::Group(group)) => group,
-        Err(NoMemory) => return Err(NoMemory),
-    };
-    match put_group(store, &mut holdings.transactions, &group) {
-        Ok(()) => {
+    match commit_buffer(alloc, store, holdings, control) {
+        Ok(Commitment::Refused(refusal)) => Ok(refusal),
+        Ok(Commitment::Nothing) => {
             holdings.transactions.set(control, None);
             Ok(Answer::Done(Value::Empty))
         }
-        Err(fault) => answer_fault(fault),
+        Ok(Commitment::Done) => {
+            holdings.transactions.set(control, None);
+            Ok(Answer::Done(Value::Empty))
+        }
+        Ok(Commitment::Failed(fault)) => {
+            end_at(fault, &mut holdings.transactions);
+            answer_fault(fault)
+        }
+        Err(NoMemory) => Err(NoMemory),
+    }
+}
+
+/// Puts what a control has buffered on the disk, as one group.
+fn commit_buffer<D: Disk>(
+    alloc: Global,
+    store: &mut Store<D>,
+    holdings: &Holdings,
+    control: usize,
+) -> Result<Commitment, NoMemory>
+    requires sound { IsSound store.old.layout store.old.state holdings.now }
+    ensures commits { CommitsAt D.Disk store.old (totals_of store.old.state holdings.now) control result store.new }
+    ensures directory { HasDirectory holdings.now.layout store.old.state }
+{
+    match make_plan(alloc, store, holdings, control) {
+        Ok(Plan::Refused(refusal)) => Ok(Commitment::Refused(refusal)),
+        Ok(Plan::Nothing) => Ok(Commitment::Nothing),
+        Ok(Plan::Group(group)) => match store.commit(&group) {
+            Ok(()) => Ok(Commitment::Done),
+            Err(fault) => Ok(Commitment::Failed(fault)),
+        },
+        Err(NoMemory) => Err(NoMemory),
     }
 }
 
 /// What a commit comes to.
-fn make_plan<D: Disk>(
+fn make_plan<'a, D: Disk>(
     alloc: Global,
     store: &Store<D>,
-    holdings: &Holdings,
+    holdings: &'a Holdings,
     control: usize,
-) -> Result<Plan, NoMemory>
+) -> Result<Plan<'a>, NoMemory>
     requires sound { IsSound store.now.layout store.now.state holdings.now }
     ensures plans { PlansAt (totals_of store.now.state holdings.now) control result }
     ensures directory { HasDirectory holdings.now.layout store.now.state }
@@ -85,21 +117,19 @@ fn make_plan<D: Disk>(
 }
 
 /// What a commit of these changes comes to.
-fn plan_in(
+fn plan_in<'a>(
     alloc: Global,
     files: Files<'_>,
     control: usize,
-    changes: &[Buffered],
-) -> Result<Plan, NoMemory>
+    changes: &'a [Buffered],
+) -> Result<Plan<'a>, NoMemory>
     requires { AreFiles files }
     ensures { Plans (commit_rows (files_in files.entry) control (Some changes.now)) (files_in files.entry)
         (Some changes.now) result }
 {
-    if is_one_gone(files, changes) {
-        return Ok(Plan::Refused(Answer::Refused(Code::NoExist, 0)));
-    }
-    if is_one_foreign(files, control, changes) {
-        return Ok(Plan::Refused(Answer::Refused(Code::Claimed, 0)));
+    match refuse_commit(files, control, changes) {
+        Some(refusal) => return Ok(Plan::Refused(refusal)),
+        None => {}
     }
     if changes.is_empty() {
         return Ok(Plan::Nothing);
@@ -110,49 +140,22 @@ fn plan_in(
     }
 }
 
-/// Whether the file of a change is gone.
-fn is_one_gone(files: Files<'_>, changes: &[Buffered]) -> bool
+/// What refuses a commit of these changes: a file that is gone, or else one that another control has claimed.
+fn refuse_commit(files: Files<'_>, control: usize, changes: &[Buffered]) -> Option<Answer>
     requires { AreFiles files }
-    ensures { result ≡ list_any (is_of_none (files_in files.entry)) changes.now }
+    ensures { result ≡ first_refusal (commit_rows (files_in files.entry) control (Some changes.now)) }
 {
+    let mut is_claimed = false;
     for change in changes {
-        if is_gone(files, change) {
-            return true;
-        }
+        let Some(found) = find_changed(files, change) else {
+            return Some(Answer::Refused(Code::NoExist, 0));
+        };
+        is_claimed |= is_foreign(control, found.claim);
     }
-    false
-}
-
-/// Whether the file of this change is gone.
-fn is_gone(files: Files<'_>, change: &Buffered) -> bool
-    requires { AreFiles files }
-    ensures { result ≡ is_of_none (files_in files.entry) change.now }
-{
-    find_changed(files, change).is_none()
-}
-
-/// Whether another control has claimed the file of a change.
-fn is_one_foreign(files: Files<'_>, control: usize, changes: &[Buffered]) -> bool
-    requires { AreFiles files }
-    ensures { result ≡ list_any (is_of_foreign (files_in files.entry) control) changes.now }
-{
-    for change in changes {
-        if is_foreign_change(files, control, change) {
-            return true;
-        }
+    if is_claimed {
+        return Some(Answer::Refused(Code::Claimed, 0));
     }
-    false
-}
-
-/// Whether another control has claimed the file of this change.
-fn is_foreign_change(files: Files<'_>, control: usize, change: &Buffered) -> bool
-    requires { AreFiles files }
-    ensures { result ≡ is_of_foreign (files_in files.entry) control change.now }
-{
-    match find_changed(files, change) {
-        Some(found) => is_foreign(control, found.claim),
-        None => false,
-    }
+    None
 }
 
 /// The file of a buffered change, where it is still there.
@@ -164,14 +167,17 @@ fn find_changed<'a>(files: Files<'a>, change: &Buffered) -> Option<Found<'a>>
 }
 
 /// The group of changes, each of which is a change of the directory.
-fn group_changes(alloc: Global, files: Files<'_>, changes: &[Buffered]) -> Result<Group, NoMemory>
+fn group_changes<'a>(
+    alloc: Global,
+    files: Files<'_>,
+    changes: &'a [Buffered],
+) -> Result<Group<'a>, NoMemory>
     requires { AreFiles files }
     ensures { IfOk result (λ group. group ≡ group_of (files_in files.entry) changes.now) }
 {
     let mut group = Group::new(alloc);
     for change in changes {
-        let placed = place_change(alloc, files, change)?;
-        if group.push(placed).is_err() {
+        if group.push(place_change(files, change)).is_err() {
             return Err(NoMemory);
         }
     }
@@ -179,9 +185,9 @@ fn group_changes(alloc: Global, files: Files<'_>, changes: &[Buffered]) -> Resul
 }
 
 /// The change of the directory that a buffered change is.
-fn place_change(alloc: Global, files: Files<'_>, change: &Buffered) -> Result<Change, NoMemory>
+fn place_change<'a>(files: Files<'_>, change: &'a Buffered) -> Change<'a>
     requires { AreFiles files }
-    ensures { IfOk result (λ placed. placed ≡ file_change (files_in files.entry) change.now) }
+    ensures { result ≡ file_change (files_in files.entry) change.now }
 {
-    change.to_change(alloc, find_index(files, change.handle()))
+    change.lend(find_index(files, change.handle()))
 }

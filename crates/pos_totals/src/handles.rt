@@ -1,13 +1,11 @@
 ghost use Rattle.std.specs.Prelude.{◌≡◌, ◌<◌, ◌≤◌, ◌+◌, ◌^◌, [], map};
 ghost use Rattle.pos_dir.specs.declared.limits.TheConstants.{LAYOUT_2};
 ghost use Rattle.pos_totals.specs.HardTotals.{last_number};
-ghost use Rattle.pos_totals.specs.Checks.{file_change_of};
 ghost use Rattle.pos_totals.specs.Tables.{tag_claimed, tag_released};
 ghost use Rattle.pos_totals.specs.Numbering.{tags_from, lacks, given_after, following, value_after, HasPlace, Numbers};
 
-use crate::request::Checked;
 use arrayvec::ArrayVec;
-use pos_dir::LAYOUT_2;
+use pos_dir::{Change, LAYOUT_2};
 use pos_service::Value;
 use pos_service::claims::is_own;
 use std::marker::Model;
@@ -57,26 +55,26 @@ impl Handles {
     }
 
     /// Whether a change needs a handle where none is left.
-    pub fn lack(&self, checked: &Checked<'_>) -> bool
-        ensures lacks { result ≡ lacks self.now.next (file_change_of checked.now) }
+    pub fn lack(&self, change: &Change<'_>) -> bool
+        ensures lacks { result ≡ lacks self.now.next change.now }
         ensures bound { self.now.next ≤ last_number }
     {
         let next = self.next;
-        match checked {
-            Checked::Create { .. } => next == u64::MAX,
+        match change {
+            Change::Create { .. } => next == u64::MAX,
             _ => false,
         }
     }
 
     /// The tags after a change that was done, and what it gives.
-    pub fn keep(&mut self, checked: &Checked<'_>) -> Value
-        requires { HasPlace self.old.given self.old.next (file_change_of checked.now) }
-        ensures given { self.new.given ≡ given_after self.old.given self.old.next (file_change_of checked.now) }
-        ensures next { self.new.next ≡ following self.old.next (file_change_of checked.now) }
-        ensures value { result ≡ value_after self.old.next (file_change_of checked.now) }
+    pub fn keep(&mut self, change: &Change<'_>) -> Value
+        requires { HasPlace self.old.given self.old.next change.now }
+        ensures given { self.new.given ≡ given_after self.old.given self.old.next change.now }
+        ensures next { self.new.next ≡ following self.old.next change.now }
+        ensures value { result ≡ value_after self.old.next change.now }
     {
-        match checked {
-            Checked::Create { .. } => {
+        match change {
+            Change::Create { .. } => {
                 let handle = self.next;
                 self.given.push(Tag {
                     handle,
@@ -85,7 +83,7 @@ impl Handles {
                 self.next = handle + 1;
                 Value::Number(handle as i128)
             }
-            Checked::Delete { index } => {
+            Change::Delete { index } => {
                 self.given.remove(*index as usize);
                 Value::Empty
             }

@@ -1,6 +1,6 @@
 //! A recovery of the files, from the disk to their handles.
 ghost use Rattle.std.specs.Prelude.{◌≡◌, Some, IsSome};
-ghost use Rattle.pos_store.specs.Modes.{Off, mode_of};
+ghost use Rattle.pos_store.specs.StoreViews.{Off, mode_of};
 ghost use Rattle.pos_totals.specs.Recoveries.{Recovers, told_as};
 ghost use Rattle.pos_totals.specs.Views.{IsSound, view_of};
 
@@ -73,10 +73,7 @@ fn tell_fault(fault: StoreFault) -> RecoveryFault
         StoreFault::Damaged => RecoveryFault::Damaged,
         StoreFault::NoMemory => RecoveryFault::NoMemory,
         StoreFault::Device => RecoveryFault::Device,
-        StoreFault::Off
-        | StoreFault::Exhausted
-        | StoreFault::Refused(_)
-        | StoreFault::AlreadyLayout2 => unreachable!(),
+        StoreFault::Off | StoreFault::Exhausted | StoreFault::AlreadyLayout2 => unreachable!(),
     }
 }
 

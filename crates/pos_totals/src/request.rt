@@ -1,3 +1,5 @@
+use pos_dir::Change;
+
 /// The control that calls, and what its buffered changes cost in sum, where it is in a transaction.
 #[derive(Clone, Copy)]
 pub struct Caller {
@@ -30,30 +32,10 @@ pub enum Request<'a> {
     },
 }
 
-/// A change that nothing refuses: its file is known by its index, one that may be buffered by its handle too, and its
-/// numbers are within their ranges.
-#[derive(Clone, Copy)]
-pub enum Checked<'a> {
-    Create {
-        name: &'a [u8],
-        size: u32,
-    },
-    Delete {
-        index: u16,
-    },
-    Rename {
-        index: u16,
-        name: &'a [u8],
-    },
-    Write {
-        index: u16,
-        handle: u64,
-        offset: u32,
-        bytes: &'a [u8],
-    },
-    SetAll {
-        index: u16,
-        handle: u64,
-        value: u8,
-    },
+/// A change that nothing refuses, as one of the directory, whose files go by their index; and the handle of its file,
+/// where the call named it by that.
+#[derive(Drop)]
+pub struct Checked<'a> {
+    pub handle: Option<u64>,
+    pub change: Change<'a>,
 }

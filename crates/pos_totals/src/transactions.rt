@@ -1,5 +1,5 @@
 //! Transactions: the changes that each control has buffered.
-ghost use Rattle.std.specs.Prelude.{◌≡◌, ◌≤◌, ◌+◌, ◌++◌, ◌∷◌, [], Some, None, IfOk, OnOk, OnErr, is_some, slice_get};
+ghost use Rattle.std.specs.Prelude.{◌≡◌, ◌≤◌, ◌+◌, ◌++◌, ◌∷◌, [], Some, None, OnOk, OnErr, is_some, slice_get};
 ghost use Rattle.std.specs.Prelude.{slice_set};
 ghost use Rattle.std.specs.Option.{option_copied, option_map};
 ghost use Rattle.pos_dir.specs.declared.limits.TheConstants.{LAYOUT_2};
@@ -8,7 +8,7 @@ ghost use Rattle.pos_totals.specs.HardTotals.{transaction_at, without_transactio
 ghost use Rattle.pos_totals.specs.TotalsArrangements.{may_begin};
 ghost use Rattle.pos_totals.specs.Buffers.{buffered_change, placed_change, with_buffered, HasLeft, IsOf};
 
-use pos_dir::{Bytes, Change as FileChange};
+use pos_dir::{Bytes, Change, LentBytes};
 use pos_service::NoMemory;
 use std::alloc::Global;
 use std::marker::Model;
@@ -57,19 +57,19 @@ impl Buffered {
     }
 
     /// The change of the directory that it is, the file's index being known.
-    pub fn to_change(&self, alloc: Global, index: u16) -> Result<FileChange, NoMemory>
-        ensures { IfOk result (λ change. change ≡ placed_change index self.now) }
+    pub fn lend(&self, index: u16) -> Change<'_>
+        ensures { result ≡ placed_change index self.now }
     {
         match &self.action {
-            Action::Write { offset, bytes } => Ok(FileChange::Write {
+            Action::Write { offset, bytes } => Change::Write {
                 index,
                 offset: *offset,
-                bytes: Bytes::from_vec(Vec::from_slice(alloc, bytes.as_slice())?),
-            }),
-            Action::SetAll { value } => Ok(FileChange::SetAll {
+                bytes: LentBytes::from_slice(bytes.as_slice()),
+            },
+            Action::SetAll { value } => Change::SetAll {
                 index,
                 value: *value,
-            }),
+            },
         }
     }
 

@@ -1,5 +1,5 @@
 // Changes of two files, and what they make of them.
-use crate::support::spell;
+use crate::two_files::spell;
 use pos_disk::Disk;
 use pos_service::{Answer, NoMemory};
 use pos_totals::{RecoveryFault, Totals};

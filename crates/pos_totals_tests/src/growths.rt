@@ -1,6 +1,6 @@
 // Refused growths, answers that ample memory gives, and texts.
 use crate::changes::{BEFORE, CHANGES, Change, carry_out, is_after};
-use crate::support::{disk_of_layout_2, disk_with_files, over, spell};
+use crate::two_files::{disk_of_layout_2, disk_with_files, over, spell};
 use pos_disk::MemDisk;
 use pos_service::{Answer, Value};
 use pos_totals::{RecoveryFault, Totals};

@@ -8,4 +8,4 @@ mod growths;
 #[cfg(test)]
 mod stops;
 #[cfg(test)]
-mod support;
+mod two_files;

@@ -1,6 +1,6 @@
 // A stop at each call of the disk, and what crashes leave behind it.
 use crate::changes::{CHANGES, Change, carry_out, is_after};
-use crate::support::{disk_with_files, over};
+use crate::two_files::{disk_with_files, over};
 use pos_disk::{Fill, FuseDisk, MemDisk};
 use pos_service::Answer;
 use pos_totals::{RecoveryFault, Totals};

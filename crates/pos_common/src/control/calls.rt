@@ -4,7 +4,7 @@ ghost use Rattle.pos_service.specs.Claims.{is_own, is_foreign, claim_rows, relea
 ghost use Rattle.pos_service.specs.Controls.{opened, closed, stopped};
 ghost use Rattle.pos_service.specs.Refusals.{Decided};
 ghost use Rattle.pos_common.specs.Checks.{Checks};
-ghost use Rattle.pos_common.specs.Held.{TurnsInto};
+ghost use Rattle.pos_common.specs.KeptControls.{TurnsInto};
 
 use super::Control;
 use pos_service::claims::{is_foreign, is_own, is_timeout};

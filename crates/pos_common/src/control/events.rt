@@ -1,7 +1,7 @@
 ghost use Rattle.std.specs.Prelude.{◌≡◌, ◌≤◌, ◌+◌, OnOk, OnErr};
 ghost use Rattle.pos_service.specs.Controls.{listens, if_listening, heard, read, failed, is_held_back, deliverable, delivered, without_input, without_scan};
 ghost use Rattle.pos_service.specs.Statuses.{changed_status, heard_signs};
-ghost use Rattle.pos_common.specs.Held.{HasRoom, sign_events, scan_events, fault_events};
+ghost use Rattle.pos_common.specs.KeptControls.{HasRoom, sign_events, scan_events, fault_events};
 
 use super::Control;
 use crate::status::{cover_status, drawer_status, paper_status, power_status};

@@ -5,7 +5,7 @@ ghost use Rattle.pos_service.specs.Properties.{row_of, is_of_bytes, set_rows, va
 ghost use Rattle.pos_service.specs.Kinds.{rows_of, columns_of};
 ghost use Rattle.pos_service.specs.Numbers.{is_index, is_one, is_up_to};
 ghost use Rattle.pos_service.specs.Refusals.{Decided, when};
-ghost use Rattle.pos_common.specs.Held.{TurnsInto, SetsTo, Gets};
+ghost use Rattle.pos_common.specs.KeptControls.{TurnsInto, SetsTo, Gets};
 
 use super::Control;
 use crate::status::power_status;

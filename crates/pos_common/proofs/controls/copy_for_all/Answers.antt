@@ -1,8 +1,8 @@
 use Rattle.std.proofs.Common.{◌≡◌, ◌∙◌, ◌<◌, length, arith, ap, sym, get_or}
 use Rattle.std.proofs.lemmas.List.{length-map}
 use Rattle.pos_service.specs.Controls.{listens}
-use Rattle.pos_common.specs.Held.{Held, controls_of}
-use Rattle.pos_common.proofs.HeldLemmas.{control_at}
+use Rattle.pos_common.specs.KeptControls.{KeptControl, controls_of}
+use Rattle.pos_common.proofs.KeptLemmas.{control_at}
 use Rattle.pos_common.proofs.CopyLemmas.{copies_more, copies_same}
 use Rattle.pos_common.proofs.controls.copy_for_all.Goals as goal
 use Rattle.pos_common.proofs.controls.copy_for_all.Goals.{then-listens+in_ok-reserve+in_ok-copy_of, else-listens}
@@ -15,9 +15,9 @@ loop-control-preserved c =
     let d = c.control-item.result in
     let place = c.args.place in
     let lt : i < length hs = omega arith in
-    let within : i < length cs = omega (arith, length-map hs (λ (h : Held). h.control)) in
+    let within : i < length cs = omega (arith, length-map hs (λ (h : KeptControl). h.control)) in
     let told : listens place (get_or cs i d.control) ≡ c.listens.result =
-    ap (listens place) (sym (control_at hs i d d.control lt) ∙ ap (λ (h : Held). h.control) (sym c.control-item.is)) ∙ sym c.listens.ensures in
+    ap (listens place) (sym (control_at hs i d d.control lt) ∙ ap (λ (h : KeptControl). h.control) (sym c.control-item.is)) ∙ sym c.listens.ensures in
     elim c.if-listens.branch [
       | then-listens+in_ok-reserve+in_ok-copy_of w ↦
           rw (w.copies-is, w.push_reserved.ensures.items, w.reserve.ensures.items)

@@ -1,8 +1,8 @@
 use Rattle.std.proofs.Common.{◌<◌, ◌≡◌, length, arith, ◌∙◌}
 use Rattle.std.proofs.lemmas.List.{length-map}
 use Rattle.pos_service.specs.Controls.{failed, if_listening}
-use Rattle.pos_common.specs.Held.{HasRoom, controls_of, fault_events}
-use Rattle.pos_common.proofs.HeldLemmas.{mapped_more, first_of_rest, rest_after_set}
+use Rattle.pos_common.specs.KeptControls.{HasRoom, controls_of, fault_events}
+use Rattle.pos_common.proofs.KeptLemmas.{mapped_more, first_of_rest, rest_after_set}
 use Rattle.pos_common.proofs.controls.fail_all.Goals as goal
 
 pub fail_input-requires : goal.fail_input-requires

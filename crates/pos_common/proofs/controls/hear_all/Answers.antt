@@ -3,8 +3,8 @@ use Rattle.std.proofs.lemmas.List.{length-map, take_all}
 use Rattle.std.specs.Prelude.{◌+◌}
 use Rattle.pos_service.specs.Controls.{if_listening}
 use Rattle.pos_service.specs.Statuses.{heard_signs}
-use Rattle.pos_common.specs.Held.{HasRoom, controls_of, sign_events}
-use Rattle.pos_common.proofs.HeldLemmas.{mapped_more, first_of_rest, rest_after_set, front_after_set}
+use Rattle.pos_common.specs.KeptControls.{HasRoom, controls_of, sign_events}
+use Rattle.pos_common.proofs.KeptLemmas.{mapped_more, first_of_rest, rest_after_set, front_after_set}
 use Rattle.pos_common.proofs.RoomLemmas.{room_left}
 use Rattle.pos_common.proofs.controls.hear_all.Goals as goal
 
@@ -24,12 +24,14 @@ loop-control-preserved c =
     let lt : c.loop-control.control-index < length hs = omega arith in
     let n : length (controls_of c.args.controls.now) ≡ length hs = length-map c.args.controls.now _ ∙ omega arith in
     record {
-      heard = mapped_more (if_listening place (heard_signs c.args.old c.args.new)) _ hs _ c.control-item.result _ lt c.hear.ensures.heard c.loop-control.invariant.heard n;
+      heard = mapped_more (if_listening place
+          (heard_signs c.args.old c.args.new)) _ hs _ c.control-item.result _ lt c.hear.ensures.heard c.loop-control.invariant.heard n;
       room = rest_after_set (HasRoom place sign_events) hs _ _ lt c.loop-control.invariant.room;
       left = λ count all.
           let so_far = c.loop-control.invariant.left count all in
           let before = first_of_rest (HasRoom place (sign_events + count)) hs _ c.control-item.result lt so_far.1 in (
-            front_after_set (HasRoom place count) hs _ _ lt (room_left place count c.args.old c.args.new _ _ c.hear.ensures.heard c.hear.ensures.room before) so_far.0,
+            front_after_set (HasRoom place count) hs _ _ lt
+                (room_left place count c.args.old c.args.new _ _ c.hear.ensures.heard c.hear.ensures.room before) so_far.0,
             rest_after_set (HasRoom place (sign_events + count)) hs _ _ lt so_far.1,
           );
     }

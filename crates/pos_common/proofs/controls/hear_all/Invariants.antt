@@ -1,7 +1,7 @@
 use Rattle.std.proofs.Common.{◌≡◌, ◌++◌, ℕ, ◌+◌, All, map, take, drop}
 use Rattle.pos_service.specs.Controls.{if_listening}
 use Rattle.pos_service.specs.Statuses.{heard_signs}
-use Rattle.pos_common.specs.Held.{HasRoom, controls_of, sign_events}
+use Rattle.pos_common.specs.KeptControls.{HasRoom, controls_of, sign_events}
 use Rattle.pos_common.proofs.controls.hear_all.Given as goal
 
 -- the controls before the place have heard, and the others have room; what was more than that is left

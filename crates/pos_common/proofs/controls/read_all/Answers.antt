@@ -1,8 +1,8 @@
 use Rattle.std.proofs.Common.{◌<◌, ◌≤◌, ◌≡◌, length, arith, ◌∙◌, refl}
 use Rattle.std.proofs.lemmas.List.{length-map}
 use Rattle.pos_service.specs.Controls.{read, if_listening}
-use Rattle.pos_common.specs.Held.{HasRoom, controls_of, scan_events}
-use Rattle.pos_common.proofs.HeldLemmas.{mapped_more, mapped_all, first_of_rest, rest_after_set}
+use Rattle.pos_common.specs.KeptControls.{HasRoom, controls_of, scan_events}
+use Rattle.pos_common.proofs.KeptLemmas.{mapped_more, mapped_all, first_of_rest, rest_after_set}
 use Rattle.pos_common.proofs.CopyLemmas.{copies_at, copies_behind}
 use Rattle.pos_common.proofs.controls.read_all.Goals as goal
 

@@ -1,10 +1,13 @@
-use Rattle.std.proofs.Common.{◌≡◌, ◌≤◌, vec_capacity}
+use Rattle.std.proofs.Common.{◌≡◌, ◌≤◌, drop, vec_capacity}
+use Rattle.std.specs.List.{flat_map}
 use Rattle.std.specs.Vec.Iter.{into_iter_items}
 use Rattle.pos_dir.specs.Changes.{outcome_of_all}
+use Rattle.pos_dir.specs.Supplies.{supplies_of}
 use Rattle.pos_dir.proofs.applying.carry_out.Given as goal
 
-abbrev pub invariant-loop-step : goal.invariant-loop-step
-invariant-loop-step l = record {
-  outcome : outcome_of_all l.fn.limits l.files.items (into_iter_items l.step-iterator) ≡ outcome_of_all l.fn.limits l.fn.files.items l.fn.steps.items;
+abbrev pub invariant-loop-change : goal.invariant-loop-change
+invariant-loop-change l = record {
+  outcome : outcome_of_all l.fn.limits l.files.items (drop l.change-index l.change-items) ≡ outcome_of_all l.fn.limits l.fn.files.items l.fn.group;
+  supplied : into_iter_items l.left ≡ flat_map supplies_of (drop l.change-index l.change-items);
   room : l.fn.limits.files ≤ vec_capacity l.files;
 }

@@ -1,5 +1,5 @@
 use Rattle.std.proofs.Common.{◌∙◌, arith, subst, sym}
-use Rattle.pos_common.specs.Held.{controls_of}
+use Rattle.pos_common.specs.KeptControls.{controls_of}
 use Rattle.pos_printer.proofs.WorkLemmas.{IsFirst, does, fails, first_found, first_heard, has_request, room_for_first}
 use Rattle.pos_printer.proofs.working.work.Goals as goal
 

@@ -1,5 +1,5 @@
 use Rattle.std.proofs.Common.{Ok, subst, sym}
-use Rattle.pos_store.specs.Modes.{StoreView}
+use Rattle.pos_store.specs.StoreViews.{StoreView}
 use Rattle.pos_store.specs.Recoveries.{Recovers}
 use Rattle.pos_program.proofs.Migrated.{migrated_moves}
 use Rattle.pos_program.specs.Migrating.{MovesAny}

@@ -19,3 +19,9 @@ migrate_task-requires g c =
     let name : c.as_str-name.result.now ≡ codes "migrate" =
     (bytes_eq-Decides c.as_str-name.result.now (codes "migrate")).0 (sym c.eq-3.ensures ∙ c.if-eq-3.true) in
     first_named g.S.AsStr.text c.args.words.now c.in-Some.first.now _ (sym c.in-Some.ensures.value) (sym c.as_str-name.ensures ∙ name)
+
+pub files_task-requires : goal.files_task-requires
+files_task-requires g c =
+    let name : c.as_str-name.result.now ≡ codes "files" =
+    (bytes_eq-Decides c.as_str-name.result.now (codes "files")).0 (sym c.eq-4.ensures ∙ c.if-eq-4.true) in
+    first_named g.S.AsStr.text c.args.words.now c.in-Some.first.now _ (sym c.in-Some.ensures.value) (sym c.as_str-name.ensures ∙ name)

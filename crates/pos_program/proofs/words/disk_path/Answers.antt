@@ -13,7 +13,8 @@ returns-in-Err-clause-fault g c =
     let words = map g.S.AsStr.text c.args.words.now in
     let command = c.args.command.now in
     let known = disk_known command c.requires.command in
-    let same : app_of c.in-Ok.line ≡ disk_line command = c.in-Ok.ensures.shape (search rules) ∙ ap₂ with_rule c.new.ensures.app c.path_option-disk.ensures.rule in
+    let same : app_of c.in-Ok.line ≡ disk_line command = c.in-Ok.ensures.shape (search rules)
+    ∙ ap₂ with_rule c.new.ensures.app c.path_option-disk.ensures.rule in
     disk_failed command words c.in-Err.error c.fault_of_error.result c.requires.command c.requires.named c.fault_of_error.ensures
     (refused _ (disk_line command) words c.in-Err.error same known c.in-Err.ensures.kinds)
 
@@ -32,7 +33,8 @@ returns-clause-disk g c =
     let words = map g.S.AsStr.text c.args.words.now in
     let command = c.args.command.now in
     let known = disk_known command c.requires.command in
-    let same : app_of c.in-Ok.line ≡ disk_line command = c.in-Ok.ensures.shape (search rules) ∙ ap₂ with_rule c.new.ensures.app c.path_option-disk.ensures.rule in
+    let same : app_of c.in-Ok.line ≡ disk_line command = c.in-Ok.ensures.shape (search rules)
+    ∙ ap₂ with_rule c.new.ensures.app c.path_option-disk.ensures.rule in
     let parse = c.in-Ok-try_get_matches_from.ensures in
     let found = found_of c.in-Ok-try_get_matches_from.matches in
     let disk : first_of (codes "disk") (rows_of found) ≡ Some c.in-Some.disk.now = sym (c.in-Some.ensures ∙ first_value-rows found (codes "disk")) in

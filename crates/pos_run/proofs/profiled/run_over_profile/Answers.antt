@@ -3,7 +3,7 @@ use Rattle.pos_service.specs.declared.peripheral.Peripheral.{Ghosts}
 use Rattle.pos_run.specs.declared.wrapped.Wrapped.{Wrapped}
 use Rattle.pos_run.specs.Simulating.{wrapped_state}
 use Rattle.pos_run.specs.Spares.{spares_in}
-use Rattle.pos_run.proofs.Starting.{begun_leaves, runs_over}
+use Rattle.pos_run.proofs.Starting.{runs_honestly, runs_over_any}
 use Rattle.pos_run.proofs.profiled.run_over_profile.Goals as goal
 
 -- the states of simulated peripherals
@@ -13,7 +13,10 @@ wrapped = record { state = λ w. wrapped_state w }
 pub returns : goal.returns
 returns g c =
     let made = c.in-Ok.ensures in
-    let counter = c.in-Ok.counter in
-    λ left honest leaves. inr (runs_over g.D.Disk wrapped counter left
-    (begun_leaves g.D.Disk wrapped c.args.disk counter made.totals left honest leaves) c.args.profile.now c.args.disk made.totals made.served
-    (spares_in wrapped c.in-Ok.spares) _ _ _ _ made.left c.run-result.ensures.script.1.script)
+    let spares = spares_in wrapped c.in-Ok.spares in
+    let script = c.run-result.ensures.script.1.script in (
+      (λ left honest leaves. inr (runs_honestly g.D.Disk wrapped c.args.disk c.in-Ok.counter made.totals c.args.profile.now made.served
+          spares made.left _ _ _ _ script left honest leaves)),
+      (λ left failures. inr (runs_over_any g.D.Disk wrapped c.args.disk c.in-Ok.counter made.totals c.args.profile.now made.served
+          spares made.left _ _ _ _ script failures left)),
+    )

@@ -1,20 +1,14 @@
-use Rattle.std.proofs.Common.{◌≡◌, ◌∙◌, ◌<◌, ◌≤◌, ◌∷◌, [], All, None, Some, get_or, length, option_map, ap, arith, subst, sym}
+use Rattle.std.proofs.Common.{◌≡◌, ◌∙◌, ◌∷◌, [], ◌<◌, ◌≤◌, All, None, Some, get_or, length, map, option_map, ap, arith, subst, sym}
 use Rattle.std.proofs.lemmas.List.{map-append, take_all}
-use Rattle.pos_service.specs.declared.peripheral.Peripheral.{Ghosts}
-use Rattle.pos_service.specs.Stations.{station_of}
+use Rattle.pos_service.specs.Hardware.{hardware_of}
 use Rattle.pos_profile.specs.declared.role.Role.TheVariants.{Device, Spare}
 use Rattle.pos_counter.specs.Counters.{machine}
 use Rattle.pos_counter.specs.Steps.{Attach, Step}
-use Rattle.pos_run.specs.declared.wrapped.Wrapped.{Wrapped}
-use Rattle.pos_run.specs.Simulating.{simulated_all, simulated_for, wrapped_state}
-use Rattle.pos_run.specs.Spares.{IsInService, states_in}
+use Rattle.pos_run.specs.Simulating.{simulated_all, simulated_for}
+use Rattle.pos_run.specs.Spares.{IsInService}
 use Rattle.pos_run.proofs.Filling.{begins_partly, ends_whole, serves_more, skips}
 use Rattle.pos_run.proofs.Profiling.{all_serve, simulable, spares_more}
 use Rattle.pos_run.proofs.profiled.simulate_profile.Goals as goal
-
--- the states of simulated peripherals
-abbrev wrapped : Ghosts Wrapped
-wrapped = record { state = λ w. wrapped_state w }
 
 pub loop-entry-init : goal.loop-entry-init
 loop-entry-init g c = record {
@@ -23,8 +17,8 @@ loop-entry-init g c = record {
   served = λ part. c.in-Ok.ensures.begins.machine part ∙ begins_partly c.args.profile.now.devices part;
 }
 
-pub simulate-requires : goal.simulate-requires
-simulate-requires g c =
+pub simulate_mounted-requires : goal.simulate_mounted-requires
+simulate_mounted-requires g c =
     let entry = c.entry-item.result in
     let i = c.loop-entry.entry-index in
     let lt = subst (λ xs. i < length xs) c.devices-entry-items.ensures c.loop-entry-test.true in
@@ -38,7 +32,7 @@ loop-entry-preserved-in_default-made g c =
     let devices = c.args.profile.now.devices in
     let lt = subst (λ xs. i < length xs) c.devices-entry-items.ensures c.loop-entry-test.true in
     let is = subst (λ xs. entry ≡ get_or xs i entry) c.devices-entry-items.ensures c.entry-item.is in
-    let none : simulated_for entry ≡ None = sym c.in-Ok-simulate.ensures.state ∙ ap (option_map wrapped_state) c.in_default-made.is in
+    let none : simulated_for entry ≡ None = sym c.in-Ok-simulate_mounted.ensures ∙ ap (option_map g.P.Peripheral.state) c.in_default-made.is in
     record {
       sound = c.loop-entry.invariant.sound;
       totals = c.loop-entry.invariant.totals;
@@ -52,27 +46,44 @@ loop-entry-preserved g c =
     let devices = c.args.profile.now.devices in
     let lt = subst (λ xs. i < length xs) c.devices-entry-items.ensures c.loop-entry-test.true in
     let is = subst (λ xs. entry ≡ get_or xs i entry) c.devices-entry-items.ensures c.entry-item.is in
-    let state = wrapped_state c.in-Some.simulation in
-    let some : simulated_for entry ≡ Some state = sym c.in-Ok-simulate.ensures.state ∙ ap (option_map wrapped_state) c.in-Some.is in
+    let state = g.P.Peripheral.state c.in-Some.peripheral in
+    let some : simulated_for entry ≡ Some state = sym c.in-Ok-simulate_mounted.ensures ∙ ap (option_map g.P.Peripheral.state) c.in-Some.is in
     let old = c.loop-entry.counter in
     let new = c.offer.new.counter in
     let step = c.offer.ensures.step in
     record {
       sound = c.offer.ensures.sound;
       totals = step.1.totals ∙ c.loop-entry.invariant.totals;
-      served = λ part. serves_more devices i entry lt is part (machine wrapped old part) (machine wrapped new part) state step.0 some
+      served = λ part. serves_more devices i entry lt is part (machine g.P.Peripheral old part) (machine g.P.Peripheral new part) state step.0 some
           (c.is_profile.ensures.names i) (c.loop-entry.invariant.served part)
-          (subst (λ name. Step (machine wrapped old part) (Attach name (station_of state)) step.0 (machine wrapped new part)) c.as_bytes.ensures
+          (subst (λ name. Step (machine g.P.Peripheral old part) (Attach name (hardware_of state)) step.0 (machine g.P.Peripheral new part)) c.as_bytes.ensures
           (step.1.step part));
     }
 
-pub simulate-requires-in-loop-entry-2 : goal.simulate-requires-in-loop-entry-2
-simulate-requires-in-loop-entry-2 g c =
+pub simulate_mounted-requires-in-loop-entry-2 : goal.simulate_mounted-requires-in-loop-entry-2
+simulate_mounted-requires-in-loop-entry-2 g c =
     let entry = c.entry-item-in-loop-entry-2.result in
     let i = c.loop-entry-2.entry-index in
     let lt = subst (λ xs. i < length xs) c.spares-entry-items.ensures c.loop-entry-2-test.true in
     let is = subst (λ xs. entry ≡ get_or xs i entry) c.spares-entry-items.ensures c.entry-item-in-loop-entry-2.is in
     simulable Spare c.args.profile.now.spares i entry c.is_profile.ensures.spares lt is
+
+pub loop-entry-2-preserved : goal.loop-entry-2-preserved
+loop-entry-2-preserved g c =
+    let entry = c.entry-item-in-loop-entry-2.result in
+    let i = c.loop-entry-2.entry-index in
+    let spares = c.args.profile.now.spares in
+    let lt = subst (λ xs. i < length xs) c.spares-entry-items.ensures c.loop-entry-2-test.true in
+    let is = subst (λ xs. entry ≡ get_or xs i entry) c.spares-entry-items.ensures c.entry-item-in-loop-entry-2.is in
+    let state = option_map g.P.Peripheral.state in
+    let front = c.loop-entry-2.spares.items in
+    let made = c.in-Ok-simulate_mounted-2.made in
+    record {
+      states = ap (map state) c.push_reserved.ensures.items ∙ map-append state front (made ∷ [])
+          ∙ spares_more spares i entry lt is (map state front) (state made) c.loop-entry-2.invariant.states c.in-Ok-simulate_mounted-2.ensures;
+      count = omega (arith, c.push_reserved.ensures.len, c.loop-entry-2.invariant.count);
+      room = omega (arith, c.push_reserved.ensures.capacity, c.loop-entry-2.invariant.room);
+    }
 
 pub new-requires-3 : goal.new-requires-3
 new-requires-3 g c =

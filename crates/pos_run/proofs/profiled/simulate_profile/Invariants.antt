@@ -1,30 +1,24 @@
 use Rattle.std.proofs.Common.{◌≡◌, ◌≤◌, length, take, vec_len, vec_capacity}
 use Rattle.pos_counter.specs.Counters.{IsCounterSound, machine}
 use Rattle.pos_counter.specs.Totals.{TotalsPart}
-use Rattle.pos_service.specs.declared.peripheral.Peripheral.{Ghosts}
-use Rattle.pos_run.specs.declared.wrapped.Wrapped.{Wrapped}
 use Rattle.pos_run.specs.Running.{off_over}
-use Rattle.pos_run.specs.Simulating.{simulated_all, wrapped_state}
+use Rattle.pos_run.specs.Simulating.{simulated_all}
 use Rattle.pos_run.specs.Spares.{states_in}
 use Rattle.pos_run.proofs.Filling.{begun_partly}
 use Rattle.pos_run.proofs.profiled.simulate_profile.Given as goal
 
 -- the devices so far are served
 abbrev pub invariant-loop-entry : goal.invariant-loop-entry
-invariant-loop-entry g l =
-    let wrapped : Ghosts Wrapped = record { state = λ w. wrapped_state w } in
-    record {
-      sound : IsCounterSound wrapped l.counter;
-      totals : l.counter.totals ≡ off_over l.fn.disk;
-      served : (part : TotalsPart) → machine wrapped l.counter part ≡ begun_partly l.fn.profile.devices l.entry-index part;
-    }
+invariant-loop-entry g l = record {
+  sound : IsCounterSound g.P.Peripheral l.counter;
+  totals : l.counter.totals ≡ off_over l.fn.disk;
+  served : (part : TotalsPart) → machine g.P.Peripheral l.counter part ≡ begun_partly l.fn.profile.devices l.entry-index part;
+}
 
 -- the spares so far are there
 abbrev pub invariant-loop-entry-2 : goal.invariant-loop-entry-2
-invariant-loop-entry-2 g l =
-    let wrapped : Ghosts Wrapped = record { state = λ w. wrapped_state w } in
-    record {
-      states : states_in wrapped l.spares.items ≡ simulated_all (take l.entry-index l.fn.profile.spares);
-      count : vec_len l.spares ≤ l.entry-index;
-      room : length l.fn.profile.spares ≤ vec_capacity l.spares;
-    }
+invariant-loop-entry-2 g l = record {
+  states : states_in g.P.Peripheral l.spares.items ≡ simulated_all (take l.entry-index l.fn.profile.spares);
+  count : vec_len l.spares ≤ l.entry-index;
+  room : length l.fn.profile.spares ≤ vec_capacity l.spares;
+}

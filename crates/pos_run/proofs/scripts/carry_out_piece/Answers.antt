@@ -1,15 +1,15 @@
-use Rattle.std.proofs.Common.{◌++◌, ◌∷◌, [], ◌∙◌, refl, sym, subst, append-nil}
+use Rattle.std.proofs.Common.{◌++◌, ◌∷◌, [], refl, sym, subst, append-nil}
 use Rattle.std.proofs.KnownBytes.{Appends-nil}
 use Rattle.pos_counter.specs.Counters.{IsRun}
 use Rattle.pos_counter.proofs.Runs.{runs_join}
-use Rattle.pos_script.specs.LineBuffers.{Feeds, StandsFor}
+use Rattle.pos_script.specs.LineBuffers.{StandsFor}
 use Rattle.pos_run.specs.Carried.{session_of}
 use Rattle.pos_run.proofs.Finishing.{finishes_join, finishes_none, stops_join, stops_more}
 use Rattle.pos_run.proofs.PieceLemmas.{later, line_more, lines_all, no_more, none_yet, rest_none, split_then, stands_then}
 use Rattle.pos_run.proofs.scripts.carry_out_piece.Goals as goal
 
-pub loop-rest-init : goal.loop-rest-init
-loop-rest-init g c =
+pub loop-ended-init : goal.loop-ended-init
+loop-ended-init g c =
     let contents = g.W.Write.contents c.args.writer.now in (
       c.requires.sound,
       c.requires.spares,
@@ -20,49 +20,51 @@ loop-rest-init g c =
         none_yet read,
         finishes_none (IsRun g.D.Disk g.P.Peripheral) c.args.counter.now (session_of g.P.Peripheral c.args.names.now c.args.spares.now) refl contents
             (Appends-nil contents),
-        subst (StandsFor c.args.held.now) (sym (append-nil read)) stands,
+        subst (StandsFor c.args.buffer.now) (sym (append-nil read)) stands,
       ),
     )
 
-pub loop-rest-preserved : goal.loop-rest-preserved
-loop-rest-preserved g c =
+pub loop-ended-preserved : goal.loop-ended-preserved
+loop-ended-preserved g c =
     let Runs = IsRun g.D.Disk g.P.Peripheral in (
       c.in-Ok.ensures.sound,
       c.in-Ok.ensures.spares,
       λ read stands.
-          let (seen, lines, split, are, done, now) = c.loop-rest.invariant.2 read stands in
+          let (seen, lines, split, are, done, now) = c.loop-ended.invariant.2 read stands in
           let (taken, cut, ended) = c.in-Some.ensures.lines (read ++ seen) now in
           let (line, ends, none, is) = ended in (
             seen ++ taken,
             lines ++ line ∷ [],
-            split_then read c.args.piece.now seen c.loop-rest.left.now split lines are taken c.in-Some.rest.now cut line ends,
-            line_more read c.args.piece.now seen c.loop-rest.left.now split lines are taken c.in-Some.rest.now cut line ends,
-            finishes_join Runs (runs_join g.D.Disk g.P.Peripheral) _ _ lines _ _ _ _ done (line ∷ []) _ _ _ (c.in-Ok.ensures.line line is),
+            split_then read c.args.piece.now seen c.loop-ended.left.now split lines are taken c.in-Some.rest.now cut line ends,
+            line_more read c.args.piece.now seen c.loop-ended.left.now split lines are taken c.in-Some.rest.now cut line ends,
+            finishes_join Runs (runs_join g.D.Disk g.P.Peripheral) _ _ lines _ _ _ _ done (line ∷ []) _ _ _
+                (c.in-Ok.ensures.line line (c.ended_line-line.ensures line is)),
             c.clear.ensures (read ++ (seen ++ taken))
-                (rest_none read c.args.piece.now seen c.loop-rest.left.now split lines are taken c.in-Some.rest.now cut line ends none),
+                (rest_none read c.args.piece.now seen c.loop-ended.left.now split lines are taken c.in-Some.rest.now cut line ends none),
           ),
     )
 
-pub returns-in_default-carry_out_held-clause-piece : goal.returns-in_default-carry_out_held-clause-piece
-returns-in_default-carry_out_held-clause-piece g c = λ read stands.
+pub returns-in_default-carry_out_and_print-clause-piece : goal.returns-in_default-carry_out_and_print-clause-piece
+returns-in_default-carry_out_and_print-clause-piece g c = λ read stands.
     let Runs = IsRun g.D.Disk g.P.Peripheral in
-    let (seen, lines, split, are, done, now) = c.loop-rest.invariant.2 read stands in
+    let (seen, lines, split, are, done, now) = c.loop-ended.invariant.2 read stands in
     let (taken, cut, ended) = c.in-Some.ensures.lines (read ++ seen) now in
     let (line, ends, none, is) = ended in
-    let more = later read c.args.piece.now seen c.loop-rest.left.now split lines are taken c.in-Some.rest.now cut line ends in (
+    let more = later read c.args.piece.now seen c.loop-ended.left.now split lines are taken c.in-Some.rest.now cut line ends in (
       (lines ++ line ∷ []) ++ more,
-      lines_all read c.args.piece.now seen c.loop-rest.left.now split lines are taken c.in-Some.rest.now cut line ends,
+      lines_all read c.args.piece.now seen c.loop-ended.left.now split lines are taken c.in-Some.rest.now cut line ends,
       stops_more Runs _ _ (lines ++ line ∷ []) more _ _ _ _
-          (stops_join Runs (runs_join g.D.Disk g.P.Peripheral) _ _ lines _ _ _ _ done (line ∷ []) _ _ _ (c.in_default-carry_out_held.ensures.line line is)),
+          (stops_join Runs (runs_join g.D.Disk g.P.Peripheral) _ _ lines _ _ _ _ done (line ∷ []) _ _ _
+          (c.in_default-carry_out_and_print.ensures.line line (c.ended_line-line.ensures line is))),
       tt,
     )
 
 pub returns-clause-piece : goal.returns-clause-piece
 returns-clause-piece g c = λ read stands.
-    let (seen, lines, split, are, done, now) = c.loop-rest.invariant.2 read stands in
+    let (seen, lines, split, are, done, now) = c.loop-ended.invariant.2 read stands in
     let (none, kept) = c.in_default.ensures.lines (read ++ seen) now in (
       lines,
-      no_more read c.args.piece.now seen c.loop-rest.left.now split lines are c.feed.new.self none,
+      no_more read c.args.piece.now seen c.loop-ended.left.now split lines are c.feed.new.self none,
       done,
-      stands_then read c.args.piece.now seen c.loop-rest.left.now split lines are c.feed.new.self kept,
+      stands_then read c.args.piece.now seen c.loop-ended.left.now split lines are c.feed.new.self kept,
     )

@@ -1,4 +1,4 @@
-use Rattle.std.proofs.Common.{◌++◌, ◌<◌, ◌∙◌, [], inl, Ok, ap, length, refl, rules, sym, take}
+use Rattle.std.proofs.Common.{◌++◌, ◌<◌, ◌∙◌, [], inl, Ok, ap, length, refl, rules, take}
 use Rattle.std.proofs.KnownBytes.{Appends-nil, Consumes-kept, Consumes-nil, Consumes-trans}
 use Rattle.pos_counter.specs.Counters.{IsRun}
 use Rattle.pos_counter.proofs.Runs.{runs_join}

@@ -16,7 +16,7 @@ invariant-loop-reader g l =
     IsCounterSound g.P.Peripheral l.counter × AreSparesSound g.P.Peripheral l.spares
     × (input : List ℕ)
     × Consumes (g.R.Read.remaining l.initial.reader.reader) (g.R.Read.remaining l.reader.reader) input
-    × StandsFor l.held input × (lines_read l.reader.state input ≡ complete_lines input)
+    × StandsFor l.buffer input × (lines_read l.reader.state input ≡ complete_lines input)
     × (l.reader.state ≡ Failed → reading_of g.R.Read.remaining l.reader ≡ reading_of g.R.Read.remaining l.initial.reader)
     × Finishes (IsRun g.D.Disk g.P.Peripheral) l.initial.counter (session_of g.P.Peripheral l.initial.names l.initial.spares)
     (complete_lines input) (answers_of g.W.Write.contents l.initial.writer) (answers_of g.W.Write.contents l.writer)

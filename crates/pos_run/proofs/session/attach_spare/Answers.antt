@@ -1,6 +1,6 @@
 use Rattle.std.proofs.Common.{◌≡◌, ◌∙◌, None, Some, ap, sym, subst, refl}
 use Rattle.std.specs.Prelude.{option_map}
-use Rattle.pos_service.specs.Stations.{station_of}
+use Rattle.pos_service.specs.Hardware.{hardware_of}
 use Rattle.pos_counter.specs.Counters.{IsRun}
 use Rattle.pos_counter.specs.Steps.{Attach, Attached, NotAttached}
 use Rattle.pos_counter.proofs.Runs.{one_beside}
@@ -18,7 +18,7 @@ returns-in_default-clause-asks g c =
     let none : spare_at spares number ≡ None = sym c.take.ensures.taken ∙ ap (option_map g.P.Peripheral.state) c.in_default.is in
     λ names. respared (IsRun g.D.Disk g.P.Peripheral) _ _ _ names _ _ _ (c.take.ensures.left ∙ none_taken spares number none)
     (asks_none (IsRun g.D.Disk g.P.Peripheral) old (session_with names spares) (Attach c.args.name.now number)
-    (ap (option_map (λ spare. Attach c.args.name.now (station_of spare))) none) refl)
+    (ap (option_map (λ spare. Attach c.args.name.now (hardware_of spare))) none) refl)
 
 pub put-requires-clause-empty : goal.put-requires-clause-empty
 put-requires-clause-empty g c =
@@ -33,11 +33,11 @@ returns-in-Ok-clause-asks g c =
     let spares = spares_in g.P.Peripheral c.args.spares.now in
     let number = c.args.number in
     let state = g.P.Peripheral.state c.in-Some.peripheral in
-    let request = Attach c.args.name.now (station_of state) in
+    let request = Attach c.args.name.now (hardware_of state) in
     let there : spare_at spares number ≡ Some state = sym c.take.ensures.taken ∙ ap (option_map g.P.Peripheral.state) c.in-Some.is in
     λ names. respared (IsRun g.D.Disk g.P.Peripheral) _ _ _ names _ _ _ c.take.ensures.left
     (asks_request (IsRun g.D.Disk g.P.Peripheral) old (session_with names spares) (Attach c.args.name.now number) request Attached c.attach.new.self
-    (ap (option_map (λ spare. Attach c.args.name.now (station_of spare))) there)
+    (ap (option_map (λ spare. Attach c.args.name.now (hardware_of spare))) there)
     (one_beside g.D.Disk g.P.Peripheral old c.attach.new.self request Attached
     (λ bytes honest since. g.met.D.Disk.only_now c.args.counter.now.totals.disk bytes honest since) c.in-Ok.ensures.step))
 
@@ -47,14 +47,14 @@ returns-in-Err-clause-asks g c =
     let spares = spares_in g.P.Peripheral c.args.spares.now in
     let number = c.args.number in
     let state = g.P.Peripheral.state c.in-Some.peripheral in
-    let request = Attach c.args.name.now (station_of state) in
+    let request = Attach c.args.name.now (hardware_of state) in
     let there : spare_at spares number ≡ Some state = sym c.take.ensures.taken ∙ ap (option_map g.P.Peripheral.state) c.in-Some.is in
     let back = c.put.ensures.spares
     ∙ ap (λ b. with_spare (spares_in g.P.Peripheral c.take.new.self) number (Some (g.P.Peripheral.state b))) c.in-Err.ensures.handed_back
     ∙ ap (λ ss. with_spare ss number (Some state)) c.take.ensures.left ∙ put_back spares number state there in
-    let response = NotAttached c.in-Err.fault (station_of (g.P.Peripheral.state c.in-Err.peripheral)) in
+    let response = NotAttached c.in-Err.fault (hardware_of (g.P.Peripheral.state c.in-Err.peripheral)) in
     λ names. respared (IsRun g.D.Disk g.P.Peripheral) _ _ _ names _ _ _ back
     ((asks_request (IsRun g.D.Disk g.P.Peripheral) old (session_with names spares) (Attach c.args.name.now number) request response c.attach.new.self
-    (ap (option_map (λ spare. Attach c.args.name.now (station_of spare))) there)
+    (ap (option_map (λ spare. Attach c.args.name.now (hardware_of spare))) there)
     (one_beside g.D.Disk g.P.Peripheral old c.attach.new.self request response
     (λ bytes honest since. g.met.D.Disk.only_now c.args.counter.now.totals.disk bytes honest since) c.in-Err.ensures.step)))

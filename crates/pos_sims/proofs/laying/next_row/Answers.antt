@@ -8,4 +8,4 @@ returns-clause-follows g c = λ old strip h.
     let next = (g.W.Grid.shown c.feed_row.new.self).cells in
     let manner = c.args.manner in
     scrolled manner old cells next strip c.args.place c.requires.within (omega (arith, c.if-place-manner.false))
-    (shifted cells next manner.columns (rw (← c.requires.width) c.feed_row.ensures.moved)) h
+    (shifted cells next manner.columns (rw (← c.requires.size.columns) c.feed_row.ensures.moved)) h

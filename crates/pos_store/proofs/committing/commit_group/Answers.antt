@@ -1,4 +1,4 @@
-use Rattle.std.proofs.Common.{◌≡◌, ◌+◌, ⊎_elim, ℕ, List, Result, Ok, Err, MatchResult, IsErrOf, refl, sym, ap, subst, ◌∙◌, arith, rules}
+use Rattle.std.proofs.Common.{◌≡◌, ◌+◌, ⊎_elim, ℕ, List, Ok, Err, IsErrOf, refl, sym, ap, subst, ◌∙◌, arith, rules}
 use Rattle.pos_disk.proofs.Moments.{weaker}
 use Rattle.pos_dir.specs.Changes.{outcome_of_all}
 use Rattle.pos_dir.specs.Spelling.{group_spelling}
@@ -10,16 +10,15 @@ use Rattle.pos_image.specs.declared.layout.Layout.{Layout}
 use Rattle.pos_log.proofs.LaidOut.{at_most}
 use Rattle.pos_log.specs.Logs.{Appends, IsLogReady}
 use Rattle.pos_log.specs.declared.fault.LogFault.TheVariants as log
-use Rattle.pos_store.specs.Commits.{IsDraft, IsUnmade}
+use Rattle.pos_store.specs.Commits.{IsApplicable, IsDraft}
 use Rattle.pos_store.specs.Layouts.{limits_of}
-use Rattle.pos_store.specs.Modes.{HasItsFiles}
+use Rattle.pos_store.specs.StoreViews.{HasItsFiles, view_of}
 use Rattle.pos_store.specs.Standing.{HoldsFiles}
-use Rattle.pos_store.specs.declared.draft.Draft.{Draft}
+use Rattle.pos_store.specs.declared.disk_or_log.DiskOrLog.{DiskOrLog}
 use Rattle.pos_store.specs.declared.draft.Draft.TheVariants as draft
-use Rattle.pos_store.specs.declared.fault.StoreFault.{StoreFault}
-use Rattle.pos_store.specs.declared.fault.StoreFault.TheVariants as fault
-use Rattle.pos_store.proofs.Committed.{IsGiven, same_layout, fits_not, stays, rises, short, appending_stands, renewing_stands, failed_commits, appended_holds, appended_commits, renewed_holds, renewed_commits}
-use Rattle.pos_store.proofs.Drafted.{is_made, unmade_commits}
+use Rattle.pos_store.proofs.Committed.{IsGiven, same_layout, fits_not, stays, rises, short, appending_stands, renewing_stands, failed_commits, appended_holds}
+use Rattle.pos_store.proofs.Committed.{appended_commits, renewed_holds, renewed_commits}
+use Rattle.pos_store.proofs.Drafted.{unmade_commits}
 use Rattle.pos_store.proofs.committing.commit_group.Given.{Over}
 use Rattle.pos_store.proofs.committing.commit_group.Goals.{After-append, After-renew}
 use Rattle.pos_store.proofs.committing.commit_group.Goals as goal
@@ -44,10 +43,7 @@ module _ (g : Over) (c : After-append g) where
       × IsDraft layout c.in-Ready.log.tail c.args.call.1.now c.in-Ready.log.images.sequence c.make_draft.new.directory.files
       (draft.Record c.in-Ok-Record.text)
   made =
-      let is = is_made c.in-Ok-Record.field-0
-      (outcome_of_all c.in-Ready.directory.limits c.in-Ready.directory.files c.args.call.1.now) c.make_draft.new.directory.files
-      (λ after. IsDraft layout c.in-Ready.log.tail c.args.call.1.now c.in-Ready.log.images.sequence after c.in-Ok-Record.field-0)
-      c.in-Ok-Record.ensures.made in (
+      let is = c.in-Ok-Record.ensures.made in (
         subst (λ (l : Limits). outcome_of_all l c.in-Ready.directory.files c.args.call.1.now ≡ Ok c.make_draft.new.directory.files) limits is.0,
         subst (IsDraft layout c.in-Ready.log.tail c.args.call.1.now c.in-Ready.log.images.sequence c.make_draft.new.directory.files)
             c.in-Ok-Record.field-0-is is.1,
@@ -81,10 +77,7 @@ module _ (g : Over) (c : After-renew g) where
       × IsDraft layout_too c.in-Ready.log.tail c.args.call.1.now c.in-Ready.log.images.sequence c.make_draft.new.directory.files
       (draft.Image c.in-Ok-Image.body)
   made_too =
-      let is = is_made c.in-Ok-Image.field-0
-      (outcome_of_all c.in-Ready.directory.limits c.in-Ready.directory.files c.args.call.1.now) c.make_draft.new.directory.files
-      (λ after. IsDraft layout_too c.in-Ready.log.tail c.args.call.1.now c.in-Ready.log.images.sequence after c.in-Ok-Image.field-0)
-      c.in-Ok-Image.ensures.made in (
+      let is = c.in-Ok-Image.ensures.made in (
         subst (λ (l : Limits). outcome_of_all l c.in-Ready.directory.files c.args.call.1.now ≡ Ok c.make_draft.new.directory.files) limits_too is.0,
         subst (IsDraft layout_too c.in-Ready.log.tail c.args.call.1.now c.in-Ready.log.images.sequence c.make_draft.new.directory.files)
             c.in-Ok-Image.field-0-is is.1,
@@ -177,10 +170,8 @@ returns-in-Err-renew-clause-commits g c =
 pub returns-in-Err-clause-commits : goal.returns-in-Err-clause-commits
 returns-in-Err-clause-commits g c =
     let sound = subst (HasItsFiles g.D.Disk) c.in-Ready.is c.requires.sound in
-    let layout = layout_of c.in-Ready.log.images.slot in
     rw (c.in-Ready.is, c.in-Err.ensures.unchanged)
     (unmade_commits g.D.Disk c.in-Ready.log c.in-Ready.directory.files c.args.call.1.now c.in-Err.fault sound.0 sound.1
-    (λ h f left. g.met.D.Disk.only_now c.in-Ready.log.images.disk f h left) Draft
-    (subst (λ (l : Limits). MatchResult (outcome_of_all l c.in-Ready.directory.files c.args.call.1.now)
-    (λ after. IsUnmade layout c.in-Ready.log.tail c.args.call.1.now c.in-Ready.log.images.sequence c.in-Err.fault)
-    (λ refusal. ◌≡◌ {A = Result Draft StoreFault} (Err c.in-Err.fault) (Err (fault.Refused refusal)))) sound.2 c.in-Err.ensures.made))
+    (λ h f left. g.met.D.Disk.only_now c.in-Ready.log.images.disk f h left)
+    (subst (λ (d : DiskOrLog g.row.D.Denot). IsApplicable (view_of d).layout (view_of d).state c.args.call.1.now) c.in-Ready.is c.requires.applicable)
+    c.in-Err.ensures.made)

@@ -7,7 +7,7 @@ use Rattle.pos_image.specs.declared.fault.ImageFault.{ImageFault}
 use Rattle.pos_image.specs.declared.layout.Layout.TheVariants.{Layout1, Layout2}
 use Rattle.pos_log.specs.Logs.{IsLogReady, Renews}
 use Rattle.pos_store.specs.Layouts.{limits_of}
-use Rattle.pos_store.specs.Modes.{HasItsFiles}
+use Rattle.pos_store.specs.StoreViews.{HasItsFiles}
 use Rattle.pos_store.specs.Standing.{HoldsFiles}
 use Rattle.pos_store.specs.declared.fault.StoreFault.TheVariants as fault
 use Rattle.pos_store.proofs.Migrated.{refused_migrates, moved_holds, moved_migrates, failed_migrates}

@@ -16,7 +16,9 @@ use Rattle.pos_store.specs.Layouts.{limits_of}
 use Rattle.pos_store.specs.Standing.{HoldsFiles, Applies}
 use Rattle.pos_store.specs.Recoveries.{DiskStandsFor, EndsAt}
 use Rattle.pos_store.proofs.FilesOnDisk.{leaves_files}
-use Rattle.pos_store.proofs.Recovered.{off_recovers, told_finds, told_device, told_counts, told_log_finds, told_log_device, told_log_counts, told_text_finds, never_failed, never_failed_log, both_keep, later, not_device, damaged_stands, no_body_stands, no_log_stands, no_groups_stand, malformed_none}
+use Rattle.pos_store.proofs.Recovered.{off_recovers, told_finds, told_device, told_counts, told_log_finds, told_log_device, told_log_counts, told_text_finds}
+use Rattle.pos_store.proofs.Recovered.{never_failed, never_failed_log, both_keep, later, not_device, damaged_stands, no_body_stands, no_log_stands}
+use Rattle.pos_store.proofs.Recovered.{no_groups_stand, malformed_none}
 use Rattle.pos_store.proofs.recovering.recover_files.Given.{Over}
 use Rattle.pos_store.proofs.recovering.recover_files.Goals.{After-apply_texts}
 use Rattle.pos_store.proofs.recovering.recover_files.Goals as goal

@@ -1,4 +1,4 @@
-use Rattle.std.proofs.Common.{ℤ, pos, ap, sym, ◌∙◌, rules}
+use Rattle.std.proofs.Common.{ℕ, ℤ, pos, List, ap, sym, ◌∙◌, rules}
 use Rattle.std.specs.Int.{w128}
 use Rattle.std.proofs.lemmas.Int.{to_z-of_z}
 use Rattle.pos_totals.specs.HardTotals.{Write}
@@ -16,5 +16,6 @@ returns c =
       made = search rules;
       flawless = search rules;
       asked = ap (λ (h : ℤ). Write h c.args.offset bytes) (sym (to_z-of_z w128 c.args.handle c.ranges.handle) ∙ handle)
-          ∙ ap (λ (o : ℤ). Write (pos found.handle) o bytes) (sym (to_z-of_z w128 c.args.offset c.ranges.offset) ∙ c.in-Some-to_range.ensures.first);
+          ∙ ap (λ (o : ℤ). Write (pos found.handle) o bytes) (sym (to_z-of_z w128 c.args.offset c.ranges.offset) ∙ c.in-Some-to_range.ensures.first)
+          ∙ ap (λ (text : List ℕ). Write (pos found.handle) (pos c.in-Some-to_range.start) text) (sym c.from_slice.ensures);
     }

@@ -1,7 +1,7 @@
 use Rattle.std.proofs.Common.{◌≡◌, ap, sym, subst, refl, ◌∙◌}
 use Rattle.std.specs.Prelude.{false}
 use Rattle.std.proofs.lemmas.Result.{IfErr-weaker}
-use Rattle.pos_service.specs.Stations.{station_of}
+use Rattle.pos_service.specs.Hardware.{hardware_of}
 use Rattle.pos_counter.specs.Responses.{OffersInService, attached, detached, made, taken_in, worked, shown, request_of}
 use Rattle.pos_counter.specs.Steps.{NewControl, InputTo, WorkOn, Deliver, Delivered, Snapshot, Attach, Detach}
 use Rattle.pos_counter.proofs.Runs.{beside_step_as, step_as}
@@ -53,11 +53,11 @@ of_attach-requires g c =
 pub returns-in-Attach-clause-step : goal.returns-in-Attach-clause-step
 returns-in-Attach-clause-step g c =
     let old = c.args.self.now in
-    let station = station_of (g.P.Peripheral.state c.in-Attach.peripheral) in
-    beside_step_as g.D.Disk g.P.Peripheral old c.attach.new.self (Attach c.as_slice-in-Attach.result.now station)
+    let hardware = hardware_of (g.P.Peripheral.state c.in-Attach.peripheral) in
+    beside_step_as g.D.Disk g.P.Peripheral old c.attach.new.self (Attach c.as_slice-in-Attach.result.now hardware)
     (attached g.P.Peripheral.state c.attach.result) _ _ (λ bytes honest since. g.met.D.Disk.only_now old.totals.disk bytes honest since)
     (ap (request_of g.P.Peripheral) c.in-Attach.is
-    ∙ ap (λ name. Attach name station) (sym c.as_slice-in-Attach.ensures)) c.of_attach.ensures.answer c.attach.ensures.step
+    ∙ ap (λ name. Attach name hardware) (sym c.as_slice-in-Attach.ensures)) c.of_attach.ensures.answer c.attach.ensures.step
 
 pub returns-in-Detach-clause-step : goal.returns-in-Detach-clause-step
 returns-in-Detach-clause-step g c =

@@ -1,27 +1,53 @@
-use Rattle.std.proofs.Common.{[], refl}
-use Rattle.pos_counter.specs.Steps.{NewControl}
-use Rattle.pos_counter.specs.Responses.{made}
-use Rattle.pos_counter.specs.Machine.{Shared}
+use Rattle.std.proofs.Common.{◌≡◌, ◌∙◌, ◌++◌, ◌∷◌, ◌<◌, [], List, ap, length, refl, subst, sym, arith}
+use Rattle.pos_common.specs.KeptControls.{KeptControl}
+use Rattle.pos_totals.specs.HardTotals.{with_control}
 use Rattle.pos_counter.specs.KeptDevices.{devices_in}
-use Rattle.pos_counter.proofs.Runs.{control_is_step}
-use Rattle.pos_counter.proofs.Serving.{stepped_sound}
+use Rattle.pos_counter.specs.Leaving.{part_with}
+use Rattle.pos_counter.specs.Machine.{machine_with}
+use Rattle.pos_counter.specs.Steps.{IsSound, Made, NewControl, most_controls}
+use Rattle.pos_counter.proofs.Lifts.{made_step}
+use Rattle.pos_counter.proofs.Serving.{quiet_step, still_sound}
 use Rattle.pos_counter.proofs.counter.Counter.control.Goals as goal
 
-pub returns-clause-step : goal.returns-clause-step
-returns-clause-step g c =
+pub returns-then-is_err-clause-sound : goal.returns-then-is_err-clause-sound
+returns-then-is_err-clause-sound g c =
     let old = c.args.self.now in
-    control_is_step g.D.Disk g.P.Peripheral old _ c.args.category c.control.result
-    (λ bytes honest since. g.met.D.Disk.only_now old.totals.disk bytes honest since) c.control.ensures (λ part. refl)
-
-pub returns-clause-sound : goal.returns-clause-sound
-returns-clause-sound g c =
-    let old = c.args.self.now in
-    let ds = devices_in g.P.Peripheral old.devices in
-    let before : Shared = record { claims = old.claims; totals = record { totals = old.totals.totals; left = []; failures = 0 } } in
-    let after : Shared = record { claims = old.claims; totals = record { totals = c.control.new.totals.totals; left = []; failures = 0 } } in
     record {
-      parts = stepped_sound old.desk c.control.new.self ds before after (NewControl tt c.args.category)
-          (made c.control.result) c.requires.sound.parts (c.control.ensures.step ds old.claims [] 0);
+      machine = λ part. subst (λ (hs : List KeptControl). IsSound (machine_with hs old.claims (devices_in g.P.Peripheral old.devices) part))
+          (sym c.reserve.ensures.items) (c.requires.sound.machine part);
       devices = c.requires.sound.devices;
-      covers = c.requires.sound.covers;
+    }
+
+pub returns-in-Ok-clause-step : goal.returns-in-Ok-clause-step
+returns-in-Ok-clause-step g c =
+    let old = c.args.self.now in
+    let hs = old.controls.items in
+    let many : c.len-number.result ≡ length hs = omega (arith, c.len-number.ensures, old.controls.ok.0) in
+    let room : c.len-number.result < most_controls = omega arith in
+    let items = c.push_reserved.ensures.items ∙ ap (λ (ks : List KeptControl). ks ++ c.new.result ∷ []) c.reserve.ensures.items in
+    quiet_step g.D.Disk g.P.Peripheral old _ _ _ (with_control old.totals.totals)
+    (λ bytes honest since. g.met.D.Disk.only_now old.totals.disk bytes honest since) c.add_control.ensures.disk c.in-Ok.ensures.ok (λ left. refl)
+    (λ left failures so. made_step hs c.push_reserved.new.self.items old.claims (devices_in g.P.Peripheral old.devices)
+    (part_with old.totals.totals left failures) c.args.category c.new.result c.len-number.result room many items c.new.ensures)
+
+pub returns-in-Ok-clause-sound : goal.returns-in-Ok-clause-sound
+returns-in-Ok-clause-sound g c =
+    let old = c.args.self.now in
+    let hs = old.controls.items in
+    let many : c.len-number.result ≡ length hs = omega (arith, c.len-number.ensures, old.controls.ok.0) in
+    let room : c.len-number.result < most_controls = omega arith in
+    let part = part_with old.totals.totals [] 0 in
+    let items = c.push_reserved.ensures.items ∙ ap (λ (ks : List KeptControl). ks ++ c.new.result ∷ []) c.reserve.ensures.items in
+    still_sound g.P.Peripheral old _ (NewControl tt c.args.category) (Made c.len-number.result) part (record part { totals = with_control part.totals })
+    c.requires.sound c.requires.sound.devices
+    (made_step hs c.push_reserved.new.self.items old.claims (devices_in g.P.Peripheral old.devices) part c.args.category c.new.result
+    c.len-number.result room many items c.new.ensures)
+
+pub returns-in-Err-clause-sound : goal.returns-in-Err-clause-sound
+returns-in-Err-clause-sound g c =
+    let old = c.args.self.now in
+    record {
+      machine = λ part. subst (λ (hs : List KeptControl). IsSound (machine_with hs old.claims (devices_in g.P.Peripheral old.devices) part))
+          (sym c.reserve.ensures.items) (c.requires.sound.machine part);
+      devices = c.requires.sound.devices;
     }

@@ -1,10 +1,10 @@
 use Rattle.std.proofs.Common.{◌≡◌, ◌∙◌, ℕ, List, [], Option, None, ap, length, replicate, subst, sym, refl}
 use Rattle.std.proofs.lemmas.List.{length-replicate}
-use Rattle.pos_common.specs.Held.{Held}
+use Rattle.pos_common.specs.KeptControls.{KeptControl}
 use Rattle.pos_profile.specs.Registries.{devices as registered}
-use Rattle.pos_counter.specs.Machine.{Device}
-use Rattle.pos_counter.specs.Assembly.{ArePartsSound, machine_with}
+use Rattle.pos_counter.specs.Machine.{Device, machine_with}
 use Rattle.pos_counter.specs.KeptDevices.{devices_in, profile_devices}
+use Rattle.pos_counter.specs.Steps.{IsSound}
 use Rattle.pos_counter.proofs.Beginning.{begins_sound, count_devices}
 use Rattle.pos_counter.proofs.counter.Counter.new.Goals as goal
 
@@ -15,7 +15,7 @@ returns-in-Ok-new-clause-begins g c =
     let claims = c.in-Ok.ensures ∙ ap (λ n. replicate n None) (ap length c.devices.ensures ∙ sym count) in
     record {
       machine = λ part.
-          ap (λ (hs : List Held). machine_with hs c.in-Ok.claims (devices_in g.P.Peripheral c.in-Ok-new.devices) part) c.new-in-Ok-new.ensures
+          ap (λ (hs : List KeptControl). machine_with hs c.in-Ok.claims (devices_in g.P.Peripheral c.in-Ok-new.devices) part) c.new-in-Ok-new.ensures.items
           ∙ ap (λ (cl : List (Option ℕ)). machine_with [] cl (devices_in g.P.Peripheral c.in-Ok-new.devices) part) claims
           ∙ ap (λ (ds : List Device). machine_with [] (replicate (length (profile_devices entries)) None) ds part) c.in-Ok-new.ensures.vacant;
       totals = c.new-in-Ok-new-2.ensures;
@@ -27,10 +27,11 @@ returns-in-Ok-new-clause-sound g c =
     let devices = c.in-Ok-new.devices in
     let sound = c.in-Ok-new.ensures.sound in
     let count : length (profile_devices entries) ≡ length entries = count_devices [] entries refl c.is_profile.ensures.totals in
+    let covers = ap length c.in-Ok.ensures ∙ length-replicate (length c.devices.result.now) None ∙ ap length c.devices.ensures ∙ sym count
+    ∙ ap length (sym c.in-Ok-new.ensures.vacant) in
     record {
-      parts = subst (λ (hs : List Held). ArePartsSound hs (devices_in g.P.Peripheral devices)) (sym c.new-in-Ok-new.ensures)
-          (begins_sound (registered g.P.Peripheral devices.registry) devices.totals sound.registry.kinds sound.registry.served);
+      machine = λ part. subst (λ (hs : List KeptControl). IsSound (machine_with hs c.in-Ok.claims (devices_in g.P.Peripheral devices) part))
+          (sym c.new-in-Ok-new.ensures.items)
+          (begins_sound (registered g.P.Peripheral devices.registry) devices.totals c.in-Ok.claims part sound.registry.kinds sound.registry.served covers);
       devices = sound;
-      covers = ap length c.in-Ok.ensures ∙ length-replicate (length c.devices.result.now) None ∙ ap length c.devices.ensures ∙ sym count
-          ∙ ap length (sym c.in-Ok-new.ensures.vacant);
     }

@@ -1,7 +1,8 @@
 use Rattle.std.proofs.Common.{◌≡◌, ◌<◌, Some, sym, ap, ◌∙◌, arith}
 use Rattle.std.proofs.lemmas.Bool.Decides.{nat_tests}
 use Rattle.pos_events.specs.QueueParts.{events_in, waiting_in, weave, one_less, before_first, list_of}
-use Rattle.pos_events.proofs.DeliveringLemmas.{first_goes, first_is_input_data, first_is_data, popped_scan, kept_after_input_data, cleared_after_input_data, data_event, data_rest, is_input_data, is_scan}
+use Rattle.pos_events.proofs.DeliveringLemmas.{first_goes, first_is_input_data, first_is_data, popped_scan, kept_after_input_data, cleared_after_input_data}
+use Rattle.pos_events.proofs.DeliveringLemmas.{data_event, data_rest, is_input_data, is_scan}
 use Rattle.pos_events.proofs.queue.EventQueue.take_first.Goals as goal
 
 -- EL_INPUT_DATA is delivered

@@ -1,0 +1,7 @@
+use Rattle.std.proofs.Common.{◌∙◌}
+use Rattle.kijolvar.proofs.kijolvar_host.Goals as goal
+
+pub returns-clause-till : goal.returns-clause-till
+returns-clause-till c =
+    let (kept, at, same) = c.leave.ensures in
+    (kept, at, same ∙ c.take-session.ensures)

@@ -1,0 +1,77 @@
+-- What a till's host is told of its devices' orders (abi/README.md, "Devices of one's own").
+use Rattle.std.specs.Prelude.{◌≡◌, ◌≤◌, ◌<◌, ◌⊎◌, ◌++◌, ◌∷◌, [], ℕ, List, MatchResult, Result, Ok, false, true, codes, decimal, drop, length, map}
+use Rattle.std.specs.declared.vec.Vec.{Vec}
+use Rattle.pos_service.specs.declared.memory.NoMemory.{NoMemory}
+use Rattle.pos_service.specs.declared.order.Order.{Order}
+use Rattle.pos_service.specs.declared.order.Order.TheVariants as order
+use Rattle.pos_service.specs.declared.order.Reply.{Reply}
+use Rattle.pos_service.specs.declared.order.Reply.TheVariants as reply
+use Rattle.pos_service.specs.Displays.{attribute_number_of, direction_number_of}
+use Rattle.pos_service.specs.Peripherals.{Asked, PeripheralState, order_fits}
+use Rattle.pos_script.specs.Text.{hex_text}
+use Rattle.pos_run.specs.declared.wrapped.Wrapped.{Wrapped}
+use Rattle.pos_run.specs.Simulating.{wrapped_state}
+use Rattle.kijolvar.specs.declared.device.Device.{Device}
+use Rattle.kijolvar.specs.Codes.{ok, order_told, short}
+
+-- a number, and bytes in hex, behind a space
+abbrev pub number_word : ℕ → List ℕ
+number_word n = codes " " ++ decimal n
+
+abbrev pub bytes_word : List ℕ → List ℕ
+bytes_word bytes = codes " " ++ hex_text bytes
+
+-- what is said of an order behind the name of its device: its word and its arguments (docs/CONSOLE.md, "Methods")
+abbrev pub order_words : Order → List (List ℕ)
+order_words order.OpenDrawer = codes " openDrawer" ∷ []
+order_words (order.ShowText row column style bytes) =
+    codes " displayTextAt" ∷ number_word row ∷ number_word column ∷ bytes_word bytes
+    ∷ number_word (attribute_number_of style) ∷ []
+order_words order.ClearText = codes " clearText" ∷ []
+order_words (order.Scroll direction units) =
+    codes " scrollText" ∷ number_word (direction_number_of direction) ∷ number_word units ∷ []
+order_words (order.Print bytes) = codes " print" ∷ bytes_word bytes ∷ []
+order_words (order.Cut percentage) = codes " cutPaper" ∷ number_word percentage ∷ []
+
+-- a line with words behind it
+abbrev pub with_words : List ℕ → List (List ℕ) → List ℕ
+with_words line [] = line
+with_words line (word ∷ words) = with_words (line ++ word) words
+
+-- the line of a device's order
+abbrev pub order_text : List ℕ → Order → List ℕ
+order_text device asked = with_words device (order_words asked)
+
+-- what contracts see of a till's device: the simulated peripheral in it, with the count of the orders that came by the
+-- device
+abbrev pub device_state : Device → PeripheralState
+device_state device = record (wrapped_state device.twin) { orders = device.asks }
+
+-- the simulated peripheral was given an order; or there was no memory for its line, and it wasn't
+abbrev pub AsksTwin : Wrapped → Order → Result Reply NoMemory → Wrapped → Type 0
+AsksTwin old asked outcome new =
+    ((wrapped_state old).is_parked ≡ false → order_fits (wrapped_state old).kind asked ≡ true
+    → Asked (wrapped_state old) asked outcome (wrapped_state new))
+    ⊎ MatchResult outcome (λ said. ⊥) (λ want. new ≡ old)
+
+-- the bytes of lines
+abbrev pub order_lines : {A : Type 0} → List (Vec ℕ A) → List (List ℕ)
+order_lines lines = map (λ line. line.items) lines
+
+-- the line of an order is kept behind the others where the order was carried out, and no other is
+abbrev pub Keeps : List ℕ → Result Reply NoMemory → (old new : List (List ℕ)) → Type 0
+Keeps line (Ok reply.Done) old new = new ≡ old ++ line ∷ []
+Keeps line outcome old new = new ≡ old
+
+-- other orders wait only where none did
+abbrev pub Refills : (old new : List (List ℕ)) → Type 0
+Refills old new = (old ≡ []) ⊎ (new ≡ old)
+
+-- The oldest of the lines that wait is written where there is room for it, and left out from then on, and else stays,
+-- and how long it is is told; where none waits, that is 0.
+abbrev pub TellsOrder : List (List ℕ) → (before after : List ℕ) (needed code : ℕ) → List (List ℕ) → Type 0
+TellsOrder [] before after needed code left = (code ≡ ok) × (needed ≡ 0) × (after ≡ before) × (left ≡ [])
+TellsOrder (line ∷ lines) before after needed code left = (needed ≡ length line)
+    × (((length line ≤ length before) × (code ≡ order_told) × (after ≡ line ++ drop (length line) before)
+    × (left ≡ lines))
+    ⊎ ((length before < length line) × (code ≡ short) × (after ≡ before) × (left ≡ line ∷ lines)))

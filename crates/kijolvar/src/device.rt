@@ -1,0 +1,75 @@
+//! The devices of a till.
+ghost use Rattle.kijolvar.specs.Orders.{device_state};
+
+use crate::tray::{Post, Tray};
+use pos_profile::Entry;
+use pos_run::{Ends, Mount, Wrapped};
+use pos_service::{Input, Kind, NoMemory, Order, Peripheral, Reply, Signs, Snapshot, Taken};
+
+/// A device of a till, or a spare: a simulated peripheral. Where the host has the device, the simulated one stands for
+/// it: it answers at once, and each order that it carries out is kept for the host. A spare has no name, and none of
+/// its orders is kept.
+#[derive(Drop)]
+pub struct Device {
+    twin: Wrapped,
+    asks: u64,
+    post: Option<Post>,
+}
+
+impl Peripheral for Device {
+    ghost state = { λ device. device_state device };
+
+    fn kind(&self) -> Kind {
+        self.twin.kind()
+    }
+
+    fn signs(&self) -> Signs {
+        self.twin.signs()
+    }
+
+    fn ask(&mut self, order: &Order) -> Result<Reply, NoMemory> {
+        self.asks = self.asks.saturating_add(1);
+        match &self.post {
+            Some(post) => post.ask(&mut self.twin, order),
+            None => self.twin.ask(order),
+        }
+    }
+
+    fn feed(&mut self, input: &Input) -> Result<Taken, NoMemory> {
+        self.twin.feed(input)
+    }
+
+    fn snapshot(&self) -> Result<Snapshot, NoMemory> {
+        self.twin.snapshot()
+    }
+
+    fn park(&mut self) {
+        self.twin.park();
+    }
+
+    fn is_parked(&self) -> bool {
+        self.twin.is_parked()
+    }
+}
+
+impl Ends for Device {
+    fn end(self) {
+        drop(self);
+    }
+}
+
+impl Mount<Device> for Tray {
+    fn mount(&self, entry: &Entry, simulation: Wrapped) -> Result<Device, NoMemory> {
+        let name = entry.name.as_bytes();
+        let post = if name.is_empty() {
+            None
+        } else {
+            Some(self.post(name)?)
+        };
+        Ok(Device {
+            twin: simulation,
+            asks: 0,
+            post,
+        })
+    }
+}

@@ -1,0 +1,110 @@
+//! What a till's devices have for its host.
+ghost use Rattle.kijolvar.specs.Orders.{AsksTwin};
+
+use crate::orders::ask_keeping;
+use pos_run::Wrapped;
+use pos_service::{NoMemory, Order, Peripheral, Reply};
+use std::alloc::{AllocError, Global};
+use std::cell::RefCell;
+use std::collections::VecDeque;
+use std::mem::swap;
+use std::rc::Rc;
+
+/// The names of the devices that the host has, and the lines of their orders, the oldest first.
+#[derive(Drop)]
+struct Shared {
+    hosted: RefCell<Vec<Vec<u8>>>,
+    lines: RefCell<VecDeque<Vec<u8>>>,
+}
+
+/// What a till's devices have for its host, in order: a device that the host has adds its orders, and the till takes
+/// them out.
+#[derive(Drop)]
+pub struct Tray {
+    alloc: Global,
+    shared: Rc<Shared>,
+}
+
+impl Tray {
+    /// No device is the host's, and no order is there.
+    pub fn new(alloc: Global) -> Result<Tray, AllocError> {
+        let shared = Shared {
+            hosted: RefCell::new(Vec::new(alloc)),
+            lines: RefCell::new(VecDeque::new(alloc)),
+        };
+        match Rc::new(alloc, shared) {
+            Ok(shared) => Ok(Tray { alloc, shared }),
+            Err(_) => Err(AllocError),
+        }
+    }
+
+    /// The same tray, for another owner.
+    pub fn share(&self) -> Result<Tray, AllocError> {
+        Ok(Tray {
+            alloc: self.alloc,
+            shared: self.shared.clone()?,
+        })
+    }
+
+    /// The orders of the device of this name are kept for the host from now on. Want of memory changes nothing.
+    pub fn host(&self, device: &[u8]) -> Result<(), NoMemory> {
+        if self.is_hosted(device) {
+            return Ok(());
+        }
+        let name = Vec::from_slice(self.alloc, device)?;
+        match self.shared.hosted.try_borrow_mut() {
+            Ok(mut hosted) => match hosted.push(name) {
+                Ok(()) => Ok(()),
+                Err(_) => Err(NoMemory),
+            },
+            Err(_) => Err(NoMemory),
+        }
+    }
+
+    /// Whether the host has the device of this name.
+    pub fn is_hosted(&self, device: &[u8]) -> bool {
+        match self.shared.hosted.try_borrow() {
+            Ok(hosted) => hosted.iter().any(|name| name.as_slice() == device),
+            Err(_) => false,
+        }
+    }
+
+    /// Where the device of this name puts its orders.
+    pub fn post(&self, device: &[u8]) -> Result<Post, NoMemory> {
+        Ok(Post {
+            device: Vec::from_slice(self.alloc, device)?,
+            tray: self.share()?,
+        })
+    }
+
+    /// Takes out all orders, and leaves these in their place.
+    pub fn exchange(&self, orders: &mut VecDeque<Vec<u8>>) {
+        if let Ok(mut lines) = self.shared.lines.try_borrow_mut() {
+            swap(&mut *lines, orders);
+        }
+    }
+}
+
+/// Where a device puts its orders, and its name.
+#[derive(Drop)]
+pub struct Post {
+    device: Vec<u8>,
+    tray: Tray,
+}
+
+impl Post {
+    /// Gives an order to the simulated peripheral that stands for the device, and keeps it for the host where the host
+    /// has the device and the order was carried out. Where there is no memory for that, it isn't given.
+    pub fn ask(&self, twin: &mut Wrapped, order: &Order) -> Result<Reply, NoMemory>
+        ensures { AsksTwin twin.old order.now result twin.new }
+    {
+        let device = self.device.as_slice();
+        if !self.tray.is_hosted(device) {
+            return twin.ask(order);
+        }
+        match self.tray.shared.lines.try_borrow_mut() {
+            Ok(mut lines) => ask_keeping(self.tray.alloc, &mut lines, device, twin, order),
+            Err(_) => Err(NoMemory),
+        }
+    }
+}

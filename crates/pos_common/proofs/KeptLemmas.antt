@@ -1,0 +1,48 @@
+-- What a change of one control does to the machine's controls.
+use Rattle.std.proofs.Common.{◌≡◌, ℕ, ◌+◌, ◌<◌, ◌≤◌, List, get_or, set, map, take, drop, ◌++◌, sym, ap, ◌∙◌, All, length, arith, subst, refl, append-nil}
+use Rattle.std.proofs.lemmas.List.{map-set, set-get_or, get_or-map, drop_more, drop-drop, drop-set-lt, take_more_set, take_all, drop_all}
+use Rattle.std.proofs.lemmas.List.Edits.{map_over_more}
+use Rattle.std.proofs.lemmas.List.Elements.{All-head, All-tail, All-push}
+use Rattle.pos_service.specs.Controls.{Control}
+use Rattle.pos_common.specs.KeptControls.{KeptControl, controls_of}
+
+-- a held control at a place is the machine's control there
+pub control_at : (hs : List KeptControl) (i : ℕ) (d : KeptControl) (c : Control) → i < length hs → (get_or hs i d).control ≡ get_or (controls_of hs) i c
+control_at hs i d c lt = sym (get_or-map (λ (g : KeptControl). g.control) hs i d c lt)
+
+-- a held control that is still the same control changes nothing of the machine
+pub same_control : (hs : List KeptControl) (i : ℕ) (d g : KeptControl) → i < length hs → g.control ≡ (get_or hs i d).control
+    → controls_of (set hs i g) ≡ controls_of hs
+same_control hs i d g lt s =
+    map-set (λ (f : KeptControl). f.control) hs i g ∙ ap (set (controls_of hs) i) (s ∙ control_at hs i d g.control lt) ∙ set-get_or (controls_of hs) i g.control
+
+-- one more control is mapped
+pub mapped_more : (f : Control → Control) (xs : List Control) (hs : List KeptControl) (i : ℕ) (d g : KeptControl) → i < length hs
+    → g.control ≡ f (get_or hs i d).control → controls_of hs ≡ map f (take i xs) ++ drop i xs → length xs ≡ length hs
+    → controls_of (set hs i g) ≡ map f (take (i + 1) xs) ++ drop (i + 1) xs
+mapped_more f xs hs i d g lt s m n =
+    map-set (λ (x : KeptControl). x.control) hs i g ∙ ap (set (controls_of hs) i) s
+    ∙ map_over_more f xs (controls_of hs) i (get_or hs i d).control (omega arith) m (control_at hs i d (get_or hs i d).control lt)
+
+-- what each element from a place on has, the element there has
+pub first_of_rest : (P : KeptControl → Type 0) (hs : List KeptControl) (i : ℕ) (d : KeptControl) → i < length hs → All P (drop i hs) → P (get_or hs i d)
+first_of_rest P hs i d lt a = All-head P (get_or hs i d) (drop (i + 1) hs) (subst (All P) (drop_more hs i d lt) a)
+
+-- what each element from a place on has, those behind it have when it is changed
+pub rest_after_set : (P : KeptControl → Type 0) (hs : List KeptControl) (i : ℕ) (g : KeptControl) → i < length hs → All P (drop i hs)
+    → All P (drop (i + 1) (set hs i g))
+rest_after_set P hs i g lt a =
+    subst (All P) (sym (drop-set-lt (i + 1) hs i g (omega arith))) (All-tail P (get_or hs i g) (drop (i + 1) hs) (subst (All P) (drop_more hs i g lt) a))
+
+-- of two lists that are the same from a place on, the elements behind the place stay when it is changed
+pub same_rest : (hs old : List KeptControl) (i : ℕ) (g : KeptControl) → drop i hs ≡ drop i old → drop (i + 1) (set hs i g) ≡ drop (i + 1) old
+same_rest hs old i g r = drop-set-lt (i + 1) hs i g (omega arith) ∙ sym (drop-drop 1 i hs) ∙ ap (drop 1) r ∙ drop-drop 1 i old
+
+-- one more at the front has it
+pub front_after_set : (P : KeptControl → Type 0) (hs : List KeptControl) (i : ℕ) (g : KeptControl) → i < length hs → P g → All P (take i hs)
+    → All P (take (i + 1) (set hs i g))
+front_after_set P hs i g lt p a = subst (All P) (sym (take_more_set hs i g lt)) (All-push P (take i hs) g a p)
+
+-- all controls are mapped
+pub mapped_all : (f : Control → Control) (xs ys : List Control) (i : ℕ) → length xs ≤ i → ys ≡ map f (take i xs) ++ drop i xs → ys ≡ map f xs
+mapped_all f xs ys i le m = m ∙ rw (take_all i xs le, drop_all i xs le, append-nil) refl

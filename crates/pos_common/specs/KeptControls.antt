@@ -1,0 +1,81 @@
+-- A control as the code holds it.
+use Rattle.std.specs.Prelude.{◌≡◌, ℕ, ◌≤◌, ◌+◌, Bool, List, [], ◌∷◌, None, Result, MatchResult, IsTrue, ⊤, count_by, length, map, All}
+use Rattle.pos_service.specs.declared.answer.Answer.{Answer}
+use Rattle.pos_service.specs.declared.answer.Answer.TheVariants as answer
+use Rattle.pos_service.specs.declared.answer.Value.{Value}
+use Rattle.pos_service.specs.declared.answer.Value.TheVariants as value
+use Rattle.pos_service.specs.declared.input.Input.{Input}
+use Rattle.pos_service.specs.declared.input.Input.TheVariants as input
+use Rattle.pos_service.specs.declared.memory.NoMemory.{NoMemory}
+use Rattle.pos_service.specs.declared.property.Property.{Property}
+use Rattle.pos_service.specs.declared.scan.Scan.{Scan}
+use Rattle.pos_service.specs.Properties.{is_of_bytes}
+use Rattle.pos_service.specs.Controls.{Control, listens, if_listening, read as read_by}
+use Rattle.pos_service.specs.Refusals.{Row, Decided, first_refusal}
+
+-- the machine's control, and how many events there is room for
+pub record KeptControl : Type 0 where
+  pub control : Control
+  pub spare : ℕ
+
+-- the machine's controls
+abbrev pub controls_of : List KeptControl → List Control
+controls_of helds = map (λ held. held.control) helds
+
+-- a change of a device's signs has at most so many events: drawer, cover, paper, power
+abbrev pub sign_events : ℕ
+sign_events = 4
+
+-- a scan has at most so many events: a DataEvent
+abbrev pub scan_events : ℕ
+scan_events = 1
+
+-- a failed scan has at most so many events: EL_INPUT_DATA and EL_INPUT
+abbrev pub fault_events : ℕ
+fault_events = 2
+
+-- a request that is worked on has at most so many events: a change of signs, and OutputCompleteEvent or EL_OUTPUT
+abbrev pub work_events : ℕ
+work_events = 5
+
+-- a control that has the device at a place open and enabled has room for so many events
+abbrev pub HasRoom : ℕ → ℕ → KeptControl → Type 0
+HasRoom place count held = IsTrue (listens place held.control) → count ≤ held.spare
+
+-- There is a copy of a scan for each control that has the device at a place open and enabled.
+pub record AreCopies (scan : Scan) (place : ℕ) (controls : List Control) (copies : List Scan) : Type 0 where
+  pub enough : count_by (listens place) controls ≤ length copies
+  pub each : All (λ copy. copy ≡ scan) copies
+
+-- there are such copies of what is scanned; another input needs none
+abbrev pub HasCopies : Input → ℕ → List Control → List Scan → Type 0
+HasCopies (input.Scan number bytes label) place controls copies =
+    AreCopies (record { kind = number; bytes = bytes; label = label }) place controls copies
+HasCopies other place controls copies = ⊤
+
+-- A control has read one of the copies of a scan, where it has the device at a place open and enabled; the others are
+-- left.
+pub record ReadsCopy (scan : Scan) (place : ℕ) (old new : KeptControl) (copies left : List Scan) : Type 0 where
+  pub read : new.control ≡ if_listening place (read_by scan) old.control
+  pub each : All (λ copy. copy ≡ scan) left
+  pub most : length copies ≤ length left + count_by (listens place) (old.control ∷ [])
+
+-- A call on a control is answered by its table, which changes nothing; where nothing refuses it, it succeeds, and the
+-- control is this one.
+abbrev pub TurnsInto : List Row → Answer → KeptControl → KeptControl → Control → Type 0
+TurnsInto rows result old new control =
+    Decided rows result (new ≡ old) ((result ≡ answer.Done value.Empty) × (new.control ≡ control))
+
+-- A property is set as its table says, and the control is this one then. Memory is wanted for the event of the device's
+-- power alone, where there is one, and only behind the table; then the control is as it was.
+abbrev pub SetsTo : List Row → Bool → Result Answer NoMemory → KeptControl → KeptControl → Control → Type 0
+SetsTo rows tells outcome old new control = MatchResult outcome
+    (λ result. TurnsInto rows result old new control)
+    (λ want. IsTrue tells × (first_refusal rows ≡ None) × (new.control ≡ old.control))
+
+-- A property is told as its table says, and else with its value. Memory is wanted for a copy of bytes alone, and only
+-- behind the table.
+abbrev pub Gets : List Row → Property → Value → Result Answer NoMemory → Type 0
+Gets rows p v outcome = MatchResult outcome
+    (λ result. Decided rows result ⊤ (result ≡ answer.Done v))
+    (λ want. IsTrue (is_of_bytes p) × (first_refusal rows ≡ None))

@@ -1,0 +1,120 @@
+//! What a totals file holds, told.
+ghost use Rattle.std.specs.Prelude.{◌≡◌, [], Ok, IfErr, IfOk, OnOk};
+ghost use Rattle.std.specs.Io.KnownBytes.{Appends};
+ghost use Rattle.pos_run.specs.Streams.{answers_of, writing_of};
+ghost use Rattle.pos_console.specs.Program.{TellsBytes, TellsFile};
+ghost use Rattle.pos_console.specs.Telling.{IsBroken, IsTold, TellsBreak, words_of, words_of_flaw};
+
+use pos_dir::Flaw;
+use pos_program::{Fault, FileFault, NamedFiles};
+use pos_run::AnswerWriter;
+use pos_survey::{Rule, Survey, SurveyFault};
+use std::alloc::Global;
+use std::io;
+use std::io::Write;
+
+/// A rule that a body breaks, in words.
+fn words_of_flaw(flaw: Flaw) -> &'static str
+    ensures { result.now ≡ words_of_flaw flaw }
+{
+    match flaw {
+        Flaw::TooManyFiles => "the current body has too many files",
+        Flaw::TooManyBytes => "the files of the current body have too many bytes",
+        Flaw::BadName => "the current body has a bad name",
+        Flaw::NameTwice => "the current body has a name twice",
+        Flaw::BytesMissing => "bytes of the current body are missing",
+        Flaw::BytesLeft => "bytes of the current body are left over",
+    }
+}
+
+/// A rule that totals break, in words.
+fn words_of(rule: Rule) -> &'static str
+    ensures { result.now ≡ words_of rule }
+{
+    match rule {
+        Rule::SameSequence => "both slots are open with the same sequence",
+        Rule::LongBody => "the length of the current body is above the longest",
+        Rule::NoFiles(flaw) => words_of_flaw(flaw),
+        Rule::LongRecord => "a record doesn't end within the log",
+        Rule::NoGroup => "a record is no group of changes",
+        Rule::EmptyGroup => "a record has no changes",
+        Rule::NotApplicable(_) => "the changes of a record don't fit the files before it",
+    }
+}
+
+/// A survey's fault, as a fault of the file.
+fn fault_of_survey(fault: SurveyFault) -> FileFault
+    ensures { TellsBreak fault result }
+{
+    match fault {
+        SurveyFault::NoMemory => FileFault::NoMemory,
+        SurveyFault::TooSmall => FileFault::Short,
+        SurveyFault::Unformatted => FileFault::Unformatted,
+        SurveyFault::Damaged(at, broken) => FileFault::Broken {
+            at,
+            rule: words_of(broken),
+        },
+    }
+}
+
+/// What the bytes of a totals file hold, as lines of text.
+fn survey_text(alloc: Global, bytes: &[u8]) -> Result<Vec<u8>, FileFault>
+    ensures told { IfOk result (λ text. IsTold bytes.now text.items) }
+    ensures broken { IfErr result (IsBroken bytes.now) }
+{
+    let survey = match Survey::of(alloc, bytes) {
+        Ok(survey) => survey,
+        Err(fault) => return Err(fault_of_survey(fault)),
+    };
+    match survey.to_text(alloc) {
+        Ok(text) => Ok(text),
+        Err(_) => Err(FileFault::NoMemory),
+    }
+}
+
+/// Writes a text to its end, and hands it on.
+fn write_text<W: Write>(writer: &mut AnswerWriter<W>, text: &[u8]) -> io::Result<()>
+    ensures written { OnOk result
+        (Appends (answers_of W.contents writer.old) (answers_of W.contents writer.new) text.now) }
+    ensures flushed { OnOk result (writer.new.held.items ≡ []) }
+{
+    writer.write_all(text)?;
+    writer.flush()
+}
+
+/// Tells what the bytes of the totals file at a path hold.
+fn tell_bytes<'a, W: Write>(
+    alloc: Global,
+    writer: &mut AnswerWriter<W>,
+    path: &'a str,
+    bytes: &[u8],
+) -> Result<(), Fault<'a>>
+    ensures { TellsBytes path.entry.now (Ok bytes.now)
+        (writing_of W.contents writer.old) (writing_of W.contents writer.new) result }
+{
+    let text = match survey_text(alloc, bytes) {
+        Ok(text) => text,
+        Err(cause) => return Err(Fault::Disk { path, cause }),
+    };
+    match write_text(writer, &text) {
+        Ok(()) => Ok(()),
+        Err(_) => Err(Fault::Write),
+    }
+}
+
+/// Tells what the totals file at a path holds, as lines of text, or which rule it breaks and where. The file is only
+/// read. docs/CONSOLE.md, "What a totals file holds".
+pub fn tell_file<'a, F: NamedFiles, W: Write>(
+    alloc: Global,
+    files: &F,
+    writer: &mut AnswerWriter<W>,
+    path: &'a str,
+) -> Result<(), Fault<'a>>
+    ensures { TellsFile F.NamedFiles files.now path.entry.now
+        (writing_of W.contents writer.old) (writing_of W.contents writer.new) result }
+{
+    match files.read_totals(path) {
+        Ok(bytes) => tell_bytes(alloc, writer, path, &bytes),
+        Err(cause) => Err(Fault::Disk { path, cause }),
+    }
+}

@@ -1,0 +1,243 @@
+-- What is done at a device, and the steps that it makes.
+use Rattle.std.proofs.Common.{◌≡◌, ℕ, inl, inr, [], ◌∷◌, zero, suc, List, Option, Some, None, Result, Ok, Err, Bool, true, false, set, ap, sym, ◌∙◌, subst}
+use Rattle.std.proofs.Common.{refl}
+use Rattle.std.specs.Prelude.{slice_get, is_some, is_none, ◌||◌, IfSome, IsSome, IsTrue}
+use Rattle.std.proofs.lemmas.Option.{MatchOption-at_some}
+use Rattle.pos_service.specs.declared.answer.Answer.{Answer}
+use Rattle.pos_service.specs.declared.call.Call.{Call}
+use Rattle.pos_service.specs.declared.call.Call.TheVariants as call
+use Rattle.pos_service.specs.declared.category.Category.{Category}
+use Rattle.pos_service.specs.declared.category.Category.TheVariants as category
+use Rattle.pos_service.specs.declared.input.Input.{Input}
+use Rattle.pos_service.specs.declared.kind.Kind.{Kind}
+use Rattle.pos_service.specs.declared.memory.NoMemory.{NoMemory}
+use Rattle.pos_service.specs.declared.worked.Worked.TheVariants as worked
+use Rattle.pos_service.specs.Calls.{serves, has_call, is_common, needs_of, takes_memory as own_takes_memory}
+use Rattle.pos_service.specs.Claims.{holder_at}
+use Rattle.pos_service.specs.Controls.{Control}
+use Rattle.pos_service.specs.Needs.{table}
+use Rattle.pos_service.specs.PrinterCalls.{WorksAt, due_request_at}
+use Rattle.pos_service.specs.Refusals.{Row, first_refusal}
+use Rattle.pos_service.specs.Hardware.{Hardware, Effect, SameHardware}
+use Rattle.pos_common.specs.KeptControls.{KeptControl, controls_of}
+use Rattle.pos_counter.specs.Machine.{Device, Machine, machine_with, hardware_in, hardware_named, device_at, holder_of, kind_in, kind_of, place_of}
+use Rattle.pos_counter.specs.AtDevices.{CallsAt, CallsFor, IsDoneAt, MayBeCalled}
+use Rattle.pos_counter.specs.Responses.{answered}
+use Rattle.pos_counter.specs.Steps.{OnHardware, Step, CallOf, Answered, Does, DeviceDoes, CategoryDoes, category_rows, device_rows, refusals, takes_memory}
+use Rattle.pos_counter.specs.Steps.{FindsFit, FindsWork, IsPlaceOn, IsSound}
+use Rattle.pos_counter.specs.Totals.{TotalsPart, is_totals}
+use Rattle.pos_counter.proofs.Lifts.{match_cases, match_at_some, match_by, match_weaker}
+use Rattle.pos_counter.proofs.Sound.{seated, Served}
+
+-- what stands at the device that a name finds
+pub named : (m : Machine) (name : List ℕ) (place : ℕ) → Some place ≡ place_of m.devices name
+    → hardware_named m name ≡ hardware_in (device_at m.devices (Some place))
+named m name place finds = ap (λ o. hardware_in (device_at m.devices o)) (sym finds)
+
+-- a name that finds no device finds no hardware
+pub unnamed : (m : Machine) (name : List ℕ) → None ≡ place_of m.devices name → hardware_named m name ≡ None
+unnamed m name finds = ap (λ o. hardware_in (device_at m.devices o)) (sym finds)
+
+-- what is done with what stands at a place is done at the device's hardware
+pub on_hardware : (hs gs : List KeptControl) (ds es : List Device) (cl : List (Option ℕ)) (part : TotalsPart) (place : ℕ) (o : Option ℕ) (Does : ℕ → Effect)
+    → o ≡ Some place → IsDoneAt ds place (Does place) hs gs es → OnHardware (machine_with hs cl ds part) o Does (machine_with gs cl es part)
+on_hardware hs gs ds es cl part place o Does is done = record {
+  place = place;
+  device = done.device;
+  before = done.before;
+  controls = controls_of gs;
+  after = done.after;
+  is_at = is;
+  is_device = done.is_device;
+  is_attached = done.is_attached;
+  does = done.does;
+  machine = ap (λ xs. machine_with gs cl xs part) done.changed;
+}
+
+-- a device whose hardware is as it was
+same_device : (ds : List Device) (place : ℕ) (d : Device) (before after : Hardware) → slice_get ds place ≡ Some d → d.hardware ≡ Some before
+    → after ≡ before → set ds place (record d { hardware = Some after }) ≡ ds
+same_device [] place d before after at is same = refl
+same_device (x ∷ ds) zero d before after at is same =
+    let here : x ≡ d = cc in
+    ap (λ (o : Option Hardware). let y : Device = record d { hardware = o } in y ∷ ds) (ap Some same ∙ sym is) ∙ ap (λ (y : Device). y ∷ ds) (sym here)
+same_device (x ∷ ds) (suc place) d before after at is same = ap (λ (xs : List Device). x ∷ xs) (same_device ds place d before after at is same)
+
+-- what did nothing leaves the machine as it was
+pub unchanged : (hs gs : List KeptControl) (ds es : List Device) (cl : List (Option ℕ)) (part : TotalsPart) (place : ℕ) (d : Device) (before after : Hardware)
+    → slice_get ds place ≡ Some d → d.hardware ≡ Some before → es ≡ set ds place (record d { hardware = Some after })
+    → SameHardware (controls_of hs) before (controls_of gs) after → machine_with gs cl es part ≡ machine_with hs cl ds part
+unchanged hs gs ds es cl part place d before after at is changed same =
+    ap (λ (cs : List Control). let m : Machine = record { controls = cs; devices = es; claims = cl; totals = part } in m) same.controls
+    ∙ ap (λ xs. machine_with hs cl xs part) (changed ∙ same_device ds place d before after at is same.hardware)
+
+-- an open control's device has a peripheral, where its category serves no device without one, and may be called
+pub served_there : (m : Machine) (n : ℕ) (c : Control) (place : ℕ) (asked : Call) → IsSound m → slice_get m.controls n ≡ Some c
+    → c.device ≡ Some place → serves c.category None ≡ false → has_call c.category asked ≡ true → MayBeCalled m.devices place asked m.controls n
+served_there m n c place asked sound at is peripheral has =
+    let seat = subst (λ (o : Option ℕ). IfSome o (λ k. Served c.category c.cursor.place (slice_get m.devices k))) is (seated m n c sound at) in
+    elim (match_cases (slice_get m.devices place) _ _ seat) [
+      | inl x ↦ absurd x.1
+      | inr x ↦ by x.0 x.1 x.2.0 x.2.1 x.2.2
+    ]
+  where
+    stands : (o : Option Kind) (s : Option Hardware) → serves c.category o ≡ true → IsTrue (is_none o || is_some s) → IsSome s
+    stands None s served attached = let bad = sym peripheral ∙ served in cc
+    stands (Some k) None served attached = cc
+    stands (Some k) (Some s) served attached = refl
+
+    by : (d : Device) → slice_get m.devices place ≡ Some d → serves c.category d.kind ≡ true → IsTrue (is_none d.kind || is_some d.hardware)
+        → IsPlaceOn d.kind c.cursor.place → MayBeCalled m.devices place asked m.controls n
+    by d there served attached on = record {
+      attached = subst (λ (o : Option Device). IsSome (hardware_in o)) (sym there) (stands d.kind d.hardware served attached);
+      may = match_at_some _ c _ _ at (record {
+        own = has;
+        served = subst (λ (o : Option Device). serves c.category (kind_in o) ≡ true) (sym there) served;
+        cursor = subst (λ (o : Option Device). IsPlaceOn (kind_in o) c.cursor.place) (sym there) on;
+      });
+    }
+
+-- a name finds a device whose peripheral has an input, or hasn't
+pub finds_fit : (m : Machine) (name : List ℕ) (place : ℕ) (given : Input) (fits : Bool) → Some place ≡ place_of m.devices name
+    → FindsFit (hardware_in (device_at m.devices (Some place))) given fits → FindsFit (hardware_named m name) given fits
+finds_fit m name place given fits finds fit = subst (λ o. FindsFit o given fits) (sym (named m name place finds)) fit
+
+-- where work finds no memory, there is a request that is to be done, and nothing has changed
+wants_work : (holder : Option ℕ) (place : ℕ) (want : NoMemory) (old : List Control) (before : Hardware) (new : List Control) (after : Hardware)
+    → WorksAt holder place (Err want) old before new after → IsSome (due_request_at before.kind place holder old) × SameHardware old before new after
+wants_work holder place want old before new after h = elim (match_cases (due_request_at before.kind place holder old) _ _ h) [
+  | inl x ↦ absurd (let no : Err want ≡ Ok worked.Idle = x.1.0 in cc)
+  | inr x ↦ (subst IsSome (sym x.1) refl, x.2)
+]
+
+-- so a name finds such a request, and the machine is as it was
+pub want_finds_work : (hs gs : List KeptControl) (ds es : List Device) (cl : List (Option ℕ)) (part : TotalsPart) (name : List ℕ) (place : ℕ) (want : NoMemory)
+    → Some place ≡ place_of ds name → IsDoneAt ds place (WorksAt (holder_at cl (Some place)) place (Err want)) hs gs es
+    → FindsWork (machine_with hs cl ds part) name × (machine_with gs cl es part ≡ machine_with hs cl ds part)
+want_finds_work hs gs ds es cl part name place want finds done =
+    let wants = wants_work (holder_at cl (Some place)) place want (controls_of hs) done.before (controls_of gs) done.after done.does in (
+      record {
+        place = place;
+        before = done.before;
+        is_at = sym finds;
+        is_attached = named (machine_with hs cl ds part) name place finds ∙ ap hardware_in done.is_device ∙ done.is_attached;
+        work = wants.0;
+      },
+      unchanged hs gs ds es cl part place done.device done.before done.after done.is_device done.is_attached done.changed wants.1,
+    )
+
+-- what a call of a category's own is answered first, and what it does
+pub own_refusals : (m : Machine) (n : ℕ) (c : Control) (asked : Call) → is_common asked ≡ false
+    → refusals m n c asked ≡ table n (holder_of m c) c (needs_of c.category asked) (category_rows c.category m n c asked)
+own_refusals m n c (call.Open name) own = cc
+own_refusals m n c call.Close own = cc
+own_refusals m n c (call.Claim timeout) own = cc
+own_refusals m n c call.Release own = cc
+own_refusals m n c (call.Set p v) own = cc
+own_refusals m n c (call.Get p) own = cc
+own_refusals m n c asked own = refl
+
+pub own_does : (m : Machine) (n : ℕ) (c : Control) (asked : Call) (r : Answer) (m' : Machine) → is_common asked ≡ false
+    → CategoryDoes c.category m n c asked r m' → Does m n c asked r m'
+own_does m n c (call.Open name) r m' own h = cc
+own_does m n c call.Close r m' own h = cc
+own_does m n c (call.Claim timeout) r m' own h = cc
+own_does m n c call.Release r m' own h = cc
+own_does m n c (call.Set p v) r m' own h = cc
+own_does m n c (call.Get p) r m' own h = cc
+own_does m n c asked r m' own h = h
+
+pub own_takes : (m : Machine) (c : Control) (asked : Call) → is_common asked ≡ false → IsTrue (own_takes_memory asked) → IsTrue (takes_memory m c asked)
+own_takes m c (call.Open name) own h = refl
+own_takes m c call.Close own h = cc
+own_takes m c (call.Claim timeout) own h = cc
+own_takes m c call.Release own h = cc
+own_takes m c (call.Set p v) own h = cc
+own_takes m c (call.Get p) own h = cc
+own_takes m c asked own h = h
+
+-- what the check of the control with a number decides of a call of its category's own
+abbrev pub IsLet : Machine → ℕ → Control → Call → Type 0
+IsLet m n c asked = (rest : List Row) → first_refusal (table n (holder_of m c) c (needs_of c.category asked) rest) ≡ first_refusal rest
+
+-- a call that is refused is a step
+pub refused_step : (m : Machine) (n : ℕ) (c : Control) (asked : Call) (refusal : Answer) → slice_get m.controls n ≡ Some c
+    → first_refusal (refusals m n c asked) ≡ Some refusal → Step m (CallOf n asked) (Answered refusal) m
+refused_step m n c asked refusal at refused =
+    match_at_some _ c _ _ at (record { outcome = match_at_some (first_refusal (refusals m n c asked)) refusal _ _ refused (refl, refl) })
+
+-- behind the check the rest of the table decides
+pub let_refusals : (m : Machine) (n : ℕ) (c : Control) (asked : Call) → is_common asked ≡ false → IsLet m n c asked
+    → first_refusal (refusals m n c asked) ≡ first_refusal (category_rows c.category m n c asked)
+let_refusals m n c asked own lets = ap first_refusal (own_refusals m n c asked own) ∙ lets (category_rows c.category m n c asked)
+
+-- what the categories with a peripheral ask and do
+rows_at_device : (k : Category) (m : Machine) (n : ℕ) (c : Control) (asked : Call) → is_totals k ≡ false
+    → category_rows k m n c asked ≡ device_rows k (kind_of m c) c asked
+rows_at_device category.HardTotals m n c asked is = cc
+rows_at_device k m n c asked is = refl
+
+does_at_device : (k : Category) (m m' : Machine) (n : ℕ) (c : Control) (asked : Call) (r : Answer) → is_totals k ≡ false
+    → OnHardware m c.device (DeviceDoes k (kind_of m c) n c asked r) m' → CategoryDoes k m n c asked r m'
+does_at_device category.HardTotals m m' n c asked r is h = cc
+does_at_device k m m' n c asked r is h = h
+
+-- a call of a category's own that its control may make, at its device's hardware, is a step
+pub device_step : (hs gs : List KeptControl) (ds es : List Device) (cl : List (Option ℕ)) (part : TotalsPart) (n place : ℕ) (c : Control) (asked : Call)
+    (r : Result Answer NoMemory) → is_common asked ≡ false → slice_get (controls_of hs) n ≡ Some c → is_totals c.category ≡ false → c.device ≡ Some place
+    → IsLet (machine_with hs cl ds part) n c asked
+    → IsDoneAt ds place (CallsAt n asked place r) hs gs es → Step (machine_with hs cl ds part) (CallOf n asked) (answered r) (machine_with gs cl es part)
+device_step hs gs ds es cl part n place c asked r own at is device lets done =
+    by_outcome r (MatchOption-at_some ⊥ (λ control. CallsFor n asked place r control (controls_of hs) done.before (controls_of gs) done.after) c at done.does)
+  where
+    m : Machine
+    m = machine_with hs cl ds part
+
+    m' : Machine
+    m' = machine_with gs cl es part
+
+    rows : List Row
+    rows = device_rows c.category (Some done.before.kind) c asked
+
+    kind : kind_of m c ≡ Some done.before.kind
+    kind = ap (λ o. kind_in (device_at m.devices o)) device ∙ ap kind_in done.is_device ∙ done.kind
+
+    unrefused : first_refusal (refusals m n c asked) ≡ first_refusal rows
+    unrefused =
+        let_refusals m n c asked own lets
+        ∙ ap first_refusal (rows_at_device c.category m n c asked is)
+        ∙ ap (λ at. first_refusal (device_rows c.category at c asked)) kind
+
+    same : SameHardware (controls_of hs) done.before (controls_of gs) done.after → m' ≡ m
+    same s = unchanged hs gs ds es cl part place done.device done.before done.after done.is_device done.is_attached done.changed s
+
+    at_hardware : (result : Answer)
+        → DeviceDoes c.category (Some done.before.kind) n c asked result place (controls_of hs) done.before (controls_of gs) done.after
+        → OnHardware m c.device (DeviceDoes c.category (kind_of m c) n c asked result) m'
+    at_hardware result does = on_hardware hs gs ds es cl part place c.device (DeviceDoes c.category (kind_of m c) n c asked result) device (record {
+      device = done.device;
+      before = done.before;
+      after = done.after;
+      is_device = done.is_device;
+      is_attached = done.is_attached;
+      kind = done.kind;
+      does = subst (λ at. DeviceDoes c.category at n c asked result place (controls_of hs) done.before (controls_of gs) done.after) (sym kind) does;
+      changed = done.changed;
+    })
+
+    by_outcome : (o : Result Answer NoMemory) → CallsFor n asked place o c (controls_of hs) done.before (controls_of gs) done.after
+        → Step m (CallOf n asked) (answered o) m'
+    by_outcome (Ok result) h =
+        match_at_some _ c _ _ at (record {
+          outcome = match_by _ _ _ _ unrefused (
+              match_weaker (first_refusal rows) _ _ _ _
+              (λ does. own_does m n c asked result m' own (does_at_device c.category m m' n c asked result is (at_hardware result does)))
+              (λ refusal y. (y.0, same y.1))
+              h.outcome);
+        })
+    by_outcome (Err want) h =
+        match_at_some _ c _ _ at (
+          own_takes m c asked own h.0,
+          unrefused ∙ h.1,
+          same h.2,
+        )

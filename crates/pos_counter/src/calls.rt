@@ -1,0 +1,151 @@
+//! The calls of an application.
+ghost use Rattle.std.specs.Prelude.{◌≡◌, ◌<◌, false, MatchOption, Some, length, slice_get};
+ghost use Rattle.pos_service.specs.Calls.{is_common};
+ghost use Rattle.pos_service.specs.Deeds.{DeedFits, Plans};
+ghost use Rattle.pos_service.specs.Peripherals.{IsInRange};
+ghost use Rattle.pos_service.specs.Hardware.{hardware_of, StaysInService};
+ghost use Rattle.pos_common.specs.KeptControls.{controls_of};
+ghost use Rattle.pos_counter.specs.KeptDevices.{AreDevicesSound, devices_in};
+ghost use Rattle.pos_counter.specs.AtDevices.{CallsAt, IsDoneAt, MayBeCalled, MayCall};
+ghost use Rattle.pos_counter.specs.Counters.{IsStep, IsCounterSound, Serves};
+ghost use Rattle.pos_counter.specs.Responses.{answered};
+ghost use Rattle.pos_counter.specs.Steps.{CallOf, device_deed, device_rows};
+
+use crate::counter::Counter;
+use crate::devices::Devices;
+use crate::properties::find_holder;
+use crate::totals_calls::{call_files, is_totals};
+use pos_common::{Control, carry_out};
+use pos_disk::Disk;
+use pos_service::{Answer, Call, Category, Code, Deed, Kind, NoMemory, Peripheral};
+use std::alloc::Global;
+
+impl<D: Disk, P: Peripheral> Counter<D, P> {
+    /// A call of an application on its control.
+    ///
+    /// The answer is E_ILLEGAL where there is no control of this number, else the first refusal of the call's table
+    /// that applies, else what the call gives. Want of memory changes nothing. A crash at any moment of the call leaves
+    /// what may be left before it or after it. The disk is touched only by a change and a commit that nothing refuses,
+    /// where the change isn't buffered and the commit has changes, and by an enabling of Hard Totals that are off. Over
+    /// any disk, honest or not, each other call is a step, and these change nothing beside the totals and their
+    /// control.
+    pub fn call(&mut self, number: usize, call: &Call) -> Result<Answer, NoMemory>
+        requires sound { IsCounterSound P.Peripheral self.old }
+        ensures step { IsStep D.Disk P.Peripheral self.old (CallOf number call.now) (answered result) self.new }
+        ensures sound { IsCounterSound P.Peripheral self.new }
+    {
+        if number >= self.controls.len() {
+            return Ok(Answer::Refused(Code::Illegal, 0));
+        }
+        match call {
+            Call::Open(name) => Ok(self.open(number, name.as_slice())),
+            Call::Close => Ok(self.close(number)),
+            Call::Claim(timeout) => Ok(self.claim(number, *timeout)),
+            Call::Release => Ok(self.release(number)),
+            Call::Set(property, value) => self.set(number, *property, value),
+            Call::Get(property) => self.get(number, *property),
+            _ => self.call_category(number, call),
+        }
+    }
+
+    /// A call of a category's own: its control is checked, and then the totals or what serves the control's device
+    /// answer it.
+    fn call_category(&mut self, number: usize, call: &Call) -> Result<Answer, NoMemory>
+        requires in_range { number < length self.old.controls.items }
+        requires own { is_common call.now ≡ false }
+        requires sound { IsCounterSound P.Peripheral self.old }
+        ensures { Serves D.Disk P.Peripheral self.old (CallOf number call.now) (answered result) self.new }
+    {
+        let control = &self.controls[number];
+        let holder = find_holder(control, &self.claims, self.totals.area());
+        if let Err(code) = control.check(number, holder, call.needs(control.category())) {
+            return Ok(Answer::Refused(code, 0));
+        }
+        if is_totals(control) {
+            return call_files(&mut self.totals, number, call);
+        }
+        let Some(place) = control.device() else {
+            unreachable!();
+        };
+        call_there(
+            self.alloc,
+            &mut self.controls,
+            number,
+            place,
+            &mut self.devices,
+            call,
+        )
+    }
+}
+
+/// A call of the control with a number, which may make it, on its device at a place, which is handed to what serves it.
+fn call_there<P: Peripheral>(
+    alloc: Global,
+    controls: &mut [Control],
+    number: usize,
+    place: usize,
+    devices: &mut Devices<P>,
+    call: &Call,
+) -> Result<Answer, NoMemory>
+    requires in_range { number < length controls.old }
+    requires sound { AreDevicesSound P.Peripheral devices.old }
+    requires may { let devices = devices_in P.Peripheral devices.old in
+        MayBeCalled devices place call.now (controls_of controls.old) number }
+    ensures done { IsDoneAt (devices_in P.Peripheral devices.old) place (CallsAt number call.now place result)
+        controls.old controls.new (devices_in P.Peripheral devices.new) }
+    ensures sound { AreDevicesSound P.Peripheral devices.new }
+{
+    let Some(mut peripheral) = devices.registry.take(place) else {
+        unreachable!();
+    };
+    let answer = call_device(alloc, controls, number, place, &mut peripheral, call);
+    devices.registry.put(place, peripheral);
+    answer
+}
+
+/// A call of the control with a number, which may make it, on its device at a place, where this peripheral stands.
+fn call_device<P: Peripheral>(
+    alloc: Global,
+    controls: &mut [Control],
+    number: usize,
+    place: usize,
+    peripheral: &mut P,
+    call: &Call,
+) -> Result<Answer, NoMemory>
+    requires in_range { number < length controls.old }
+    requires unparked { (P.Peripheral.state peripheral.old).is_parked ≡ false }
+    requires may { let kind = (P.Peripheral.state peripheral.old).kind in
+        MatchOption (slice_get (controls_of controls.old) number) ⊥ (MayCall (Some kind) call.now) }
+    ensures called { let state = P.Peripheral.state in CallsAt number call.now place result
+        (controls_of controls.old) (hardware_of (state peripheral.old))
+        (controls_of controls.new) (hardware_of (state peripheral.new)) }
+    ensures in_service { let state = P.Peripheral.state in
+        StaysInService (state peripheral.old) (state peripheral.new) }
+{
+    match plan(alloc, &controls[number], peripheral.kind(), call)? {
+        Ok(deed) => carry_out(controls, number, place, peripheral, deed),
+        Err(code) => Ok(Answer::Refused(code, 0)),
+    }
+}
+
+/// What a call of a control, which may make it, comes to at a device of this kind.
+fn plan(
+    alloc: Global,
+    control: &Control,
+    kind: Kind,
+    call: &Call,
+) -> Result<Result<Deed, Code>, NoMemory>
+    requires in_range { IsInRange kind }
+    requires may { MayCall (Some kind) call.now control.now.control }
+    ensures { let one = control.now.control in
+        Plans (device_rows one.category (Some kind) one call.now) (device_deed one.category (Some kind) one call.now)
+        (DeedFits kind) call.now result }
+{
+    match control.category() {
+        Category::CashDrawer => Ok(Ok(pos_drawer::plan(call))),
+        Category::Scanner => Ok(Ok(pos_scanner::plan(call))),
+        Category::LineDisplay => pos_display::plan(alloc, kind, control.cursor(), call),
+        Category::PosPrinter => pos_printer::plan(alloc, control, call),
+        Category::HardTotals => unreachable!(),
+    }
+}

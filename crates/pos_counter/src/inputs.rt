@@ -1,0 +1,89 @@
+//! What happens at devices, and what they are physically.
+ghost use Rattle.std.specs.Prelude.{◌<◌, Some};
+ghost use Rattle.pos_service.specs.Hardware.{TakenAt};
+ghost use Rattle.pos_counter.specs.KeptDevices.{AreDevicesSound, devices_in};
+ghost use Rattle.pos_counter.specs.AtDevices.{FitsAt, IsDoneAt};
+ghost use Rattle.pos_counter.specs.Counters.{IsStepBeside, IsCounterSound};
+ghost use Rattle.pos_counter.specs.Responses.{taken_in, shown};
+ghost use Rattle.pos_counter.specs.Steps.{InputTo, Snapshot as SnapshotOf};
+
+use crate::counter::Counter;
+use crate::devices::Devices;
+use crate::faults::{InputFault, SnapshotFault};
+use pos_common::{Control, take_input};
+use pos_disk::Disk;
+use pos_service::{Input, NoMemory, Peripheral, Snapshot};
+use std::alloc::Global;
+
+impl<D: Disk, P: Peripheral> Counter<D, P> {
+    /// Something happens at the device of this name. Each control that has it open and enabled hears of it.
+    ///
+    /// Refused with NoDevice where no device has the name or no peripheral stands behind it, with WrongInput where a
+    /// peripheral of its kind has no such input. Want of memory changes nothing.
+    pub fn input(&mut self, device: &[u8], input: &Input) -> Result<(), InputFault>
+        requires sound { IsCounterSound P.Peripheral self.old }
+        ensures step { IsStepBeside P.Peripheral self.old (InputTo device.now input.now) (taken_in result) self.new }
+        ensures sound { IsCounterSound P.Peripheral self.new }
+    {
+        let Some(place) = self.devices.find(device) else {
+            return Err(InputFault::NoDevice);
+        };
+        let Some(peripheral) = self.devices.registry.peripheral(place) else {
+            return Err(InputFault::NoDevice);
+        };
+        if !input.fits(peripheral.kind()) {
+            return Err(InputFault::WrongInput);
+        }
+        match input_there(
+            self.alloc,
+            &mut self.controls,
+            place,
+            &mut self.devices,
+            input,
+        ) {
+            Ok(()) => Ok(()),
+            Err(NoMemory) => Err(InputFault::NoMemory),
+        }
+    }
+
+    /// What the device of this name is physically.
+    ///
+    /// Refused with NoDevice where no device has the name or no peripheral stands behind it.
+    pub fn snapshot(&self, device: &[u8]) -> Result<Snapshot, SnapshotFault>
+        requires sound { IsCounterSound P.Peripheral self.now }
+        ensures { IsStepBeside P.Peripheral self.now (SnapshotOf device.now) (shown result) self.now }
+    {
+        let Some(place) = self.devices.find(device) else {
+            return Err(SnapshotFault::NoDevice);
+        };
+        let Some(peripheral) = self.devices.registry.peripheral(place) else {
+            return Err(SnapshotFault::NoDevice);
+        };
+        match peripheral.snapshot() {
+            Ok(snapshot) => Ok(snapshot),
+            Err(_) => Err(SnapshotFault::NoMemory),
+        }
+    }
+}
+
+/// Hands an input to what serves the device at a place, which it fits.
+fn input_there<P: Peripheral>(
+    alloc: Global,
+    controls: &mut [Control],
+    place: usize,
+    devices: &mut Devices<P>,
+    input: &Input,
+) -> Result<(), NoMemory>
+    requires sound { AreDevicesSound P.Peripheral devices.old }
+    requires fits { FitsAt (devices_in P.Peripheral devices.old) place input.now }
+    ensures done { IsDoneAt (devices_in P.Peripheral devices.old) place (TakenAt input.now place result)
+        controls.old controls.new (devices_in P.Peripheral devices.new) }
+    ensures sound { AreDevicesSound P.Peripheral devices.new }
+{
+    let Some(mut peripheral) = devices.registry.take(place) else {
+        unreachable!();
+    };
+    let taken = take_input(alloc, controls, place, &mut peripheral, input);
+    devices.registry.put(place, peripheral);
+    taken
+}

@@ -1,0 +1,14 @@
+use Rattle.std.proofs.Common.{◌+◌, ◌++◌, ◌∷◌, [], refl, rules}
+use Rattle.pos_disk.specs.State.{part}
+use Rattle.pos_log.proofs.Holding.{open_byte}
+use Rattle.pos_log.proofs.Parsing.{begins_more}
+use Rattle.pos_log.proofs.reading.find_damage.Goals as goal
+
+pub loop-length-preserved : goal.loop-length-preserved
+loop-length-preserved c =
+    let before = c.loop-length.invariant in
+    let at = c.loop-length.at in
+    let group = part (at + 5) c.in-Some.length c.args.span.now in (
+      before.0 ++ group ∷ [],
+      begins_more before.0 at c.in-Some.length c.args.span.now group before.1 (open_byte _ (search rules)) c.in-Some.ensures refl,
+    )

@@ -1,0 +1,7 @@
+use Rattle.std.proofs.Common.{◌∙◌, length}
+use Rattle.std.proofs.lemmas.List.{take-replicate}
+use Rattle.pos_service.specs.Displays.{blank}
+use Rattle.pos_sims.proofs.turning.blank_row.Goals as goal
+
+pub returns : goal.returns
+returns c = c.copy_from_slice.ensures.after ∙ take-replicate (length c.args.cells.now) 80 blank c.requires

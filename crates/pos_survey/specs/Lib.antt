@@ -1,0 +1,3 @@
+pub mod Damages
+pub mod Tellings
+pub mod Texts

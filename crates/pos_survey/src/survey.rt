@@ -1,0 +1,55 @@
+// What the bytes of a disk hold.
+ghost use Rattle.std.specs.Prelude.{IfOk, IfErr};
+ghost use Rattle.pos_survey.specs.Damages.{Breaks};
+ghost use Rattle.pos_survey.specs.Tellings.{Tells};
+
+use crate::fault::SurveyFault;
+use crate::log::{log_begins, open_log};
+use crate::opening::{open_images, read_files};
+use crate::records::apply_texts;
+use pos_dir::Directory;
+use pos_image::Slot;
+use std::alloc::Global;
+
+/// What the bytes of a disk hold.
+#[derive(Drop)]
+pub struct Survey {
+    /// The slot of the current image, which tells the layout.
+    pub slot: Slot,
+    /// The sequence of the current image.
+    pub sequence: u64,
+    /// How many records are behind it.
+    pub records: usize,
+    /// How many bytes the longest group has that fits behind them, or None where not even an empty one fits.
+    pub room: Option<u64>,
+    /// The files, with the changes of the records.
+    pub directory: Directory,
+}
+
+impl Survey {
+    /// What the bytes of a disk hold: what a recovery of a store would find in them. docs/CONSOLE.md, "What a totals
+    /// file holds".
+    ///
+    /// # Errors
+    ///
+    /// `TooSmall` where there are fewer than 327,680 bytes, `Unformatted` where the gates of all four slots are closed,
+    /// `Damaged` where the bytes break a rule, with the place and the rule, `NoMemory`.
+    pub fn of(alloc: Global, bytes: &[u8]) -> Result<Survey, SurveyFault>
+        ensures told { IfOk result (Tells bytes.now) }
+        ensures broken { IfErr result (Breaks bytes.now) }
+    {
+        let images = open_images(alloc, bytes)?;
+        let slot = images.slot();
+        let sequence = images.sequence();
+        let mut directory = read_files(alloc, &images)?;
+        let (log, texts) = open_log(alloc, bytes, images)?;
+        apply_texts(alloc, &mut directory, &texts, log_begins(slot))?;
+        Ok(Survey {
+            slot,
+            sequence,
+            records: texts.len(),
+            room: log.room(),
+            directory,
+        })
+    }
+}
