@@ -189,24 +189,24 @@ refuse_each() {
   [ -z "$is_loud" ] || echo "$name: $before growths before the first line, $lines in lines, $spared spared"
 }
 
-# refuse_each_of_move: refuses each growth of the program as it moves the disk `disk.start`: it ends for want of memory, tells
-# so, and leaves the disk as it was
-refuse_each_of_move() {
-  local number status
+# refuse_each_of VERB FAULT WANTED: refuses each growth of the program as it does VERB with the disk `disk.start`: it ends for want
+# of memory, tells so, prints nothing and leaves the disk as it was; or all is as without a refusal, and it prints WANTED
+refuse_each_of() {
+  local verb=$1 fault=$2 wanted=$3 number status
   for ((number = 1; ; number++)); do
-    refuse "$number" /dev/null "$program" migrate --disk disk
+    refuse "$number" /dev/null "$program" "$verb" --disk disk
     status=$?
     [ -s met ] || break
     all=$((all + 1))
     case $status:$(cat out err) in
-      '6:pos_console: no memory' | '6:pos_console: disk: no memory to open it' | '6:pos_console: disk: no memory to move it '*)
-        if cmp -s disk disk.start; then passed=$((passed + 1)); else tell migrate "growth $number: the disk was written"; fi
+      '6:pos_console: no memory' | '6:pos_console: disk: no memory to open it' | "6:pos_console: $fault")
+        if cmp -s disk disk.start; then passed=$((passed + 1)); else tell "$verb" "growth $number: the disk was written"; fi
         ;;
-      0:) passed=$((passed + 1)) ;;
-      *) tell migrate "growth $number: status $status $(cat out err | head -n 3 | tr '\n' ' ')" ;;
+      "0:$wanted") passed=$((passed + 1)) ;;
+      *) tell "$verb" "growth $number: status $status $(cat out err | head -n 3 | tr '\n' ' ')" ;;
     esac
   done
-  [ "$status" -eq 0 ] || tell migrate 'the move that meets no refusal'
+  [ "$status:$(cat out)" = "0:$wanted" ] || tell "$verb" 'the run that meets no refusal'
 }
 
 begin=0
@@ -240,8 +240,10 @@ rm -f disk
 "$program" format --disk disk
 printf 'new a HardTotals\nopen a t1\nset a DeviceEnabled true\ncall a create 41 64 false\n' |
   "$program" run --profile "$scripts/disk.moved.profile" --disk disk > /dev/null
+told=$("$program" files --disk disk)
 mv disk disk.start
-refuse_each_of_move
+refuse_each_of files 'disk: no memory to open it' "$told"
+refuse_each_of migrate 'disk: no memory to move it to layout 2: free some and move it again' ''
 echo "$all growths of the program"
 
 # refuse_in_test TESTS NAME: refuses each growth of a test. It passes, or ends with a fault of memory

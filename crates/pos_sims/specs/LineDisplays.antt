@@ -5,7 +5,8 @@ use Rattle.pos_service.specs.declared.plant.Form.TheVariants as form
 use Rattle.pos_service.specs.Displays.{Display}
 use Rattle.pos_service.specs.Peripherals.{PeripheralState}
 use Rattle.pos_sims.specs.Powers.{switched}
-use Rattle.pos_sims.specs.declared.plain_display.PlainDisplay.{PlainDisplay}
+use Rattle.pos_sims.specs.declared.line_display.LineDisplay.{LineDisplay}
+use Rattle.pos_sims.specs.declared.screen.Screen.{Ghosts}
 
 -- a display that is on and shows this, out of service or not, whose line never fails, and that was given no order
 abbrev pub display_state : Display → Bool → PeripheralState
@@ -17,7 +18,15 @@ display_state shown is_parked = record {
   orders = 0;
 }
 
+-- what contracts see of a display over any window
+abbrev pub state_on : {S : Type 0} → Ghosts S → LineDisplay S → PeripheralState
+state_on screens display = switched display.powered
+    (record (display_state (screens.shown display.screen) display.is_parked) { orders = display.orders })
+
+-- what a window whose cells stand row by row shows
+abbrev pub windows : Ghosts Display
+windows = record { shown = λ shown. shown }
+
 -- what contracts see of a plain display
-abbrev pub state_of : PlainDisplay → PeripheralState
-state_of display =
-    switched display.powered (record (display_state display.window display.is_parked) { orders = display.orders })
+abbrev pub state_of : LineDisplay Display → PeripheralState
+state_of display = state_on windows display

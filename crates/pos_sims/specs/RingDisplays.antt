@@ -1,11 +1,15 @@
 -- What contracts see of a simulated line display whose rows are a ring.
 use Rattle.pos_service.specs.Peripherals.{PeripheralState}
-use Rattle.pos_sims.specs.declared.ring_display.RingDisplay.{RingDisplay}
-use Rattle.pos_sims.specs.LineDisplays.{display_state}
-use Rattle.pos_sims.specs.Powers.{switched}
+use Rattle.pos_sims.specs.declared.line_display.LineDisplay.{LineDisplay}
+use Rattle.pos_sims.specs.declared.ring.Ring.{Ring}
+use Rattle.pos_sims.specs.declared.screen.Screen.{Ghosts}
+use Rattle.pos_sims.specs.LineDisplays.{state_on}
 use Rattle.pos_sims.specs.Rings.{shown_on}
 
+-- what a ring shows
+abbrev pub rings : Ghosts Ring
+rings = record { shown = λ ring. shown_on ring }
+
 -- what contracts see of a ring display
-abbrev pub state_of : RingDisplay → PeripheralState
-state_of display = switched display.powered
-    (record (display_state (shown_on display.ring) display.is_parked) { orders = display.orders })
+abbrev pub state_of : LineDisplay Ring → PeripheralState
+state_of display = state_on rings display

@@ -1,17 +1,15 @@
-ghost use Rattle.std.specs.Prelude.{◌≡◌, ◌+◌, ◌*◌, ◌<◌, ◌≤◌, true, length, replicate, vec_len, IfOk};
-ghost use Rattle.pos_service.specs.Displays.{ShowsText, Scrolls, blank, blank_display, is_cursor_place, most_units};
-ghost use Rattle.pos_service.specs.declared.kind.Kind.TheVariants as kind;
-ghost use Rattle.pos_service.specs.declared.plant.Form.TheVariants as form;
-ghost use Rattle.pos_service.specs.Peripherals.{IsInRange, IsFormOf};
+ghost use Rattle.std.specs.Prelude.{◌≡◌, ◌+◌, ◌*◌, ◌<◌, ◌≤◌, length, replicate, vec_len};
+ghost use Rattle.pos_service.specs.Displays.{blank};
 ghost use Rattle.pos_sims.specs.Rings.{IsAbove, IsBelow, StandsAt, blanked, shown_on};
 ghost use Rattle.pos_sims.specs.Windows.{SameSize, ShiftsToEnd, ShiftsToFront};
 
 use crate::grid::Grid;
 use crate::laying::{Manner, lay_text, put_characters};
 use crate::ring::Ring;
+use crate::screen::Screen;
 use crate::scrolling::{move_to_end, move_to_front};
 use pos_service::display_text::{Attribute, BLANK, Direction, DisplayCell, Place};
-use pos_service::{Kind, NoMemory};
+use pos_service::{DisplayCells, Kind, NoMemory};
 use std::alloc::Global;
 
 /// A blank row of the longest.
@@ -54,64 +52,12 @@ fn in_ring(at: usize, start: usize, count: usize) -> usize
 }
 
 impl Ring {
-    /// A window of 1 to 8 rows of 1 to 80 columns that shows nothing.
-    pub fn new(alloc: Global, rows: u32, columns: u32) -> Result<Self, NoMemory>
-        requires rows { (1 ≤ rows) × (rows ≤ 8) }
-        requires columns { (1 ≤ columns) × (columns ≤ 80) }
-        ensures { IfOk result (λ ring. shown_on ring ≡ blank_display rows columns) }
-    {
-        let cells = Vec::from_elem(alloc, BLANK, rows as usize * columns as usize)?;
-        Ok(Ring {
-            rows,
-            columns,
-            first: 0,
-            cells,
-        })
-    }
-
-    /// The number of rows, 1 to 8.
-    pub fn rows(&self) -> u32
-        ensures rows { result ≡ (shown_on self.now).rows }
-        ensures in_range { (1 ≤ result) × (result ≤ 8) }
-    {
-        self.rows
-    }
-
-    /// The number of columns, 1 to 80.
-    pub fn columns(&self) -> u32
-        ensures columns { result ≡ (shown_on self.now).columns }
-        ensures in_range { (1 ≤ result) × (result ≤ 80) }
-    {
-        self.columns
-    }
-
-    /// What a display with this window is.
-    pub fn kind(&self) -> Kind
-        ensures kind { result ≡ kind.Display (shown_on self.now).rows (shown_on self.now).columns }
-        ensures in_range { IsInRange result }
-        ensures form { IsFormOf result (form.Display (shown_on self.now)) }
-    {
-        let (rows, columns) = (self.rows, self.columns);
-        Kind::Display { rows, columns }
-    }
-
     /// Where the first row of the window begins among the cells.
     fn start(&self) -> usize
         ensures start { result ≡ self.now.first * self.now.columns }
         ensures row { result + self.now.columns ≤ vec_len self.now.cells }
     {
         self.first as usize * self.columns as usize
-    }
-
-    /// A copy of the cells of the window, row by row.
-    pub fn copy(&self, alloc: Global) -> Result<Vec<DisplayCell>, NoMemory>
-        ensures { IfOk result (λ cells. cells.items ≡ (shown_on self.now).cells) }
-    {
-        let start = self.start();
-        let mut cells = Vec::with_capacity(alloc, self.cells.len())?;
-        cells.extend_from_slice(&self.cells[start..])?;
-        cells.extend_from_slice(&self.cells[..start])?;
-        Ok(cells)
     }
 
     /// Blanks the first row.
@@ -135,19 +81,6 @@ impl Ring {
         self.blank_first_row();
     }
 
-    /// Shows a text with an attribute from a place on, as `Window::show`.
-    pub fn show(&mut self, start: Place, attribute: Attribute, bytes: &[u8])
-        requires { is_cursor_place (shown_on self.old).rows (shown_on self.old).columns start ≡ true }
-        ensures { ShowsText (shown_on self.old) start attribute bytes.now (shown_on self.new) }
-    {
-        let manner = Manner {
-            rows: self.rows,
-            columns: self.columns,
-            attribute,
-        };
-        lay_text(self, manner, start, bytes);
-    }
-
     /// What is shown moves up by so many rows.
     fn scroll_up(&mut self, units: u32)
         ensures size { SameSize (shown_on self.old) (shown_on self.new) }
@@ -169,13 +102,44 @@ impl Ring {
             self.feed_back();
         }
     }
+}
 
-    /// Moves what is shown in a direction by 0 to as many units as there are rows (up, down) or columns (left,
-    /// right). Blanks fill what is vacated.
-    pub fn scroll(&mut self, direction: Direction, units: u32)
-        requires { units ≤ most_units (shown_on self.old).rows (shown_on self.old).columns direction }
-        ensures { Scrolls (shown_on self.old) direction units (shown_on self.new) }
-    {
+impl Screen for Ring {
+    ghost shown = { λ ring. shown_on ring };
+
+    fn new(alloc: Global, rows: u32, columns: u32) -> Result<Self, NoMemory> {
+        let cells = Vec::from_elem(alloc, BLANK, rows as usize * columns as usize)?;
+        Ok(Ring {
+            rows,
+            columns,
+            first: 0,
+            cells,
+        })
+    }
+
+    fn kind(&self) -> Kind {
+        let (rows, columns) = (self.rows, self.columns);
+        Kind::Display { rows, columns }
+    }
+
+    fn copy(&self, alloc: Global) -> Result<DisplayCells, NoMemory> {
+        let start = self.start();
+        let mut cells = Vec::with_capacity(alloc, self.cells.len())?;
+        cells.extend_from_slice(&self.cells[start..])?;
+        cells.extend_from_slice(&self.cells[..start])?;
+        Ok(DisplayCells::new(self.rows, self.columns, cells))
+    }
+
+    fn show(&mut self, start: Place, attribute: Attribute, bytes: &[u8]) {
+        let manner = Manner {
+            rows: self.rows,
+            columns: self.columns,
+            attribute,
+        };
+        lay_text(self, manner, start, bytes);
+    }
+
+    fn scroll(&mut self, direction: Direction, units: u32) {
         let columns = self.columns as usize;
         match direction {
             Direction::Up => self.scroll_up(units),
@@ -185,10 +149,7 @@ impl Ring {
         }
     }
 
-    /// Blanks all cells.
-    pub fn clear(&mut self)
-        ensures { shown_on self.new ≡ blank_display (shown_on self.old).rows (shown_on self.old).columns }
-    {
+    fn clear(&mut self) {
         self.first = 0;
         self.cells.fill(BLANK);
     }

@@ -6,7 +6,7 @@ use Rattle.pos_sims.specs.Rings.{shown_on}
 use Rattle.pos_sims.specs.Windows.{MovesToEnd, MovesToFront}
 use Rattle.pos_sims.proofs.RingLemmas.{scrolls_of, turned_count, turned_left, turned_right}
 use Rattle.pos_sims.proofs.ScrollLemmas.{scrolls_down, scrolls_left, scrolls_right, scrolls_up}
-use Rattle.pos_sims.proofs.ring.Ring.scroll.Goals as goal
+use Rattle.pos_sims.proofs.turning.RingScreen.scroll.Goals as goal
 
 pub returns-in-Up : goal.returns-in-Up
 returns-in-Up c =

@@ -1,39 +1,45 @@
 ghost use Rattle.std.specs.Prelude.{◌≡◌, ◌≤◌, true, false, IsOk, IfOk};
 ghost use Rattle.pos_service.specs.Displays.{blank_display};
 ghost use Rattle.pos_service.specs.Peripherals.{Asked, Fed, order_fits};
-ghost use Rattle.pos_sims.specs.LineDisplays.{display_state};
-ghost use Rattle.pos_sims.specs.RingDisplays.{state_of};
+ghost use Rattle.pos_sims.specs.LineDisplays.{display_state, state_on};
 
 use crate::ring::Ring;
+use crate::screen::Screen;
+use crate::window::Window;
 use pos_service::display_text::Place;
 use pos_service::{
-    DisplayCells, Form, Input, Kind, NoMemory, Order, PaperLevel, Peripheral, Plant, Reply, Signs,
-    Snapshot, Taken,
+    Form, Input, Kind, NoMemory, Order, PaperLevel, Peripheral, Plant, Reply, Signs, Snapshot,
+    Taken,
 };
 use std::alloc::Global;
 
-/// A line display as `PlainDisplay`, whose rows are a ring: a scroll up or down by a row moves no cell (chapter Line
-/// Display). Its cells are made by `new`; after that a snapshot alone takes memory.
+/// A line display of 1 to 8 rows of 1 to 80 columns whose line never fails (chapter Line Display), over a window of its
+/// own kind. Its cells are made by `new`; after that a snapshot alone takes memory.
 #[derive(Drop)]
-pub struct RingDisplay {
+pub struct LineDisplay<S: Screen> {
     alloc: Global,
-    ring: Ring,
+    screen: S,
     powered: bool,
     is_parked: bool,
     orders: u64,
 }
 
-impl RingDisplay {
+/// A line display whose cells stand row by row.
+pub type PlainDisplay = LineDisplay<Window>;
+
+/// A line display whose rows are a ring: a scroll up or down by a row moves no cell.
+pub type RingDisplay = LineDisplay<Ring>;
+
+impl<S: Screen> LineDisplay<S> {
     /// A blank display of 1 to 8 rows of 1 to 80 columns that is on and in service.
     pub fn new(alloc: Global, rows: u32, columns: u32) -> Result<Self, NoMemory>
         requires rows { (1 ≤ rows) × (rows ≤ 8) }
         requires columns { (1 ≤ columns) × (columns ≤ 80) }
-        ensures { IfOk result (λ display. state_of display ≡ display_state (blank_display rows columns) false) }
+        ensures { IfOk result (λ display. state_on S.Screen display ≡ display_state (blank_display rows columns) false) }
     {
-        let ring = Ring::new(alloc, rows, columns)?;
-        Ok(RingDisplay {
+        Ok(LineDisplay {
             alloc,
-            ring,
+            screen: S::new(alloc, rows, columns)?,
             powered: true,
             is_parked: false,
             orders: 0,
@@ -41,11 +47,11 @@ impl RingDisplay {
     }
 }
 
-impl Peripheral for RingDisplay {
-    ghost state = { λ display. state_of display };
+impl<S: Screen> Peripheral for LineDisplay<S> {
+    ghost state = { λ display. state_on S.Screen display };
 
     fn kind(&self) -> Kind {
-        self.ring.kind()
+        self.screen.kind()
     }
 
     fn signs(&self) -> Signs {
@@ -58,8 +64,9 @@ impl Peripheral for RingDisplay {
     }
 
     fn ask(&mut self, order: &Order) -> Result<Reply, NoMemory>
-        ensures asked { (state_of self.old).is_parked ≡ false → order_fits (state_of self.old).kind order.now ≡ true →
-            Asked (state_of self.old) order.now result (state_of self.new) }
+        ensures asked { let state = state_on S.Screen in
+            (state self.old).is_parked ≡ false → order_fits (state self.old).kind order.now ≡ true →
+            Asked (state self.old) order.now result (state self.new) }
         ensures takes_no_memory { IsOk result }
     {
         self.orders = self.orders.saturating_add(1);
@@ -80,15 +87,15 @@ impl Peripheral for RingDisplay {
                     row: *row,
                     column: *column,
                 };
-                self.ring.show(start, *attribute, bytes.as_slice());
+                self.screen.show(start, *attribute, bytes.as_slice());
                 Ok(Reply::Done)
             }
             Order::ClearText => {
-                self.ring.clear();
+                self.screen.clear();
                 Ok(Reply::Done)
             }
             Order::Scroll { direction, units } => {
-                self.ring.scroll(*direction, *units);
+                self.screen.scroll(*direction, *units);
                 Ok(Reply::Done)
             }
             _ => unreachable!(),
@@ -96,8 +103,8 @@ impl Peripheral for RingDisplay {
     }
 
     fn feed(&mut self, input: &Input) -> Result<Taken, NoMemory>
-        ensures fed { (state_of self.old).is_parked ≡ false →
-            Fed (state_of self.old) input.now result (state_of self.new) }
+        ensures fed { let state = state_on S.Screen in
+            (state self.old).is_parked ≡ false → Fed (state self.old) input.now result (state self.new) }
         ensures takes_no_memory { IsOk result }
     {
         if let Input::PowerMoved(is_on) = input {
@@ -122,8 +129,7 @@ impl Peripheral for RingDisplay {
     }
 
     fn snapshot(&self) -> Result<Snapshot, NoMemory> {
-        let cells = self.ring.copy(self.alloc)?;
-        let shown = DisplayCells::new(self.ring.rows(), self.ring.columns(), cells);
+        let shown = self.screen.copy(self.alloc)?;
         Ok(Snapshot(Plant {
             powered: self.powered,
             form: Form::Display(shown),
