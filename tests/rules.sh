@@ -70,7 +70,8 @@ def contract(path):
         if owner:
             parts = re.findall(rf"^(?:pub )?(?:impl|trait)\b[^{{\n]*\b{owner[0]}\b.*?^}}", text, re.M | re.S)
         for part in parts:
-            found = re.search(rf"^( *)(?:pub )?fn {name}\b.*?^\1\{{$", part, re.M | re.S)
+            # up to its body, or in a trait to the end of its last clause
+            found = re.search(rf"^( *)(?:pub )?fn {name}\b.*?(?:^\1\{{|\}};)$", part, re.M | re.S)
             if found:
                 imports = imports_of(text)
                 named = (resolved(word, imports, None, None) for word in words_of(found.group(0)))
