@@ -20,8 +20,9 @@ use Rattle.pos_profile.specs.declared.slot.Slot.{Slot}
 use Rattle.pos_profile.specs.Kinds.{kind_of}
 use Rattle.pos_profile.specs.Places.{IsIndexOf, found_in, place_of}
 use Rattle.pos_profile.specs.Soundness.{IsSoundEntry}
-use Rattle.pos_profile.specs.Registries.{Device, HasKindInRange, IsRegistrySound, IsServed, MayServe, device_of, devices, devices_of, names_of, parked}
+use Rattle.pos_profile.specs.Registries.{Device, HasKindInRange, IsNamed, IsRegistrySound, IsServed, MayServe, device_of, devices, devices_of, names_of, parked}
 use Rattle.pos_profile.specs.Registries.{planned_for, planned_of, standing_at, vacant, vacant_devices, with_peripheral}
+use Rattle.pos_profile.proofs.PlaceLemmas.{place_within}
 
 -- what one more entry plans
 planned_more : (entries : List Entry) (place : ℕ) (entry : Entry) → place < length entries → entry ≡ get_or entries place entry
@@ -57,6 +58,25 @@ devices_count peripherals slots = length-map slots (λ s. device_of peripherals 
 
 pub names_count : (list : List Device) → length (names_of list) ≡ length list
 names_count list = length-map list (λ (d : Device). d.name)
+
+-- a name that is found is that of a slot, whose device it names
+pub named_within : {P : Type 0} (peripherals : Ghosts P) (slots : List (Slot P)) (name : List ℕ) (place : ℕ)
+    → place_of (names_of (devices_of peripherals slots)) name ≡ Some place → place < length slots
+named_within peripherals slots name place found =
+    let list = devices_of peripherals slots in
+    omega (arith, place_within (names_of list) name place found, names_count list, devices_count peripherals slots)
+
+pub named_at : {P : Type 0} (peripherals : Ghosts P) (slots : List (Slot P)) (name : List ℕ) (place : ℕ) (slot : Slot P)
+    → place_of (names_of (devices_of peripherals slots)) name ≡ Some place → slot ≡ get_or slots place slot
+    → slice_get (devices_of peripherals slots) place ≡ Some (device_of peripherals slot)
+named_at peripherals slots name place slot found at =
+    device_at peripherals slots place slot (named_within peripherals slots name place found) at
+
+pub named_device : {P : Type 0} (peripherals : Ghosts P) (slots : List (Slot P)) (name : List ℕ) (place : ℕ) (slot : Slot P)
+    → place_of (names_of (devices_of peripherals slots)) name ≡ Some place → slot ≡ get_or slots place slot
+    → IsNamed (devices_of peripherals slots) name (device_of peripherals slot)
+named_device peripherals slots name place slot found at =
+    record { place = place; found = found; at = named_at peripherals slots name place slot found at }
 
 -- another peripheral, or none, is put into a slot
 pub devices_set : {P : Type 0} (peripherals : Ghosts P) (slots : List (Slot P)) (place : ℕ) (slot other : Slot P) (x : Option P)

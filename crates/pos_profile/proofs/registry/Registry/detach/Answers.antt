@@ -1,33 +1,25 @@
-use Rattle.std.proofs.Common.{◌≡◌, ◌∙◌, ◌<◌, Some, None, not, option_map, length, sym, ap, refl, arith}
-use Rattle.pos_profile.specs.Places.{place_of}
-use Rattle.pos_profile.specs.Registries.{device_of, devices, names_of}
-use Rattle.pos_profile.proofs.PlaceLemmas.{place_within}
-use Rattle.pos_profile.proofs.RegistryLemmas.{device_at, devices_count, names_count, never, none_of, some_of, standing_is}
+use Rattle.std.proofs.Common.{◌≡◌, ◌∙◌, Some, None, not, option_map, sym, ap, refl, arith}
+use Rattle.pos_profile.specs.Registries.{device_of, devices}
+use Rattle.pos_profile.proofs.RegistryLemmas.{named_at, named_device, named_within, never, none_of, some_of, standing_is}
 use Rattle.pos_profile.proofs.registry.Registry.detach.Goals as goal
 
 pub index-requires : goal.index-requires
 index-requires g c =
     let slots = c.args.self.now.slots.items in
-    let list = devices g.P.Peripheral c.args.self.now in
     let place = c.in-Some.place in
-    let found : place_of (names_of list) c.args.name.now ≡ Some place = sym c.in-Some.ensures in
-    let within : place < length slots =
-    omega (arith, place_within (names_of list) c.args.name.now place found, names_count list, devices_count g.P.Peripheral slots) in
+    let within = named_within g.P.Peripheral slots c.args.name.now place (sym c.in-Some.ensures) in
     omega (arith, within, c.args.self.now.slots.ok.0)
 
 pub returns-then-is_none-clause-detaches : goal.returns-then-is_none-clause-detaches
 returns-then-is_none-clause-detaches g c =
     let slots = c.args.self.now.slots.items in
-    let list = devices g.P.Peripheral c.args.self.now in
     let place = c.in-Some.place in
     let slot = c.index.result.now in
-    let found : place_of (names_of list) c.args.name.now ≡ Some place = sym c.in-Some.ensures in
-    let within : place < length slots =
-    omega (arith, place_within (names_of list) c.args.name.now place found, names_count list, devices_count g.P.Peripheral slots) in
+    let named = named_device g.P.Peripheral slots c.args.name.now place slot (sym c.in-Some.ensures) c.index.ensures in
     let none : slot.peripheral ≡ None = none_of slot.peripheral (c.is_none.ensures ∙ ap not c.if-is_none.true) in (
       record {
         device = device_of g.P.Peripheral slot;
-        named = record { place = place; found = found; at = device_at g.P.Peripheral slots place slot within c.index.ensures };
+        named = named;
         vacant = ap (option_map g.P.Peripheral.state) none;
       },
       refl,
@@ -36,16 +28,13 @@ returns-then-is_none-clause-detaches g c =
 pub returns-then-is_open-clause-detaches : goal.returns-then-is_open-clause-detaches
 returns-then-is_open-clause-detaches g c =
     let slots = c.args.self.now.slots.items in
-    let list = devices g.P.Peripheral c.args.self.now in
     let place = c.in-Some.place in
     let slot = c.index.result.now in
-    let found : place_of (names_of list) c.args.name.now ≡ Some place = sym c.in-Some.ensures in
-    let within : place < length slots =
-    omega (arith, place_within (names_of list) c.args.name.now place found, names_count list, devices_count g.P.Peripheral slots) in
+    let named = named_device g.P.Peripheral slots c.args.name.now place slot (sym c.in-Some.ensures) c.index.ensures in
     let some = some_of slot.peripheral (c.is_none.ensures ∙ ap not c.if-is_none.false) in (
       record {
         device = device_of g.P.Peripheral slot;
-        named = record { place = place; found = found; at = device_at g.P.Peripheral slots place slot within c.index.ensures };
+        named = named;
         state = g.P.Peripheral.state some.0;
         served = ap (option_map g.P.Peripheral.state) some.1;
       },
@@ -59,10 +48,7 @@ unreachable-requires g c =
     let list = devices g.P.Peripheral c.args.self.now in
     let place = c.in-Some.place in
     let slot = c.index.result.now in
-    let found : place_of (names_of list) c.args.name.now ≡ Some place = sym c.in-Some.ensures in
-    let within : place < length slots =
-    omega (arith, place_within (names_of list) c.args.name.now place found, names_count list, devices_count g.P.Peripheral slots) in
-    let at = device_at g.P.Peripheral slots place slot within c.index.ensures in
+    let at = named_at g.P.Peripheral slots c.args.name.now place slot (sym c.in-Some.ensures) c.index.ensures in
     let some = some_of slot.peripheral (c.is_none.ensures ∙ ap not c.if-is_none.false) in
     let clash : None ≡ Some (g.P.Peripheral.state some.0) =
     c.in-None.ensures.taken ∙ standing_is list place (device_of g.P.Peripheral slot) at ∙ ap (option_map g.P.Peripheral.state) some.1 in
