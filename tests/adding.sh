@@ -26,12 +26,12 @@ count "a call with an order that is there" 6 'PrintImmediate|printImmediate|prin
 count "a call with a new order" 11 'OpenDrawer|openDrawer|open_drawer'
 count "a question about the totals' files" 11 'FindByIndex|findByIndex|find_by_index'
 count "a change of the totals' files" 43 'SetAll|setAll|set_all'
-count "a property that is always the same" 5 'CapTransactions'
-count "a property of the device" 8 'NumberOfFiles'
-count "a property that can be set" 10 'AutoDisable|auto_disable'
+count "a property that is always the same" 3 'CapTransactions'
+count "a property of the device" 6 'NumberOfFiles'
+count "a property that can be set" 8 'AutoDisable|auto_disable'
 count "an input of every kind" 10 'PowerMoved'
 count "a reply with its code" 12 'Offline\b'
-count "a request of the script" 18 'Deliver\b|deliver_event|"deliver"'
+count "a request of the script" 15 'Deliver\b|deliver_event|"deliver"'
 count "a category" 25 'CashDrawer'
 echo "$passed passed, $failed failed"
 [ "$failed" -eq 0 ]

@@ -4,4 +4,3 @@ pub mod BufferLemmas
 pub mod WriteLemmas
 pub mod ReceiptLemmas
 pub mod Readings
-pub mod WordLemmas

@@ -7,10 +7,10 @@ use Rattle.pos_service.specs.declared.category.Category.{Category}
 use Rattle.pos_service.specs.declared.event.ErrorReply.{ErrorReply}
 use Rattle.pos_service.specs.declared.event.ErrorReply.TheVariants as reply
 use Rattle.pos_service.specs.declared.property.Property.{Property}
-use Rattle.pos_service.specs.declared.property.Property.TheVariants as property
 use Rattle.pos_service.specs.declared.answer.Value.{Value}
 use Rattle.pos_service.specs.declared.answer.Value.TheVariants as value
 use Rattle.pos_service.specs.Names.{category_named, is_device_name}
+use Rattle.pos_service.specs.Properties.{property_named}
 use Rattle.pos_script.specs.Lines.{is_nothing}
 use Rattle.pos_script.specs.Arguments.{Shape, value_of}
 use Rattle.pos_script.specs.declared.arguments.DeviceName.{DeviceName}
@@ -66,64 +66,6 @@ value_named word =
     if bytes_eq word (codes "true") then Some (value.Truth true)
     else (if bytes_eq word (codes "false") then Some (value.Truth false)
     else option_map value.Number (number_named word))
-
--- the property of Hard Totals of this name
-abbrev pub totals_property_named : List ℕ → Option Property
-totals_property_named word =
-    if bytes_eq word (codes "TotalsSize") then Some property.TotalsSize
-    else (if bytes_eq word (codes "FreeData") then Some property.FreeData
-    else (if bytes_eq word (codes "NumberOfFiles") then Some property.NumberOfFiles
-    else (if bytes_eq word (codes "TransactionInProgress") then Some property.TransactionInProgress
-    else (if bytes_eq word (codes "CapTransactions") then Some property.CapTransactions
-    else (if bytes_eq word (codes "CapSingleFile") then Some property.CapSingleFile
-    else (if bytes_eq word (codes "CapErrorDetection") then Some property.CapErrorDetection else None))))))
-
--- the property of receipt printers, or of Hard Totals, of this name
-abbrev pub printer_property_named : List ℕ → Option Property
-printer_property_named word =
-    if bytes_eq word (codes "AsyncMode") then Some property.AsyncMode
-    else (if bytes_eq word (codes "OutputID") then Some property.OutputId
-    else (if bytes_eq word (codes "RecLineChars") then Some property.RecLineChars
-    else (if bytes_eq word (codes "CoverOpen") then Some property.CoverOpen
-    else (if bytes_eq word (codes "RecEmpty") then Some property.RecEmpty
-    else (if bytes_eq word (codes "RecNearEnd") then Some property.RecNearEnd
-    else totals_property_named word)))))
-
--- the property of line displays, of receipt printers, or of Hard Totals, of this name
-abbrev pub display_property_named : List ℕ → Option Property
-display_property_named word =
-    if bytes_eq word (codes "Rows") then Some property.Rows
-    else (if bytes_eq word (codes "Columns") then Some property.Columns
-    else (if bytes_eq word (codes "CursorRow") then Some property.CursorRow
-    else (if bytes_eq word (codes "CursorColumn") then Some property.CursorColumn
-    else (if bytes_eq word (codes "CursorUpdate") then Some property.CursorUpdate
-    else printer_property_named word))))
-
--- the property of scanners, of line displays, of receipt printers, or of Hard Totals, of this name
-abbrev pub scanner_property_named : List ℕ → Option Property
-scanner_property_named word =
-    if bytes_eq word (codes "DataEventEnabled") then Some property.DataEventEnabled
-    else (if bytes_eq word (codes "AutoDisable") then Some property.AutoDisable
-    else (if bytes_eq word (codes "DataCount") then Some property.DataCount
-    else (if bytes_eq word (codes "DecodeData") then Some property.DecodeData
-    else (if bytes_eq word (codes "ScanData") then Some property.ScanData
-    else (if bytes_eq word (codes "ScanDataLabel") then Some property.ScanDataLabel
-    else (if bytes_eq word (codes "ScanDataType") then Some property.ScanDataType
-    else display_property_named word))))))
-
--- the property of this name
-abbrev pub property_named : List ℕ → Option Property
-property_named word =
-    if bytes_eq word (codes "State") then Some property.State
-    else (if bytes_eq word (codes "Claimed") then Some property.Claimed
-    else (if bytes_eq word (codes "DeviceEnabled") then Some property.DeviceEnabled
-    else (if bytes_eq word (codes "FreezeEvents") then Some property.FreezeEvents
-    else (if bytes_eq word (codes "CapPowerReporting") then Some property.CapPowerReporting
-    else (if bytes_eq word (codes "PowerNotify") then Some property.PowerNotify
-    else (if bytes_eq word (codes "PowerState") then Some property.PowerState
-    else (if bytes_eq word (codes "CapStatus") then Some property.CapStatus
-    else (if bytes_eq word (codes "DrawerOpened") then Some property.DrawerOpened
-    else scanner_property_named word))))))))
 
 -- the reply to an ErrorEvent of this name
 abbrev pub error_reply_named : List ℕ → Option ErrorReply

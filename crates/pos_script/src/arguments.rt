@@ -4,7 +4,7 @@ ghost use Rattle.pos_script.specs.Arguments.{Shape, Reads, word_as, none, one, t
 ghost use Rattle.pos_script.specs.Words.{number_shape, count_shape, truth_shape, bytes_shape, device_shape, category_shape, property_shape, value_shape, error_reply_shape};
 
 use crate::lines::next_word;
-use crate::words::{count, decode, error_reply, is_hex_word, number, property, truth, value};
+use crate::words::{count, decode, error_reply, is_hex_word, number, truth, value};
 use pos_service::{Bytes, Category, ErrorReply, Property, Value, is_device_name};
 use std::alloc::Global;
 use thiserror::Error;
@@ -97,11 +97,11 @@ impl Argument for Property {
     ghost shape = { property_shape };
 
     fn has_shape(word: &[u8]) -> bool {
-        property(word).is_some()
+        Property::named(word).is_some()
     }
 
     fn read(_: Global, word: &[u8]) -> Result<Self, LineFault> {
-        property(word).ok_or(LineFault::WrongShape)
+        Property::named(word).ok_or(LineFault::WrongShape)
     }
 }
 

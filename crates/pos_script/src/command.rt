@@ -8,7 +8,7 @@ ghost use Rattle.pos_script.specs.Commands.{request_of_words, verb_line, claims_
 use crate::arguments::{DeviceName, LineFault, read_none, read_one, read_three, read_two};
 use crate::lines::next_word;
 use crate::methods::read_call;
-use crate::words::is;
+use pos_service::words::is;
 use pos_service::{Call, ErrorReply, Input, Name, Request, is_device_name};
 use std::alloc::Global;
 

@@ -1,22 +1,12 @@
-ghost use Rattle.std.specs.Prelude.{◌≡◌, ◌<◌, ◌^◌, true, bytes_eq, is_some, Some, IfSome, IfOk};
+ghost use Rattle.std.specs.Prelude.{◌≡◌, ◌<◌, ◌^◌, true, is_some, Some, IfSome, IfOk};
 ghost use Rattle.std.specs.List.{list_all};
 ghost use Rattle.hex.specs.Hex.{is_hex_digit};
 ghost use Rattle.pos_script.specs.Words.{number_of_digits, is_digit, is_digits, digits_named, number_named, count_named, truth_named, bytes_named};
-ghost use Rattle.pos_script.specs.Words.{value_named, property_named, scanner_property_named, display_property_named, printer_property_named, totals_property_named, error_reply_named};
+ghost use Rattle.pos_script.specs.Words.{value_named, error_reply_named};
 
-use pos_service::{Bytes, ErrorReply, NoMemory, Property, Value};
+use pos_service::words::is;
+use pos_service::{Bytes, ErrorReply, NoMemory, Value};
 use std::alloc::Global;
-
-/// Whether a word is this text. In place where it is asked, so that a text of few bytes is compared at once.
-#[inline(always)]
-pub fn is(word: &[u8], text: &str) -> bool
-    ensures { result ≡ bytes_eq word.now text.now }
-{
-    if word.len() != text.len() {
-        return false;
-    }
-    word.starts_with(text.as_bytes())
-}
 
 fn is_digit_byte(b: u8) -> bool
     ensures { result ≡ is_digit b }
@@ -154,141 +144,4 @@ pub fn value(word: &[u8]) -> Option<Value>
         Some(number) => Some(Value::Number(number)),
         None => None,
     }
-}
-
-/// The property of this name.
-pub fn property(word: &[u8]) -> Option<Property>
-    ensures { result ≡ property_named word.now }
-{
-    if is(word, "State") {
-        return Some(Property::State);
-    }
-    if is(word, "Claimed") {
-        return Some(Property::Claimed);
-    }
-    if is(word, "DeviceEnabled") {
-        return Some(Property::DeviceEnabled);
-    }
-    if is(word, "FreezeEvents") {
-        return Some(Property::FreezeEvents);
-    }
-    if is(word, "CapPowerReporting") {
-        return Some(Property::CapPowerReporting);
-    }
-    if is(word, "PowerNotify") {
-        return Some(Property::PowerNotify);
-    }
-    if is(word, "PowerState") {
-        return Some(Property::PowerState);
-    }
-    if is(word, "CapStatus") {
-        return Some(Property::CapStatus);
-    }
-    if is(word, "DrawerOpened") {
-        return Some(Property::DrawerOpened);
-    }
-    scanner_property(word)
-}
-
-/// The property of scanners, of line displays, of receipt printers, or of Hard Totals, of this name.
-fn scanner_property(word: &[u8]) -> Option<Property>
-    ensures { result ≡ scanner_property_named word.now }
-{
-    if is(word, "DataEventEnabled") {
-        return Some(Property::DataEventEnabled);
-    }
-    if is(word, "AutoDisable") {
-        return Some(Property::AutoDisable);
-    }
-    if is(word, "DataCount") {
-        return Some(Property::DataCount);
-    }
-    if is(word, "DecodeData") {
-        return Some(Property::DecodeData);
-    }
-    if is(word, "ScanData") {
-        return Some(Property::ScanData);
-    }
-    if is(word, "ScanDataLabel") {
-        return Some(Property::ScanDataLabel);
-    }
-    if is(word, "ScanDataType") {
-        return Some(Property::ScanDataType);
-    }
-    display_property(word)
-}
-
-/// The property of line displays, of receipt printers, or of Hard Totals, of this name.
-fn display_property(word: &[u8]) -> Option<Property>
-    ensures { result ≡ display_property_named word.now }
-{
-    if is(word, "Rows") {
-        return Some(Property::Rows);
-    }
-    if is(word, "Columns") {
-        return Some(Property::Columns);
-    }
-    if is(word, "CursorRow") {
-        return Some(Property::CursorRow);
-    }
-    if is(word, "CursorColumn") {
-        return Some(Property::CursorColumn);
-    }
-    if is(word, "CursorUpdate") {
-        return Some(Property::CursorUpdate);
-    }
-    printer_property(word)
-}
-
-/// The property of receipt printers, or of Hard Totals, of this name.
-fn printer_property(word: &[u8]) -> Option<Property>
-    ensures { result ≡ printer_property_named word.now }
-{
-    if is(word, "AsyncMode") {
-        return Some(Property::AsyncMode);
-    }
-    if is(word, "OutputID") {
-        return Some(Property::OutputId);
-    }
-    if is(word, "RecLineChars") {
-        return Some(Property::RecLineChars);
-    }
-    if is(word, "CoverOpen") {
-        return Some(Property::CoverOpen);
-    }
-    if is(word, "RecEmpty") {
-        return Some(Property::RecEmpty);
-    }
-    if is(word, "RecNearEnd") {
-        return Some(Property::RecNearEnd);
-    }
-    totals_property(word)
-}
-
-/// The property of Hard Totals of this name.
-fn totals_property(word: &[u8]) -> Option<Property>
-    ensures { result ≡ totals_property_named word.now }
-{
-    if is(word, "TotalsSize") {
-        return Some(Property::TotalsSize);
-    }
-    if is(word, "FreeData") {
-        return Some(Property::FreeData);
-    }
-    if is(word, "NumberOfFiles") {
-        return Some(Property::NumberOfFiles);
-    }
-    if is(word, "TransactionInProgress") {
-        return Some(Property::TransactionInProgress);
-    }
-    if is(word, "CapTransactions") {
-        return Some(Property::CapTransactions);
-    }
-    if is(word, "CapSingleFile") {
-        return Some(Property::CapSingleFile);
-    }
-    if is(word, "CapErrorDetection") {
-        return Some(Property::CapErrorDetection);
-    }
-    None
 }

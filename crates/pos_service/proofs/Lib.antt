@@ -1,2 +1,4 @@
 pub mod StripLemmas
 pub mod PieceLemmas
+pub mod WordLemmas
+pub mod NamingLemmas

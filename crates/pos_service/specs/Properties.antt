@@ -1,5 +1,5 @@
 -- The properties of every category: their refusals, their values, and what setting one does.
-use Rattle.std.specs.Prelude.{ℕ, nat_abs, Bool, true, false, not, ◌&&◌, ◌||◌, if◌then◌else◌, pos, List, [], ◌∷◌, Option, Some, None, is_none}
+use Rattle.std.specs.Prelude.{ℕ, nat_abs, Bool, true, false, not, ◌&&◌, ◌||◌, if◌then◌else◌, pos, List, [], ◌∷◌, Option, Some, None, is_none, length, filter, codes, bytes_eq}
 use Rattle.pos_service.specs.declared.category.Category.{Category}
 use Rattle.pos_service.specs.declared.category.Category.TheVariants as category
 use Rattle.pos_service.specs.declared.display_text.Cursor.{Cursor}
@@ -93,6 +93,58 @@ row_of property.TransactionInProgress = plain (Some category.HardTotals)
 row_of property.CapTransactions = plain (Some category.HardTotals)
 row_of property.CapSingleFile = plain (Some category.HardTotals)
 row_of property.CapErrorDetection = plain (Some category.HardTotals)
+
+-- the names of the properties, as the standard writes them
+abbrev pub property_names : List (List ℕ × Property)
+property_names =
+    (codes "State", property.State)
+    ∷ (codes "Claimed", property.Claimed)
+    ∷ (codes "DeviceEnabled", property.DeviceEnabled)
+    ∷ (codes "FreezeEvents", property.FreezeEvents)
+    ∷ (codes "CapPowerReporting", property.CapPowerReporting)
+    ∷ (codes "PowerNotify", property.PowerNotify)
+    ∷ (codes "PowerState", property.PowerState)
+    ∷ (codes "DataEventEnabled", property.DataEventEnabled)
+    ∷ (codes "AutoDisable", property.AutoDisable)
+    ∷ (codes "DataCount", property.DataCount)
+    ∷ (codes "DecodeData", property.DecodeData)
+    ∷ (codes "ScanData", property.ScanData)
+    ∷ (codes "ScanDataLabel", property.ScanDataLabel)
+    ∷ (codes "ScanDataType", property.ScanDataType)
+    ∷ (codes "CapStatus", property.CapStatus)
+    ∷ (codes "DrawerOpened", property.DrawerOpened)
+    ∷ (codes "Rows", property.Rows)
+    ∷ (codes "Columns", property.Columns)
+    ∷ (codes "CursorRow", property.CursorRow)
+    ∷ (codes "CursorColumn", property.CursorColumn)
+    ∷ (codes "CursorUpdate", property.CursorUpdate)
+    ∷ (codes "AsyncMode", property.AsyncMode)
+    ∷ (codes "OutputID", property.OutputId)
+    ∷ (codes "RecLineChars", property.RecLineChars)
+    ∷ (codes "CoverOpen", property.CoverOpen)
+    ∷ (codes "RecEmpty", property.RecEmpty)
+    ∷ (codes "RecNearEnd", property.RecNearEnd)
+    ∷ (codes "TotalsSize", property.TotalsSize)
+    ∷ (codes "FreeData", property.FreeData)
+    ∷ (codes "NumberOfFiles", property.NumberOfFiles)
+    ∷ (codes "TransactionInProgress", property.TransactionInProgress)
+    ∷ (codes "CapTransactions", property.CapTransactions)
+    ∷ (codes "CapSingleFile", property.CapSingleFile)
+    ∷ (codes "CapErrorDetection", property.CapErrorDetection)
+    ∷ []
+
+-- the names of which the length is one of these
+abbrev pub names_of : (ℕ → Bool) → List (List ℕ × Property)
+names_of is_length = filter (λ name. is_length (length name.0)) property_names
+
+-- the property of this name among some
+abbrev pub named_in : List (List ℕ × Property) → List ℕ → Option Property
+named_in [] word = None
+named_in (name ∷ names) word = if bytes_eq word name.0 then Some name.1 else named_in names word
+
+-- the property of this name
+abbrev pub property_named : List ℕ → Option Property
+property_named word = named_in property_names word
 
 -- the controls of a category have what the category's controls have, or those of each
 abbrev pub is_in : Option Category → Category → Bool

@@ -30,6 +30,7 @@ pub mod receipt_text;
 mod request;
 mod scan;
 mod signs;
+pub mod words;
 mod worked;
 
 pub use answer::{Answer, Value};

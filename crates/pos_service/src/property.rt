@@ -1,8 +1,9 @@
-ghost use Rattle.std.specs.Prelude.{◌≡◌};
-ghost use Rattle.pos_service.specs.Properties.{row_of, plain, settable, of_device, is_in, needs_of, needs_to_set};
+ghost use Rattle.std.specs.Prelude.{◌≡◌, ◌==◌, ◌||◌, nat_le};
+ghost use Rattle.pos_service.specs.Properties.{named_in, names_of, property_named, row_of, plain, settable, of_device, is_in, needs_of, needs_to_set};
 
 use crate::category::Category;
 use crate::needs::{ClaimNeed, Needs};
+use crate::words::is;
 
 /// A property of a control (common chapter, and chapters Cash Drawer, Scanner, Line Display, POS Printer and Hard
 /// Totals).
@@ -134,7 +135,119 @@ fn of_device(category: Category, claim: ClaimNeed) -> PropertyRow
     }
 }
 
+/// The property of this name of at most 7 bytes.
+fn named_shortly(word: &[u8]) -> Option<Property>
+    ensures { result ≡ named_in (names_of (λ k. nat_le k 7)) word.now }
+{
+    match word {
+        _ if is(word, "State") => Some(Property::State),
+        _ if is(word, "Claimed") => Some(Property::Claimed),
+        _ if is(word, "Rows") => Some(Property::Rows),
+        _ if is(word, "Columns") => Some(Property::Columns),
+        _ => None,
+    }
+}
+
+/// The property of this name of 8 bytes.
+fn named_in_eight(word: &[u8]) -> Option<Property>
+    ensures { result ≡ named_in (names_of (λ k. k == 8)) word.now }
+{
+    match word {
+        _ if is(word, "ScanData") => Some(Property::ScanData),
+        _ if is(word, "OutputID") => Some(Property::OutputId),
+        _ if is(word, "RecEmpty") => Some(Property::RecEmpty),
+        _ if is(word, "FreeData") => Some(Property::FreeData),
+        _ => None,
+    }
+}
+
+/// The property of this name of 9 bytes.
+fn named_in_nine(word: &[u8]) -> Option<Property>
+    ensures { result ≡ named_in (names_of (λ k. k == 9)) word.now }
+{
+    match word {
+        _ if is(word, "DataCount") => Some(Property::DataCount),
+        _ if is(word, "CapStatus") => Some(Property::CapStatus),
+        _ if is(word, "CursorRow") => Some(Property::CursorRow),
+        _ if is(word, "AsyncMode") => Some(Property::AsyncMode),
+        _ if is(word, "CoverOpen") => Some(Property::CoverOpen),
+        _ => None,
+    }
+}
+
+/// The property of this name of 10 or 11 bytes.
+fn named_in_ten(word: &[u8]) -> Option<Property>
+    ensures { result ≡ named_in (names_of (λ k. k == 10 || k == 11)) word.now }
+{
+    match word {
+        _ if is(word, "PowerNotify") => Some(Property::PowerNotify),
+        _ if is(word, "PowerState") => Some(Property::PowerState),
+        _ if is(word, "AutoDisable") => Some(Property::AutoDisable),
+        _ if is(word, "DecodeData") => Some(Property::DecodeData),
+        _ if is(word, "RecNearEnd") => Some(Property::RecNearEnd),
+        _ if is(word, "TotalsSize") => Some(Property::TotalsSize),
+        _ => None,
+    }
+}
+
+/// The property of this name of 12 bytes.
+fn named_in_twelve(word: &[u8]) -> Option<Property>
+    ensures { result ≡ named_in (names_of (λ k. k == 12)) word.now }
+{
+    match word {
+        _ if is(word, "FreezeEvents") => Some(Property::FreezeEvents),
+        _ if is(word, "ScanDataType") => Some(Property::ScanDataType),
+        _ if is(word, "DrawerOpened") => Some(Property::DrawerOpened),
+        _ if is(word, "CursorColumn") => Some(Property::CursorColumn),
+        _ if is(word, "CursorUpdate") => Some(Property::CursorUpdate),
+        _ if is(word, "RecLineChars") => Some(Property::RecLineChars),
+        _ => None,
+    }
+}
+
+/// The property of this name of 13 bytes.
+fn named_in_thirteen(word: &[u8]) -> Option<Property>
+    ensures { result ≡ named_in (names_of (λ k. k == 13)) word.now }
+{
+    match word {
+        _ if is(word, "DeviceEnabled") => Some(Property::DeviceEnabled),
+        _ if is(word, "ScanDataLabel") => Some(Property::ScanDataLabel),
+        _ if is(word, "NumberOfFiles") => Some(Property::NumberOfFiles),
+        _ if is(word, "CapSingleFile") => Some(Property::CapSingleFile),
+        _ => None,
+    }
+}
+
+/// The property of this name of 14 bytes or more.
+fn named_at_length(word: &[u8]) -> Option<Property>
+    ensures { result ≡ named_in (names_of (λ k. nat_le 14 k)) word.now }
+{
+    match word {
+        _ if is(word, "CapPowerReporting") => Some(Property::CapPowerReporting),
+        _ if is(word, "DataEventEnabled") => Some(Property::DataEventEnabled),
+        _ if is(word, "TransactionInProgress") => Some(Property::TransactionInProgress),
+        _ if is(word, "CapTransactions") => Some(Property::CapTransactions),
+        _ if is(word, "CapErrorDetection") => Some(Property::CapErrorDetection),
+        _ => None,
+    }
+}
+
 impl Property {
+    /// The property of this name, as the standard writes it. It is sought among those whose names are as long.
+    pub fn named(word: &[u8]) -> Option<Self>
+        ensures { result ≡ property_named word.now }
+    {
+        match word.len() {
+            0..=7 => named_shortly(word),
+            8 => named_in_eight(word),
+            9 => named_in_nine(word),
+            10 | 11 => named_in_ten(word),
+            12 => named_in_twelve(word),
+            13 => named_in_thirteen(word),
+            _ => named_at_length(word),
+        }
+    }
+
     /// What is known of it beforehand.
     pub fn row(self) -> PropertyRow
         ensures { result ≡ row_of self }

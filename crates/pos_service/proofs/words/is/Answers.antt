@@ -1,6 +1,6 @@
 use Rattle.std.proofs.Common.{◌∙◌, sym}
-use Rattle.pos_script.proofs.WordLemmas.{begins_as_long, differ_in_length}
-use Rattle.pos_script.proofs.words.is.Goals as goal
+use Rattle.pos_service.proofs.WordLemmas.{begins_as_long, differ_in_length}
+use Rattle.pos_service.proofs.words.is.Goals as goal
 
 pub returns-then-word-text : goal.returns-then-word-text
 returns-then-word-text c = sym (differ_in_length c.args.word.now c.args.text.now c.if-word-text.true)
