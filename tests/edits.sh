@@ -16,6 +16,7 @@ cp -a "$top/crates" "$top/crates.txt" "$top/HANDLES" "$work" && cd "$work" || ex
 passed=0
 failed=0
 for crate in "$@"; do
+  [ -d "$edits/$crate" ] || continue
   rm -rf "crates/$crate/must-fail"
   cp -r "$edits/$crate" "crates/$crate/must-fail" || exit 1
   tried=$(ls "$edits/$crate" | wc -l)

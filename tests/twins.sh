@@ -1,13 +1,13 @@
 #!/usr/bin/env bash
-# Tries the twins of the wrong bodies: for each edit of crates/CRATE/must-fail a right body of the same shape,
-# tests/twins/CRATE/NAME.edit. In a copy of the tree the twins stand in the place of the edits, and the prover has to let
-# each through: then it refuses the wrong body for what it means and not for its form. What was proved before is used;
-# what wasn't is proved first.
-# Usage: tests/twins.sh [CRATE ..]. Without a word it tries those of each crate. An edit of the gate without a twin, and a
-# twin without an edit, in the gate or in tests/edits, count as failed. Its last line is 'N passed, M failed'; it ends
-# with 0 where none failed.
+# Tries the twins of the wrong bodies: for each edit of crates/CRATE/must-fail and of tests/edits/CRATE a right body of the
+# same shape, tests/twins/CRATE/NAME.edit. In a copy of the tree the twins stand in the place of the edits, and the prover
+# has to let each through: then it refuses the wrong body for what it means and not for its form. What was proved before
+# is used; what wasn't is proved first.
+# Usage: tests/twins.sh [CRATE ..]. Without a word it tries those of each crate. An edit without a twin, and a twin without
+# an edit, count as failed. Its last line is 'N passed, M failed'; it ends with 0 where none failed.
 set -u
 top=$(cd "$(dirname "$0")/.." && pwd)
+edits=$top/tests/edits
 twins=$top/tests/twins
 work=$(mktemp -d)
 trap 'rm -rf "$work"' EXIT
@@ -19,9 +19,9 @@ cp -a "$top/crates" "$top/crates.txt" "$top/HANDLES" "$work" && cd "$work" || ex
 passed=0
 failed=0
 for crate in "$@"; do
-  for edit in "$top/crates/$crate/must-fail"/*.edit; do
+  for edit in "$top/crates/$crate/must-fail"/*.edit "$edits/$crate"/*.edit; do
     name=$(basename "$edit")
-    if [ ! -f "$twins/$crate/$name" ]; then
+    if [ -f "$edit" ] && [ ! -f "$twins/$crate/$name" ]; then
       echo "$crate/$name: no twin"
       failed=$((failed + 1))
     fi
@@ -29,7 +29,7 @@ for crate in "$@"; do
   [ -d "$twins/$crate" ] || continue
   for twin in "$twins/$crate"/*.edit; do
     name=$(basename "$twin")
-    if [ ! -f "$top/crates/$crate/must-fail/$name" ] && [ ! -f "$top/tests/edits/$crate/$name" ]; then
+    if [ ! -f "$top/crates/$crate/must-fail/$name" ] && [ ! -f "$edits/$crate/$name" ]; then
       echo "$crate/$name: a twin of no edit"
       failed=$((failed + 1))
     fi
