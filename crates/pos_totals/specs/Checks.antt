@@ -1,5 +1,5 @@
 -- What the checks of a call find, before anything is done.
-use Rattle.std.specs.Prelude.{◌≡◌, ◌≤◌, ◌+◌, ℕ, ℤ, pos, Bool, true, false, List, [], ◌∷◌, length, Option, Some, None, IfSome, MatchResult, Result, Ok, Err, ⊤}
+use Rattle.std.specs.Prelude.{◌≡◌, ◌⊎◌, ◌≤◌, ◌+◌, ℕ, ℤ, pos, Bool, true, false, List, [], ◌∷◌, length, Option, Some, None, IfSome, MatchResult, Result, Ok, Err, ⊤}
 use Rattle.std.specs.List.{find}
 use Rattle.std.specs.Option.{option_map}
 use Rattle.pos_dir.specs.Changes.{flaw_of}
@@ -14,9 +14,9 @@ use Rattle.pos_service.specs.Claims.{is_foreign}
 use Rattle.pos_totals.specs.HardTotals.{File, Mode, Off, Ready, Totals, Change, Create, Delete, Rename, Write, SetAll, TotalsLimits, totals_limits}
 use Rattle.pos_totals.specs.HardTotals.{transaction_of, files_of}
 use Rattle.pos_totals.specs.TotalsChanges.{change_rows, refusals_of_change, spent_by}
-use Rattle.pos_totals.specs.TotalsArrangements.{Arrangement, ClaimFile, ReleaseFile, BeginTrans, Rollback, arrangement_rows, refusals_of_arrangement}
+use Rattle.pos_totals.specs.TotalsArrangements.{Arrangement, arrangement_rows, refusals_of_arrangement}
 use Rattle.pos_totals.specs.TotalsCommits.{refusals_of_commit}
-use Rattle.pos_totals.specs.TotalsQuestions.{Question, Find, FindByIndex, Read, question_rows, told_of, is_told_in_memory}
+use Rattle.pos_totals.specs.TotalsQuestions.{Question, question_rows, told_of, is_told_in_memory}
 use Rattle.pos_service.specs.Refusals.{Row, first_refusal, Decided}
 use Rattle.pos_disk.specs.declared.device.Disk.{Ghosts}
 use Rattle.pos_store.specs.Commits.{Commits}
@@ -27,10 +27,6 @@ use Rattle.pos_store.specs.declared.fault.StoreFault.TheVariants as fault
 use Rattle.pos_totals.specs.Buffers.{IsAsked}
 use Rattle.pos_totals.specs.Groups.{index_of, file_change, group_of}
 use Rattle.pos_totals.specs.Views.{with_tags}
-use Rattle.pos_totals.specs.declared.arranging.Arrangement.{Arrangement as ArrangementAsked}
-use Rattle.pos_totals.specs.declared.arranging.Arrangement.TheVariants as arrangement
-use Rattle.pos_totals.specs.declared.asking.Question.{Question as QuestionAsked}
-use Rattle.pos_totals.specs.declared.asking.Question.TheVariants as question
 use Rattle.pos_totals.specs.declared.committing.Commitment.{Commitment}
 use Rattle.pos_totals.specs.declared.committing.Commitment.TheVariants as commitment
 use Rattle.pos_totals.specs.declared.committing.Plan.{Plan}
@@ -41,19 +37,6 @@ use Rattle.pos_totals.specs.declared.request.Caller.{Caller}
 use Rattle.pos_totals.specs.declared.request.Request.{Request}
 use Rattle.pos_totals.specs.declared.request.Request.TheVariants as request
 use Rattle.pos_totals.specs.declared.request.Checked.{Checked}
-
--- the question that is asked
-abbrev pub question_of : QuestionAsked → Question
-question_of (question.Find name) = Find name.now
-question_of (question.FindByIndex index) = FindByIndex index
-question_of (question.Read handle offset count) = Read handle offset count
-
--- the arrangement that is asked for
-abbrev pub arrangement_of : ArrangementAsked → Arrangement
-arrangement_of (arrangement.ClaimFile handle timeout) = ClaimFile handle timeout
-arrangement_of (arrangement.ReleaseFile handle) = ReleaseFile handle
-arrangement_of arrangement.BeginTrans = BeginTrans
-arrangement_of arrangement.Rollback = Rollback
 
 -- the change that a request asks for
 abbrev pub change_of : Request → Change
@@ -175,16 +158,19 @@ pub record PutsBuffer {D : Type 0} (bound : Ghosts D) (old : StoreView D) (files
   pub gathered : Gathers files transaction group
   pub commits : Commits bound old group result new
 
+-- nothing is buffered, and the store is as it was; or a group was made of what is buffered, and is on the disk
+abbrev pub EndsBuffer : {D : Type 0} → Ghosts D → StoreView D → List File → Option (List Change) → StoreView D → Type 0
+EndsBuffer bound old files transaction new =
+    ((transaction ≡ Some []) × (new ≡ old)) ⊎ PutsBuffer bound old files transaction (Ok tt) new
+
 -- what becomes of a commit, by its table, and then by the store
 abbrev pub CommitsAt : {D : Type 0} → Ghosts D → StoreView D → Totals → ℕ → Result Commitment NoMemory
     → StoreView D → Type 0
 CommitsAt bound old totals control (Ok (commitment.Refused refusal)) new =
     (first_refusal (refusals_of_commit totals control) ≡ Some refusal) × (new ≡ old)
-CommitsAt bound old totals control (Ok commitment.Nothing) new =
-    (first_refusal (refusals_of_commit totals control) ≡ None) × (transaction_of totals control ≡ Some []) × (new ≡ old)
 CommitsAt bound old totals control (Ok commitment.Done) new =
     (first_refusal (refusals_of_commit totals control) ≡ None)
-    × PutsBuffer bound old (files_of totals.mode) (transaction_of totals control) (Ok tt) new
+    × EndsBuffer bound old (files_of totals.mode) (transaction_of totals control) new
 CommitsAt bound old totals control (Ok (commitment.Failed cause)) new =
     (first_refusal (refusals_of_commit totals control) ≡ None)
     × PutsBuffer bound old (files_of totals.mode) (transaction_of totals control) (Err cause) new

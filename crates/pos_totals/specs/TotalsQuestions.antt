@@ -11,6 +11,8 @@ use Rattle.pos_service.specs.declared.code.Code.TheVariants as code
 use Rattle.pos_service.specs.declared.memory.NoMemory.{NoMemory}
 use Rattle.pos_service.specs.Refusals.{Row, when, first_refusal, Decided}
 use Rattle.pos_totals.specs.HardTotals.{File, Totals, files_of}
+use Rattle.pos_totals.specs.declared.asking.Question.{Question as Asked}
+use Rattle.pos_totals.specs.declared.asking.Question.TheVariants as asked
 use Rattle.pos_totals.specs.TotalsFiles.{is_named, is_called, file_at, has_file, is_foreign_file, is_range_of}
 use Rattle.pos_totals.specs.TotalsRows.{while_ready, when_foreign_area}
 
@@ -20,12 +22,18 @@ pub data Question : Type 0 where
   FindByIndex : (index : ℤ) → Question
   Read : (handle offset count : ℤ) → Question
 
+-- the question that is asked
+abbrev pub question_of : Asked → Question
+question_of (asked.Find name) = Find name.now
+question_of (asked.FindByIndex index) = FindByIndex index
+question_of (asked.Read handle offset count) = Read handle offset count
+
 -- the question that a call asks, where it asks one
 abbrev pub question_asked : Call → Option Question
 question_asked (call.Find name) = Some (Find name)
 question_asked (call.FindByIndex index) = Some (FindByIndex index)
 question_asked (call.Read handle offset count) = Some (Read handle offset count)
-question_asked asked = None
+question_asked other = None
 
 -- what a question is told takes memory: a name, or bytes
 abbrev pub is_told_in_memory : Question → Bool

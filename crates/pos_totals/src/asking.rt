@@ -2,9 +2,9 @@
 ghost use Rattle.std.specs.Prelude.{◌≡◌, IfSome};
 ghost use Rattle.std.specs.Option.{option_map};
 ghost use Rattle.pos_service.specs.Calls.{takes_memory};
-ghost use Rattle.pos_totals.specs.TotalsQuestions.{Find, FindByIndex, Read, MayTell, is_told_in_memory, question_asked};
+ghost use Rattle.pos_totals.specs.TotalsQuestions.{Find, FindByIndex, Read, MayTell, is_told_in_memory, question_asked, question_of};
 ghost use Rattle.pos_totals.specs.TotalsFiles.{file_at};
-ghost use Rattle.pos_totals.specs.Checks.{files_in, file_of, question_of, AreFiles, TellsIn, MayTellIn};
+ghost use Rattle.pos_totals.specs.Checks.{files_in, file_of, AreFiles, TellsIn, MayTellIn};
 ghost use Rattle.pos_totals.specs.Views.{IsSound, totals_of};
 
 use crate::files::{Files, Found, count_files, find_handle, find_name, get_file, see_files};

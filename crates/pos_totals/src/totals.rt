@@ -57,14 +57,14 @@ impl<D: Disk> Totals<D> {
     ghost use Rattle.pos_service.specs.Calls.{has_call, takes_memory};
     ghost use Rattle.pos_totals.specs.HardTotals.{Off};
     ghost use Rattle.pos_totals.specs.TotalsClaims.{ClaimsArea, ReleasesArea};
-    ghost use Rattle.pos_totals.specs.TotalsQuestions.{MayTell};
+    ghost use Rattle.pos_totals.specs.TotalsQuestions.{MayTell, question_of};
     ghost use Rattle.pos_totals.specs.TotalsCalls.{Calls, file_call};
     ghost use Rattle.pos_totals.specs.HardTotals.{in_transaction, with_control};
     ghost use Rattle.pos_totals.specs.TotalsClaims.{without_control};
     ghost use Rattle.pos_totals.specs.HardTotals.{is_ready, files_of, totals_limits};
     ghost use Rattle.pos_totals.specs.TotalsFiles.{free_data};
     ghost use Rattle.pos_totals.specs.Changes.{Arranged, Changes, CommitsBuffer};
-    ghost use Rattle.pos_totals.specs.Checks.{arrangement_of, change_of, question_of};
+    ghost use Rattle.pos_totals.specs.Checks.{change_of};
     ghost use Rattle.pos_totals.specs.Recoveries.{Recovers};
     ghost use Rattle.pos_totals.specs.Views.{IsReady, WhenReady};
 
@@ -151,7 +151,7 @@ impl<D: Disk> Totals<D> {
 
     /// Makes an arrangement for a control.
     pub fn arrange(&mut self, control: usize, arrangement: Arrangement) -> Answer
-        ensures { Arranged self.old control (arrangement_of arrangement) result self.new }
+        ensures { Arranged self.old control arrangement result self.new }
     {
         arrange(
             self.alloc,
