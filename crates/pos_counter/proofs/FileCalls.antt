@@ -1,7 +1,7 @@
 -- What the totals do with a call, for all that their disk may leave before it.
 use Rattle.std.proofs.Common.{◌≡◌, ◌⊎◌, inl, inr, ⊎_elim, ℕ, List, [], ◌∷◌, ◌++◌, Option, Some, None, Result, Ok, Err, Bool, true, false, cond, not, ◌&&◌, refl}
 use Rattle.std.proofs.Common.{sym, ap, ◌∙◌, subst, arith}
-use Rattle.std.specs.Prelude.{MatchOption, MatchResult, IsSome, IsTrue, is_none, is_some}
+use Rattle.std.specs.Prelude.{MatchOption, MatchResult, IsSome, IsTrue, OnErr, is_none, is_some}
 use Rattle.pos_disk.specs.State.{LeavesOnly, Rises}
 use Rattle.pos_disk.specs.declared.device.Disk.{Ghosts}
 use Rattle.pos_image.specs.declared.layout.Layout.{Layout}
@@ -15,12 +15,12 @@ use Rattle.pos_service.specs.Calls.{takes_memory}
 use Rattle.pos_totals.specs.HardTotals.{File, Mode, Off, Ready, Totals, Change}
 use Rattle.pos_totals.specs.TotalsQuestions.{Question, refusals_of_question, MayTell}
 use Rattle.pos_totals.specs.TotalsChanges.{refusals_of_change, number_rows, given_by, Done, DoesChange, RunsOut}
-use Rattle.pos_totals.specs.TotalsArrangements.{Arrangement, ClaimFile, ReleaseFile, BeginTrans, Rollback, after_arrangement, claimed, refusals_of_arrangement}
+use Rattle.pos_totals.specs.TotalsArrangements.{Arrangement, ClaimFile, ReleaseFile, after_arrangement, claimed, refusals_of_arrangement}
 use Rattle.pos_totals.specs.TotalsCommits.{DoesCommit}
 use Rattle.pos_totals.specs.HardTotals.{changes_in, in_transaction, transaction_of, with_files, with_transaction}
 use Rattle.pos_totals.specs.TotalsFiles.{with_each, is_called}
 use Rattle.pos_service.specs.Refusals.{Row, Decided, first_refusal}
-use Rattle.pos_totals.specs.TotalsCalls.{FileCall, Arranges as ArrangesCall, Asks, Commits, Makes, file_call, file_rows}
+use Rattle.pos_totals.specs.TotalsCalls.{Calls, FileCall, Arranges as ArrangesCall, Asks, Commits, Makes, Nothing, file_call, file_rows}
 use Rattle.pos_store.specs.Standing.{Standing, Stands, StandsForEither, LeavesOneOf}
 use Rattle.pos_totals.specs.Changes.{Arranged, Changes, CommitsBuffer, IsOneGroup, PutsGroup, HasFailed, in_doubt}
 use Rattle.pos_totals.specs.Views.{TotalsView, TurnsOff, WhenOff, plain, plain_file}
@@ -103,7 +103,7 @@ same_disk {D = D} old new (inr same) = inr (ap (λ (v : TotalsView D). v.disk) s
 -- ---- a call that puts its changes on the disk as one group, where nothing refuses it
 
 module _ {D : Type 0} (bound : Ghosts D) (old new : TotalsView D) (n : ℕ) (asked : Call) (fc : FileCall)
-    (is : file_call asked ≡ fc) (takes : takes_memory asked ≡ true) (PutsThem : Type 0 → Answer → Totals → Type 0)
+    (is : file_call asked ≡ fc) (PutsThem : Type 0 → Answer → Totals → Type 0)
     (puts_fewer : (P Q : Type 0) → (P → Q) → (result : Answer) → PutsThem P result new.totals → PutsThem Q result new.totals)
     (puts_none : (P Q : Type 0) (result : Answer) → changes_asked old.totals n fc ≡ [] → PutsThem P result new.totals → PutsThem Q result new.totals)
     (keeps_layout : (P : Type 0) (result : Answer) → PutsThem P result new.totals → new.totals.layout ≡ old.totals.layout)
@@ -203,24 +203,24 @@ module _ {D : Type 0} (bound : Ghosts D) (old new : TotalsView D) (n : ℕ) (ask
       by (inl refused) = let no : false ≡ true = subst IsSome none refused in cc
       by (inr empty) = let no : [] ≡ change ∷ cs = sym empty ∙ some in cc
 
-  by_table : (outcome : Result Answer NoMemory) → IsTold outcome → PutsGroup bound old (cond (is_none (first_refusal rows)) changes []) outcome new
-      → (o : Option Answer) → first_refusal rows ≡ o → CallsFiles bound old n asked outcome new
-  by_table (Ok result) told puts (Some refusal) e =
+  by_table : (outcome : Result Answer NoMemory) → OnErr outcome (takes_memory asked ≡ true) → IsTold outcome
+      → PutsGroup bound old (cond (is_none (first_refusal rows)) changes []) outcome new → (o : Option Answer) → first_refusal rows ≡ o → CallsFiles bound old n asked outcome new
+  by_table (Ok result) takes told puts (Some refusal) e =
       let y = subst (λ o. MatchOption o (Puts result) (λ refusal. (result ≡ refusal) × (new.totals ≡ old.totals))) e told.outcome in
       inl (quiet old new old.totals n asked (Ok result) (puts.untouched (ap (λ (o : Option Answer). cond (is_none o) changes []) e)) y.1 (λ left. refl)
       (λ left failures. called_ok n fc asked (part_with old.totals left failures) (part_with old.totals left failures) result is
       (record { outcome = match_at_some (first_refusal rows) refusal _ _ e (y.0, refl) })))
-  by_table (Err want) told puts (Some refusal) e = let bad = sym e ∙ told.0 in cc
-  by_table (Err want) told puts None e =
+  by_table (Err want) takes told puts (Some refusal) e = let bad = sym e ∙ told.0 in cc
+  by_table (Err want) takes told puts None e =
       inl (quiet old new old.totals n asked (Err want) (ap (λ (v : TotalsView D). v.disk) (rested (puts.unchanged (λ h. h)) told.1)) told.1 (λ left. refl)
       (λ left failures. called_err n fc asked (part_with old.totals left failures) want is takes e))
-  by_table (Ok result) told puts None e =
+  by_table (Ok result) takes told puts None e =
       unrefused result e (subst (λ g. PutsGroup bound old g (Ok result) new) (ap (λ (o : Option Answer). cond (is_none o) changes []) e) puts)
       (subst (λ o. MatchOption o (Puts result) (λ refusal. (result ≡ refusal) × (new.totals ≡ old.totals))) e told.outcome) changes refl
 
-  pub group_calls : (outcome : Result Answer NoMemory) → IsTold outcome
+  group_calls : (outcome : Result Answer NoMemory) → OnErr outcome (takes_memory asked ≡ true) → IsTold outcome
       → PutsGroup bound old (cond (is_none (first_refusal rows)) changes []) outcome new → CallsFiles bound old n asked outcome new
-  group_calls outcome told puts = by_table outcome told puts (first_refusal rows) refl
+  group_calls outcome takes told puts = by_table outcome takes told puts (first_refusal rows) refl
 
 -- the disk fails for a weaker cause
 fails_so : (P Q : Type 0) → (P → Q) → (old : Totals) (changes : List Change) (given : Value) (result : Answer) (new : Totals)
@@ -285,16 +285,16 @@ at_once None true change = refl
 at_once None false change = refl
 
 -- a call that asks for a change
-pub change_calls : {D : Type 0} (bound : Ghosts D) (view new : TotalsView D) (n : ℕ) (change : Change) (asked : Call)
-    (outcome : Result Answer NoMemory) → file_call asked ≡ Makes change → takes_memory asked ≡ true
+change_calls : {D : Type 0} (bound : Ghosts D) (view new : TotalsView D) (n : ℕ) (change : Change) (asked : Call)
+    (outcome : Result Answer NoMemory) → file_call asked ≡ Makes change → OnErr outcome (takes_memory asked ≡ true)
     → Changes bound view n change outcome new → CallsFiles bound view n asked outcome new
 change_calls bound view new n change asked outcome is takes changes =
-    group_calls bound view new n asked (Makes change) is takes (λ P result totals. DoesChange P view.totals n change result totals)
+    group_calls bound view new n asked (Makes change) is (λ P result totals. DoesChange P view.totals n change result totals)
     (λ P Q to result does. change_so P Q to view.totals n change result new.totals does)
     (λ P Q result none does. (change_buffered P Q view.totals n change result new.totals none does).0)
     (λ P result does. change_layout P view.totals n change result new.totals does)
     (λ P result none does. (change_buffered P P view.totals n change result new.totals none does).1)
-    (λ left after was is result puts. puts) outcome changes.answer
+    (λ left after was is result puts. puts) outcome takes changes.answer
     (subst (λ g. PutsGroup bound view g outcome new)
     (at_once (first_refusal (refusals_of_change view.totals n change)) (in_transaction view.totals n) change) changes.disk)
 
@@ -321,18 +321,18 @@ commit_of_none P Q old n [] result new none does = (does, ap (λ (t : Totals). t
 commit_of_none P Q old n (change ∷ changes) result new none does = absurd cc
 
 -- a call that commits
-pub commit_calls : {D : Type 0} (bound : Ghosts D) (view new : TotalsView D) (n : ℕ) (asked : Call) (outcome : Result Answer NoMemory)
-    → file_call asked ≡ Commits → takes_memory asked ≡ true → CommitsBuffer bound view n outcome new
+commit_calls : {D : Type 0} (bound : Ghosts D) (view new : TotalsView D) (n : ℕ) (asked : Call) (outcome : Result Answer NoMemory)
+    → file_call asked ≡ Commits → OnErr outcome (takes_memory asked ≡ true) → CommitsBuffer bound view n outcome new
     → CallsFiles bound view n asked outcome new
 commit_calls bound view new n asked outcome is takes commits =
     let ended = with_transaction view.totals n None in
     let buffered = changes_in (transaction_of view.totals n) in
-    group_calls bound view new n asked Commits is takes (λ P result totals. DoesCommit P view.totals ended buffered result totals)
+    group_calls bound view new n asked Commits is (λ P result totals. DoesCommit P view.totals ended buffered result totals)
     (λ P Q to result does. commit_so P Q to view.totals ended buffered result new.totals does)
     (λ P Q result none does. (commit_of_none P Q view.totals n buffered result new.totals none does).0)
     (λ P result does. commit_layout P view.totals n buffered result new.totals does)
     (λ P result none does. (commit_of_none P P view.totals n buffered result new.totals none does).1)
-    (λ left after was is result puts. puts) outcome commits.answer commits.disk
+    (λ left after was is result puts. puts) outcome takes commits.answer commits.disk
 
 -- ---- an arrangement
 
@@ -341,11 +341,10 @@ arranged_settled : (old : Totals) (n : ℕ) (arrangement : Arrangement) (left : 
     → settled (after_arrangement old n arrangement).layout (after_arrangement old n arrangement).mode left ≡ settled old.layout old.mode left
 arranged_settled old n (ClaimFile handle timeout) left = settled_claimed (is_called handle) (Some n) old.layout old.mode left
 arranged_settled old n (ReleaseFile handle) left = settled_claimed (is_called handle) None old.layout old.mode left
-arranged_settled old n BeginTrans left = refl
-arranged_settled old n Rollback left = refl
+arranged_settled old n other left = refl
 
 -- a call that makes an arrangement
-pub arrangement_calls : {D : Type 0} (bound : Ghosts D) (view new : TotalsView D) (n : ℕ) (arrangement : Arrangement) (asked : Call)
+arrangement_calls : {D : Type 0} (bound : Ghosts D) (view new : TotalsView D) (n : ℕ) (arrangement : Arrangement) (asked : Call)
     (result : Answer) → file_call asked ≡ ArrangesCall arrangement → Arranged view n arrangement result new
     → CallsFiles bound view n asked (Ok result) new
 arrangement_calls bound view new n arrangement asked result is arranged = by_table (first_refusal rows) refl
@@ -376,21 +375,31 @@ arrangement_calls bound view new n arrangement asked result is arranged = by_tab
 -- ---- a question
 
 -- a call that asks about the files
-pub question_calls : {D : Type 0} (bound : Ghosts D) (view : TotalsView D) (n : ℕ) (question : Question) (asked : Call)
-    (outcome : Result Answer NoMemory) → file_call asked ≡ Asks question
-    → (takes_memory asked ≡ true) ⊎ ((a : Answer) × (outcome ≡ Ok a)) → MayTell view.totals n question outcome → CallsFiles bound view n asked outcome view
+question_calls : {D : Type 0} (bound : Ghosts D) (view : TotalsView D) (n : ℕ) (question : Question) (asked : Call)
+    (outcome : Result Answer NoMemory) → file_call asked ≡ Asks question → OnErr outcome (takes_memory asked ≡ true)
+    → MayTell view.totals n question outcome → CallsFiles bound view n asked outcome view
 question_calls bound view n question asked outcome is takes tells =
     inl (quiet view view view.totals n asked outcome refl refl (λ left. refl) (λ left failures. told left failures outcome takes tells))
   where
-    told : (left : List Standing) (failures : ℕ) (o : Result Answer NoMemory) → (takes_memory asked ≡ true) ⊎ ((a : Answer) × (o ≡ Ok a))
+    told : (left : List Standing) (failures : ℕ) (o : Result Answer NoMemory) → OnErr o (takes_memory asked ≡ true)
         → MayTell view.totals n question o → FilesCalled n asked (part_with view.totals left failures) o (part_with view.totals left failures)
     told left failures (Ok result) takes h =
         let part = part_with view.totals left failures in
         called_ok n (Asks question) asked part part result is (record {
           outcome = match_weaker (first_refusal (refusals_of_question view.totals n question)) _ _ _ _ (λ y. (y, refl)) (λ refusal y. (y.0, refl)) h.outcome;
         })
-    told left failures (Err want) (inl takes) h = called_err n (Asks question) asked (part_with view.totals left failures) want is takes h
-    told left failures (Err want) (inr fine) h =
-        let bad : Err want ≡ Ok fine.0 = fine.1 in
-        let none : ⊥ = cc in
-        absurd none
+    told left failures (Err want) takes h = called_err n (Asks question) asked (part_with view.totals left failures) want is takes h.1
+
+-- ---- any call of the totals' own
+
+pub calls_files : {D : Type 0} (bound : Ghosts D) (view new : TotalsView D) (n : ℕ) (asked : Call) (outcome : Result Answer NoMemory)
+    (fc : FileCall) → file_call asked ≡ fc → OnErr outcome (takes_memory asked ≡ true) → Calls bound view n fc outcome new
+    → CallsFiles bound view n asked outcome new
+calls_files bound view new n asked outcome (Asks question) is takes calls =
+    subst (CallsFiles bound view n asked outcome) (sym calls.1) (question_calls bound view n question asked outcome is takes calls.0)
+calls_files bound view new n asked outcome (Makes change) is takes calls = change_calls bound view new n change asked outcome is takes calls
+calls_files bound view new n asked (Ok result) (ArrangesCall arrangement) is takes calls =
+    arrangement_calls bound view new n arrangement asked result is calls
+calls_files bound view new n asked (Err want) (ArrangesCall arrangement) is takes calls = absurd calls
+calls_files bound view new n asked outcome Commits is takes calls = commit_calls bound view new n asked outcome is takes calls
+calls_files bound view new n asked outcome Nothing is takes calls = absurd calls

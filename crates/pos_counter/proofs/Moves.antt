@@ -7,7 +7,7 @@ use Rattle.std.proofs.lemmas.List.{append-nil}
 use Rattle.pos_dir.specs.Changes.{outcome, outcome_of_all, and_then}
 use Rattle.pos_dir.specs.Files.{AreWider, has_name, total_size}
 use Rattle.pos_dir.specs.declared.change.Change.{Change}
-use Rattle.pos_dir.specs.declared.change.Change.TheVariants.{Create, Delete, Rename, Write, SetAll}
+use Rattle.pos_dir.specs.declared.change.Change.TheVariants.{Create}
 use Rattle.pos_dir.specs.declared.fault.DirectoryFault.{DirectoryFault}
 use Rattle.pos_dir.specs.declared.fault.DirectoryFault.TheVariants.{Exists, NoRoom}
 use Rattle.pos_dir.specs.declared.file.File.{File as PlainFile}
@@ -53,36 +53,32 @@ module _ (limits wider : Limits) (are : AreWider limits wider) where
   wider_outcome files (Create name size) next done =
       wider_room (has_name files name) (nat_lt (length files) limits.files && nat_le (total_size files + size) limits.bytes) files size
       (files ++ record { name = name; bytes = replicate size 0 } ∷ []) next refl done
-  wider_outcome files (Delete index) next done = done
-  wider_outcome files (Rename index name) next done = done
-  wider_outcome files (Write index offset bytes) next done = done
-  wider_outcome files (SetAll index value) next done = done
+  wider_outcome files other next done = done
+
+  -- what follows on a change or a group follows within the wider limits too
+  wider_then : (made by_wider : Outcome) (follows by_wider_follows : List PlainFile → Outcome) (last : List PlainFile)
+      → ((next : List PlainFile) → made ≡ Ok next → by_wider ≡ Ok next)
+      → ((next : List PlainFile) → follows next ≡ Ok last → by_wider_follows next ≡ Ok last)
+      → and_then made follows ≡ Ok last → and_then by_wider by_wider_follows ≡ Ok last
+  wider_then (Err fault) by_wider follows by_wider_follows last first second done = absurd cc
+  wider_then (Ok next) by_wider follows by_wider_follows last first second done =
+      ap (λ o. and_then o by_wider_follows) (first next refl) ∙ second next done
 
   -- so is a group
   wider_group : (files : List PlainFile) (changes : List Change) (last : List PlainFile) → outcome_of_all limits files changes ≡ Ok last
       → outcome_of_all wider files changes ≡ Ok last
   wider_group files [] last done = done
-  wider_group files (change ∷ changes) last done = by (outcome limits files change) refl done (λ next. wider_group next changes last)
-    where
-      by : (made : Outcome) → outcome limits files change ≡ made → and_then made (λ next. outcome_of_all limits next changes) ≡ Ok last
-          → ((next : List PlainFile) → outcome_of_all limits next changes ≡ Ok last → outcome_of_all wider next changes ≡ Ok last)
-          → and_then (outcome wider files change) (λ next. outcome_of_all wider next changes) ≡ Ok last
-      by (Err fault) is done rest = absurd cc
-      by (Ok next) is done rest =
-          ap (λ o. and_then o (λ then_files. outcome_of_all wider then_files changes)) (wider_outcome files change next is) ∙ rest next done
+  wider_group files (change ∷ changes) last done =
+      wider_then (outcome limits files change) (outcome wider files change) (λ next. outcome_of_all limits next changes)
+      (λ next. outcome_of_all wider next changes) last (wider_outcome files change) (λ next. wider_group next changes last) done
 
   -- and all groups of a history
   wider_groups : (files : List PlainFile) (groups : List Group) (last : List PlainFile) → after_groups limits files groups ≡ Ok last
       → after_groups wider files groups ≡ Ok last
   wider_groups files [] last done = done
-  wider_groups files (group ∷ groups) last done = by (outcome_of_all limits files group) refl done (λ next. wider_groups next groups last)
-    where
-      by : (made : Outcome) → outcome_of_all limits files group ≡ made → and_then made (λ next. after_groups limits next groups) ≡ Ok last
-          → ((next : List PlainFile) → after_groups limits next groups ≡ Ok last → after_groups wider next groups ≡ Ok last)
-          → and_then (outcome_of_all wider files group) (λ next. after_groups wider next groups) ≡ Ok last
-      by (Err fault) is done rest = absurd cc
-      by (Ok next) is done rest =
-          ap (λ o. and_then o (λ then_files. after_groups wider then_files groups)) (wider_group files group next is) ∙ rest next done
+  wider_groups files (group ∷ groups) last done =
+      wider_then (outcome_of_all limits files group) (outcome_of_all wider files group) (λ next. after_groups limits next groups)
+      (λ next. after_groups wider next groups) last (wider_group files group) (λ next. wider_groups next groups last) done
 
 -- layout 2 has the wider limits
 moves_wider : AreWider LAYOUT_1 LAYOUT_2

@@ -26,24 +26,5 @@ pub(crate) fn call_files<D: Disk>(
     requires { has_call category.HardTotals call.now ≡ true }
     ensures { CallsFiles D.Disk totals.old number call.now result totals.new }
 {
-    match call {
-        Call::Create(name, size, detection) => {
-            totals.create(number, name.as_slice(), *size, *detection)
-        }
-        Call::Delete(name) => totals.delete(number, name.as_slice()),
-        Call::Find(name) => Ok(totals.find(number, name.as_slice())),
-        Call::FindByIndex(index) => totals.find_by_index(number, *index),
-        Call::Read(handle, offset, count) => totals.read(number, *handle, *offset, *count),
-        Call::Write(handle, offset, bytes) => {
-            totals.write(number, *handle, *offset, bytes.as_slice())
-        }
-        Call::SetAll(handle, value) => totals.set_all(number, *handle, *value),
-        Call::Rename(handle, name) => totals.rename(number, *handle, name.as_slice()),
-        Call::ClaimFile(handle, timeout) => Ok(totals.claim_file(number, *handle, *timeout)),
-        Call::ReleaseFile(handle) => Ok(totals.release_file(number, *handle)),
-        Call::BeginTrans => Ok(totals.begin_trans(number)),
-        Call::CommitTrans => totals.commit_trans(number),
-        Call::Rollback => Ok(totals.rollback(number)),
-        _ => unreachable!(),
-    }
+    totals.call(number, call)
 }

@@ -38,7 +38,7 @@ use Rattle.pos_totals.proofs.Putting.{open_table, closed_table, follows, their_f
 use Rattle.pos_totals.proofs.Putting.{put_down, put_group, doubt_group}
 use Rattle.pos_totals.specs.Buffers.{IsBuffered}
 use Rattle.pos_totals.specs.Changes.{CommitsBuffer, HasFailed, IsOneGroup}
-use Rattle.pos_totals.specs.Checks.{answer_of, Gathers}
+use Rattle.pos_totals.specs.Checks.{answer_of, EndsBuffer, Gathers}
 use Rattle.pos_totals.specs.Groups.{group_of}
 use Rattle.pos_totals.specs.Views.{TotalsView, plain, plain_file, tag_of, tags_of, mode_of, totals_of, view_of, with_tags, HasDirectory, IsSound}
 use Rattle.pos_totals.specs.Views.{LeavesTheirFiles}
@@ -139,7 +139,7 @@ module _ {D : Type 0} (bound : Ghosts D) (disk : D)
   }
 
   -- a commit of nothing
-  pub ends : first_refusal (refusals_of_commit totals control) ≡ None → transaction_at holdings.transactions control ≡ Some []
+  ends : first_refusal (refusals_of_commit totals control) ≡ None → transaction_at holdings.transactions control ≡ Some []
       → (new : List (Option (List Change))) → new ≡ slice_set holdings.transactions control None
       → CommitsBuffer bound view control (Ok (answer.Done value.Empty)) (view_at disk state (record holdings { transactions = new }))
       × IsSound layout state (record holdings { transactions = new })
@@ -345,7 +345,7 @@ applicable layout (StoreReady files sequence) holdings control group directory s
 module _ {D : Type 0} (bound : Ghosts D) (disk : D)
     (only : bound.honest disk → (bytes : List ℕ) → (bound.state disk).left_since (bound.state disk).moment bytes → MayLeave (bound.state disk) bytes)
     (holdings : Holdings) (control : ℕ) (group : List FileChange) where
-  pub store_committed : (layout : Layout) (state : State) (tail : ℕ) (new : StoreView D) → HasDirectory holdings.layout state
+  store_committed : (layout : Layout) (state : State) (tail : ℕ) (new : StoreView D) → HasDirectory holdings.layout state
       → IsSound layout state holdings → (bound.honest disk → LeavesItsFiles layout state (bound.state disk))
       → first_refusal (refusals_of_commit (totals_of state holdings) control) ≡ None
       → Gathers (files_of (totals_of state holdings).mode) (transaction_at holdings.transactions control) group
@@ -375,3 +375,20 @@ module _ {D : Type 0} (bound : Ghosts D) (disk : D)
       (λ h. leaves_found layout holdings.layout (StoreReady files sequence) (bound.state disk) sound.found (leaves h)) new cause
       (subst (λ (g : List FileChange). Commits bound (record { disk = disk; layout = holdings.layout; state = StoreReady files sequence; tail = tail }) g
       (Err cause) new) gathered.made (committed_found bound disk layout holdings.layout files sequence tail sound.found commits))
+
+-- a commit that is done, with a group on the disk or with nothing to do
+pub store_ended : {D : Type 0} (bound : Ghosts D) (disk : D)
+    (only : bound.honest disk → (bytes : List ℕ) → (bound.state disk).left_since (bound.state disk).moment bytes → MayLeave (bound.state disk) bytes)
+    (layout : Layout) (state : State) (tail : ℕ) (holdings : Holdings) (control : ℕ) (new : StoreView D) → HasDirectory holdings.layout state
+    → IsSound layout state holdings → (bound.honest disk → LeavesItsFiles layout state (bound.state disk))
+    → first_refusal (refusals_of_commit (totals_of state holdings) control) ≡ None
+    → EndsBuffer bound (record { disk = disk; layout = layout; state = state; tail = tail }) (files_of (totals_of state holdings).mode)
+    (transaction_at holdings.transactions control) new
+    → (transactions : List (Option (List Change))) → transactions ≡ slice_set holdings.transactions control None
+    → CommitsBuffer bound (view_at disk state holdings) control (Ok (answer.Done value.Empty))
+    (view_of new (record holdings { transactions = transactions })) × IsSound new.layout new.state (record holdings { transactions = transactions })
+store_ended bound disk only layout state tail holdings control new directory sound leaves passes (inl none) transactions is =
+    rw none.1 (ends bound disk only layout state holdings control directory sound leaves passes none.0 transactions is)
+store_ended bound disk only layout state tail holdings control new directory sound leaves passes (inr puts) transactions is =
+    store_committed bound disk only holdings control puts.group layout state tail new directory sound leaves passes puts.gathered puts.commits
+    transactions is

@@ -1,5 +1,5 @@
 -- What the checks of a call find, before anything is done.
-use Rattle.std.specs.Prelude.{◌≡◌, ◌≤◌, ◌+◌, ℕ, ℤ, pos, Bool, false, List, [], ◌∷◌, length, Option, Some, None, IfSome, MatchResult, Result, Ok, Err, ⊤}
+use Rattle.std.specs.Prelude.{◌≡◌, ◌⊎◌, ◌≤◌, ◌+◌, ℕ, ℤ, pos, Bool, true, false, List, [], ◌∷◌, length, Option, Some, None, IfSome, MatchResult, Result, Ok, Err, ⊤}
 use Rattle.std.specs.List.{find}
 use Rattle.std.specs.Option.{option_map}
 use Rattle.pos_dir.specs.Changes.{flaw_of}
@@ -16,7 +16,7 @@ use Rattle.pos_totals.specs.HardTotals.{transaction_of, files_of}
 use Rattle.pos_totals.specs.TotalsChanges.{change_rows, refusals_of_change, spent_by}
 use Rattle.pos_totals.specs.TotalsArrangements.{Arrangement, arrangement_rows, refusals_of_arrangement}
 use Rattle.pos_totals.specs.TotalsCommits.{refusals_of_commit}
-use Rattle.pos_totals.specs.TotalsQuestions.{Question, question_rows, told_of}
+use Rattle.pos_totals.specs.TotalsQuestions.{Question, question_rows, told_of, is_told_in_memory}
 use Rattle.pos_service.specs.Refusals.{Row, first_refusal, Decided}
 use Rattle.pos_disk.specs.declared.device.Disk.{Ghosts}
 use Rattle.pos_store.specs.Commits.{Commits}
@@ -90,7 +90,7 @@ TellsIn files control question result =
 abbrev pub MayTellIn : List File → ℕ → Question → Result Answer NoMemory → Type 0
 MayTellIn files control question outcome =
     MatchResult outcome (λ result. TellsIn files control question result)
-    (λ want. first_refusal (question_rows files control question) ≡ None)
+    (λ want. (is_told_in_memory question ≡ true) × (first_refusal (question_rows files control question) ≡ None))
 
 -- Nothing refuses the change, and a group takes it.
 pub record Passes (limits : TotalsLimits) (files : List File) (control : ℕ) (spent : Option ℕ) (change : Change)
@@ -158,16 +158,19 @@ pub record PutsBuffer {D : Type 0} (bound : Ghosts D) (old : StoreView D) (files
   pub gathered : Gathers files transaction group
   pub commits : Commits bound old group result new
 
+-- nothing is buffered, and the store is as it was; or a group was made of what is buffered, and is on the disk
+abbrev pub EndsBuffer : {D : Type 0} → Ghosts D → StoreView D → List File → Option (List Change) → StoreView D → Type 0
+EndsBuffer bound old files transaction new =
+    ((transaction ≡ Some []) × (new ≡ old)) ⊎ PutsBuffer bound old files transaction (Ok tt) new
+
 -- what becomes of a commit, by its table, and then by the store
 abbrev pub CommitsAt : {D : Type 0} → Ghosts D → StoreView D → Totals → ℕ → Result Commitment NoMemory
     → StoreView D → Type 0
 CommitsAt bound old totals control (Ok (commitment.Refused refusal)) new =
     (first_refusal (refusals_of_commit totals control) ≡ Some refusal) × (new ≡ old)
-CommitsAt bound old totals control (Ok commitment.Nothing) new =
-    (first_refusal (refusals_of_commit totals control) ≡ None) × (transaction_of totals control ≡ Some []) × (new ≡ old)
 CommitsAt bound old totals control (Ok commitment.Done) new =
     (first_refusal (refusals_of_commit totals control) ≡ None)
-    × PutsBuffer bound old (files_of totals.mode) (transaction_of totals control) (Ok tt) new
+    × EndsBuffer bound old (files_of totals.mode) (transaction_of totals control) new
 CommitsAt bound old totals control (Ok (commitment.Failed cause)) new =
     (first_refusal (refusals_of_commit totals control) ≡ None)
     × PutsBuffer bound old (files_of totals.mode) (transaction_of totals control) (Err cause) new

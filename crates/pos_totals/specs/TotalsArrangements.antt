@@ -5,20 +5,25 @@ use Rattle.std.specs.Option.{option_flatten}
 use Rattle.pos_service.specs.declared.answer.Answer.{Answer}
 use Rattle.pos_service.specs.declared.answer.Answer.TheVariants as answer
 use Rattle.pos_service.specs.declared.answer.Value.TheVariants as value
+use Rattle.pos_service.specs.declared.call.Call.{Call}
+use Rattle.pos_service.specs.declared.call.Call.TheVariants as call
 use Rattle.pos_service.specs.declared.code.Code.TheVariants as code
 use Rattle.pos_service.specs.Claims.{is_foreign, is_timeout}
 use Rattle.pos_service.specs.Refusals.{Row, when, Decided}
 use Rattle.pos_totals.specs.HardTotals.{File, Change, Totals, with_transaction, with_files}
+-- an arrangement that a control makes for itself, as a call asks for it, without the disk
+pub use Rattle.pos_totals.specs.declared.arranging.Arrangement.{Arrangement}
+pub use Rattle.pos_totals.specs.declared.arranging.Arrangement.TheVariants.{ClaimFile, ReleaseFile, BeginTrans, Rollback}
 use Rattle.pos_totals.specs.TotalsFiles.{is_called, has_file, is_own_file, is_foreign_file, with_each}
 use Rattle.pos_totals.specs.TotalsRows.{while_ready}
 
--- an arrangement that a control makes for itself, as a call asks for it, without the disk: claimFile, releaseFile,
--- beginTrans, rollback
-pub data Arrangement : Type 0 where
-  ClaimFile : (handle timeout : ℤ) → Arrangement
-  ReleaseFile : (handle : ℤ) → Arrangement
-  BeginTrans : Arrangement
-  Rollback : Arrangement
+-- the arrangement that a call makes, where it makes one
+abbrev pub arrangement_asked : Call → Option Arrangement
+arrangement_asked (call.ClaimFile handle timeout) = Some (ClaimFile handle timeout)
+arrangement_asked (call.ReleaseFile handle) = Some (ReleaseFile handle)
+arrangement_asked call.BeginTrans = Some BeginTrans
+arrangement_asked call.Rollback = Some Rollback
+arrangement_asked asked = None
 
 -- a transaction may begin: the control has a place for one, and is in none
 abbrev pub may_begin : Option (Option (List Change)) → Bool

@@ -7,6 +7,8 @@ use Rattle.pos_service.specs.declared.answer.Answer.{Answer}
 use Rattle.pos_service.specs.declared.answer.Answer.TheVariants as answer
 use Rattle.pos_service.specs.declared.answer.Value.{Value}
 use Rattle.pos_service.specs.declared.answer.Value.TheVariants as value
+use Rattle.pos_service.specs.declared.call.Call.{Call}
+use Rattle.pos_service.specs.declared.call.Call.TheVariants as call
 use Rattle.pos_service.specs.declared.code.Code.TheVariants as code
 use Rattle.pos_service.specs.declared.memory.NoMemory.{NoMemory}
 use Rattle.pos_service.specs.Numbers.{is_natural, is_up_to}
@@ -15,6 +17,15 @@ use Rattle.pos_totals.specs.HardTotals.{TotalsLimits, totals_limits, last_number
 use Rattle.pos_totals.specs.HardTotals.{SetAll, Totals, transaction_of, in_transaction, sequences_after, after_disk_fault, with_transaction, is_last}
 use Rattle.pos_totals.specs.TotalsFiles.{is_name, is_named, is_called, has_file, is_foreign_file, has_room, is_range_of, overwritten, with_each}
 use Rattle.pos_totals.specs.TotalsRows.{when_no_room, while_ready, when_foreign_area}
+
+-- the change that a call asks for, where it asks for one; error detection has no effect
+abbrev pub change_asked : Call → Option Change
+change_asked (call.Create name size detection) = Some (Create name size)
+change_asked (call.Delete name) = Some (Delete name)
+change_asked (call.Rename handle name) = Some (Rename handle name)
+change_asked (call.Write handle offset bytes) = Some (Write handle offset bytes)
+change_asked (call.SetAll handle n) = Some (SetAll handle n)
+change_asked asked = None
 
 -- the file that a change is of, where there is the file; a new one isn't there yet
 abbrev pub changed_file : List File → Change → Option File

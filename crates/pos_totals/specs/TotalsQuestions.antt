@@ -1,14 +1,18 @@
 -- Questions about the files: find, findByIndex, read (chapter Hard Totals).
-use Rattle.std.specs.Prelude.{◌≡◌, ℕ, ℤ, pos, nat_abs, not, List, [], ◌∷◌, length, take, drop, Option, Some, None, is_none, Result, MatchResult}
+use Rattle.std.specs.Prelude.{◌≡◌, ℕ, ℤ, pos, nat_abs, Bool, true, false, not, List, [], ◌∷◌, length, take, drop, Option, Some, None, is_none, Result, MatchResult}
 use Rattle.std.specs.List.{find}
 use Rattle.pos_service.specs.declared.answer.Answer.{Answer}
 use Rattle.pos_service.specs.declared.answer.Answer.TheVariants as answer
 use Rattle.pos_service.specs.declared.answer.Value.{Value}
 use Rattle.pos_service.specs.declared.answer.Value.TheVariants as value
+use Rattle.pos_service.specs.declared.call.Call.{Call}
+use Rattle.pos_service.specs.declared.call.Call.TheVariants as call
 use Rattle.pos_service.specs.declared.code.Code.TheVariants as code
 use Rattle.pos_service.specs.declared.memory.NoMemory.{NoMemory}
 use Rattle.pos_service.specs.Refusals.{Row, when, first_refusal, Decided}
 use Rattle.pos_totals.specs.HardTotals.{File, Totals, files_of}
+use Rattle.pos_totals.specs.declared.asking.Question.{Question as Asked}
+use Rattle.pos_totals.specs.declared.asking.Question.TheVariants as asked
 use Rattle.pos_totals.specs.TotalsFiles.{is_named, is_called, file_at, has_file, is_foreign_file, is_range_of}
 use Rattle.pos_totals.specs.TotalsRows.{while_ready, when_foreign_area}
 
@@ -17,6 +21,25 @@ pub data Question : Type 0 where
   Find : (name : List ℕ) → Question
   FindByIndex : (index : ℤ) → Question
   Read : (handle offset count : ℤ) → Question
+
+-- the question that is asked
+abbrev pub question_of : Asked → Question
+question_of (asked.Find name) = Find name.now
+question_of (asked.FindByIndex index) = FindByIndex index
+question_of (asked.Read handle offset count) = Read handle offset count
+
+-- the question that a call asks, where it asks one
+abbrev pub question_asked : Call → Option Question
+question_asked (call.Find name) = Some (Find name)
+question_asked (call.FindByIndex index) = Some (FindByIndex index)
+question_asked (call.Read handle offset count) = Some (Read handle offset count)
+question_asked other = None
+
+-- what a question is told takes memory: a name, or bytes
+abbrev pub is_told_in_memory : Question → Bool
+is_told_in_memory (Find name) = false
+is_told_in_memory (FindByIndex index) = true
+is_told_in_memory (Read handle offset count) = true
 
 -- The refusals of each question, in their order.
 abbrev pub question_rows : List File → ℕ → Question → List Row
@@ -50,8 +73,9 @@ Tells totals control question result =
     Decided (refusals_of_question totals control question) result (Unit {0})
     (result ≡ answer.Done (told_of (files_of totals.mode) question))
 
--- The same where the answer takes memory, which is wanted only behind the table.
+-- The same where memory may be wanted: by a question that is told in it alone, and only behind the table.
 abbrev pub MayTell : Totals → ℕ → Question → Result Answer NoMemory → Type 0
 MayTell totals control question outcome =
     MatchResult outcome (λ result. Tells totals control question result)
-    (λ want. first_refusal (refusals_of_question totals control question) ≡ None)
+    (λ want. (is_told_in_memory question ≡ true)
+    × (first_refusal (refusals_of_question totals control question) ≡ None))

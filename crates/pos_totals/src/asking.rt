@@ -1,7 +1,8 @@
 //! The questions about the files, by their tables.
-ghost use Rattle.std.specs.Prelude.{◌≡◌};
+ghost use Rattle.std.specs.Prelude.{◌≡◌, IfSome};
 ghost use Rattle.std.specs.Option.{option_map};
-ghost use Rattle.pos_totals.specs.TotalsQuestions.{Find, FindByIndex, Read, Tells, MayTell};
+ghost use Rattle.pos_service.specs.Calls.{takes_memory};
+ghost use Rattle.pos_totals.specs.TotalsQuestions.{Find, FindByIndex, Read, MayTell, is_told_in_memory, question_asked, question_of};
 ghost use Rattle.pos_totals.specs.TotalsFiles.{file_at};
 ghost use Rattle.pos_totals.specs.Checks.{files_in, file_of, AreFiles, TellsIn, MayTellIn};
 ghost use Rattle.pos_totals.specs.Views.{IsSound, totals_of};
@@ -12,26 +13,100 @@ use crate::numbers::to_range;
 use pos_disk::Disk;
 use pos_service::claims::is_foreign;
 use pos_service::numbers::to_natural;
-use pos_service::{Answer, Bytes, Code, NoMemory, Value};
+use pos_service::{Answer, Bytes, Call, Code, NoMemory, Value};
 use pos_store::Store;
 use std::alloc::Global;
 
-/// The handle and the size of the file with a name.
-pub fn find<D: Disk>(store: &Store<D>, holdings: &Holdings, control: usize, name: &[u8]) -> Answer
-    requires sound { IsSound store.now.layout store.now.state holdings.now }
-    ensures { Tells (totals_of store.now.state holdings.now) control (Find name.now) result }
-{
-    if is_foreign(control, holdings.area) {
-        return Answer::Refused(Code::Claimed, 0);
-    }
-    match see_files(store, holdings) {
-        Some(files) => find_in(files, control, name),
-        None => Answer::Refused(Code::Failure, 0),
+/// A question about the files, as a call asks it.
+#[derive(Clone, Copy)]
+pub enum Question<'a> {
+    /// `find`: the handle and the size of the file with a name. It takes no memory.
+    ///
+    /// Refused with E_NOEXIST where no file has the name.
+    Find {
+        name: &'a [u8],
+    },
+    /// `findByIndex`: the name of the file at an index, counted from 0 in the order of creation.
+    ///
+    /// Refused with E_ILLEGAL where no file has the index.
+    FindByIndex {
+        index: i128,
+    },
+    /// `read`: so many bytes of a file from an offset on.
+    ///
+    /// Refused with E_ILLEGAL where no file has the handle, or the range doesn't lie within the file, E_CLAIMED where
+    /// another control has claimed the file.
+    Read {
+        handle: i128,
+        offset: i128,
+        count: i128,
+    },
+}
+
+impl<'a> Question<'a> {
+    /// The question that a call asks, where it asks one.
+    pub(crate) fn of(call: &'a Call) -> Option<Question<'a>>
+        ensures question { option_map question_of result ≡ question_asked call.now }
+        ensures memory { IfSome result (λ question. is_told_in_memory (question_of question) ≡ takes_memory call.now) }
+    {
+        match call {
+            Call::Find(name) => Some(Question::Find {
+                name: name.as_slice(),
+            }),
+            Call::FindByIndex(index) => Some(Question::FindByIndex { index: *index }),
+            Call::Read(handle, offset, count) => Some(Question::Read {
+                handle: *handle,
+                offset: *offset,
+                count: *count,
+            }),
+            _ => None,
+        }
     }
 }
 
-/// The handle and the size of the file with a name, where the totals are ready.
-fn find_in(files: Files<'_>, control: usize, name: &[u8]) -> Answer
+/// What a question is answered, by its table.
+pub fn ask<D: Disk>(
+    alloc: Global,
+    store: &Store<D>,
+    holdings: &Holdings,
+    control: usize,
+    question: Question<'_>,
+) -> Result<Answer, NoMemory>
+    requires sound { IsSound store.now.layout store.now.state holdings.now }
+    ensures { MayTell (totals_of store.now.state holdings.now) control (question_of question.entry) result }
+{
+    if is_foreign(control, holdings.area) {
+        return Ok(Answer::Refused(Code::Claimed, 0));
+    }
+    match see_files(store, holdings) {
+        Some(files) => ask_in(alloc, files, control, question),
+        None => Ok(Answer::Refused(Code::Failure, 0)),
+    }
+}
+
+/// The same where the totals are ready.
+fn ask_in(
+    alloc: Global,
+    files: Files<'_>,
+    control: usize,
+    question: Question<'_>,
+) -> Result<Answer, NoMemory>
+    requires { AreFiles files }
+    ensures { MayTellIn (files_in files.entry) control (question_of question.entry) result }
+{
+    match question {
+        Question::Find { name } => Ok(find(files, control, name)),
+        Question::FindByIndex { index } => find_by_index(alloc, files, control, index),
+        Question::Read {
+            handle,
+            offset,
+            count,
+        } => read(alloc, files, control, handle, offset, count),
+    }
+}
+
+/// The handle and the size of the file with a name.
+fn find(files: Files<'_>, control: usize, name: &[u8]) -> Answer
     requires { AreFiles files }
     ensures { TellsIn (files_in files.entry) control (Find name.now) result }
 {
@@ -45,27 +120,7 @@ fn find_in(files: Files<'_>, control: usize, name: &[u8]) -> Answer
 }
 
 /// The name of the file at an index.
-pub fn find_by_index<D: Disk>(
-    alloc: Global,
-    store: &Store<D>,
-    holdings: &Holdings,
-    control: usize,
-    index: i128,
-) -> Result<Answer, NoMemory>
-    requires sound { IsSound store.now.layout store.now.state holdings.now }
-    ensures { MayTell (totals_of store.now.state holdings.now) control (FindByIndex index) result }
-{
-    if is_foreign(control, holdings.area) {
-        return Ok(Answer::Refused(Code::Claimed, 0));
-    }
-    match see_files(store, holdings) {
-        Some(files) => find_by_index_in(alloc, files, control, index),
-        None => Ok(Answer::Refused(Code::Failure, 0)),
-    }
-}
-
-/// The name of the file at an index, where the totals are ready.
-fn find_by_index_in(
+fn find_by_index(
     alloc: Global,
     files: Files<'_>,
     control: usize,
@@ -95,29 +150,7 @@ fn file_by_index<'a>(files: Files<'a>, index: i128) -> Option<Found<'a>>
 }
 
 /// A range of the bytes of the file with a handle.
-pub fn read<D: Disk>(
-    alloc: Global,
-    store: &Store<D>,
-    holdings: &Holdings,
-    control: usize,
-    handle: i128,
-    offset: i128,
-    count: i128,
-) -> Result<Answer, NoMemory>
-    requires sound { IsSound store.now.layout store.now.state holdings.now }
-    ensures { MayTell (totals_of store.now.state holdings.now) control (Read handle offset count) result }
-{
-    if is_foreign(control, holdings.area) {
-        return Ok(Answer::Refused(Code::Claimed, 0));
-    }
-    match see_files(store, holdings) {
-        Some(files) => read_in(alloc, files, control, handle, offset, count),
-        None => Ok(Answer::Refused(Code::Failure, 0)),
-    }
-}
-
-/// A range of the bytes of the file with a handle, where the totals are ready.
-fn read_in(
+fn read(
     alloc: Global,
     files: Files<'_>,
     control: usize,

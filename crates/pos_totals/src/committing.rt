@@ -29,11 +29,11 @@ pub enum Plan<'a> {
     Group(Group<'a>),
 }
 
-/// What became of a commit: it was refused, there was nothing to do, the group is on the disk, or the store refused it.
+/// What became of a commit: it was refused, it is done, with a group on the disk or with nothing to do, or the store
+/// refused its group.
 #[derive(Drop)]
 pub enum Commitment {
     Refused(Answer),
-    Nothing,
     Done,
     Failed(StoreFault),
 }
@@ -54,10 +54,6 @@ pub fn commit_trans<D: Disk>(
     leaves_its_files(store);
     match commit_buffer(alloc, store, holdings, control) {
         Ok(Commitment::Refused(refusal)) => Ok(refusal),
-        Ok(Commitment::Nothing) => {
-            holdings.transactions.set(control, None);
-            Ok(Answer::Done(Value::Empty))
-        }
         Ok(Commitment::Done) => {
             holdings.transactions.set(control, None);
             Ok(Answer::Done(Value::Empty))
@@ -83,7 +79,7 @@ fn commit_buffer<D: Disk>(
 {
     match make_plan(alloc, store, holdings, control) {
         Ok(Plan::Refused(refusal)) => Ok(Commitment::Refused(refusal)),
-        Ok(Plan::Nothing) => Ok(Commitment::Nothing),
+        Ok(Plan::Nothing) => Ok(Commitment::Done),
         Ok(Plan::Group(group)) => match store.commit(&group) {
             Ok(()) => Ok(Commitment::Done),
             Err(fault) => Ok(Commitment::Failed(fault)),

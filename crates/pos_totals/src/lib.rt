@@ -1,6 +1,7 @@
 //! The calls of Hard Totals on files, each change of which is one group on the disk (chapter Hard Totals).
 #![tactic(auto)]
 
+mod arranging;
 mod asking;
 mod changing;
 mod checking;
@@ -18,5 +19,8 @@ mod totals;
 mod transacting;
 mod transactions;
 
+pub use arranging::Arrangement;
+pub use asking::Question;
 pub use fault::RecoveryFault;
+pub use request::Request;
 pub use totals::Totals;

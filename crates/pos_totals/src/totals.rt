@@ -1,8 +1,9 @@
-ghost use Rattle.std.specs.Prelude.{◌≡◌, [], length, None, OnOk, OnErr};
+ghost use Rattle.std.specs.Prelude.{◌≡◌, [], length, true, None, OnOk, OnErr};
 
-use crate::asking::{find, find_by_index, read};
+use crate::arranging::{Arrangement, arrange};
+use crate::asking::{Question, ask};
 use crate::changing::change;
-use crate::claims::{claim_area, claim_file, release_area, release_file};
+use crate::claims::{claim_area, release_area};
 use crate::committing::commit_trans;
 use crate::fault::RecoveryFault;
 use crate::files::{count_files, measure_free, see_files, totals_size};
@@ -10,11 +11,11 @@ use crate::handles::Handles;
 use crate::holdings::Holdings;
 use crate::recovering::recover;
 use crate::request::Request;
-use crate::transacting::{begin_trans, drop_control, rollback};
+use crate::transacting::drop_control;
 use crate::transactions::Transactions;
 use pos_disk::Disk;
 use pos_image::Layout;
-use pos_service::{Answer, Code, NoMemory};
+use pos_service::{Answer, Call, Code, NoMemory};
 use pos_store::{Mode, Store};
 use std::alloc::Global;
 use std::marker::Model;
@@ -24,15 +25,15 @@ use std::marker::Model;
 /// see the disk, the files with their handles and claims, or Off, the next handle, the control that has claimed the
 /// area, and what each control has buffered in a transaction.
 ///
-/// Changes, questions and `commit_trans` answer E_CLAIMED where another control has claimed the area; these, the claims
-/// of files, `begin_trans` and `rollback` then answer E_FAILURE while the totals are off, then by their tables of
+/// Changes, questions and commits answer E_CLAIMED where another control has claimed the area; these and arrangements
+/// then answer E_FAILURE while the totals are off, then by their tables of
 /// refusals, and want of memory behind those. A refused call changes nothing and doesn't touch the disk. Where the disk
 /// fails in a change, the answer is E_FAILURE, the totals are off, and the next recovery finds the files before the
 /// change or those after the whole of it; all transactions end, and no file is claimed any more. No sequence is left
 /// where a change needs a new image and the sequence is the last one, 18,446,744,073,709,551,615.
 ///
-/// Between `begin_trans` and `commit_trans` a control's `write` and `set_all` are buffered: the disk and the files stay
-/// as they are, for `read` too.
+/// Between `beginTrans` and `commitTrans` a control's `write` and `setAll` are buffered: the disk and the files stay as
+/// they are, for `read` too.
 #[derive(Drop)]
 pub struct Totals<D: Disk> {
     alloc: Global,
@@ -52,12 +53,12 @@ impl<D: Disk> Model for Totals<D> {
 
 impl<D: Disk> Totals<D> {
     ghost use Rattle.pos_disk.specs.State.{IsAtRest};
-    ghost use Rattle.pos_totals.specs.HardTotals.{Off, Create, Delete, Rename, Write, SetAll};
-    ghost use Rattle.pos_totals.specs.TotalsQuestions.{Find, FindByIndex, Read};
-    ghost use Rattle.pos_totals.specs.TotalsArrangements.{ClaimFile, ReleaseFile, BeginTrans, Rollback};
-    ghost use Rattle.pos_totals.specs.TotalsClaims.{ClaimsArea};
-    ghost use Rattle.pos_totals.specs.TotalsClaims.{ReleasesArea};
-    ghost use Rattle.pos_totals.specs.TotalsQuestions.{Tells, MayTell};
+    ghost use Rattle.pos_service.specs.declared.category.Category.TheVariants as category;
+    ghost use Rattle.pos_service.specs.Calls.{has_call, takes_memory};
+    ghost use Rattle.pos_totals.specs.HardTotals.{Off};
+    ghost use Rattle.pos_totals.specs.TotalsClaims.{ClaimsArea, ReleasesArea};
+    ghost use Rattle.pos_totals.specs.TotalsQuestions.{MayTell, question_of};
+    ghost use Rattle.pos_totals.specs.TotalsCalls.{Calls, file_call};
     ghost use Rattle.pos_totals.specs.HardTotals.{in_transaction, with_control};
     ghost use Rattle.pos_totals.specs.TotalsClaims.{without_control};
     ghost use Rattle.pos_totals.specs.HardTotals.{is_ready, files_of, totals_limits};
@@ -107,82 +108,36 @@ impl<D: Disk> Totals<D> {
         recover(self.alloc, &mut self.store, &mut self.holdings)
     }
 
-    /// `create`: adds a file of zero bytes behind the others, and gives its handle. Error detection changes nothing.
-    ///
-    /// Refused with E_ILLEGAL in a transaction of the control, for a bad name or a size below 0, E_EXISTS where a file
-    /// has the name, E_EXTENDED ETOT_NOROOM where the size is above FreeData or there are as many files as the layout
-    /// of the disk allows, E_FAILURE where no handle or no sequence is left or the disk fails.
-    pub fn create(
-        &mut self,
-        control: usize,
-        name: &[u8],
-        size: i128,
-        _error_detection: bool,
-    ) -> Result<Answer, NoMemory>
-        ensures { Changes D.Disk self.old control (Create name.now size) result self.new }
+    /// A call of the totals' own: the question, the change or the arrangement that it asks for, or a commit.
+    pub fn call(&mut self, control: usize, call: &Call) -> Result<Answer, NoMemory>
+        requires own { has_call category.HardTotals call.now ≡ true }
+        ensures calls { Calls D.Disk self.old control (file_call call.now) result self.new }
+        ensures memory { OnErr result (takes_memory call.now ≡ true) }
     {
-        self.change(control, Request::Create { name, size })
+        if let Some(question) = Question::of(call) {
+            return self.ask(control, question);
+        }
+        if let Some(request) = Request::of(call) {
+            return self.change(control, request);
+        }
+        if let Some(arrangement) = Arrangement::of(call) {
+            return Ok(self.arrange(control, arrangement));
+        }
+        match call {
+            Call::CommitTrans => self.commit_trans(control),
+            _ => unreachable!(),
+        }
     }
 
-    /// `delete`: removes a file with its claim; those behind it close up.
-    ///
-    /// Refused with E_ILLEGAL in a transaction of the control, E_NOEXIST where no file has the name, E_CLAIMED where
-    /// another control has claimed the file, E_FAILURE where no sequence is left or the disk fails.
-    pub fn delete(&mut self, control: usize, name: &[u8]) -> Result<Answer, NoMemory>
-        ensures { Changes D.Disk self.old control (Delete name.now) result self.new }
+    /// Answers a question about the files.
+    pub fn ask(&self, control: usize, question: Question<'_>) -> Result<Answer, NoMemory>
+        ensures { MayTell self.now.totals control (question_of question.entry) result }
     {
-        self.change(control, Request::Delete { name })
+        ask(self.alloc, &self.store, &self.holdings, control, question)
     }
 
-    /// `rename`: gives a file another name.
-    ///
-    /// Refused with E_ILLEGAL in a transaction of the control, where no file has the handle or for a bad name, E_EXISTS
-    /// where a file has the name, this one too, E_CLAIMED where another control has claimed the file, E_FAILURE where
-    /// no sequence is left or the disk fails.
-    pub fn rename(&mut self, control: usize, handle: i128, name: &[u8]) -> Result<Answer, NoMemory>
-        ensures { Changes D.Disk self.old control (Rename handle name.now) result self.new }
-    {
-        self.change(control, Request::Rename { handle, name })
-    }
-
-    /// `write`: puts bytes in the place of those of a file from an offset on.
-    ///
-    /// Refused with E_ILLEGAL where no file has the handle, or the bytes don't lie within the file, E_CLAIMED where
-    /// another control has claimed the file; in a transaction of the control E_EXTENDED ETOT_NOROOM where it costs more
-    /// than is left (the number of bytes and 16, at most TotalsSize in sum); else E_FAILURE where no sequence is left
-    /// or the disk fails.
-    pub fn write(
-        &mut self,
-        control: usize,
-        handle: i128,
-        offset: i128,
-        bytes: &[u8],
-    ) -> Result<Answer, NoMemory>
-        ensures { Changes D.Disk self.old control (Write handle offset bytes.now) result self.new }
-    {
-        self.change(
-            control,
-            Request::Write {
-                handle,
-                offset,
-                bytes,
-            },
-        )
-    }
-
-    /// `setAll`: makes each byte of a file the same.
-    ///
-    /// Refused with E_ILLEGAL where no file has the handle, or the value isn't 0 to 255, E_CLAIMED where another
-    /// control has claimed the file; in a transaction of the control E_EXTENDED ETOT_NOROOM where less than 16 is left
-    /// of its cost; else E_FAILURE where no sequence is left or the disk fails.
-    pub fn set_all(&mut self, control: usize, handle: i128, value: i128) -> Result<Answer, NoMemory>
-        ensures { Changes D.Disk self.old control (SetAll handle value) result self.new }
-    {
-        self.change(control, Request::SetAll { handle, value })
-    }
-
-    /// Carries out a change.
-    fn change(&mut self, control: usize, request: Request<'_>) -> Result<Answer, NoMemory>
+    /// Carries out a change of the files, or buffers it in the transaction of the control.
+    pub fn change(&mut self, control: usize, request: Request<'_>) -> Result<Answer, NoMemory>
         ensures { Changes D.Disk self.old control (change_of request.entry) result self.new }
     {
         change(
@@ -194,45 +149,16 @@ impl<D: Disk> Totals<D> {
         )
     }
 
-    /// `find`: the handle and the size of the file with a name. It takes no memory.
-    ///
-    /// Refused with E_NOEXIST where no file has the name.
-    pub fn find(&self, control: usize, name: &[u8]) -> Answer
-        ensures { Tells self.now.totals control (Find name.now) result }
+    /// Makes an arrangement for a control.
+    pub fn arrange(&mut self, control: usize, arrangement: Arrangement) -> Answer
+        ensures { Arranged self.old control arrangement result self.new }
     {
-        find(&self.store, &self.holdings, control, name)
-    }
-
-    /// `findByIndex`: the name of the file at an index, counted from 0 in the order of creation.
-    ///
-    /// Refused with E_ILLEGAL where no file has the index.
-    pub fn find_by_index(&self, control: usize, index: i128) -> Result<Answer, NoMemory>
-        ensures { MayTell self.now.totals control (FindByIndex index) result }
-    {
-        find_by_index(self.alloc, &self.store, &self.holdings, control, index)
-    }
-
-    /// `read`: so many bytes of a file from an offset on.
-    ///
-    /// Refused with E_ILLEGAL where no file has the handle, or the range doesn't lie within the file, E_CLAIMED where
-    /// another control has claimed the file.
-    pub fn read(
-        &self,
-        control: usize,
-        handle: i128,
-        offset: i128,
-        count: i128,
-    ) -> Result<Answer, NoMemory>
-        ensures { MayTell self.now.totals control (Read handle offset count) result }
-    {
-        read(
+        arrange(
             self.alloc,
             &self.store,
-            &self.holdings,
+            &mut self.holdings,
             control,
-            handle,
-            offset,
-            count,
+            arrangement,
         )
     }
 
@@ -261,36 +187,6 @@ impl<D: Disk> Totals<D> {
         release_area(&self.store, &mut self.holdings, control)
     }
 
-    /// `claimFile`: claims a file for a control; where it has it already, nothing changes. The timeout is at least -1,
-    /// and nothing is waited for. It takes no memory.
-    ///
-    /// Refused with E_ILLEGAL where no file has the handle, or for a timeout below -1, E_TIMEOUT where another control
-    /// has claimed the area or the file.
-    pub fn claim_file(&mut self, control: usize, handle: i128, timeout: i128) -> Answer
-        ensures { Arranged self.old control (ClaimFile handle timeout) result self.new }
-    {
-        claim_file(&self.store, &mut self.holdings, control, handle, timeout)
-    }
-
-    /// `releaseFile`: ends a control's claim of a file. It takes no memory.
-    ///
-    /// Refused with E_ILLEGAL where no file has the handle, or the control hasn't claimed it.
-    pub fn release_file(&mut self, control: usize, handle: i128) -> Answer
-        ensures { Arranged self.old control (ReleaseFile handle) result self.new }
-    {
-        release_file(&self.store, &mut self.holdings, control, handle)
-    }
-
-    /// `beginTrans`: begins a transaction of a control, whose `write` and `set_all` are buffered until it ends. It
-    /// takes no memory: the control's place was made by `add_control`.
-    ///
-    /// Refused with E_ILLEGAL where the control is in a transaction, or has no place for one.
-    pub fn begin_trans(&mut self, control: usize) -> Answer
-        ensures { Arranged self.old control BeginTrans result self.new }
-    {
-        begin_trans(self.alloc, &self.store, &mut self.holdings, control)
-    }
-
     /// `commitTrans`: does all that a control has buffered together, in its order, and ends the transaction. Where
     /// nothing is buffered the disk isn't used.
     ///
@@ -301,15 +197,6 @@ impl<D: Disk> Totals<D> {
         ensures { CommitsBuffer D.Disk self.old control result self.new }
     {
         commit_trans(self.alloc, &mut self.store, &mut self.holdings, control)
-    }
-
-    /// `rollback`: drops what a control has buffered, and ends the transaction. It takes no memory.
-    ///
-    /// Refused with E_ILLEGAL where the control is in no transaction.
-    pub fn rollback(&mut self, control: usize) -> Answer
-        ensures { Arranged self.old control Rollback result self.new }
-    {
-        rollback(&self.store, &mut self.holdings, control)
     }
 
     /// Makes a place for the transaction of one more control; the controls are numbered from 0.

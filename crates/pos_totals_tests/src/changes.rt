@@ -2,7 +2,7 @@
 use crate::two_files::spell;
 use pos_disk::Disk;
 use pos_service::{Answer, NoMemory};
-use pos_totals::{RecoveryFault, Totals};
+use pos_totals::{Arrangement, RecoveryFault, Request, Totals};
 use std::alloc::{AllocError, Global};
 use std::test::Fail;
 
@@ -42,23 +42,53 @@ fn spelled_after(alloc: Global, change: Change) -> Result<Vec<u8>, AllocError> {
     Ok(text)
 }
 
+/// Writes over two bytes of the first file.
+pub const OVERWRITES: Request<'static> = Request::Write {
+    handle: 1,
+    offset: 1,
+    bytes: &[8, 9],
+};
+
+// What a change asks for, where the files have the handles 1 and 2.
+fn request_of(change: Change) -> Option<Request<'static>> {
+    match change {
+        Change::Create => Some(Request::Create {
+            name: b"C",
+            size: 1,
+        }),
+        Change::Delete => Some(Request::Delete { name: b"A" }),
+        Change::Rename => Some(Request::Rename {
+            handle: 1,
+            name: b"C",
+        }),
+        Change::Write => Some(OVERWRITES),
+        Change::SetAll => Some(Request::SetAll {
+            handle: 1,
+            value: 7,
+        }),
+        Change::Commit => None,
+    }
+}
+
 /// Carries out a change, where the files have the handles 1 and 2.
 pub fn carry_out<D: Disk>(totals: &mut Totals<D>, change: Change) -> Result<Answer, NoMemory> {
-    match change {
-        Change::Create => totals.create(0, b"C", 1, false),
-        Change::Delete => totals.delete(0, b"A"),
-        Change::Rename => totals.rename(0, 1, b"C"),
-        Change::Write => totals.write(0, 1, 1, &[8, 9]),
-        Change::SetAll => totals.set_all(0, 1, 7),
-        Change::Commit => commit_both(totals),
+    match request_of(change) {
+        Some(request) => totals.change(0, request),
+        None => commit_both(totals),
     }
 }
 
 // Writes both files in one transaction, where the control has begun one already in that.
 fn commit_both<D: Disk>(totals: &mut Totals<D>) -> Result<Answer, NoMemory> {
-    let _ = totals.begin_trans(0);
-    totals.write(0, 1, 1, &[8, 9])?;
-    totals.set_all(0, 2, 7)?;
+    let _ = totals.arrange(0, Arrangement::BeginTrans);
+    totals.change(0, OVERWRITES)?;
+    totals.change(
+        0,
+        Request::SetAll {
+            handle: 2,
+            value: 7,
+        },
+    )?;
     totals.commit_trans(0)
 }
 

@@ -1,0 +1,77 @@
+//! What a control arranges for itself, by its table.
+ghost use Rattle.std.specs.Prelude.{◌≡◌};
+ghost use Rattle.pos_totals.specs.TotalsArrangements.{Arranges, arrangement_asked};
+ghost use Rattle.pos_totals.specs.Views.{IsSound, totals_of};
+
+use crate::claims::{claim_file, release_file};
+use crate::holdings::Holdings;
+use crate::transacting::{begin_trans, rollback};
+use pos_disk::Disk;
+use pos_service::{Answer, Call};
+use pos_store::Store;
+use std::alloc::Global;
+
+/// What a control arranges for itself, as a call asks for it. It takes no memory, and doesn't use the disk.
+#[derive(Clone, Copy)]
+pub enum Arrangement {
+    /// `claimFile`: claims a file for a control; where it has it already, nothing changes. The timeout is at least -1,
+    /// and nothing is waited for.
+    ///
+    /// Refused with E_ILLEGAL where no file has the handle, or for a timeout below -1, E_TIMEOUT where another control
+    /// has claimed the area or the file.
+    ClaimFile { handle: i128, timeout: i128 },
+    /// `releaseFile`: ends a control's claim of a file.
+    ///
+    /// Refused with E_ILLEGAL where no file has the handle, or the control hasn't claimed it.
+    ReleaseFile { handle: i128 },
+    /// `beginTrans`: begins a transaction of a control, in which `write` and `setAll` are buffered until it ends. The
+    /// control's place was made by `add_control`.
+    ///
+    /// Refused with E_ILLEGAL where the control is in a transaction, or has no place for one.
+    BeginTrans,
+    /// `rollback`: drops what a control has buffered, and ends the transaction.
+    ///
+    /// Refused with E_ILLEGAL where the control is in no transaction.
+    Rollback,
+}
+
+impl Arrangement {
+    /// The arrangement that a call makes, where it makes one.
+    pub(crate) fn of(call: &Call) -> Option<Arrangement>
+        ensures { result ≡ arrangement_asked call.now }
+    {
+        match call {
+            Call::ClaimFile(handle, timeout) => Some(Arrangement::ClaimFile {
+                handle: *handle,
+                timeout: *timeout,
+            }),
+            Call::ReleaseFile(handle) => Some(Arrangement::ReleaseFile { handle: *handle }),
+            Call::BeginTrans => Some(Arrangement::BeginTrans),
+            Call::Rollback => Some(Arrangement::Rollback),
+            _ => None,
+        }
+    }
+}
+
+/// Makes an arrangement, where its table lets it.
+pub fn arrange<D: Disk>(
+    alloc: Global,
+    store: &Store<D>,
+    holdings: &mut Holdings,
+    control: usize,
+    arrangement: Arrangement,
+) -> Answer
+    requires sound { IsSound store.now.layout store.now.state holdings.old }
+    ensures sound { IsSound store.now.layout store.now.state holdings.new }
+    ensures arranges { Arranges (totals_of store.now.state holdings.old) control arrangement result
+        (totals_of store.now.state holdings.new) }
+{
+    match arrangement {
+        Arrangement::ClaimFile { handle, timeout } => {
+            claim_file(store, holdings, control, handle, timeout)
+        }
+        Arrangement::ReleaseFile { handle } => release_file(store, holdings, control, handle),
+        Arrangement::BeginTrans => begin_trans(alloc, store, holdings, control),
+        Arrangement::Rollback => rollback(store, holdings, control),
+    }
+}
