@@ -1,5 +1,5 @@
 -- What contracts see of a peripheral, and what its calls do.
-use Rattle.std.specs.Prelude.{◌≡◌, ℕ, ◌+◌, ◌-◌, ◌*◌, ◌^◌, ◌<◌, ◌≤◌, ◌⊎◌, min, nat_le, Bool, true, false, ◌&&◌, Some, List, length, ⊤, Result, MatchResult}
+use Rattle.std.specs.Prelude.{◌≡◌, ℕ, ◌+◌, ◌-◌, ◌*◌, ◌^◌, ◌<◌, ◌≤◌, ◌⊎◌, min, nat_le, Bool, true, false, ◌&&◌, Some, List, [], ◌∷◌, codes, length, ⊤, Result, MatchResult}
 use Rattle.pos_service.specs.declared.display_text.Attribute.{Attribute}
 use Rattle.pos_service.specs.declared.display_text.Direction.{Direction}
 use Rattle.pos_service.specs.declared.display_text.Place.{Place}
@@ -8,6 +8,8 @@ use Rattle.pos_service.specs.declared.kind.Kind.TheVariants as kind
 use Rattle.pos_service.specs.declared.plant.Form.{Form}
 use Rattle.pos_service.specs.declared.plant.Form.TheVariants as form
 use Rattle.pos_service.specs.declared.plant.Plant.{Plant}
+use Rattle.pos_service.specs.declared.order.Argument.{Argument}
+use Rattle.pos_service.specs.declared.order.Argument.TheVariants.{Bytes, Number}
 use Rattle.pos_service.specs.declared.order.Order.{Order}
 use Rattle.pos_service.specs.declared.order.Order.TheVariants as order
 use Rattle.pos_service.specs.declared.order.Reply.{Reply}
@@ -21,7 +23,7 @@ use Rattle.pos_service.specs.declared.signs.Signs.{Signs}
 use Rattle.pos_service.specs.declared.memory.NoMemory.{NoMemory}
 use Rattle.pos_service.specs.declared.receipt_text.Outcome.TheVariants as outcome
 use Rattle.pos_service.specs.declared.receipt_text.Piece.{Piece}
-use Rattle.pos_service.specs.Displays.{Display, ShowsText, Scrolls, blank_display, is_cursor_place, is_display_text, most_units}
+use Rattle.pos_service.specs.Displays.{Display, ShowsText, Scrolls, attribute_number_of, blank_display, direction_number_of, is_cursor_place, is_display_text, most_units}
 use Rattle.pos_service.specs.Kinds.{is_drawer, is_display, is_printer, rows_of, columns_of, near_of}
 use Rattle.pos_service.specs.Receipts.{Prints, pieces, cut_pieces, is_printable_text, paper_level}
 
@@ -95,6 +97,24 @@ order_fits is (order.Scroll direction units) =
     is_display is && nat_le units (most_units (rows_of (Some is)) (columns_of (Some is)) direction)
 order_fits is (order.Print bytes) = is_printer is && is_printable_text bytes
 order_fits is (order.Cut percentage) = is_printer is && nat_le percentage 100
+
+-- the word that tells an order, by the method that asks for it
+abbrev pub order_word : Order → List ℕ
+order_word order.OpenDrawer = codes "openDrawer"
+order_word (order.ShowText row column style bytes) = codes "displayTextAt"
+order_word order.ClearText = codes "clearText"
+order_word (order.Scroll direction units) = codes "scrollText"
+order_word (order.Print bytes) = codes "print"
+order_word (order.Cut percentage) = codes "cutPaper"
+
+-- what an order is told with behind its word, in the method's order
+abbrev pub order_arguments : Order → List Argument
+order_arguments (order.ShowText row column style bytes) =
+    Number row ∷ Number column ∷ Bytes bytes ∷ Number (attribute_number_of style) ∷ []
+order_arguments (order.Scroll direction units) = Number (direction_number_of direction) ∷ Number units ∷ []
+order_arguments (order.Print bytes) = Bytes bytes ∷ []
+order_arguments (order.Cut percentage) = Number percentage ∷ []
+order_arguments other = []
 
 -- Every printer takes the order.
 abbrev pub PrintersTake : Order → Type 0

@@ -51,3 +51,33 @@ impl Bytes {
         items
     }
 }
+
+/// Bytes that are lent: those of a text that an order is told with. Contracts see them as a list.
+#[derive(Drop)]
+pub struct LentBytes<'a> {
+    items: &'a [u8],
+}
+
+impl<'a> Model for LentBytes<'a> {
+    ghost use Rattle.std.specs.Prelude.{List, ℕ};
+
+    ghost Value = { List ℕ };
+
+    ghost view = { λ bytes. bytes.items.now };
+}
+
+impl<'a> LentBytes<'a> {
+    /// These bytes.
+    pub fn from_slice(items: &'a [u8]) -> Self
+        ensures { result ≡ items.now }
+    {
+        LentBytes { items }
+    }
+
+    /// The bytes.
+    pub fn as_slice(&self) -> &[u8]
+        ensures { result.now ≡ self.now }
+    {
+        self.items
+    }
+}

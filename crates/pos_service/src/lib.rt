@@ -34,7 +34,7 @@ pub mod words;
 mod worked;
 
 pub use answer::{Answer, Value};
-pub use bytes::Bytes;
+pub use bytes::{Bytes, LentBytes};
 pub use call::{Call, CallRow};
 pub use category::Category;
 pub use code::{Code, EPTR_COVER_OPEN, EPTR_REC_EMPTY, ETOT_NOROOM};
@@ -49,7 +49,7 @@ pub use memory::NoMemory;
 pub use name::Name;
 pub use names::is_device_name;
 pub use needs::{ClaimNeed, Needs};
-pub use order::{Order, Reply};
+pub use order::{Argument, Order, Reply};
 pub use peripheral::Peripheral;
 pub use peripheral_box::PeripheralBox;
 pub use plant::{DisplayCells, Form, Plant, Receipt, Snapshot};

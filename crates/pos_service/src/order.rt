@@ -1,10 +1,11 @@
 ghost use Rattle.std.specs.Prelude.{◌≡◌, ◌&&◌, Some, nat_le};
+ghost use Rattle.std.specs.List.{filter_map};
 ghost use Rattle.pos_service.specs.Codes.{code_by, extended_by};
 ghost use Rattle.pos_service.specs.Displays.{is_cursor_place, is_display_text, most_units};
 ghost use Rattle.pos_service.specs.Kinds.{columns_of, rows_of};
-ghost use Rattle.pos_service.specs.Peripherals.{order_fits, place_at};
+ghost use Rattle.pos_service.specs.Peripherals.{order_arguments, order_fits, order_word, place_at};
 
-use crate::bytes::Bytes;
+use crate::bytes::{Bytes, LentBytes};
 use crate::code::{Code, EPTR_COVER_OPEN, EPTR_REC_EMPTY};
 use crate::display_text::{Attribute, Direction, is_text_of_display};
 use crate::kind::{Kind, columns_of, rows_of};
@@ -60,6 +61,69 @@ impl Order {
             Order::Cut { percentage } => kind.is_printer() && *percentage <= 100,
         }
     }
+
+    /// The word that tells it, by the method that asks for it.
+    pub fn word(&self) -> &'static str
+        ensures { result.now ≡ order_word self.now }
+    {
+        match self {
+            Order::OpenDrawer => "openDrawer",
+            Order::ShowText { .. } => "displayTextAt",
+            Order::ClearText => "clearText",
+            Order::Scroll { .. } => "scrollText",
+            Order::Print { .. } => "print",
+            Order::Cut { .. } => "cutPaper",
+        }
+    }
+
+    /// What it is told with behind its word, in the method's order; where it has fewer arguments, none.
+    pub fn arguments(&self) -> [Option<Argument<'_>>; 4]
+        ensures { filter_map (λ given. given) result ≡ order_arguments self.now }
+    {
+        match self {
+            Order::OpenDrawer | Order::ClearText => [None, None, None, None],
+            Order::ShowText {
+                row,
+                column,
+                attribute,
+                bytes,
+            } => [
+                Some(Argument::Number(*row)),
+                Some(Argument::Number(*column)),
+                Some(Argument::Bytes(LentBytes::from_slice(bytes.as_slice()))),
+                Some(Argument::Number(attribute.number())),
+            ],
+            Order::Scroll { direction, units } => [
+                Some(Argument::Number(direction.number())),
+                Some(Argument::Number(*units)),
+                None,
+                None,
+            ],
+            Order::Print { bytes } => [
+                Some(Argument::Bytes(LentBytes::from_slice(bytes.as_slice()))),
+                None,
+                None,
+                None,
+            ],
+            Order::Cut { percentage } => {
+                [
+                    Some(Argument::Number(u32::from(*percentage))),
+                    None,
+                    None,
+                    None,
+                ]
+            }
+        }
+    }
+}
+
+/// What an order is told with, behind its word.
+#[derive(Drop)]
+pub enum Argument<'a> {
+    /// A number, as the method takes it.
+    Number(u32),
+    /// The bytes of a text.
+    Bytes(LentBytes<'a>),
 }
 
 /// Whether a display of this kind shows such a text from a row and a column on.
