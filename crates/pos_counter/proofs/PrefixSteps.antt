@@ -339,20 +339,8 @@ hardware_same old new at Does o = ap (λ (m : Machine). m.totals) o.machine
 
 -- a call that totals don't have asks nothing of them
 asks_nothing : (own : Call) → has_call category.HardTotals own ≡ false → file_call own ≡ Nothing
-asks_nothing (call.Create name size detection) other = cc
-asks_nothing (call.Delete name) other = cc
-asks_nothing (call.Find name) other = cc
-asks_nothing (call.FindByIndex index) other = cc
-asks_nothing (call.Read handle offset count) other = cc
-asks_nothing (call.Write handle offset bytes) other = cc
-asks_nothing (call.SetAll handle n) other = cc
-asks_nothing (call.Rename handle name) other = cc
-asks_nothing (call.ClaimFile handle timeout) other = cc
-asks_nothing (call.ReleaseFile handle) other = cc
-asks_nothing call.BeginTrans other = cc
-asks_nothing call.CommitTrans other = cc
-asks_nothing call.Rollback other = cc
-asks_nothing own other = refl
+asks_nothing (call.Open name) other = refl
+asks_nothing own other = cc
 
 -- a call of one category is none of another's
 one_category : (o : Option Category) (k : Category) → is_totals k ≡ false → is_category o k ≡ true → is_category o category.HardTotals ≡ false
