@@ -30,8 +30,8 @@ count "a property that is always the same" 3 'CapTransactions'
 count "a property of the device" 6 'NumberOfFiles'
 count "a property that can be set" 8 'AutoDisable|auto_disable'
 count "an input of every kind" 10 'PowerMoved'
-count "a reply with its code" 12 'Offline\b'
-count "a request of the script" 15 'Deliver\b|deliver_event|"deliver"'
-count "a category" 25 'CashDrawer'
+count "a reply with its code" 11 'Offline\b'
+count "a request of the script" 13 'Deliver\b|deliver_event|"deliver"'
+count "a category" 23 'CashDrawer'
 echo "$passed passed, $failed failed"
 [ "$failed" -eq 0 ]

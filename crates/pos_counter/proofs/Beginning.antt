@@ -56,11 +56,8 @@ count_after earlier (e ∷ es) has kept =
   where
     by : (k : Category) → is_totals k ≡ false → length (vacant_devices es) ≡ length es
         → length (map vacant (cons_option (option_map (λ kind. record { name = e.name; kind = kind }) (kind_with k e)) (planned_of es))) ≡ suc (length es)
-    by category.CashDrawer is rest = ap suc rest
-    by category.Scanner is rest = ap suc rest
-    by category.LineDisplay is rest = ap suc rest
-    by category.PosPrinter is rest = ap suc rest
     by category.HardTotals is rest = absurd (false≢true (sym is))
+    by k is rest = ap suc rest
 
 -- each entry of a profile has a device
 pub count_devices : (earlier : List (Option Entry)) (es : List Entry) → list_any is_totals_entry earlier ≡ false → AreKept earlier es
@@ -75,13 +72,10 @@ count_devices earlier (e ∷ es) none kept =
         → length (map device_of (map vacant
         (cons_option (option_map (λ kind. record { name = e.name; kind = kind }) (kind_with k e)) (planned_of es))) ++ totals_devices
         (option_map (λ entry. entry.name) (cond (is_totals k) (Some e) (find (λ entry. is_totals entry.category) es)))) ≡ suc (length es)
-    by category.CashDrawer last more = ap suc (more refl)
-    by category.Scanner last more = ap suc (more refl)
-    by category.LineDisplay last more = ap suc (more refl)
-    by category.PosPrinter last more = ap suc (more refl)
     by category.HardTotals last more =
         let t : Device = record { name = e.name; kind = None; hardware = None } in
         omega (arith, length_push (map device_of (vacant_devices es)) t, length-map (vacant_devices es) device_of, last refl)
+    by k last more = ap suc (more refl)
 
 -- a device of a sound registry is of a kind in range, and so is its peripheral
 has_its_kind : (d : Registered) → HasKindInRange d → IsServed d → HasItsKind (device_of d)

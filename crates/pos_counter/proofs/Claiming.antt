@@ -20,9 +20,9 @@ use Rattle.pos_totals.specs.TotalsClaims.{is_area_taken, without_control}
 use Rattle.pos_service.specs.Refusals.{Row, Decided, first_refusal, when}
 use Rattle.pos_common.specs.KeptControls.{KeptControl, TurnsInto, controls_of}
 use Rattle.pos_counter.specs.Machine.{Device, Machine, machine_with, holder_in, with_control}
-use Rattle.pos_counter.specs.Steps.{CallOf, Answered, Step, claimed, dropped, released, is_taken, refusals, IsSound}
+use Rattle.pos_counter.specs.Steps.{CallOf, Answered, Step, claimed, dropped, released, is_taken, IsSound}
 use Rattle.pos_counter.specs.Totals.{TotalsPart, is_totals, settled}
-use Rattle.pos_counter.proofs.Lifts.{match_at_some, match_at_none, match_by, match_cases, match_weaker}
+use Rattle.pos_counter.proofs.Lifts.{decided_step, match_at_some, match_at_none, match_cases}
 use Rattle.pos_counter.proofs.Sound.{seated, Served}
 
 -- the device of an open control has a claim
@@ -68,26 +68,17 @@ are_totals k is = cc
 
 -- ---- devices with a peripheral, which the table of claims has
 
-dropped_of : (k : Category) (m : Machine) (n : ℕ) (c : Control) → is_totals k ≡ false → dropped k m n c ≡ record m { claims = released_by m.claims c.device n }
-dropped_of category.HardTotals m n c is = cc
-dropped_of k m n c is = refl
+-- The device of a control is held by the table of claims.
+record IsInTable (k : Category) (m : Machine) (n : ℕ) (c : Control) : Type 0 where
+  pub drops : dropped k m n c ≡ record m { claims = released_by m.claims c.device n }
+  pub releases : released k m n c ≡ record m { claims = released_by m.claims c.device n }
+  pub claims : claimed k m n c ≡ record m { claims = claimed_by m.claims c.device n }
+  pub takes : is_taken k m n c.device ≡ is_foreign n (holder_at m.claims c.device)
+  pub holds : holder_in k m.claims m.totals.totals.area c.device ≡ holder_at m.claims c.device
 
-released_of : (k : Category) (m : Machine) (n : ℕ) (c : Control) → is_totals k ≡ false
-    → released k m n c ≡ record m { claims = released_by m.claims c.device n }
-released_of category.HardTotals m n c is = cc
-released_of k m n c is = refl
-
-claimed_of : (k : Category) (m : Machine) (n : ℕ) (c : Control) → is_totals k ≡ false → claimed k m n c ≡ record m { claims = claimed_by m.claims c.device n }
-claimed_of category.HardTotals m n c is = cc
-claimed_of k m n c is = refl
-
-taken_of : (k : Category) (m : Machine) (n : ℕ) (o : Option ℕ) → is_totals k ≡ false → is_taken k m n o ≡ is_foreign n (holder_at m.claims o)
-taken_of category.HardTotals m n o is = cc
-taken_of k m n o is = refl
-
-holder_in_table : (k : Category) (cl : List (Option ℕ)) (area o : Option ℕ) → is_totals k ≡ false → holder_in k cl area o ≡ holder_at cl o
-holder_in_table category.HardTotals cl area o is = cc
-holder_in_table k cl area o is = refl
+in_table : (k : Category) (m : Machine) (n : ℕ) (c : Control) → is_totals k ≡ false → IsInTable k m n c
+in_table category.HardTotals m n c is = absurd cc
+in_table k m n c is = record { drops = refl; releases = refl; claims = refl; takes = refl; holds = refl }
 
 -- ---- close
 
@@ -137,7 +128,7 @@ close_device hs cl dl ds part n c h g r at is there turns free =
         done.0,
         claims_machine hs cl dl ds n g (closed c) part done.1
             ∙ ap (λ claims. let o : Machine = record (with_control m n (closed c)) { claims = claims } in o) free
-            ∙ sym (dropped_of c.category (with_control m n (closed c)) n c is),
+            ∙ sym (in_table c.category (with_control m n (closed c)) n c is).drops,
       );
     })
 
@@ -168,14 +159,9 @@ pub claim_device : (hs : List KeptControl) (cl dl : List (Option ℕ)) (ds : Lis
     → Step (machine_with hs cl ds part) (CallOf n (call.Claim timeout)) (Answered r) (machine_with hs dl ds part)
 claim_device hs cl dl ds part n c timeout r at is d =
     let m : Machine = machine_with hs cl ds part in
-    let rows = ap (λ b. first_refusal (claim_rows c b timeout)) (taken_of c.category m n c.device is) in
-    match_at_some _ c _ _ at (record {
-      outcome = match_by (first_refusal (refusals m n c (call.Claim timeout))) _ _ _ rows
-          (match_weaker (first_refusal (claim_rows c (is_foreign n (holder_at cl c.device)) timeout)) _ _ _ _
-          (λ y. (y.0, ap (λ claims. let o : Machine = record m { claims = claims } in o) y.1 ∙ sym (claimed_of c.category m n c is)))
-          (λ refusal y. (y.0, ap (λ claims. let o : Machine = record m { claims = claims } in o) y.1))
-          d.outcome);
-    })
+    let over = λ (claims : List (Option ℕ)). machine_with hs claims ds part in
+    decided_step m (over dl) n c (call.Claim timeout) r _ _ _ at (ap (λ b. first_refusal (claim_rows c b timeout)) (in_table c.category m n c is).takes)
+    (ap over) (λ y. (y.0, ap over y.1 ∙ sym (in_table c.category m n c is).claims)) d
 
 -- a release of a device with a peripheral
 pub release_device : (hs : List KeptControl) (cl dl : List (Option ℕ)) (ds : List Device) (part : TotalsPart) (n : ℕ) (c : Control) (h g : KeptControl)
@@ -186,23 +172,18 @@ pub release_device : (hs : List KeptControl) (cl dl : List (Option ℕ)) (ds : L
     → Step (machine_with hs cl ds part) (CallOf n call.Release) (Answered r) (machine_with (set hs n g) dl ds part)
 release_device hs cl dl ds part n c h g r at is here d =
     let m : Machine = machine_with hs cl ds part in
-    let rows = ap (λ o. first_refusal (release_rows c (is_own n o))) (holder_in_table c.category cl part.totals.area c.device is) in
-    match_at_some _ c _ _ at (record {
-      outcome = match_by (first_refusal (refusals m n c call.Release)) _ _ _ rows
-          (match_weaker (first_refusal (release_rows c (is_own n (holder_at cl c.device)))) _ _ _ _
-          (λ y. (
-            y.0,
-            claims_machine hs cl dl ds n g (after_release c.category c) part y.1
-                ∙ ap (λ claims. let o : Machine = record (with_control m n (after_release c.category c)) { claims = claims } in o) y.2
-                ∙ sym (released_of c.category (with_control m n (after_release c.category c)) n c is),
-          ))
-          (λ refusal y. (
-            y.0,
-            ap (λ (ks : List KeptControl). machine_with ks dl ds part) (ap (set hs n) (y.1.0 ∙ here) ∙ set-get_or hs n h)
-                ∙ ap (λ claims. let o : Machine = record m { claims = claims } in o) y.1.1,
-          ))
-          d.outcome);
-    })
+    let after = after_release c.category c in
+    decided_step m (machine_with (set hs n g) dl ds part) n c call.Release r _ _ _ at
+    (ap (λ o. first_refusal (release_rows c (is_own n o))) (in_table c.category m n c is).holds)
+    (λ same.
+    ap (λ (ks : List KeptControl). machine_with ks dl ds part) (ap (set hs n) (same.0 ∙ here) ∙ set-get_or hs n h)
+    ∙ ap (λ claims. machine_with hs claims ds part) same.1)
+    (λ y. (
+      y.0,
+      claims_machine hs cl dl ds n g after part y.1
+          ∙ ap (λ claims. let o : Machine = record (with_control m n after) { claims = claims } in o) y.2
+          ∙ sym (in_table c.category (with_control m n after) n c is).releases,
+    )) d
 
 -- a claim of the area
 pub claim_area : (hs : List KeptControl) (cl : List (Option ℕ)) (ds : List Device) (part : TotalsPart) (n : ℕ) (c : Control) (timeout : ℤ) (r : Answer)
@@ -213,20 +194,10 @@ pub claim_area : (hs : List KeptControl) (cl : List (Option ℕ)) (ds : List Dev
     → Step (machine_with hs cl ds part) (CallOf n (call.Claim timeout)) (Answered r) (machine_with hs cl ds (record part { totals = totals }))
 claim_area hs cl ds part n c timeout r totals at is d =
     let m : Machine = machine_with hs cl ds part in
-    let rows = subst (λ k. first_refusal (refusals m n c (call.Claim timeout)) ≡ first_refusal (claim_rows c (taken k) timeout)) is refl in
-    match_at_some _ c _ _ at (record {
-      outcome = match_by (first_refusal (refusals m n c (call.Claim timeout))) _ _ _ rows
-          (match_weaker (first_refusal (claim_rows c (is_area_taken part.totals n) timeout)) _ _ _ _
-          (λ y. (y.0, subst (λ k. over_totals totals ≡ claimed k m n c) (sym is) (ap over_totals y.1)))
-          (λ refusal y. (y.0, ap over_totals y.1))
-          d.outcome);
-    })
-  where
-    taken : Category → Bool
-    taken k = is_taken k (machine_with hs cl ds part) n c.device
-
-    over_totals : Totals → Machine
-    over_totals t = machine_with hs cl ds (record part { totals = t })
+    let over = λ (t : Totals). machine_with hs cl ds (record part { totals = t }) in
+    decided_step m (over totals) n c (call.Claim timeout) r _ _ _ at
+    (ap (λ k. first_refusal (claim_rows c (is_taken k m n c.device) timeout)) is)
+    (ap over) (λ y. (y.0, subst (λ k. over totals ≡ claimed k m n c) (sym is) (ap over y.1))) d
 
 -- a release of the area
 pub release_area : (hs : List KeptControl) (cl : List (Option ℕ)) (ds : List Device) (part : TotalsPart) (n : ℕ) (c : Control) (h g : KeptControl) (r : Answer)
@@ -238,22 +209,15 @@ pub release_area : (hs : List KeptControl) (cl : List (Option ℕ)) (ds : List D
 release_area hs cl ds part n c h g r totals at is here d =
     let m : Machine = machine_with hs cl ds part in
     let now : TotalsPart = record part { totals = totals } in
-    let rows = subst (λ k. first_refusal (refusals m n c call.Release) ≡ first_refusal
-    (release_rows c (is_own n (holder_in k cl part.totals.area c.device)))) is refl in
-    match_at_some _ c _ _ at (record {
-      outcome = match_by (first_refusal (refusals m n c call.Release)) _ _ _ rows
-          (match_weaker (first_refusal (release_rows c (is_own n part.totals.area))) _ _ _ _
-          (λ y. (
-            y.0,
-            subst (λ k. machine_with (set hs n g) cl ds now ≡ released k (with_control m n (after_release c.category c)) n c) (sym is)
-                (claims_machine hs cl cl ds n g (after_release c.category c) now y.1
-                ∙ ap (λ (t : Totals). let o : Machine = record
-                (with_control m n (after_release c.category c)) { totals = record part { totals = t } } in o) y.2),
-          ))
-          (λ refusal y. (
-            y.0,
-            ap (λ (ks : List KeptControl). machine_with ks cl ds now) (ap (set hs n) (y.1.0 ∙ here) ∙ set-get_or hs n h)
-                ∙ ap (λ (t : Totals). machine_with hs cl ds (record part { totals = t })) y.1.1,
-          ))
-          d.outcome);
-    })
+    let after = after_release c.category c in
+    decided_step m (machine_with (set hs n g) cl ds now) n c call.Release r _ _ _ at
+    (ap (λ k. first_refusal (release_rows c (is_own n (holder_in k cl part.totals.area c.device)))) is)
+    (λ same.
+    ap (λ (ks : List KeptControl). machine_with ks cl ds now) (ap (set hs n) (same.0 ∙ here) ∙ set-get_or hs n h)
+    ∙ ap (λ (t : Totals). machine_with hs cl ds (record part { totals = t })) same.1)
+    (λ y. (
+      y.0,
+      subst (λ k. machine_with (set hs n g) cl ds now ≡ released k (with_control m n after) n c) (sym is)
+          (claims_machine hs cl cl ds n g after now y.1
+          ∙ ap (λ (t : Totals). let o : Machine = record (with_control m n after) { totals = record part { totals = t } } in o) y.2),
+    )) d

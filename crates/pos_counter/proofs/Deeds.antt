@@ -88,10 +88,7 @@ display_stays rows columns cursor asked d tall wide allowed is = absurd cc
 -- where nothing is a display, each place is as good
 no_display_change : (k : Kind) (was : Place) (what : Change) → is_display k ≡ false → StaysOn (Some k) was what
 no_display_change k was (change.Cursor place) flat = λ is display. absurd (false≢true (sym flat ∙ display))
-no_display_change k was change.Nothing flat = tt
-no_display_change k was change.Input flat = tt
-no_display_change k was change.InputProperties flat = tt
-no_display_change k was change.Output flat = tt
+no_display_change k was what flat = tt
 
 no_display : (k : Kind) (was : Place) (d : Deed) → is_display k ≡ false → DeedStaysOn (Some k) was d
 no_display k was (deed.Gives given what) flat = no_display_change k was what flat
@@ -103,14 +100,8 @@ pub deed_called : (k : Category) (is : Kind) (c : Control) (asked : Call) (d : D
     → NoneApplies (device_rows k (Some is) c asked) → device_deed k (Some is) c asked ≡ Some d → DeedStaysOn (Some is) c.cursor.place d
 deed_called category.LineDisplay (kind.Display rows columns) c asked d served range allowed e =
     display_stays rows columns c.cursor asked d range.0 range.2 allowed e
-deed_called category.LineDisplay is c asked d served range allowed e = absurd cc
-deed_called category.CashDrawer kind.Drawer c asked d served range allowed e = no_display kind.Drawer c.cursor.place d refl
-deed_called category.CashDrawer is c asked d served range allowed e = absurd cc
-deed_called category.Scanner kind.Scanner c asked d served range allowed e = no_display kind.Scanner c.cursor.place d refl
-deed_called category.Scanner is c asked d served range allowed e = absurd cc
-deed_called category.PosPrinter (kind.Printer chars near) c asked d served range allowed e = no_display (kind.Printer chars near) c.cursor.place d refl
-deed_called category.PosPrinter is c asked d served range allowed e = absurd cc
-deed_called category.HardTotals is c asked d served range allowed e = absurd cc
+deed_called k (kind.Display rows columns) c asked d served range allowed e = absurd cc
+deed_called k is c asked d served range allowed e = no_display is c.cursor.place d refl
 
 -- a call that is refused by its arguments
 pub called_refused : (n place : ℕ) (asked : Call) (c : Control) (code : Code) (old : List Control) (before : Hardware) → slice_get old n ≡ Some c

@@ -4,9 +4,10 @@ use Rattle.std.specs.Prelude.{slice_get, option_map, is_some, IfSome, IsSome}
 use Rattle.std.specs.List.{AllByRecursion}
 use Rattle.pos_service.specs.declared.input.Input.{Input}
 use Rattle.pos_service.specs.Peripherals.{PeripheralState, input_fits}
-use Rattle.pos_service.specs.Hardware.{Effect, hardware_of}
+use Rattle.pos_service.specs.Hardware.{Effect, StaysInService, hardware_of}
 use Rattle.pos_common.specs.KeptControls.{KeptControl, controls_of}
-use Rattle.pos_profile.specs.Registries.{Device as Registered, IsServed, standing_at, with_peripheral}
+use Rattle.pos_profile.specs.Registries.{Device as Registered, IsServed, MayServe, standing_at, with_peripheral}
+use Rattle.pos_profile.proofs.CallerLemmas.{put_back, with_twice}
 use Rattle.pos_counter.specs.AtDevices.{IsDoneAt}
 use Rattle.pos_counter.specs.Machine.{Device, hardware_in}
 use Rattle.pos_counter.specs.Steps.{FindsFit}
@@ -41,39 +42,16 @@ devices_with (y ∷ list) totals zero d x at =
     ap (λ (z : Registered). let first : Device = record (device_of z) { hardware = option_map hardware_of x } in first ∷ devices_of list totals) same
 devices_with (y ∷ list) totals (suc place) d x at = ap (λ ds. device_of y ∷ ds) (devices_with list totals place d x at)
 
--- What is out at a place of a registry: what it is to the machine, and what the devices are once it is back.
-record IsOut (list : List Registered) (totals : Option (List ℕ)) (place : ℕ) (was : PeripheralState) : Type 0 where
-  pub device : Device
-  pub is_device : slice_get (devices_of list totals) place ≡ Some device
-  pub is_attached : device.hardware ≡ Some (hardware_of was)
-  pub kind : device.kind ≡ Some was.kind
-  pub back : (now : PeripheralState)
-      → devices_of (with_peripheral (with_peripheral list place None) place (Some now)) totals ≡ set (devices_of list totals) place
-      (record device { hardware = Some (hardware_of now) })
-
 served_kind : (d : Registered) (was : PeripheralState) → IsServed d → Some was ≡ d.peripheral → d.kind ≡ was.kind
 served_kind d was served is = sym
     (subst (λ (o : Option PeripheralState). IfSome o (λ state. (state.is_parked ≡ false) × (state.kind ≡ d.kind))) (sym is) served).1
 
-is_out : (list : List Registered) (totals : Option (List ℕ)) (place : ℕ) (was : PeripheralState) → AllByRecursion IsServed list
-    → Some was ≡ standing_at list place → IsOut list totals place was
-is_out [] totals zero was served is = cc
-is_out [] totals (suc place) was served is = cc
-is_out (d ∷ list) totals zero was served is = record {
-  device = device_of d;
-  is_device = refl;
-  is_attached = ap (option_map hardware_of) (sym is);
-  kind = ap Some (served_kind d was served.0 is);
-  back = λ now. refl;
-}
-is_out (d ∷ list) totals (suc place) was served is =
-    let rest = is_out list totals place was served.1 is in record {
-      device = rest.device;
-      is_device = rest.is_device;
-      is_attached = rest.is_attached;
-      kind = rest.kind;
-      back = λ now. ap (λ ds. device_of d ∷ ds) (rest.back now);
-    }
+-- what is out at a place is of a device there, and of its kind
+registered_out : (list : List Registered) (place : ℕ) (was : PeripheralState) → AllByRecursion IsServed list → Some was ≡ standing_at list place
+    → (d : Registered) × (slice_get list place ≡ Some d) × (d.peripheral ≡ Some was) × (d.kind ≡ was.kind)
+registered_out [] place was served is = absurd cc
+registered_out (d ∷ list) zero was served is = (d, refl, sym is, served_kind d was served.0 is)
+registered_out (d ∷ list) (suc place) was served is = registered_out list place was served.1 is
 
 -- what is done with it, once it is back
 pub done_there : {hs gs : List KeptControl} (list vacated new : List Registered) (totals : Option (List ℕ)) (place : ℕ) (was now : PeripheralState)
@@ -81,17 +59,24 @@ pub done_there : {hs gs : List KeptControl} (list vacated new : List Registered)
     → new ≡ with_peripheral vacated place (Some now) → Does (controls_of hs) (hardware_of was) (controls_of gs) (hardware_of now)
     → IsDoneAt (devices_of list totals) place Does hs gs (devices_of new totals)
 done_there list vacated new totals place was now Does served is out back does =
-    let there = is_out list totals place was served is in
+    let there = registered_out list place was served is in
     record {
-      device = there.device;
+      device = device_of there.0;
       before = hardware_of was;
       after = hardware_of now;
-      is_device = there.is_device;
-      is_attached = there.is_attached;
-      kind = there.kind;
+      is_device = registered_there list totals place there.0 there.1;
+      is_attached = ap (option_map hardware_of) there.2;
+      kind = ap Some there.3;
       does = does;
-      changed = ap (λ ds. devices_of ds totals) (back ∙ ap (λ ds. with_peripheral ds place (Some now)) out) ∙ there.back now;
+      changed = ap (λ ds. devices_of ds totals) (back ∙ ap (λ ds. with_peripheral ds place (Some now)) out ∙ with_twice list place None (Some now))
+          ∙ devices_with list totals place there.0 (Some now) there.1;
     }
+
+-- what is out may be put back, once it is in service again
+pub may_go_back : (list vacated : List Registered) (place : ℕ) (was now : PeripheralState) → AllByRecursion IsServed list
+    → Some was ≡ standing_at list place → vacated ≡ with_peripheral list place None → StaysInService was now → MayServe vacated place now
+may_go_back list vacated place was now served is out stays =
+    subst (λ ds. MayServe ds place now) (sym out) (put_back list place was now served is stays.kind)
 
 -- a device whose peripheral isn't found has none
 pub vacant_there : {B : Type 0} (list : List Registered) (totals : Option (List ℕ)) (place : ℕ) (found : Option B) (f : B → PeripheralState)

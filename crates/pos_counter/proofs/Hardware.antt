@@ -26,7 +26,7 @@ use Rattle.pos_counter.specs.Responses.{answered}
 use Rattle.pos_counter.specs.Steps.{OnHardware, Step, CallOf, Answered, Does, DeviceDoes, CategoryDoes, category_rows, device_rows, refusals, takes_memory}
 use Rattle.pos_counter.specs.Steps.{FindsFit, FindsWork, IsPlaceOn, IsSound}
 use Rattle.pos_counter.specs.Totals.{TotalsPart, is_totals}
-use Rattle.pos_counter.proofs.Lifts.{match_cases, match_at_some, match_by, match_weaker}
+use Rattle.pos_counter.proofs.Lifts.{decided_step, match_cases, match_at_some}
 use Rattle.pos_counter.proofs.Sound.{seated, Served}
 
 -- what stands at the device that a name finds
@@ -126,35 +126,29 @@ want_finds_work hs gs ds es cl part name place want finds done =
       unchanged hs gs ds es cl part place done.device done.before done.after done.is_device done.is_attached done.changed wants.1,
     )
 
--- what a call of a category's own is answered first, and what it does
+-- a call of a category's own: what it is answered first, what it does, and that it may want memory
+own_call : (m : Machine) (n : ℕ) (c : Control) (asked : Call) → is_common asked ≡ false
+    → (refusals m n c asked ≡ table n (holder_of m c) c (needs_of c.category asked) (category_rows c.category m n c asked))
+    × ((r : Answer) (m' : Machine) → CategoryDoes c.category m n c asked r m' → Does m n c asked r m')
+    × (IsTrue (own_takes_memory asked) → IsTrue (takes_memory m c asked))
+own_call m n c (call.Open name) own = absurd cc
+own_call m n c call.Close own = absurd cc
+own_call m n c (call.Claim timeout) own = absurd cc
+own_call m n c call.Release own = absurd cc
+own_call m n c (call.Set p v) own = absurd cc
+own_call m n c (call.Get p) own = absurd cc
+own_call m n c asked own = (refl, λ r m' h. h, λ h. h)
+
 pub own_refusals : (m : Machine) (n : ℕ) (c : Control) (asked : Call) → is_common asked ≡ false
     → refusals m n c asked ≡ table n (holder_of m c) c (needs_of c.category asked) (category_rows c.category m n c asked)
-own_refusals m n c (call.Open name) own = cc
-own_refusals m n c call.Close own = cc
-own_refusals m n c (call.Claim timeout) own = cc
-own_refusals m n c call.Release own = cc
-own_refusals m n c (call.Set p v) own = cc
-own_refusals m n c (call.Get p) own = cc
-own_refusals m n c asked own = refl
+own_refusals m n c asked own = (own_call m n c asked own).0
 
 pub own_does : (m : Machine) (n : ℕ) (c : Control) (asked : Call) (r : Answer) (m' : Machine) → is_common asked ≡ false
     → CategoryDoes c.category m n c asked r m' → Does m n c asked r m'
-own_does m n c (call.Open name) r m' own h = cc
-own_does m n c call.Close r m' own h = cc
-own_does m n c (call.Claim timeout) r m' own h = cc
-own_does m n c call.Release r m' own h = cc
-own_does m n c (call.Set p v) r m' own h = cc
-own_does m n c (call.Get p) r m' own h = cc
-own_does m n c asked r m' own h = h
+own_does m n c asked r m' own h = (own_call m n c asked own).1 r m' h
 
 pub own_takes : (m : Machine) (c : Control) (asked : Call) → is_common asked ≡ false → IsTrue (own_takes_memory asked) → IsTrue (takes_memory m c asked)
-own_takes m c (call.Open name) own h = refl
-own_takes m c call.Close own h = cc
-own_takes m c (call.Claim timeout) own h = cc
-own_takes m c call.Release own h = cc
-own_takes m c (call.Set p v) own h = cc
-own_takes m c (call.Get p) own h = cc
-own_takes m c asked own h = h
+own_takes m c asked own h = (own_call m 0 c asked own).2 h
 
 -- what the check of the control with a number decides of a call of its category's own
 abbrev pub IsLet : Machine → ℕ → Control → Call → Type 0
@@ -228,13 +222,8 @@ device_step hs gs ds es cl part n place c asked r own at is device lets done =
     by_outcome : (o : Result Answer NoMemory) → CallsFor n asked place o c (controls_of hs) done.before (controls_of gs) done.after
         → Step m (CallOf n asked) (answered o) m'
     by_outcome (Ok result) h =
-        match_at_some _ c _ _ at (record {
-          outcome = match_by _ _ _ _ unrefused (
-              match_weaker (first_refusal rows) _ _ _ _
-              (λ does. own_does m n c asked result m' own (does_at_device c.category m m' n c asked result is (at_hardware result does)))
-              (λ refusal y. (y.0, same y.1))
-              h.outcome);
-        })
+        decided_step m m' n c asked result rows _ _ at unrefused same
+        (λ does. own_does m n c asked result m' own (does_at_device c.category m m' n c asked result is (at_hardware result does))) h
     by_outcome (Err want) h =
         match_at_some _ c _ _ at (
           own_takes m c asked own h.0,

@@ -4,6 +4,7 @@ pub mod Deeds
 pub mod DeviceLists
 pub mod Cursors
 pub mod Sound
+pub mod Requests
 pub mod Hardware
 pub mod Runs
 pub mod Parking

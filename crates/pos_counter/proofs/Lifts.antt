@@ -5,20 +5,19 @@ use Rattle.std.specs.Prelude.{MatchOption, slice_get, option_map}
 use Rattle.std.proofs.lemmas.List.{get_or_default, length-map, map-set, map_push, set-get_or}
 use Rattle.std.proofs.lemmas.Option.{slice_get-map, slice_get-get_or}
 use Rattle.pos_service.specs.declared.answer.Answer.{Answer}
+use Rattle.pos_service.specs.declared.call.Call.{Call}
 use Rattle.pos_service.specs.declared.call.Call.TheVariants as call
 use Rattle.pos_service.specs.declared.memory.NoMemory.{NoMemory}
 use Rattle.pos_service.specs.declared.property.Property.{Property}
 use Rattle.pos_service.specs.Properties.{get_rows, property_of}
-use Rattle.pos_service.specs.declared.event.Event.{Event}
-use Rattle.pos_service.specs.declared.event.ErrorReply.{ErrorReply}
-use Rattle.pos_service.specs.Controls.{Control, deliverable, delivered, new_control}
+use Rattle.pos_service.specs.Controls.{Control, new_control}
 use Rattle.pos_service.specs.declared.category.Category.{Category}
 use Rattle.pos_totals.specs.HardTotals.{with_control as with_place}
 use Rattle.pos_counter.specs.Machine.{Device, Machine, machine_with, holder_of, with_control}
 use Rattle.pos_service.specs.Refusals.{Row, Decided, first_refusal}
 use Rattle.pos_counter.specs.Responses.{answered}
 use Rattle.pos_counter.specs.Totals.{TotalsPart}
-use Rattle.pos_counter.specs.Steps.{Step, CallOf, Deliver, Delivered, Made, NewControl, facts_of, most_controls}
+use Rattle.pos_counter.specs.Steps.{Step, CallOf, Answered, Does, Made, NewControl, facts_of, most_controls, refusals}
 use Rattle.pos_common.specs.KeptControls.{Gets, KeptControl, controls_of}
 
 -- the machine of some controls, devices and totals
@@ -82,13 +81,14 @@ decided_at hs ds cl part n g h rows r Done c e x = record {
       x.outcome;
 }
 
--- a delivery to a control is a step
-pub deliver_step : (hs : List KeptControl) (ds : List Device) (cl : List (Option ℕ)) (part : TotalsPart) (n : ℕ) (reply : ErrorReply)
-    (event : Option Event) (g h : KeptControl) → n < length hs → h ≡ get_or hs n h → event ≡ deliverable h.control → g.control ≡ delivered reply h.control
-    → Step (machine_with hs cl ds part) (Deliver n reply) (Delivered event) (machine_with (set hs n g) cl ds part)
-deliver_step hs ds cl part n reply event g h lt is first rest =
-    match_at_some _ h.control _ _ (kept_at hs n h lt is)
-    (first, set_machine hs cl ds part n g (delivered reply h.control) rest)
+-- a call that other rows decide, with the same refusal, is a step
+pub decided_step : (m m' : Machine) (n : ℕ) (c : Control) (asked : Call) (r : Answer) (rows : List Row) (Same Done : Type 0)
+    → slice_get m.controls n ≡ Some c → first_refusal (refusals m n c asked) ≡ first_refusal rows → (Same → m' ≡ m) → (Done → Does m n c asked r m')
+    → Decided rows r Same Done → Step m (CallOf n asked) (Answered r) m'
+decided_step m m' n c asked r rows Same Done at refused same does d = match_at_some _ c _ _ at (record {
+  outcome = match_by (first_refusal (refusals m n c asked)) _ _ _ refused
+      (match_weaker (first_refusal rows) _ _ _ _ does (λ refusal y. (y.0, same y.1)) d.outcome);
+})
 
 -- a new control is a step
 pub made_step : (hs gs : List KeptControl) (cl : List (Option ℕ)) (ds : List Device) (part : TotalsPart) (k : Category) (h : KeptControl) (number : ℕ)
@@ -107,7 +107,5 @@ made_step hs gs cl ds part k h number room many is new = (
 -- a property that is told, or for which there is no memory, is a step
 pub get_step : (m : Machine) (n : ℕ) (c : Control) (p : Property) (r : Result Answer NoMemory) → slice_get m.controls n ≡ Some c
     → Gets (get_rows n (holder_of m c) c (facts_of m n c) p) p (property_of c (facts_of m n c) p) r → Step m (CallOf n (call.Get p)) (answered r) m
-get_step m n c p (Ok result) at d = match_at_some _ c _ _ at (record {
-  outcome = match_weaker (first_refusal (get_rows n (holder_of m c) c (facts_of m n c) p)) _ _ _ _ (λ y. (y, refl)) (λ refusal y. (y.0, refl)) d.outcome;
-})
+get_step m n c p (Ok result) at d = decided_step m m n c (call.Get p) result _ _ _ at refl (λ same. refl) (λ told. (told, refl)) d
 get_step m n c p (Err want) at h = match_at_some _ c _ _ at (h.0, h.1, refl)

@@ -27,9 +27,8 @@ use Rattle.pos_totals.specs.TotalsCommits.{DoesCommit}
 use Rattle.pos_totals.specs.TotalsFiles.{is_called, with_each}
 use Rattle.pos_totals.specs.TotalsClaims.{is_own_claim}
 use Rattle.pos_totals.specs.TotalsArrangements.{claimed as claimed_file}
-use Rattle.pos_totals.specs.TotalsArrangements.{Arrangement, ClaimFile, ReleaseFile, BeginTrans, Rollback, after_arrangement}
+use Rattle.pos_totals.specs.TotalsArrangements.{Arrangement, ClaimFile, ReleaseFile, after_arrangement}
 use Rattle.pos_service.specs.Refusals.{Row, Decided, first_refusal}
-use Rattle.pos_service.specs.Hardware.{Effect}
 use Rattle.pos_totals.specs.TotalsCalls.{FileCall, Arranges, Asks, Commits, Makes, Nothing, file_call}
 use Rattle.pos_disk.specs.State.{Rises}
 use Rattle.pos_store.specs.Layouts.{limits_of}
@@ -41,21 +40,26 @@ use Rattle.pos_totals.specs.Recoveries.{numbered}
 use Rattle.pos_totals.specs.Views.{plain, stored}
 use Rattle.pos_counter.specs.DiskUse.{IsUndone}
 use Rattle.pos_counter.specs.History.{NothingDone, changes_asked, event_between, event_of}
+use Rattle.pos_counter.specs.Leaving.{IsSettled}
 use Rattle.pos_counter.specs.Machine.{Machine, holder_of, with_control}
-use Rattle.pos_counter.specs.Steps.{Request, NewControl, CallOf, InputTo, WorkOn, Deliver, Snapshot, Attach, Detach, Response, Made, Full, Answered, TakenIn}
-use Rattle.pos_counter.specs.Steps.{NoDevice, WrongInput, Worked, Delivered, Shown, Attached, NotAttached, Detached, NotDetached, OutOfMemory, OnHardware, Step}
-use Rattle.pos_counter.specs.Steps.{Called, Does, CategoryDoes, Sets, SetsByRecovery, category_rows, refusals, claimed, dropped, released}
+use Rattle.pos_counter.specs.Steps.{Request, CallOf, Response, Answered, OutOfMemory, Step}
+use Rattle.pos_counter.specs.Steps.{Called, Does, CategoryDoes, Sets, SetsByRecovery, category_rows, refusals, dropped}
 use Rattle.pos_counter.specs.Totals.{TotalsPart, ChangesTotals, CommitsTotals, TotalsDo, Recovered, asks_recovery, is_totals, left_after, put_at_once, recovers}
 use Rattle.pos_counter.specs.Totals.{settled}
 use Rattle.pos_counter.proofs.FileCalls.{kept_left, plain_claimed}
 use Rattle.pos_counter.proofs.Cursors.{none_applies, unless_not}
 use Rattle.pos_counter.proofs.Lifts.{match_cases}
 use Rattle.pos_counter.proofs.Hardware.{own_refusals}
-use Rattle.pos_counter.proofs.Prefixes.{Happens}
+use Rattle.pos_counter.proofs.Prefixes.{Happens, Rest}
+use Rattle.pos_counter.proofs.Requests.{claimed_beside, released_beside, same_rest, step_beside}
 
 -- what changes, a response and the modes say is what happens
 abbrev Told : List Change → TotalsPart → Response → TotalsPart → Type 0
 Told changes old response new = Happens old (event_between changes old.totals.mode response new.totals.mode) new
+
+-- totals rest by what they are
+rest_as : (old new then : TotalsPart) → new ≡ then → Rest old then → Rest old new
+rest_as old new then is rests = subst (Rest old) (sym is) rests
 
 -- by what the modes and the response are
 told_at : (changes : List Change) (old new : TotalsPart) (early late : Mode) (response same : Response) → old.totals.mode ≡ early
@@ -82,29 +86,20 @@ undone (change ∷ changes) Off Off response is same = refl
 undone (change ∷ changes) Off (Ready files sequence) response is same = absurd cc
 undone (change ∷ changes) (Ready files sequence) Off response is same = absurd cc
 
--- totals that rest
+-- totals that rest, where nothing is done
 rest : (changes : List Change) (old new : TotalsPart) (response : Response)
-    → event_between changes old.totals.mode response new.totals.mode ≡ NothingDone → new.totals.layout ≡ old.totals.layout
-    → stored new.totals.mode ≡ stored old.totals.mode → new.left ≡ old.left → Told changes old response new
-rest changes old new response nothing layout mode left =
-    subst (λ e. Happens old e new) (sym nothing) (record { layout = layout; mode = mode; left = left })
+    → event_between changes old.totals.mode response new.totals.mode ≡ NothingDone → Rest old new → Told changes old response new
+rest changes old new response nothing rests = subst (λ e. Happens old e new) (sym nothing) rests
 
--- where no change is asked: the files are what they were
-rest_beside : (old new : TotalsPart) (response : Response) → new.totals.layout ≡ old.totals.layout
-    → stored new.totals.mode ≡ stored old.totals.mode → new.left ≡ old.left → Told [] old response new
-rest_beside old new response layout mode left =
-    rest [] old new response (unasked old.totals.mode new.totals.mode response mode) layout mode left
+-- where no change is asked
+rest_unasked : (old new : TotalsPart) (response : Response) → Rest old new → Told [] old response new
+rest_unasked old new response rests = rest [] old new response (unasked old.totals.mode new.totals.mode response rests.mode) rests
 
-rest_unasked : (old new : TotalsPart) (response : Response) → new ≡ old → Told [] old response new
-rest_unasked old new response same =
-    rest_beside old new response (ap (λ (t : TotalsPart). t.totals.layout) same) (ap (λ (t : TotalsPart). stored t.totals.mode) same)
-    (ap (λ (t : TotalsPart). t.left) same)
-
+-- where no change is acknowledged
 rest_undone : (changes : List Change) (old new : TotalsPart) (response : Response) → IsUndone response → new ≡ old → Told changes old response new
 rest_undone changes old new response is same =
-    let mode = ap (λ (t : TotalsPart). stored t.totals.mode) same in
-    rest changes old new response (undone changes old.totals.mode new.totals.mode response is mode) (ap (λ (t : TotalsPart). t.totals.layout) same)
-    mode (ap (λ (t : TotalsPart). t.left) same)
+    let rests = rest_as old new old same (same_rest old) in
+    rest changes old new response (undone changes old.totals.mode new.totals.mode response is rests.mode) rests
 
 -- files with other claims are stored as they were
 stored_claimed : (test : File → Bool) (claim : Option ℕ) (mode : Mode) → stored (with_files (with_each test (claimed_file claim)) mode) ≡ stored mode
@@ -126,7 +121,7 @@ refused_undone (row ∷ rows) refusal result is same = by row.applies is (λ res
 
 -- ---- changes
 
-module _ (old new : TotalsPart) (result : Answer) (is : old.left ≡ settled old.totals.layout old.totals.mode old.left) (ended : Totals)
+module _ (old new : TotalsPart) (result : Answer) (is : IsSettled old.totals old.left) (ended : Totals)
     (layout : ended.layout ≡ old.totals.layout) (mode : ended.mode ≡ old.totals.mode) (next : ended.next ≡ old.totals.next)
     (change : Change) (changes : List Change)
     (group : IsOneGroup old.totals (change ∷ changes)) (left : new.left ≡ left_after old (change ∷ changes) new.totals.mode) where
@@ -198,7 +193,11 @@ module _ (old new : TotalsPart) (result : Answer) (is : old.left ≡ settled old
       let mode = ap (λ (t : Totals). t.mode) still in
       rest all old new (Answered result)
       (undone all old.totals.mode new.totals.mode (Answered result) (subst (λ a. IsUndone (Answered a)) (sym same) undone_there) (ap stored mode))
-      (ap (λ (t : Totals). t.layout) still) (ap stored mode) (left ∙ ap (left_after old all) mode ∙ kept_left all old is)
+      (record {
+        layout = ap (λ (t : Totals). t.layout) still;
+        mode = ap stored mode;
+        left = left ∙ ap (left_after old all) mode ∙ kept_left all old is;
+      })
 
   -- a group for which the sequences have run out, that is done, or in which the disk fails
   group_told : (failed : Type 0) (given : Value) → RunsOut old.totals result new.totals ⊎ Done failed ended all given result new.totals
@@ -213,13 +212,13 @@ module _ (old new : TotalsPart) (result : Answer) (is : old.left ≡ settled old
       ]
 
 -- totals whose files are as they were, and in which nothing is put on the disk
-still_told : (old new : TotalsPart) (response : Response) → old.left ≡ settled old.totals.layout old.totals.mode old.left
+still_told : (old new : TotalsPart) (response : Response) → IsSettled old.totals old.left
     → new.left ≡ left_after old [] new.totals.mode → new.totals.layout ≡ old.totals.layout → new.totals.mode ≡ old.totals.mode
     → Told [] old response new
 still_told old new response is left layout mode =
-    rest_beside old new response layout (ap stored mode) (left ∙ ap (left_after old []) mode ∙ kept_left [] old is)
+    rest_unasked old new response (record { layout = layout; mode = ap stored mode; left = left ∙ ap (left_after old []) mode ∙ kept_left [] old is })
 
-changed_told : (change : Change) (old new : TotalsPart) (number : ℕ) (result : Answer) → old.left ≡ settled old.totals.layout old.totals.mode old.left
+changed_told : (change : Change) (old new : TotalsPart) (number : ℕ) (result : Answer) → IsSettled old.totals old.left
     → ChangesTotals old number change result new → Told (put_at_once (in_transaction old.totals number) change) old (Answered result) new
 changed_told change old new number result is h =
     elim (match_cases (transaction_of old.totals number) _ _ h.does) [
@@ -249,7 +248,7 @@ changed_told change old new number result is h =
               (refused_undone (number_rows old.totals change) x.0 x.0 x.1 refl) x.2.0 x.2.1
         ]
 
-commit_told : (old new : TotalsPart) (number : ℕ) (result : Answer) → old.left ≡ settled old.totals.layout old.totals.mode old.left
+commit_told : (old new : TotalsPart) (number : ℕ) (result : Answer) → IsSettled old.totals old.left
     → CommitsTotals old number result new → Told (changes_in (transaction_of old.totals number)) old (Answered result) new
 commit_told old new number result is h = by (changes_in (transaction_of old.totals number)) h.group h.left h.does
   where
@@ -262,26 +261,19 @@ commit_told old new number result is h = by (changes_in (transaction_of old.tota
     by (change ∷ changes) group left does = group_told old new result is ended refl refl refl change changes group left _ _ does
 
 -- an arrangement leaves the files as they are, but for their claims
-stored_arranged : (old : Totals) (number : ℕ) (arrangement : Arrangement) → stored (after_arrangement old number arrangement).mode ≡ stored old.mode
-stored_arranged old number (ClaimFile handle timeout) = stored_claimed (is_called handle) (Some number) old.mode
-stored_arranged old number (ReleaseFile handle) = stored_claimed (is_called handle) None old.mode
-stored_arranged old number BeginTrans = refl
-stored_arranged old number Rollback = refl
+arranged_rest : (old : TotalsPart) (number : ℕ) (arrangement : Arrangement)
+    → Rest old (record old { totals = after_arrangement old.totals number arrangement })
+arranged_rest old number (ClaimFile handle timeout) =
+    record { layout = refl; mode = stored_claimed (is_called handle) (Some number) old.totals.mode; left = refl }
+arranged_rest old number (ReleaseFile handle) = record { layout = refl; mode = stored_claimed (is_called handle) None old.totals.mode; left = refl }
+arranged_rest old number other = record { layout = refl; mode = refl; left = refl }
 
-layout_arranged : (old : Totals) (number : ℕ) (arrangement : Arrangement) → (after_arrangement old number arrangement).layout ≡ old.layout
-layout_arranged old number (ClaimFile handle timeout) = refl
-layout_arranged old number (ReleaseFile handle) = refl
-layout_arranged old number BeginTrans = refl
-layout_arranged old number Rollback = refl
-
-files_told : (asked : FileCall) (old new : TotalsPart) (number : ℕ) (result : Answer) → old.left ≡ settled old.totals.layout old.totals.mode old.left
+files_told : (asked : FileCall) (old new : TotalsPart) (number : ℕ) (result : Answer) → IsSettled old.totals old.left
     → TotalsDo asked old number result new → Told (changes_asked old.totals number asked) old (Answered result) new
-files_told (Asks question) old new number result is h = rest_unasked old new (Answered result) h.1
+files_told (Asks question) old new number result is h = rest_unasked old new (Answered result) (rest_as old new old h.1 (same_rest old))
 files_told (Makes change) old new number result is h = changed_told change old new number result is h
 files_told (Arranges arrangement) old new number result is h =
-    rest_beside old new (Answered result) (ap (λ (t : TotalsPart). t.totals.layout) h.1 ∙ layout_arranged old.totals number arrangement)
-    (ap (λ (t : TotalsPart). stored t.totals.mode) h.1 ∙ stored_arranged old.totals number arrangement)
-    (ap (λ (t : TotalsPart). t.left) h.1)
+    rest_unasked old new (Answered result) (rest_as old new _ h.1 (arranged_rest old number arrangement))
 files_told Commits old new number result is h = commit_told old new number result is h
 files_told Nothing old new number result is h = absurd h
 
@@ -318,24 +310,27 @@ recovers_off part c p v e = by part.totals.mode (and_parts (asks_recovery c p v)
     by Off e = refl
     by (Ready files sequence) e = absurd cc
 
+rested : (old new : Machine) (result : Answer) (then : Machine) → new ≡ then → Rest old.totals then.totals → Told [] old.totals (Answered result) new.totals
+rested old new result then is rests =
+    rest_unasked old.totals new.totals (Answered result) (subst (λ (m : Machine). Rest old.totals m.totals) (sym is) rests)
+
 set_told : (old new : Machine) (n : ℕ) (c : Control) (p : Property) (v : Value) (result : Answer) (b : Bool) → recovers old.totals c p v ≡ b
     → MatchBool b (SetsByRecovery old n c p v result new) (Sets old n c p v result new) → Told [] old.totals (Answered result) new.totals
-set_told old new n c p v result false e h = rest_unasked old.totals new.totals (Answered result) (ap (λ (m : Machine). m.totals) h.1)
+set_told old new n c p v result false e h = rested old new result _ h.1 (same_rest old.totals)
 set_told old new n c p v result true e (inl h) = found_told old.totals new.totals (Answered result) (recovers_off old.totals c p v e) h.1
-set_told old new n c p v result true e (inr (h, is)) = elim h [
-  | inl x ↦ rest_unasked old.totals new.totals (Answered result) x.2
+set_told old new n c p v result true e (inr (h, is)) = rest_unasked old.totals new.totals (Answered result) (elim h [
+  | inl x ↦ rest_as old.totals new.totals old.totals x.2 (same_rest old.totals)
   | inr x ↦ elim x.1 [
-    | inl y ↦ rest_unasked old.totals new.totals (Answered result) y.1
-    | inr y ↦ rest_beside old.totals new.totals (Answered result) (ap (λ (t : TotalsPart). t.totals.layout) y.else_same)
-        (ap (λ (t : TotalsPart). stored t.totals.mode) y.else_same) (ap (λ (t : TotalsPart). t.left) y.else_same)
+    | inl y ↦ rest_as old.totals new.totals old.totals y.1 (same_rest old.totals)
+    | inr y ↦ rest_as old.totals new.totals _ y.else_same (record { layout = refl; mode = refl; left = refl })
   ]
-]
+])
 
 -- ---- calls
 
--- what is done at hardware is no matter to the totals
-hardware_same : (old new : Machine) (at : Option ℕ) (Does : ℕ → Effect) → OnHardware old at Does new → new.totals ≡ old.totals
-hardware_same old new at Does o = ap (λ (m : Machine). m.totals) o.machine
+-- what the call of a control says is what happens
+abbrev CallTold : Machine → ℕ → Call → Answer → Machine → Type 0
+CallTold old n asked result new = Told (changes_asked old.totals.totals n (file_call asked)) old.totals (Answered result) new.totals
 
 -- a call that totals don't have asks nothing of them
 asks_nothing : (own : Call) → has_call category.HardTotals own ≡ false → file_call own ≡ Nothing
@@ -349,49 +344,29 @@ one_category (Some category.HardTotals) category.HardTotals other is = cc
 one_category (Some category.HardTotals) k other is = absurd cc
 one_category (Some c) k other is = refl
 
-at_device_told : (k : Category) (old new : Machine) (n : ℕ) (c : Control) (own : Call) (result : Answer) → is_totals k ≡ false
-    → has_call k own ≡ true → new.totals ≡ old.totals → Told (changes_asked old.totals.totals n (file_call own)) old.totals (Answered result) new.totals
-at_device_told k old new n c own result other has same =
-    subst (λ asked. Told (changes_asked old.totals.totals n asked) old.totals (Answered result) new.totals)
-    (sym (asks_nothing own (one_category (row_of own).category k other has))) (rest_unasked old.totals new.totals (Answered result) same)
-
 category_told : (k : Category) (old new : Machine) (n : ℕ) (c : Control) (own : Call) (result : Answer)
-    → old.totals.left ≡ settled old.totals.totals.layout old.totals.totals.mode old.totals.left → has_call k own ≡ true → CategoryDoes k old n c own result new
-    → Told (changes_asked old.totals.totals n (file_call own)) old.totals (Answered result) new.totals
+    → IsSettled old.totals.totals old.totals.left → has_call k own ≡ true → CategoryDoes k old n c own result new → CallTold old n own result new
 category_told category.HardTotals old new n c own result is has h = files_told (file_call own) old.totals new.totals n result is h.0
-category_told k old new n c own result is has h = at_device_told k old new n c own result refl has (hardware_same old new c.device _ h)
+category_told k old new n c own result is has h =
+    subst (λ asked. Told (changes_asked old.totals.totals n asked) old.totals (Answered result) new.totals)
+    (sym (asks_nothing own (one_category (row_of own).category k refl has)))
+    (rested old new result _ h.machine (same_rest old.totals))
 
--- what a control's claim, its release and its end leave of the files
-claimed_told : (k : Category) (old new : Machine) (n : ℕ) (c : Control) (response : Response) → new ≡ claimed k old n c → Told [] old.totals response new.totals
-claimed_told category.HardTotals old new n c response h =
-    rest_beside old.totals new.totals response (ap (λ (m : Machine). m.totals.totals.layout) h)
-    (ap (λ (m : Machine). stored m.totals.totals.mode) h) (ap (λ (m : Machine). m.totals.left) h)
-claimed_told k old new n c response h = rest_unasked old.totals new.totals response (ap (λ (m : Machine). m.totals) h)
-
-released_told : (k : Category) (old new : Machine) (n : ℕ) (c : Control) (response : Response)
-    → new ≡ released k (with_control old n (after_release k c)) n c → Told [] old.totals response new.totals
-released_told category.HardTotals old new n c response h =
-    rest_beside old.totals new.totals response (ap (λ (m : Machine). m.totals.totals.layout) h)
-    (ap (λ (m : Machine). stored m.totals.totals.mode) h) (ap (λ (m : Machine). m.totals.left) h)
-released_told k old new n c response h = rest_unasked old.totals new.totals response (ap (λ (m : Machine). m.totals) h)
-
-dropped_told : (k : Category) (old new : Machine) (n : ℕ) (c : Control) (response : Response) → new ≡ dropped k (with_control old n (closed c)) n c
-    → Told [] old.totals response new.totals
-dropped_told category.HardTotals old new n c response h =
-    rest_beside old.totals new.totals response (ap (λ (m : Machine). m.totals.totals.layout) h)
-    (ap (λ (m : Machine). stored m.totals.totals.mode) h ∙ stored_claimed (is_own_claim n) None old.totals.totals.mode)
-    (ap (λ (m : Machine). m.totals.left) h)
-dropped_told k old new n c response h = rest_unasked old.totals new.totals response (ap (λ (m : Machine). m.totals) h)
+-- what a control leaves of the files that has nothing any more
+dropped_rest : (k : Category) (m : Machine) (n : ℕ) (c : Control) → Rest m.totals (dropped k m n c).totals
+dropped_rest category.HardTotals m n c = record { layout = refl; mode = stored_claimed (is_own_claim n) None m.totals.totals.mode; left = refl }
+dropped_rest k m n c = same_rest m.totals
 
 does_told : (old new : Machine) (n : ℕ) (c : Control) (asked : Call) (result : Answer)
-    → old.totals.left ≡ settled old.totals.totals.layout old.totals.totals.mode old.totals.left → (is_common asked ≡ false → has_call c.category asked ≡ true)
-    → Does old n c asked result new → Told (changes_asked old.totals.totals n (file_call asked)) old.totals (Answered result) new.totals
-does_told old new n c (call.Open name) result is has h = rest_unasked old.totals new.totals (Answered result) (ap (λ (m : Machine). m.totals) h.1)
-does_told old new n c call.Close result is has h = dropped_told c.category old new n c (Answered result) h.1
-does_told old new n c (call.Claim timeout) result is has h = claimed_told c.category old new n c (Answered result) h.1
-does_told old new n c call.Release result is has h = released_told c.category old new n c (Answered result) h.1
+    → IsSettled old.totals.totals old.totals.left → (is_common asked ≡ false → has_call c.category asked ≡ true)
+    → Does old n c asked result new → CallTold old n asked result new
+does_told old new n c (call.Open name) result is has h = rested old new result _ h.1 (same_rest old.totals)
+does_told old new n c call.Close result is has h = rested old new result _ h.1 (dropped_rest c.category (with_control old n (closed c)) n c)
+does_told old new n c (call.Claim timeout) result is has h = rested old new result _ h.1 (claimed_beside c.category old n c).rest
+does_told old new n c call.Release result is has h =
+    rested old new result _ h.1 (released_beside c.category (with_control old n (after_release c.category c)) n c).rest
 does_told old new n c (call.Set p v) result is has h = set_told old new n c p v result (recovers old.totals c p v) refl h
-does_told old new n c (call.Get p) result is has h = rest_unasked old.totals new.totals (Answered result) (ap (λ (m : Machine). m.totals) h.1)
+does_told old new n c (call.Get p) result is has h = rested old new result old h.1 (same_rest old.totals)
 does_told old new n c own result is has h = category_told c.category old new n c own result is (has refl) h
 
 -- a call of a category's own that nothing refuses is one of its control's category
@@ -402,8 +377,7 @@ own_of m n c asked own none = unless_not (has_call c.category asked)
     (ap first_refusal (sym (own_refusals m n c asked own)) ∙ none)).1.0
 
 called_told : (old new : Machine) (n : ℕ) (c : Control) (asked : Call) (result : Answer)
-    → old.totals.left ≡ settled old.totals.totals.layout old.totals.totals.mode old.totals.left → Called old n c asked result new
-    → Told (changes_asked old.totals.totals n (file_call asked)) old.totals (Answered result) new.totals
+    → IsSettled old.totals.totals old.totals.left → Called old n c asked result new → CallTold old n asked result new
 called_told old new n c asked result is h =
     elim (match_cases (first_refusal (refusals old n c asked)) _ _ h.outcome) [
       | inl x ↦ does_told old new n c asked result is (λ own. own_of old n c asked own x.0) x.1
@@ -413,18 +387,9 @@ called_told old new n c asked result is h =
 
 -- ---- steps
 
-same_machine : (old new then : Machine) (response : Response) → new ≡ then → then.totals ≡ old.totals → Told [] old.totals response new.totals
-same_machine old new then response is same = rest_unasked old.totals new.totals response (ap (λ (m : Machine). m.totals) is ∙ same)
-
 -- Each step of the machine is what its event says.
-pub step_told : (old : Machine) (q : Request) (r : Response) (new : Machine)
-    → old.totals.left ≡ settled old.totals.totals.layout old.totals.totals.mode old.totals.left
-    → Step old q r new → Happens old.totals (event_of old q r new) new.totals
-step_told old (NewControl u k) (Made number) new is h =
-    rest_beside old.totals new.totals (Made number) (ap (λ (m : Machine). m.totals.totals.layout) h.2)
-    (ap (λ (m : Machine). stored m.totals.totals.mode) h.2) (ap (λ (m : Machine). m.totals.left) h.2)
-step_told old (NewControl u k) Full new is h = same_machine old new old Full h.1 refl
-step_told old (NewControl u k) OutOfMemory new is h = same_machine old new old OutOfMemory h.1 refl
+pub step_told : (old : Machine) (q : Request) (r : Response) (new : Machine) → IsSettled old.totals.totals old.totals.left → Step old q r new
+    → Happens old.totals (event_of old q r new) new.totals
 step_told old (CallOf n asked) (Answered result) new is h =
     elim (match_cases (slice_get old.controls n) _ _ h) [
       | inl x ↦ rest_undone (changes_asked old.totals.totals n (file_call asked)) old.totals new.totals (Answered result)
@@ -436,23 +401,5 @@ step_told old (CallOf n asked) OutOfMemory new is h =
       | inl x ↦ absurd x.1
       | inr x ↦ rest_undone (changes_asked old.totals.totals n (file_call asked)) old.totals new.totals OutOfMemory tt (ap (λ (m : Machine). m.totals) x.2.2)
     ]
-step_told old (InputTo name input) TakenIn new is h = rest_unasked old.totals new.totals TakenIn (hardware_same old new _ _ h)
-step_told old (InputTo name input) NoDevice new is h = same_machine old new old NoDevice h.1 refl
-step_told old (InputTo name input) WrongInput new is h = same_machine old new old WrongInput h.1 refl
-step_told old (InputTo name input) OutOfMemory new is h = same_machine old new old OutOfMemory h.1 refl
-step_told old (WorkOn name) (Worked result) new is h = rest_unasked old.totals new.totals (Worked result) (hardware_same old new _ _ h)
-step_told old (WorkOn name) NoDevice new is h = same_machine old new old NoDevice h.1 refl
-step_told old (WorkOn name) OutOfMemory new is h = same_machine old new old OutOfMemory h.1 refl
-step_told old (Deliver n reply) (Delivered event) new is h =
-    elim (match_cases (slice_get old.controls n) _ _ h) [
-      | inl x ↦ same_machine old new old (Delivered event) x.1.1 refl
-      | inr x ↦ same_machine old new _ (Delivered event) x.2.1 refl
-    ]
-step_told old (Snapshot name) (Shown shown) new is h = same_machine old new old (Shown shown) h.2 refl
-step_told old (Snapshot name) NoDevice new is h = same_machine old new old NoDevice h.1 refl
-step_told old (Snapshot name) OutOfMemory new is h = same_machine old new old OutOfMemory h.1 refl
-step_told old (Attach name hardware) Attached new is h = same_machine old new _ Attached h.machine refl
-step_told old (Attach name hardware) (NotAttached fault given) new is h = same_machine old new old (NotAttached fault given) h.2 refl
-step_told old (Detach name) (Detached hardware) new is h = same_machine old new _ (Detached hardware) h.machine refl
-step_told old (Detach name) (NotDetached fault) new is h = same_machine old new old (NotDetached fault) h.1 refl
-step_told old q r new is h = absurd h
+step_told old (CallOf n asked) response new is h = absurd h
+step_told old q r new is h = rest_unasked old.totals new.totals r (step_beside old new q r h).rest

@@ -3,6 +3,7 @@ use Rattle.std.proofs.Common.{◌≡◌, ◌⊎◌, inl, inr, ℕ, List, [], ◌
 use Rattle.std.proofs.Common.{refl, sym, ap, ◌∙◌, subst}
 use Rattle.std.specs.Bool.{MatchBool}
 use Rattle.std.specs.Prelude.{◌||◌, MatchOption, IsErrOf, IsSome, IsTrue, is_some, is_none, slice_get, ⊤}
+use Rattle.std.proofs.lemmas.Bool.{and_parts}
 use Rattle.std.proofs.lemmas.List.{map-set, set-get_or}
 use Rattle.pos_disk.specs.declared.device.Disk.{Ghosts as DiskGhosts}
 use Rattle.pos_service.specs.declared.peripheral.Peripheral.{Ghosts}
@@ -28,7 +29,7 @@ use Rattle.pos_totals.specs.HardTotals.{Mode, Off, Ready, Totals, is_ready}
 use Rattle.pos_service.specs.Claims.{is_foreign}
 use Rattle.pos_service.specs.Refusals.{Row, first_refusal, when}
 use Rattle.pos_common.specs.KeptControls.{KeptControl, SetsTo, controls_of}
-use Rattle.pos_store.specs.Standing.{Standing, LeavesOneOf}
+use Rattle.pos_store.specs.Standing.{Standing, IsOneOf, LeavesOneOf}
 use Rattle.pos_totals.specs.declared.fault.RecoveryFault.{RecoveryFault}
 use Rattle.pos_totals.specs.declared.fault.RecoveryFault.TheVariants as fault
 use Rattle.pos_totals.specs.Recoveries.{Recovers as DiskRecovers, RecoversOneOf, FindsFiles, ReadsAs, code_of}
@@ -43,26 +44,18 @@ use Rattle.pos_counter.specs.declared.counter.Counter.{Counter}
 use Rattle.pos_counter.specs.KeptDevices.{AreDevicesSound}
 use Rattle.pos_counter.specs.Steps.{CallOf, Response, Answered, OutOfMemory, IsSound, Step, Sets, SetsByRecovery}
 use Rattle.pos_counter.specs.Totals.{TotalsPart, Recovers, asks_recovery, recovers, is_enabling, is_totals, settled}
-use Rattle.pos_counter.proofs.Serving.{settled_twice}
-use Rattle.pos_counter.proofs.Lifts.{kept_at, decided_at, over_same, match_at_none, match_at_some, match_cases, match_weaker}
+use Rattle.pos_counter.proofs.Serving.{same_sound, settled_twice}
+use Rattle.pos_counter.proofs.Lifts.{kept_at, decided_at, decided_step, over_same, match_at_none, match_at_some, match_cases}
 use Rattle.pos_counter.proofs.Sound.{seated, set_seat, with_control_sound}
-
-and_left : (a b : Bool) → (a && b) ≡ true → a ≡ true
-and_left true b e = refl
-and_left false b e = cc
-
-and_right : (a b : Bool) → (a && b) ≡ true → b ≡ true
-and_right true b e = e
-and_right false b e = cc
 
 -- what asks for a recovery is DeviceEnabled set to true on an open control of Hard Totals
 asks_enabling : (c : Control) (p : Property) (v : Value) → asks_recovery c p v ≡ true
     → (p ≡ property.DeviceEnabled) × (v ≡ value.Truth true) × (is_some c.device ≡ true) × (c.category ≡ category.HardTotals)
 asks_enabling c p v e =
-    let enabling = and_right (is_totals c.category && is_some c.device && not c.enabled) _ e in
-    let rest = and_left (is_totals c.category && is_some c.device && not c.enabled) _ e in
-    let front = and_left (is_totals c.category && is_some c.device) _ rest in
-    (which p v enabling, to_true p v enabling, and_right (is_totals c.category) _ front, totals c.category (and_left (is_totals c.category) _ front))
+    let whole = and_parts (is_totals c.category && is_some c.device && not c.enabled) _ e in
+    let front = and_parts (is_totals c.category && is_some c.device) _ whole.0 in
+    let first = and_parts (is_totals c.category) _ front.0 in
+    (which p v whole.1, to_true p v whole.1, first.1, totals c.category first.0)
   where
     which : (p : Property) (v : Value) → is_enabling p v ≡ true → p ≡ property.DeviceEnabled
     which property.DeviceEnabled v e = refl
@@ -129,14 +122,11 @@ pub plain_set : (hs : List KeptControl) (cl : List (Option ℕ)) (ds : List Devi
 plain_set hs cl ds part n g h p v (Ok r) lt is plain turns =
     let rows = set_rows n (holder_in h.control.category cl part.totals.area h.control.device) (kind_in (device_at ds h.control.device)) h.control p v in
     let signs = signs_in (hardware_in (device_at ds h.control.device)) in
-    let d = decided_at hs ds cl part n g h rows r _ (after_set signs h.control p v) is turns in
-    match_at_some _ h.control _ _ (kept_at hs n h lt is) (record {
-      outcome = match_weaker (first_refusal rows) _ _ _ _
-          (λ y. subst (λ b. MatchBool b (SetsByRecovery (machine_with hs cl ds part) n h.control p v r (machine_with (set hs n g) cl ds part))
-          (Sets (machine_with hs cl ds part) n h.control p v r (machine_with (set hs n g) cl ds part))) (sym plain) y)
-          (λ refusal y. y)
-          d.outcome;
-    })
+    let m = machine_with hs cl ds part in
+    let m' = machine_with (set hs n g) cl ds part in
+    decided_step m m' n h.control (call.Set p v) r rows _ _ (kept_at hs n h lt is) refl (λ same. same)
+    (λ y. subst (λ b. MatchBool b (SetsByRecovery m n h.control p v r m') (Sets m n h.control p v r m')) (sym plain) y)
+    (decided_at hs ds cl part n g h rows r _ (after_set signs h.control p v) is turns)
 plain_set hs cl ds part n g h p v (Err want) lt is plain wants =
     match_at_some _ h.control _ _ (kept_at hs n h lt is) (
       subst (λ b. IsTrue (b || tells_power h.control p v)) (sym plain) wants.0,
@@ -314,41 +304,27 @@ module _ {D P : Type 0} (bound : DiskGhosts D) (peripherals : Ghosts P) (old new
   -- why a recovery has failed
   why : (left : List Standing) (x : RecoveryFault) (k : Code) → DiskRecovers bound old.totals (Err x) new.totals → Leaves bound old.totals left
       → Some k ≡ code_of x → Recovers (part_of bound old.totals left) (answer.Refused k 0) (part_of bound new.totals left)
-  why left fault.Unformatted k recovers leaves is =
-      let code : k ≡ code.NoHardware = cc in
-      inl (
-        ap (λ j. answer.Refused j 0) code,
-        (found_one bound old.totals new.totals off (Err fault.Unformatted) left recovers leaves).found.0,
-        same_part bound old.totals new.totals off fault.Unformatted left recovers leaves.honest (λ failed. cc),
-      )
-  why left fault.Damaged k recovers leaves is =
-      let code : k ≡ code.Failure = cc in
-      inr (
-        ap (λ j. answer.Refused j 0) code,
-        inl (
-          inl (found_one bound old.totals new.totals off (Err fault.Damaged) left recovers leaves).found.0,
-          same_part bound old.totals new.totals off fault.Damaged left recovers leaves.honest (λ failed. cc),
-        ),
-      )
-  why left fault.Handles k recovers leaves is =
-      let code : k ≡ code.Failure = cc in
-      inr (
-        ap (λ j. answer.Refused j 0) code,
-        inl (
-          inr (found_one bound old.totals new.totals off (Err fault.Handles) left recovers leaves).found.0,
-          same_part bound old.totals new.totals off fault.Handles left recovers leaves.honest (λ failed. cc),
-        ),
-      )
-  why left fault.NoMemory k recovers leaves is = let bad : ⊥ = cc in absurd bad
-  why left fault.Device k recovers leaves is =
-      let code : k ≡ code.Failure = cc in
-      inr (
-        ap (λ j. answer.Refused j 0) code,
+  why left x k recovers leaves is =
+      by x recovers is (found_one bound old.totals new.totals off (Err x) left recovers leaves).found
+      (same_part bound old.totals new.totals off x left recovers leaves.honest)
+    where
+      told : (j l : Code) → Some j ≡ Some l → answer.Refused j 0 ≡ answer.Refused l 0
+      told j l e = cc
+
+      by : (x : RecoveryFault) → DiskRecovers bound old.totals (Err x) new.totals → Some k ≡ code_of x
+          → FindsFiles (IsOneOf left) old.totals.totals (Err x) new.totals.totals
+          → ((IsErrOf {T = Unit {0}} (Err x) fault.Device → ⊥) → part_of bound new.totals left ≡ part_of bound old.totals left)
+          → Recovers (part_of bound old.totals left) (answer.Refused k 0) (part_of bound new.totals left)
+      by fault.Unformatted recovers is found same = inl (told k _ is, found.0, same (λ failed. cc))
+      by fault.Damaged recovers is found same = inr (told k _ is, inl (inl found.0, same (λ failed. cc)))
+      by fault.Handles recovers is found same = inr (told k _ is, inl (inr found.0, same (λ failed. cc)))
+      by fault.NoMemory recovers is found same = absurd cc
+      by fault.Device recovers is found same = inr (
+        told k _ is,
         inr (record {
           rises = recovers.device refl leaves.honest;
           later = recovers.kept.later leaves.honest;
-          else_same = same_else bound old.totals new.totals off fault.Device
-              left recovers;
+          else_same = same_else bound old.totals new.totals off fault.Device left recovers;
         }),
       )
 
@@ -367,9 +343,6 @@ module _ {D P : Type 0} (bound : DiskGhosts D) (peripherals : Ghosts P) (old new
         (CallOf n (call.Set p v)) (machine peripherals new (part_with new.totals.totals left failures))
     unmoved left failures = match_at_some _ c _ _ at (totals, inl (same (part_with new.totals.totals left failures)))
 
-    still_sound : IsCounterSound peripherals new
-    still_sound = record { machine = λ part. subst IsSound (sym (same part)) (sound.machine part); devices = devices }
-
     -- the recovery fails, and the control stays as it is
     pub failed_serves : (k : Code) → Some k ≡ code_of x → Serves bound peripherals old (CallOf n (call.Set p v)) (Answered (answer.Refused k 0)) new
     failed_serves k is = record {
@@ -378,7 +351,7 @@ module _ {D P : Type 0} (bound : DiskGhosts D) (peripherals : Ghosts P) (old new
           (sym (still left leaves))
           (does (answer.Refused k 0) left left (inr (why left x k recovers leaves is, same (part_of bound new.totals left)))))
           unmoved;
-      sound = still_sound;
+      sound = same_sound peripherals old new same sound devices;
     }
 
     -- the recovery finds no memory, and nothing has changed
@@ -392,7 +365,7 @@ module _ {D P : Type 0} (bound : DiskGhosts D) (peripherals : Ghosts P) (old new
             same_before left leaves (no_fault x is),
           )))
           unmoved;
-      sound = still_sound;
+      sound = same_sound peripherals old new same sound devices;
     }
       where
         no_fault : (x : RecoveryFault) → None ≡ code_of x → IsErrOf {T = Unit {0}} (Err x) fault.Device → ⊥
@@ -412,7 +385,9 @@ pub asks_there : (hs : List KeptControl) (n : ℕ) (p : Property) (v : Value) (m
 asks_there hs n p v mode h =
     elim (match_cases (slice_get (controls_of hs) n) _ _ h) [
       | inl x ↦ absurd x.1
-      | inr x ↦ record { control = x.0; at = x.1; asks = and_left _ _ x.2; recovering = x.2; off = is_off mode (and_right (asks_recovery x.0 p v) _ x.2) }
+      | inr x ↦
+          let both = and_parts (asks_recovery x.0 p v) _ x.2 in
+          record { control = x.0; at = x.1; asks = both.0; recovering = x.2; off = is_off mode both.1 }
     ]
   where
     is_off : (m : Mode) → not (is_ready m) ≡ true → m ≡ Off

@@ -37,8 +37,7 @@ use Rattle.pos_counter.specs.Leaving.{Leaves}
 use Rattle.pos_counter.specs.Machine.{Machine}
 use Rattle.pos_counter.specs.Prefixes.{StartsWith}
 use Rattle.pos_counter.specs.Reopening.{HasThem, HasCause, FindsThem, enabling}
-use Rattle.pos_counter.specs.Steps.{Request, CallOf, Response, Made, Full, Answered, TakenIn, NoDevice, WrongInput, Worked, Delivered, Shown, Attached}
-use Rattle.pos_counter.specs.Steps.{NotAttached, Detached, NotDetached, OutOfMemory, Step, Run, Called, Wants, SetsByRecovery, Sets, refusals}
+use Rattle.pos_counter.specs.Steps.{Request, CallOf, Response, Answered, OutOfMemory, Step, Run, Called, Wants, SetsByRecovery, Sets, refusals}
 use Rattle.pos_counter.specs.Totals.{TotalsPart, Recovered, Recovers, asks_recovery, recovers, settled}
 use Rattle.pos_counter.proofs.Lifts.{match_cases}
 use Rattle.pos_counter.proofs.PrefixRuns.{law_after, law_recovers}
@@ -130,18 +129,7 @@ module _ (layout : Layout) (start : List PlainFile) (sequence : ℕ) (old : Mach
       (λ c. Called old number c enabling result new)) at step)
   finds_them OutOfMemory new at step =
       (subst (λ found. MatchOption found ⊥ (λ c. Wants old number c enabling new)) at step).2
-  finds_them (Made made) new at step = absurd step
-  finds_them Full new at step = absurd step
-  finds_them TakenIn new at step = absurd step
-  finds_them NoDevice new at step = absurd step
-  finds_them WrongInput new at step = absurd step
-  finds_them (Worked result) new at step = absurd step
-  finds_them (Delivered event) new at step = absurd step
-  finds_them (Shown plant) new at step = absurd step
-  finds_them Attached new at step = absurd step
-  finds_them (NotAttached fault hardware) new at step = absurd step
-  finds_them (Detached hardware) new at step = absurd step
-  finds_them (NotDetached fault) new at step = absurd step
+  finds_them other new at step = absurd step
 
 -- ---- how many files a disk stands for
 

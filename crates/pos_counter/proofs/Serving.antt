@@ -11,12 +11,13 @@ use Rattle.pos_totals.specs.HardTotals.{Mode, Off, Ready, Totals}
 use Rattle.pos_totals.specs.Views.{TotalsView}
 use Rattle.pos_counter.specs.Counters.{machine, IsCounterSound, IsStep, IsStepBeside, Serves}
 use Rattle.pos_counter.specs.declared.counter.Counter.{Counter}
+use Rattle.pos_counter.specs.DiskUse.{SparesDisk}
 use Rattle.pos_counter.specs.KeptDevices.{AreDevicesSound}
 use Rattle.pos_counter.specs.Leaving.{part_of, part_with, IsSettled, Leaves, Spared, Stepped}
 use Rattle.pos_counter.specs.Machine.{Machine}
-use Rattle.pos_counter.specs.Steps.{Request, Response, Step}
+use Rattle.pos_counter.specs.Steps.{IsSound, Request, Response, Step}
 use Rattle.pos_counter.specs.Totals.{TotalsPart, settled}
-use Rattle.pos_counter.proofs.Sound.{step_sound}
+use Rattle.pos_counter.proofs.Requests.{step_sound}
 
 -- a disk that isn't touched is as it was
 pub kept_disk : {D : Type 0} (bound : DiskGhosts D) (disk : D) → KeepsDisk bound disk disk
@@ -50,6 +51,13 @@ arranges_stepped bound view totals old new q r left only same leaves step = reco
   step = step;
   any_moment = (stays (bound.state view.disk) left (λ bytes since. only bytes leaves.honest since) leaves.leaves).any_moment;
 }
+
+-- a counter over the same machine is sound
+pub same_sound : {D P : Type 0} (peripherals : Ghosts P) (old new : Counter D P)
+    → ((part : TotalsPart) → machine peripherals new part ≡ machine peripherals old part) → IsCounterSound peripherals old
+    → AreDevicesSound peripherals new.devices → IsCounterSound peripherals new
+same_sound peripherals old new same sound devices =
+    record { machine = λ part. subst IsSound (sym (same part)) (sound.machine part); devices = devices }
 
 -- a counter is sound behind a step of its machine, whatever its totals
 pub still_sound : {D P : Type 0} (peripherals : Ghosts P) (old new : Counter D P) (q : Request) (r : Response) (one other : TotalsPart)
@@ -115,3 +123,12 @@ module _ {D P : Type 0} (bound : DiskGhosts D) (peripherals : Ghosts P) where
   beside_is_step old new q r only beside =
       quiet_step old new q r old.totals.totals only (ap (λ (v : TotalsView D). v.disk) beside.totals) (ap (λ (v : TotalsView D). v.totals) beside.totals)
       (λ left. refl) (λ left failures so. beside.step (part_with old.totals.totals left failures))
+
+  -- a counter is sound behind a request that spares the disk
+  pub spared_sound : (old new : Counter D P) (q : Request) (r : Response) → IsStep bound peripherals old q r new → ((m : Machine) → SparesDisk m q)
+      → IsCounterSound peripherals old → AreDevicesSound peripherals new.devices → IsCounterSound peripherals new
+  spared_sound old new q r step spares sound devices =
+      let was = old.totals.totals in
+      let left = settled was.layout was.mode [] in
+      still_sound peripherals old new q r (part_with was left 0) (part_with new.totals.totals left 0) sound devices
+      ((step.spared left 0 (spares _)).step (settled_twice was.layout [] was.mode))

@@ -1,19 +1,13 @@
-use Rattle.std.proofs.Common.{subst, sym}
-use Rattle.pos_profile.specs.Registries.{MayServe, devices as registered}
-use Rattle.pos_profile.proofs.CallerLemmas.{put_back}
-use Rattle.pos_counter.proofs.DeviceLists.{done_there}
+use Rattle.pos_profile.specs.Registries.{devices as registered}
+use Rattle.pos_counter.proofs.DeviceLists.{done_there, may_go_back}
 use Rattle.pos_counter.proofs.calls.call_there.Goals as goal
 
 pub put-requires-clause-may_serve : goal.put-requires-clause-may_serve
 put-requires-clause-may_serve g c =
-    let list = registered g.P.Peripheral c.args.devices.now.registry in
-    let now = g.P.Peripheral.state c.call_device-answer.new.peripheral in
-    subst (λ ds. MayServe ds c.args.place now) (sym c.in-Some.ensures.vacated)
-    (put_back list c.args.place (g.P.Peripheral.state c.in-Some.peripheral) now c.requires.sound.registry.served c.in-Some.ensures.taken
-    c.call_device-answer.ensures.in_service.kind)
+    may_go_back (registered g.P.Peripheral c.args.devices.now.registry) _ c.args.place _ _ c.requires.sound.registry.served
+    c.in-Some.ensures.taken c.in-Some.ensures.vacated c.call_device-answer.ensures.in_service
 
 pub returns-clause-done : goal.returns-clause-done
 returns-clause-done g c =
-    done_there (registered g.P.Peripheral c.args.devices.now.registry) _ _ c.args.devices.now.totals c.args.place
-    (g.P.Peripheral.state c.in-Some.peripheral) (g.P.Peripheral.state c.call_device-answer.new.peripheral) _ c.requires.sound.registry.served
-    c.in-Some.ensures.taken c.in-Some.ensures.vacated c.put.ensures.served c.call_device-answer.ensures.called
+    done_there (registered g.P.Peripheral c.args.devices.now.registry) _ _ c.args.devices.now.totals c.args.place _ _ _
+    c.requires.sound.registry.served c.in-Some.ensures.taken c.in-Some.ensures.vacated c.put.ensures.served c.call_device-answer.ensures.called

@@ -1,22 +1,19 @@
-use Rattle.std.proofs.Common.{◌≡◌, ◌∙◌, ◌++◌, ◌∷◌, ◌<◌, [], List, ap, length, refl, subst, sym, arith}
+use Rattle.std.proofs.Common.{◌≡◌, ◌∙◌, ◌++◌, ◌∷◌, ◌<◌, [], List, ap, length, refl, arith}
 use Rattle.pos_common.specs.KeptControls.{KeptControl}
 use Rattle.pos_totals.specs.HardTotals.{with_control}
 use Rattle.pos_counter.specs.KeptDevices.{devices_in}
 use Rattle.pos_counter.specs.Leaving.{part_with}
 use Rattle.pos_counter.specs.Machine.{machine_with}
-use Rattle.pos_counter.specs.Steps.{IsSound, Made, NewControl, most_controls}
+use Rattle.pos_counter.specs.Steps.{most_controls}
 use Rattle.pos_counter.proofs.Lifts.{made_step}
-use Rattle.pos_counter.proofs.Serving.{quiet_step, still_sound}
+use Rattle.pos_counter.proofs.Serving.{quiet_step, same_sound, spared_sound}
 use Rattle.pos_counter.proofs.counter.Counter.control.Goals as goal
 
 pub returns-then-is_err-clause-sound : goal.returns-then-is_err-clause-sound
 returns-then-is_err-clause-sound g c =
     let old = c.args.self.now in
-    record {
-      machine = λ part. subst (λ (hs : List KeptControl). IsSound (machine_with hs old.claims (devices_in g.P.Peripheral old.devices) part))
-          (sym c.reserve.ensures.items) (c.requires.sound.machine part);
-      devices = c.requires.sound.devices;
-    }
+    same_sound g.P.Peripheral old _ (λ part. ap (λ (hs : List KeptControl). machine_with hs old.claims (devices_in g.P.Peripheral old.devices) part)
+    c.reserve.ensures.items) c.requires.sound c.requires.sound.devices
 
 pub returns-in-Ok-clause-step : goal.returns-in-Ok-clause-step
 returns-in-Ok-clause-step g c =
@@ -32,22 +29,10 @@ returns-in-Ok-clause-step g c =
 
 pub returns-in-Ok-clause-sound : goal.returns-in-Ok-clause-sound
 returns-in-Ok-clause-sound g c =
-    let old = c.args.self.now in
-    let hs = old.controls.items in
-    let many : c.len-number.result ≡ length hs = omega (arith, c.len-number.ensures, old.controls.ok.0) in
-    let room : c.len-number.result < most_controls = omega arith in
-    let part = part_with old.totals.totals [] 0 in
-    let items = c.push_reserved.ensures.items ∙ ap (λ (ks : List KeptControl). ks ++ c.new.result ∷ []) c.reserve.ensures.items in
-    still_sound g.P.Peripheral old _ (NewControl tt c.args.category) (Made c.len-number.result) part (record part { totals = with_control part.totals })
-    c.requires.sound c.requires.sound.devices
-    (made_step hs c.push_reserved.new.self.items old.claims (devices_in g.P.Peripheral old.devices) part c.args.category c.new.result
-    c.len-number.result room many items c.new.ensures)
+    spared_sound g.D.Disk g.P.Peripheral c.args.self.now _ _ _ (returns-in-Ok-clause-step g c) (λ m. tt) c.requires.sound c.requires.sound.devices
 
 pub returns-in-Err-clause-sound : goal.returns-in-Err-clause-sound
 returns-in-Err-clause-sound g c =
     let old = c.args.self.now in
-    record {
-      machine = λ part. subst (λ (hs : List KeptControl). IsSound (machine_with hs old.claims (devices_in g.P.Peripheral old.devices) part))
-          (sym c.reserve.ensures.items) (c.requires.sound.machine part);
-      devices = c.requires.sound.devices;
-    }
+    same_sound g.P.Peripheral old _ (λ part. ap (λ (hs : List KeptControl). machine_with hs old.claims (devices_in g.P.Peripheral old.devices) part)
+    c.reserve.ensures.items) c.requires.sound c.requires.sound.devices
