@@ -54,3 +54,13 @@ behind a b c first second (Err e) done w =
 pub failed_behind : {E : Type 0} (a b c : Option (List ℕ)) (first second : List ℕ) (e : E) → Appends a b first → Writes b c second (Err e)
     → Writes a c (first ++ second) (Err e)
 failed_behind a b c first second e done w = behind a b c first second (Err e) done w
+
+-- what fails between a text that was written and one that was to be
+pub failed_between : {E F : Type 0} (a b c : Option (List ℕ)) (first second third : List ℕ) (e : E) (f : F) → Appends a b first → Writes b c second (Err e)
+    → Writes a c (first ++ (second ++ third)) (Err f)
+failed_between a b c first second third e f done w = failed_behind a b c first (second ++ third) f done (failed_front b c second third e f w)
+
+-- a text behind two that were written
+pub behind_two : {E : Type 0} (a b c d : Option (List ℕ)) (first second third : List ℕ) (result : Result (Unit {0}) E) → Appends a b first
+    → Appends b c second → Writes c d third result → Writes a d (first ++ (second ++ third)) result
+behind_two a b c d first second third result one two w = behind a b d first (second ++ third) result one (behind b c d second third result two w)

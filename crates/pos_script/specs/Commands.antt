@@ -1,5 +1,5 @@
 -- What a line of a script asks (docs/CONSOLE.md, "Lines").
-use Rattle.std.specs.Prelude.{ℕ, true, false, List, [], ◌∷◌, bytes_eq, codes, if◌then◌else◌}
+use Rattle.std.specs.Prelude.{ℕ, Bool, true, false, List, [], ◌∷◌, bytes_eq, codes, if◌then◌else◌}
 use Rattle.pos_service.specs.declared.call.Call.TheVariants as call
 use Rattle.pos_service.specs.declared.input.Input.{Input}
 use Rattle.pos_service.specs.declared.input.Input.TheVariants as input
@@ -51,25 +51,17 @@ abbrev pub call_line : List ℕ → List (List ℕ) → Reading LineRequest
 call_line name [] = misshapen
 call_line name (method ∷ words) = become (λ call. request.CallOf name call) (call_of method words)
 
--- what happens to a cover, by the words behind it
-abbrev pub cover_input_of : List (List ℕ) → Reading Input
-cover_input_of [] = misshapen
-cover_input_of (word ∷ words) =
-    if bytes_eq word (codes "open") then from_none (input.CoverMoved true) words
-    else (if bytes_eq word (codes "closed") then from_none (input.CoverMoved false) words else misshapen)
+-- the last word of a line, which is one of two: whether it is the first of them
+abbrev pub choice_of : List ℕ → List ℕ → List (List ℕ) → Reading Bool
+choice_of first second [] = misshapen
+choice_of first second (word ∷ words) =
+    if bytes_eq word first then from_none true words else (if bytes_eq word second then from_none false words else misshapen)
 
 -- what happens at a printer, by its word and the words behind it
 abbrev pub printer_input_of : List ℕ → List (List ℕ) → Reading Input
 printer_input_of word words =
-    if bytes_eq word (codes "cover") then cover_input_of words
+    if bytes_eq word (codes "cover") then become input.CoverMoved (choice_of (codes "open") (codes "closed") words)
     else (if bytes_eq word (codes "paper") then from_one count_shape input.PaperLoaded words else misshapen)
-
--- how a device is switched, by the words behind that
-abbrev pub power_input_of : List (List ℕ) → Reading Input
-power_input_of [] = misshapen
-power_input_of (word ∷ words) =
-    if bytes_eq word (codes "on") then from_none (input.PowerMoved true) words
-    else (if bytes_eq word (codes "off") then from_none (input.PowerMoved false) words else misshapen)
 
 -- what happens at a device, by its word and the words behind it
 abbrev pub input_of : List ℕ → List (List ℕ) → Reading Input
@@ -78,7 +70,7 @@ input_of word words =
     else (if bytes_eq word (codes "closed") then from_none (input.DrawerMoved false) words
     else (if bytes_eq word (codes "scan") then from_three count_shape bytes_shape bytes_shape input.Scan words
     else (if bytes_eq word (codes "fault") then from_none input.ScanFault words
-    else (if bytes_eq word (codes "power") then power_input_of words
+    else (if bytes_eq word (codes "power") then become input.PowerMoved (choice_of (codes "on") (codes "off") words)
     else printer_input_of word words))))
 
 -- input DEVICE, and what happens there

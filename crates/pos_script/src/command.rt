@@ -3,7 +3,7 @@ ghost use Rattle.pos_script.specs.Lines.{words_of};
 ghost use Rattle.pos_script.specs.Arguments.{Reads, from_three};
 ghost use Rattle.pos_script.specs.Words.{bytes_shape, count_shape};
 ghost use Rattle.pos_service.specs.declared.input.Input.TheVariants as input;
-ghost use Rattle.pos_script.specs.Commands.{request_of_words, verb_line, claims_line, device_line, new_line, open_line, close_line, claim_line, release_line, set_line, get_line, call_line, input_of, printer_input_of, cover_input_of, power_input_of, input_line, reply_of, deliver_line, show_line, work_line, attach_line, detach_line, exchange_line};
+ghost use Rattle.pos_script.specs.Commands.{request_of_words, verb_line, claims_line, device_line, new_line, open_line, close_line, claim_line, release_line, set_line, get_line, call_line, choice_of, input_of, printer_input_of, input_line, reply_of, deliver_line, show_line, work_line, attach_line, detach_line, exchange_line};
 
 use crate::arguments::{DeviceName, LineFault, read_none, read_one, read_three, read_two};
 use crate::lines::next_word;
@@ -123,23 +123,23 @@ fn read_event(alloc: Global, word: &[u8], words: &[u8]) -> Result<Input, LineFau
         return read_none(words).map(|_| Input::ScanFault);
     }
     if is(word, "power") {
-        return read_power_event(words);
+        return read_choice(words, "on", "off").map(Input::PowerMoved);
     }
     read_printer_event(alloc, word, words)
 }
 
-/// How a device is switched.
-fn read_power_event(words: &[u8]) -> Result<Input, LineFault>
-    ensures { Reads (power_input_of (words_of words.now)) result }
+/// The last word of a line, which is one of two: whether it is the first of them.
+fn read_choice(words: &[u8], first: &str, second: &str) -> Result<bool, LineFault>
+    ensures { Reads (choice_of first.now second.now (words_of words.now)) result }
 {
     let Some((word, rest)) = next_word(words) else {
         return Err(LineFault::WrongShape);
     };
-    if is(word, "on") {
-        return read_none(rest).map(|_| Input::PowerMoved(true));
+    if is(word, first) {
+        return read_none(rest).map(|_| true);
     }
-    if is(word, "off") {
-        return read_none(rest).map(|_| Input::PowerMoved(false));
+    if is(word, second) {
+        return read_none(rest).map(|_| false);
     }
     Err(LineFault::WrongShape)
 }
@@ -149,26 +149,10 @@ fn read_printer_event(alloc: Global, word: &[u8], words: &[u8]) -> Result<Input,
     ensures { Reads (printer_input_of word.now (words_of words.now)) result }
 {
     if is(word, "cover") {
-        return read_cover_event(words);
+        return read_choice(words, "open", "closed").map(Input::CoverMoved);
     }
     if is(word, "paper") {
         return read_one(alloc, words).map(Input::PaperLoaded);
-    }
-    Err(LineFault::WrongShape)
-}
-
-/// What happens to a cover.
-fn read_cover_event(words: &[u8]) -> Result<Input, LineFault>
-    ensures { Reads (cover_input_of (words_of words.now)) result }
-{
-    let Some((word, rest)) = next_word(words) else {
-        return Err(LineFault::WrongShape);
-    };
-    if is(word, "open") {
-        return read_none(rest).map(|_| Input::CoverMoved(true));
-    }
-    if is(word, "closed") {
-        return read_none(rest).map(|_| Input::CoverMoved(false));
     }
     Err(LineFault::WrongShape)
 }

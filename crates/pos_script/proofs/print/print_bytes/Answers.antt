@@ -3,7 +3,7 @@ use Rattle.std.specs.Prelude.{codes, nat_eq}
 use Rattle.std.proofs.lemmas.Result.{err_from_is_err_and}
 use Rattle.hex.specs.Hex.{encode_lower}
 use Rattle.pos_script.specs.Text.{hex_text}
-use Rattle.pos_script.proofs.WriteLemmas.{failed_front, failed_behind, behind}
+use Rattle.pos_script.proofs.WriteLemmas.{behind_two, failed_between, failed_front}
 use Rattle.pos_script.proofs.print.print_bytes.Goals as goal
 
 -- where there are bytes their text is their hex
@@ -20,11 +20,10 @@ pub returns-in_err-write_hex : goal.returns-in_err-write_hex
 returns-in_err-write_hex g c =
     let p = err_from_is_err_and c.from_residual-in_err-write_hex.result c.from_residual-in_err-write_hex.ensures.1 in
     rw (p.1, some_bytes c.args.bytes.now c.if-is_empty.ensures)
-    (failed_behind _ _ _ (codes "ok ") _ p.0 c.in_ok-write_parts.ensures
-    (failed_front _ _ (encode_lower c.args.bytes.now) (10 ∷ []) c.in_err-write_hex.field-0 p.0 c.in_err-write_hex.ensures))
+    (failed_between _ _ _ (codes "ok ") (encode_lower c.args.bytes.now) (10 ∷ []) c.in_err-write_hex.field-0 p.0 c.in_ok-write_parts.ensures
+    c.in_err-write_hex.ensures)
 
 pub returns : goal.returns
 returns g c =
     rw (some_bytes c.args.bytes.now c.if-is_empty.ensures)
-    (behind _ _ _ (codes "ok ") _ _ c.in_ok-write_parts.ensures
-    (behind _ _ _ (encode_lower c.args.bytes.now) (10 ∷ []) _ c.in_ok-write_hex.ensures c.write_parts-3.ensures))
+    (behind_two _ _ _ _ (codes "ok ") (encode_lower c.args.bytes.now) (10 ∷ []) _ c.in_ok-write_parts.ensures c.in_ok-write_hex.ensures c.write_parts-3.ensures)
