@@ -5,8 +5,10 @@ use Rattle.pos_service.specs.declared.receipt_text.Alignment.{Alignment}
 use Rattle.pos_service.specs.declared.receipt_text.PrintedCharacter.{PrintedCharacter}
 use Rattle.pos_service.specs.declared.receipt_text.Piece.{Piece}
 use Rattle.pos_service.specs.declared.receipt_text.Piece.TheVariants as piece
-use Rattle.pos_service.specs.Receipts.{Line, CutAt, Style, plain, in_style, Printout, printed_by, items_from, Printer, after_items, lines_needed}
+use Rattle.pos_service.specs.Receipts.{Line, CutAt, Style, plain, in_style, Printout, printed_by, items_from, Printer, after_items, cut_pieces, lines_needed, pieces}
 use Rattle.pos_sims.specs.declared.tape.Tape.{Tape}
+use Rattle.pos_sims.specs.declared.tape.Asked.{Asked}
+use Rattle.pos_sims.specs.declared.tape.Asked.TheVariants.{Cut, Text}
 use Rattle.pos_sims.specs.declared.tape.Stop.{Stop}
 use Rattle.pos_sims.specs.declared.tape.Stop.TheVariants as stop
 
@@ -103,6 +105,11 @@ request_on tape ps = printed_by tape.chars (printed_on tape).buffer ps
 -- the lines that a request of these pieces needs
 abbrev pub lines_on : Tape → List Piece → ℕ
 lines_on tape ps = lines_needed (request_on tape ps).items
+
+-- the pieces of what a request asks for
+abbrev pub pieces_asked : Asked → List Piece
+pieces_asked (Text bytes) = pieces bytes.now
+pieces_asked (Cut percentage) = cut_pieces percentage
 
 -- a request of these pieces is printed on the old tape
 abbrev pub IsPrinted : Tape → List Piece → Tape → Type 0

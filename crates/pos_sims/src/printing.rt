@@ -1,8 +1,8 @@
 ghost use Rattle.std.specs.Prelude.{◌≡◌, ◌++◌, ◌∷◌, [], ◌+◌, ◌-◌, ◌<◌, ◌≤◌, take, drop, length, replicate, vec_len, Err, OnOk, OnErr, IfOk};
-ghost use Rattle.pos_service.specs.Receipts.{characters_in, plain, pieces, pieces_in, cut_pieces};
-ghost use Rattle.pos_sims.specs.Tapes.{Adds, IsPrinted, StopsShort, add_cut, end_begun, end_full, end_line, lines_on, printed_on, put_character, step, work_after, work_of};
+ghost use Rattle.pos_service.specs.Receipts.{characters_in, plain, pieces, pieces_in};
+ghost use Rattle.pos_sims.specs.Tapes.{Adds, IsPrinted, StopsShort, add_cut, end_begun, end_full, end_line, lines_on, pieces_asked, printed_on, put_character, step, work_after, work_of};
 
-use crate::tape::{Stop, Tape};
+use crate::tape::{Asked, Stop, Tape};
 use pos_service::receipt_text::{
     Alignment, Mark, Piece, PrintedCharacter, Token, cut_of, next_character, next_token,
 };
@@ -228,34 +228,23 @@ impl Tape {
         self.start = start;
     }
 
-    /// A request of these bytes, which may use so many lines. It says how many it has used. A request that stops is
-    /// undone whole.
-    pub fn print(&mut self, bytes: &[u8], limit: u32) -> Result<u32, Stop>
-        ensures ok { OnOk result (IsPrinted self.old (pieces bytes.now) self.new) }
-        ensures used { IfOk result (λ used. (used ≡ lines_on self.old (pieces bytes.now)) × (used ≤ limit)) }
-        ensures paper { StopsShort result limit (lines_on self.old (pieces bytes.now)) }
-        ensures err { OnErr result (printed_on self.new ≡ printed_on self.old) }
-        ensures chars { self.new.chars ≡ self.old.chars }
+    /// All that is asked.
+    fn lay_asked(&mut self, asked: &Asked<'_>) -> Result<(), Stop>
+        ensures ok { OnOk result (work_of self.new ≡ work_after self.old (pieces_asked asked.now)) }
+        ensures paper { StopsShort result self.old.limit (work_after self.old (pieces_asked asked.now)).used }
+        ensures adds { Adds self.old self.new }
     {
-        let characters = self.characters.len();
-        let marks = self.marks.len();
-        let start = self.start;
-        self.begin(limit);
-        match self.lay(bytes) {
-            Ok(()) => Ok(self.used),
-            Err(stop) => {
-                self.back_to(characters, marks, start);
-                Err(stop)
-            }
+        match asked {
+            Asked::Text(bytes) => self.lay(bytes),
+            Asked::Cut(percentage) => self.lay_token(cut_of(u32::from(*percentage))),
         }
     }
 
-    /// A request of one cut, which may use so many lines. It says how many it has used. A request that stops is undone
-    /// whole.
-    pub fn cut_paper(&mut self, percentage: u32, limit: u32) -> Result<u32, Stop>
-        ensures ok { OnOk result (IsPrinted self.old (cut_pieces percentage) self.new) }
-        ensures used { IfOk result (λ used. (used ≡ lines_on self.old (cut_pieces percentage)) × (used ≤ limit)) }
-        ensures paper { StopsShort result limit (lines_on self.old (cut_pieces percentage)) }
+    /// A request, which may use so many lines. It says how many it has used. A request that stops is undone whole.
+    pub fn print(&mut self, asked: &Asked<'_>, limit: u32) -> Result<u32, Stop>
+        ensures ok { OnOk result (IsPrinted self.old (pieces_asked asked.now) self.new) }
+        ensures used { IfOk result (λ used. (used ≡ lines_on self.old (pieces_asked asked.now)) × (used ≤ limit)) }
+        ensures paper { StopsShort result limit (lines_on self.old (pieces_asked asked.now)) }
         ensures err { OnErr result (printed_on self.new ≡ printed_on self.old) }
         ensures chars { self.new.chars ≡ self.old.chars }
     {
@@ -263,7 +252,7 @@ impl Tape {
         let marks = self.marks.len();
         let start = self.start;
         self.begin(limit);
-        match self.lay_token(cut_of(percentage)) {
+        match self.lay_asked(asked) {
             Ok(()) => Ok(self.used),
             Err(stop) => {
                 self.back_to(characters, marks, start);

@@ -1,8 +1,9 @@
 ghost use Rattle.std.specs.Prelude.{◌≡◌, ◌≤◌, List, false, None, IfOk, IfSome, OnErr};
 ghost use Rattle.pos_service.specs.declared.receipt_text.Piece.{Piece};
 ghost use Rattle.pos_service.specs.Receipts.{Prints, empty_roll, pieces, cut_pieces, items_from, buffer_from};
+ghost use Rattle.pos_sims.specs.Tapes.{pieces_asked};
 
-use crate::tape::{Stop, Tape};
+use crate::tape::{Asked, Stop, Tape};
 use pos_service::NoMemory;
 use pos_service::receipt_text::{Mark, Outcome, PrintedCharacter};
 use std::alloc::Global;
@@ -68,16 +69,16 @@ impl Roll {
         None
     }
 
-    /// Prints the data of a request, all of it or nothing: with the cover open CoverOpen, else with no line of paper
-    /// left, or fewer than the request needs, PaperEnd. Want of memory changes nothing.
-    pub fn print(&mut self, bytes: &[u8]) -> Result<Outcome, NoMemory>
-        ensures outcome { IfOk result (λ outcome. Prints self.old (pieces bytes.now) outcome self.new) }
+    /// Carries out a request, all of it or nothing: with the cover open CoverOpen, else with no line of paper left, or
+    /// fewer than the request needs, PaperEnd. Want of memory changes nothing.
+    fn request(&mut self, asked: &Asked<'_>) -> Result<Outcome, NoMemory>
+        ensures outcome { IfOk result (λ outcome. Prints self.old (pieces_asked asked.now) outcome self.new) }
         ensures no_memory { OnErr result (self.new ≡ self.old) }
     {
         if let Some(outcome) = self.hindrance() {
             return Ok(outcome);
         }
-        match self.tape.print(bytes, self.left) {
+        match self.tape.print(asked, self.left) {
             Ok(used) => {
                 self.left -= used;
                 Ok(Outcome::Done)
@@ -87,23 +88,21 @@ impl Roll {
         }
     }
 
-    /// Cuts the paper by 0 to 100 percent, a request with that cut alone. Want of memory changes nothing.
+    /// Prints the data of a request.
+    pub fn print(&mut self, bytes: &[u8]) -> Result<Outcome, NoMemory>
+        ensures outcome { IfOk result (λ outcome. Prints self.old (pieces bytes.now) outcome self.new) }
+        ensures no_memory { OnErr result (self.new ≡ self.old) }
+    {
+        self.request(&Asked::Text(bytes))
+    }
+
+    /// Cuts the paper by 0 to 100 percent, a request with that cut alone.
     pub fn cut(&mut self, percentage: u8) -> Result<Outcome, NoMemory>
         requires { percentage ≤ 100 }
         ensures outcome { IfOk result (λ outcome. Prints self.old (cut_pieces percentage) outcome self.new) }
         ensures no_memory { OnErr result (self.new ≡ self.old) }
     {
-        if let Some(outcome) = self.hindrance() {
-            return Ok(outcome);
-        }
-        match self.tape.cut_paper(u32::from(percentage), self.left) {
-            Ok(used) => {
-                self.left -= used;
-                Ok(Outcome::Done)
-            }
-            Err(Stop::PaperEnd) => Ok(Outcome::PaperEnd),
-            Err(Stop::NoMemory) => Err(NoMemory),
-        }
+        self.request(&Asked::Cut(percentage))
     }
 
     /// How many characters a line has, 1 to 255.

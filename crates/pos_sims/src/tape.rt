@@ -31,6 +31,15 @@ pub(crate) struct Tape {
     ghost sparing: { used ≤ limit },
 }
 
+/// What a request asks for.
+#[derive(Drop)]
+pub(crate) enum Asked<'a> {
+    /// The text of these bytes.
+    Text(&'a [u8]),
+    /// A cut of the paper by so many percent.
+    Cut(u8),
+}
+
 /// Why a request stops before its end.
 #[derive(Clone, Copy, PartialEq, Eq)]
 pub(crate) enum Stop {
