@@ -35,7 +35,8 @@ impl<S: Screen> LineDisplay<S> {
     pub fn new(alloc: Global, rows: u32, columns: u32) -> Result<Self, NoMemory>
         requires rows { (1 ≤ rows) × (rows ≤ 8) }
         requires columns { (1 ≤ columns) × (columns ≤ 80) }
-        ensures { IfOk result (λ display. state_on S.Screen display ≡ display_state (blank_display rows columns) false) }
+        ensures { IfOk result (λ display.
+            state_on S.Screen display ≡ display_state (blank_display rows columns) false) }
     {
         Ok(LineDisplay {
             alloc,
