@@ -16,34 +16,11 @@ use Rattle.std.proofs.lemmas.Slice.Eq.{bytes_eq-Decides}
 use Rattle.pos_dir.specs.declared.file.File.{File}
 use Rattle.pos_dir.specs.declared.limits.Limits.{Limits}
 use Rattle.pos_dir.specs.declared.change.Change.{Change}
-use Rattle.pos_dir.specs.declared.change.Change.TheVariants.{Create, Delete, Rename, Write, SetAll}
 use Rattle.pos_dir.specs.declared.fault.DirectoryFault.{DirectoryFault}
-use Rattle.pos_dir.specs.declared.fault.DirectoryFault.TheVariants.{Exists, Range, NoRoom, BadName}
 use Rattle.pos_dir.specs.Files.{is_name, has_name, are_distinct, total_size, IsDirectory}
-use Rattle.pos_dir.specs.Changes.{splice, with_file, outcome, and_then, outcome_of_all, IsChange}
-
--- ---- what a test or a lookup that led to Ok says
-
-chosen : {A : Type 0} (b : Bool) (fault : DirectoryFault) (x : A) (y : A) → ◌≡◌ {A = Result A DirectoryFault} (cond b (Ok x) (Err fault)) (Ok y)
-    → (b ≡ true) × (x ≡ y)
-chosen true fault x y h = (refl, cc)
-chosen false fault x y h = absurd cc
-
-refused : {A : Type 0} (b : Bool) (fault : DirectoryFault) (r : Result A DirectoryFault) (y : A) → cond b (Err fault) r ≡ Ok y → (b ≡ false) × (r ≡ Ok y)
-refused true fault r y h = absurd cc
-refused false fault r y h = (refl, h)
-
-found : (o : Option File) (f : File → Result (List File) DirectoryFault) (y : List File) → with_file o f ≡ Ok y → (x : File) × (o ≡ Some x) × (f x ≡ Ok y)
-found None f y h = absurd cc
-found (Some x) f y h = (x, refl, h)
-
-good_name : (b : Bool) → ◌≡◌ {A = Option DirectoryFault} (cond b None (Some BadName)) None → b ≡ true
-good_name true h = refl
-good_name false h = absurd cc
-
--- two files at one place are the same
-pub same_file : (x y : File) → Some x ≡ Some y → x ≡ y
-same_file x y h = cc
+use Rattle.pos_dir.specs.Changes.{outcome, and_then, outcome_of_all, IsChange}
+use Rattle.pos_dir.proofs.Outcomes.{Makes, makes, same_file}
+use Rattle.pos_dir.proofs.Outcomes.Makes.{Adds, Removes, Renames, Rewrites}
 
 -- ---- names
 
@@ -172,91 +149,36 @@ replaced limits files i old new was at name size = record {
   distinct = are_distinct-same files i old new at name ∙ was.distinct;
 }
 
--- bytes put in the place of others within a file leave its size
-pub length-splice : (old : List ℕ) (at : ℕ) (bytes : List ℕ) → at + length bytes ≤ length old → length (splice old at bytes) ≡ length old
-length-splice old at bytes fits =
-    omega (
-      arith,
-      length-append (take at old ++ bytes) (drop (at + length bytes) old),
-      length-append (take at old) bytes,
-      length-take at old,
-      length-drop (at + length bytes) old,
-    )
-
 -- ---- each change
 
-created : (limits : Limits) (files next : List File) (name : List ℕ) (size : ℕ) → IsDirectory limits files → is_name name ≡ true
-    → outcome limits files (Create name size) ≡ Ok next → IsDirectory limits next
-created limits files next name size was good h =
-    let file : File = record { name = name; bytes = replicate size 0 } in
-    let new = refused (has_name files name) Exists
-    (cond (nat_lt (length files) limits.files && nat_le (total_size files + size) limits.bytes) (Ok (files ++ file ∷ [])) (Err NoRoom)) next h in
-    let made = chosen (nat_lt (length files) limits.files && nat_le (total_size files + size) limits.bytes) NoRoom (files ++ file ∷ []) next new.1 in
-    let room = and_parts (nat_lt (length files) limits.files) (nat_le (total_size files + size) limits.bytes) made.0 in
-    let few = ltb-true (length files) limits.files room.0 in
-    let small = leb-true (total_size files + size) limits.bytes room.1 in
-    subst (λ (x : List File). IsDirectory limits x) made.1 (record {
-      count = omega (arith, length-append files (file ∷ []), few);
-      size = omega (arith, sum_by_push (λ (x : File). length x.bytes) files file, length-replicate {A = ℕ} size 0, small);
-      named = list_all-append (λ x. is_name x.name) files (file ∷ [])
-          ∙ and_from (list_all (λ x. is_name x.name) files) (is_name name && true) was.named (and_from (is_name name) true good refl);
-      distinct = are_distinct-append files file was.distinct new.0;
-    })
-
-deleted : (limits : Limits) (files next : List File) (index : ℕ) → IsDirectory limits files → outcome limits files (Delete index) ≡ Ok next
-    → IsDirectory limits next
-deleted limits files next index was h =
-    let at = found (slice_get files index) (λ file. Ok (remove files index)) next h in
-    let e : remove files index ≡ next = cc (at.2) in
-    subst (λ (x : List File). IsDirectory limits x) e (record {
-      count = omega (arith, length-remove files index (slice_get_within files index at.0 at.1), was.count);
-      size = omega (arith, total_size-remove files index at.0 at.1, was.size);
-      named = list_all-remove (λ x. is_name x.name) files index was.named;
-      distinct = are_distinct-remove files index was.distinct;
-    })
-
-renamed : (limits : Limits) (files next : List File) (index : ℕ) (name : List ℕ) → IsDirectory limits files → is_name name ≡ true
-    → outcome limits files (Rename index name) ≡ Ok next → IsDirectory limits next
-renamed limits files next index name was good h =
-    let at = found (slice_get files index)
-    (λ file. cond (has_name files name) (Err Exists) (Ok (slice_set files index (record file { name = name })))) next h in
-    let file : File = record at.0 { name = name } in
-    let new = refused (has_name files name) Exists (Ok (slice_set files index file)) next at.2 in
-    let e : set files index file ≡ next = cc (new.1) in
-    subst (λ (x : List File). IsDirectory limits x) e (record {
-      count = omega (arith, length-set files index file, was.count);
-      size = omega (arith, total_size-set files index at.0 file at.1 refl, was.size);
-      named = list_all-set (λ x. is_name x.name) files index file was.named good;
-      distinct = are_distinct-set files index file was.distinct new.0;
-    })
-
-written : (limits : Limits) (files next : List File) (index offset : ℕ) (bytes : List ℕ) → IsDirectory limits files
-    → outcome limits files (Write index offset bytes) ≡ Ok next → IsDirectory limits next
-written limits files next index offset bytes was h =
-    let at = found (slice_get files index)
-    (λ file. cond (nat_le (offset + length bytes) (length file.bytes))
-    (Ok (slice_set files index (record file { bytes = splice file.bytes offset bytes }))) (Err Range)) next h in
-    let file : File = record at.0 { bytes = splice at.0.bytes offset bytes } in
-    let made = chosen (nat_le (offset + length bytes) (length at.0.bytes)) Range (set files index file) next at.2 in
-    let fits = leb-true (offset + length bytes) (length at.0.bytes) made.0 in
-    subst (λ (x : List File). IsDirectory limits x) made.1 (replaced limits files index at.0 file was at.1 refl (length-splice at.0.bytes offset bytes fits))
-
-all_set : (limits : Limits) (files next : List File) (index value : ℕ) → IsDirectory limits files
-    → outcome limits files (SetAll index value) ≡ Ok next → IsDirectory limits next
-all_set limits files next index value was h =
-    let at = found (slice_get files index) (λ file. Ok (slice_set files index (record file { bytes = replicate (length file.bytes) value }))) next h in
-    let file : File = record at.0 { bytes = replicate (length at.0.bytes) value } in
-    let e : set files index file ≡ next = cc (at.2) in
-    subst (λ (x : List File). IsDirectory limits x) e (replaced limits files index at.0 file was at.1 refl (length-replicate {A = ℕ} (length at.0.bytes) value))
+made_directory : (limits : Limits) (files next : List File) (change : Change) → IsDirectory limits files → IsChange change
+    → Makes limits files change next → IsDirectory limits next
+made_directory limits files next change was takes (Adds file good new few small e) = subst (λ (x : List File). IsDirectory limits x) e (record {
+  count = omega (arith, length-append files (file ∷ []), few);
+  size = omega (arith, sum_by_push (λ (x : File). length x.bytes) files file, small);
+  named = list_all-append (λ x. is_name x.name) files (file ∷ [])
+      ∙ and_from (list_all (λ x. is_name x.name) files) (is_name file.name && true) was.named (and_from (is_name file.name) true (good takes.flawless) refl);
+  distinct = are_distinct-append files file was.distinct new;
+})
+made_directory limits files next change was takes (Removes i old at e) = subst (λ (x : List File). IsDirectory limits x) e (record {
+  count = omega (arith, length-remove files i (slice_get_within files i old at), was.count);
+  size = omega (arith, total_size-remove files i old at, was.size);
+  named = list_all-remove (λ x. is_name x.name) files i was.named;
+  distinct = are_distinct-remove files i was.distinct;
+})
+made_directory limits files next change was takes (Renames i old file at good new size e) = subst (λ (x : List File). IsDirectory limits x) e (record {
+  count = omega (arith, length-set files i file, was.count);
+  size = omega (arith, total_size-set files i old file at size, was.size);
+  named = list_all-set (λ x. is_name x.name) files i file was.named (good takes.flawless);
+  distinct = are_distinct-set files i file was.distinct new;
+})
+made_directory limits files next change was takes (Rewrites i old file at name size e) =
+    subst (λ (x : List File). IsDirectory limits x) e (replaced limits files i old file was at name size)
 
 -- A change that a group takes and that is applicable leaves the files of a directory.
 pub changed : (limits : Limits) (files next : List File) (change : Change) → IsDirectory limits files → IsChange change
     → outcome limits files change ≡ Ok next → IsDirectory limits next
-changed limits files next (Create name size) was takes h = created limits files next name size was (good_name (is_name name) takes.flawless) h
-changed limits files next (Delete index) was takes h = deleted limits files next index was h
-changed limits files next (Rename index name) was takes h = renamed limits files next index name was (good_name (is_name name) takes.flawless) h
-changed limits files next (Write index offset bytes) was takes h = written limits files next index offset bytes was h
-changed limits files next (SetAll index value) was takes h = all_set limits files next index value was h
+changed limits files next change was takes h = made_directory limits files next change was takes (makes limits files next change h)
 
 went_on : (r : Result (List File) DirectoryFault) (step : List File → Result (List File) DirectoryFault) (next : List File)
     → and_then r step ≡ Ok next → (mid : List File) × (r ≡ Ok mid) × (step mid ≡ Ok next)
@@ -275,39 +197,16 @@ all_changed limits files next (change ∷ changes) was each h =
 
 -- ---- how many files there are, whatever their names and sizes
 
-few_after : (limits : Limits) (files next : List File) (change : Change) → length files ≤ limits.files → outcome limits files change ≡ Ok next
+few_made : (limits : Limits) (files next : List File) (change : Change) → length files ≤ limits.files → Makes limits files change next
     → length next ≤ limits.files
-few_after limits files next (Create name size) was h =
-    let file : File = record { name = name; bytes = replicate size 0 } in
-    let new = refused (has_name files name) Exists
-    (cond (nat_lt (length files) limits.files && nat_le (total_size files + size) limits.bytes) (Ok (files ++ file ∷ [])) (Err NoRoom)) next h in
-    let made = chosen (nat_lt (length files) limits.files && nat_le (total_size files + size) limits.bytes) NoRoom (files ++ file ∷ []) next new.1 in
-    let room = and_parts (nat_lt (length files) limits.files) (nat_le (total_size files + size) limits.bytes) made.0 in
-    let few = ltb-true (length files) limits.files room.0 in
-    subst (λ (x : List File). length x ≤ limits.files) made.1 (omega (arith, length-append files (file ∷ []), few))
-few_after limits files next (Delete index) was h =
-    let at = found (slice_get files index) (λ file. Ok (remove files index)) next h in
-    let e : remove files index ≡ next = cc (at.2) in
-    subst (λ (x : List File). length x ≤ limits.files) e (omega (arith, length-remove files index (slice_get_within files index at.0 at.1), was))
-few_after limits files next (Rename index name) was h =
-    let at = found (slice_get files index)
-    (λ file. cond (has_name files name) (Err Exists) (Ok (slice_set files index (record file { name = name })))) next h in
-    let file : File = record at.0 { name = name } in
-    let new = refused (has_name files name) Exists (Ok (slice_set files index file)) next at.2 in
-    let e : set files index file ≡ next = cc (new.1) in
-    subst (λ (x : List File). length x ≤ limits.files) e (omega (arith, length-set files index file, was))
-few_after limits files next (Write index offset bytes) was h =
-    let at = found (slice_get files index)
-    (λ file. cond (nat_le (offset + length bytes) (length file.bytes))
-    (Ok (slice_set files index (record file { bytes = splice file.bytes offset bytes }))) (Err Range)) next h in
-    let file : File = record at.0 { bytes = splice at.0.bytes offset bytes } in
-    let made = chosen (nat_le (offset + length bytes) (length at.0.bytes)) Range (set files index file) next at.2 in
-    subst (λ (x : List File). length x ≤ limits.files) made.1 (omega (arith, length-set files index file, was))
-few_after limits files next (SetAll index value) was h =
-    let at = found (slice_get files index) (λ file. Ok (slice_set files index (record file { bytes = replicate (length file.bytes) value }))) next h in
-    let file : File = record at.0 { bytes = replicate (length at.0.bytes) value } in
-    let e : set files index file ≡ next = cc (at.2) in
-    subst (λ (x : List File). length x ≤ limits.files) e (omega (arith, length-set files index file, was))
+few_made limits files next change was (Adds file good new few small e) =
+    subst (λ (x : List File). length x ≤ limits.files) e (omega (arith, length-append files (file ∷ []), few))
+few_made limits files next change was (Removes i old at e) =
+    subst (λ (x : List File). length x ≤ limits.files) e (omega (arith, length-remove files i (slice_get_within files i old at), was))
+few_made limits files next change was (Renames i old file at good new size e) =
+    subst (λ (x : List File). length x ≤ limits.files) e (omega (arith, length-set files i file, was))
+few_made limits files next change was (Rewrites i old file at name size e) =
+    subst (λ (x : List File). length x ≤ limits.files) e (omega (arith, length-set files i file, was))
 
 -- Changes that are applicable leave no more files than the limits allow.
 pub few_after_all : (limits : Limits) (files next : List File) (changes : List Change) → length files ≤ limits.files
@@ -317,7 +216,7 @@ few_after_all limits files next [] was h =
     subst (λ (x : List File). length x ≤ limits.files) e was
 few_after_all limits files next (change ∷ changes) was h =
     let first = went_on (outcome limits files change) (λ mid. outcome_of_all limits mid changes) next h in
-    few_after_all limits first.0 next changes (few_after limits files first.0 change was first.1) first.2
+    few_after_all limits first.0 next changes (few_made limits files first.0 change was (makes limits files first.0 change first.1)) first.2
 
 -- ---- a loop over the changes
 

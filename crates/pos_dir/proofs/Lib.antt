@@ -1,3 +1,4 @@
+pub mod Outcomes
 pub mod Kept
 pub mod Readers
 pub mod Items

@@ -1,6 +1,6 @@
 -- A check over names and sizes answers as the change of the files that have them.
 use Rattle.std.proofs.Common.{◌≡◌, ℕ, zero, suc, ◌+◌, ◌<◌, ◌≤◌, Bool, true, false, ◌&&◌, ◌||◌, cond, List, [], ◌∷◌, ◌++◌, length, drop, get_or, set, map}
-use Rattle.std.proofs.Common.{Option, Some, None, Result, Ok, Err, refl, sym, ap, ◌∙◌, arith}
+use Rattle.std.proofs.Common.{Option, Some, None, Result, Ok, Err, refl, sym, ap, subst, ◌∙◌, arith}
 use Rattle.std.specs.Prelude.{slice_get, slice_set, insert, remove, replicate, sum_by, nat_lt, nat_le}
 use Rattle.std.specs.List.{list_any}
 use Rattle.std.specs.Option.{option_map}
@@ -15,13 +15,14 @@ use Rattle.pos_dir.specs.declared.file.File.{File}
 use Rattle.pos_dir.specs.declared.limits.Limits.{Limits}
 use Rattle.pos_dir.specs.declared.outlines.Outline.{Outline}
 use Rattle.pos_dir.specs.declared.change.Change.{Change}
-use Rattle.pos_dir.specs.declared.change.Change.TheVariants.{Create, Delete, Rename, Write, SetAll}
+use Rattle.pos_dir.specs.declared.change.Change.TheVariants.{Create, Delete, Rename}
 use Rattle.pos_dir.specs.declared.fault.DirectoryFault.{DirectoryFault}
-use Rattle.pos_dir.specs.declared.fault.DirectoryFault.TheVariants.{NoFile, Exists, Range, NoRoom}
+use Rattle.pos_dir.specs.declared.fault.DirectoryFault.TheVariants.{Exists, NoRoom}
 use Rattle.pos_dir.specs.Files.{has_name, total_size, IsDirectory}
-use Rattle.pos_dir.specs.Changes.{splice, with_file, outcome, outcome_of_all, IsChange}
-use Rattle.pos_dir.proofs.Kept.{same_file, length-splice, changed, goes_on, stops}
-use Rattle.pos_dir.specs.Outlines.{Shape, shape_of, shape_of_file, is_named, AreOutlines, Agrees}
+use Rattle.pos_dir.specs.Changes.{with_file, outcome, outcome_of_all, least_size_of, IsChange}
+use Rattle.pos_dir.proofs.Outcomes.{KeepsShapes, answered}
+use Rattle.pos_dir.proofs.Kept.{changed, goes_on, stops}
+use Rattle.pos_dir.specs.Outlines.{Shape, shape_of, shape_of_file, is_named, AreOutlines, Agrees, Checks, size_in, answer_by_size}
 
 -- ---- lists seen by another function
 
@@ -90,16 +91,6 @@ file_at outlines files i o same at =
     with_shape (slice_get files i) (shape_of o)
     (sym (slice_get-map shape_of_file files i) ∙ ap (λ (shapes : List Shape). slice_get shapes i) (sym same) ∙ slice_get-map shape_of outlines i
     ∙ ap (option_map shape_of) at)
-
-none_past : (files : List File) (i : ℕ) → length files ≤ i → slice_get files i ≡ None
-none_past [] i le = refl
-none_past (file ∷ files) zero le = absurd (omega arith)
-none_past (file ∷ files) (suc i) le = none_past files i (omega arith)
-
--- behind the last outline there is no file
-pub no_file : (outlines : List Outline) (files : List File) (i : ℕ) (change : File → Result (List File) DirectoryFault) → AreOutlines outlines files
-    → length outlines ≤ i → with_file (slice_get files i) change ≡ Err NoFile
-no_file outlines files i change same le = ap (λ o. with_file o change) (none_past files i (omega (arith, same_count outlines files same, le)))
 
 -- ---- a Create
 
@@ -192,49 +183,46 @@ rename_made limits outlines files i o new same at size free =
           ∙ put_shape outlines files i new file same shape,
     )
 
-same_shapes : (files : List File) (i : ℕ) (old new : File) → slice_get files i ≡ Some old → shape_of_file new ≡ shape_of_file old
-    → map shape_of_file (set files i new) ≡ map shape_of_file files
-same_shapes [] i old new at same = refl
-same_shapes (f ∷ files) zero old new at same = ap (λ s. s ∷ map shape_of_file files) (same ∙ ap shape_of_file (same_file old f (sym at)))
-same_shapes (f ∷ files) (suc i) old new at same = ap (λ ss. shape_of_file f ∷ ss) (same_shapes files i old new at same)
+size_of_shape : (there : Option Outline) (file : Option File) → option_map shape_of there ≡ option_map shape_of_file file
+    → option_map (λ outline. outline.size) there ≡ option_map (λ file. length file.bytes) file
+size_of_shape None None e = refl
+size_of_shape None (Some file) e = absurd cc
+size_of_shape (Some o) None e = absurd cc
+size_of_shape (Some o) (Some file) e = ap (option_map (λ (shape : Shape). shape.size)) e
 
--- a range past the size of the outline is refused
-pub write_past : (limits : Limits) (outlines : List Outline) (files : List File) (i offset : ℕ) (bytes : List ℕ) (o : Outline)
-    → AreOutlines outlines files → slice_get outlines i ≡ Some o → o.size < offset + length bytes → outcome limits files (Write i offset bytes) ≡ Err Range
-write_past limits outlines files i offset bytes o same at past =
-    let found = file_at outlines files i o same at in
-    ap (λ x. with_file x (λ file. cond (nat_le (offset + length bytes) (length file.bytes))
-    (Ok (slice_set files i (record file { bytes = splice file.bytes offset bytes }))) (Err Range))) found.1
-    ∙ cond-false (nat_le (offset + length bytes) (length found.0.bytes)) _ _
-    (lt-leb (offset + length bytes) (length found.0.bytes) (omega (arith, ap (λ (s : Shape). s.size) found.2, past)))
+-- the sizes are those of the files
+same_size : (outlines : List Outline) (files : List File) (i : ℕ) → AreOutlines outlines files
+    → option_map (λ outline. outline.size) (slice_get outlines i) ≡ size_in files i
+same_size outlines files i same =
+    size_of_shape (slice_get outlines i) (slice_get files i)
+    (sym (slice_get-map shape_of outlines i) ∙ ap (λ (shapes : List Shape). slice_get shapes i) same ∙ slice_get-map shape_of_file files i)
 
--- a range within it is written, and the outline stays
-pub write_made : (limits : Limits) (outlines : List Outline) (files : List File) (i offset : ℕ) (bytes : List ℕ) (o : Outline)
-    → AreOutlines outlines files → slice_get outlines i ≡ Some o → offset + length bytes ≤ o.size
-    → Agrees (Ok tt) (outcome limits files (Write i offset bytes)) outlines
-write_made limits outlines files i offset bytes o same at within =
-    let found = file_at outlines files i o same at in
-    let fits : offset + length bytes ≤ length found.0.bytes = omega (arith, ap (λ (s : Shape). s.size) found.2, within) in
-    let file : File = record found.0 { bytes = splice found.0.bytes offset bytes } in (
-      slice_set files i file,
-      ap (λ x. with_file x (λ old. cond (nat_le (offset + length bytes) (length old.bytes))
-          (Ok (slice_set files i (record old { bytes = splice old.bytes offset bytes }))) (Err Range))) found.1
-          ∙ cond-true (nat_le (offset + length bytes) (length found.0.bytes)) _ _ (le-leb (offset + length bytes) (length found.0.bytes) fits),
-      same ∙ sym (same_shapes files i found.0 file found.1
-          (ap (λ (n : ℕ). record { name = found.0.name; size = n }) (length-splice found.0.bytes offset bytes fits))),
-    )
+agrees : (outlines : List Outline) (files : List File) (answer : Result (Unit {0}) DirectoryFault) (expected : Result (List File) DirectoryFault)
+    → AreOutlines outlines files → KeepsShapes files answer expected → Agrees answer expected outlines
+agrees outlines files (Ok _) expected same keeps = (keeps.0, keeps.1, same ∙ sym keeps.2)
+agrees outlines files (Err fault) expected same keeps = keeps
 
--- all bytes are set, and the outline stays
-pub set_all_made : (limits : Limits) (outlines : List Outline) (files : List File) (i value : ℕ) (o : Outline) → AreOutlines outlines files
-    → slice_get outlines i ≡ Some o → Agrees (Ok tt) (outcome limits files (SetAll i value)) outlines
-set_all_made limits outlines files i value o same at =
-    let found = file_at outlines files i o same at in
-    let file : File = record found.0 { bytes = replicate (length found.0.bytes) value } in (
-      slice_set files i file,
-      ap (λ x. with_file x (λ old. Ok (slice_set files i (record old { bytes = replicate (length old.bytes) value })))) found.1,
-      same ∙ sym (same_shapes files i found.0 file found.1
-          (ap (λ (n : ℕ). record { name = found.0.name; size = n }) (length-replicate {A = ℕ} (length found.0.bytes) value))),
-    )
+-- a change of the bytes of one file is answered by its size, and the outlines stay
+pub answered_by_outline : (limits : Limits) (outlines : List Outline) (change : Change) (place : ℕ × ℕ) (answer : Result (Unit {0}) DirectoryFault)
+    → Some place ≡ least_size_of change → answer ≡ answer_by_size (option_map (λ outline. outline.size) (slice_get outlines place.0)) place.1
+    → Checks limits outlines change answer outlines
+answered_by_outline limits outlines change place answer e is files same =
+    agrees outlines files answer (outcome limits files change) same
+    (subst (λ (it : Result (Unit {0}) DirectoryFault). KeepsShapes files it (outcome limits files change))
+    (sym (is ∙ ap (λ (size : Option ℕ). answer_by_size size place.1) (same_size outlines files place.0 same))) (answered limits files change place e))
+
+same_fault : (files : List File) (answer : Result (Unit {0}) DirectoryFault) (expected : Result (List File) DirectoryFault)
+    → KeepsShapes files answer expected → result_err answer ≡ result_err expected
+same_fault files (Ok _) expected keeps = sym (ap result_err keeps.1)
+same_fault files (Err fault) expected keeps = sym (ap result_err keeps)
+
+-- so it is over the files themselves
+pub answered_by_file : (limits : Limits) (files : List File) (change : Change) (place : ℕ × ℕ) (answer : Result (Unit {0}) DirectoryFault)
+    → Some place ≡ least_size_of change → answer ≡ answer_by_size (size_in files place.0) place.1
+    → result_err answer ≡ result_err (outcome limits files change)
+answered_by_file limits files change place answer e is =
+    ap result_err is
+    ∙ same_fault files (answer_by_size (size_in files place.0) place.1) (outcome limits files change) (answered limits files change place e)
 
 -- ---- the walk over a group
 

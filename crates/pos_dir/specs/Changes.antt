@@ -37,6 +37,12 @@ outcome limits files (Write index offset bytes) = with_file (slice_get files ind
 outcome limits files (SetAll index value) = with_file (slice_get files index) (λ file.
     Ok (slice_set files index (record file { bytes = replicate (length file.bytes) value })))
 
+-- the file of a change of its bytes alone, and the least size that it has to have; none for another change
+abbrev pub least_size_of : Change → Option (ℕ × ℕ)
+least_size_of (Write index offset bytes) = Some (index, offset + length bytes)
+least_size_of (SetAll index value) = Some (index, 0)
+least_size_of _ = None
+
 -- what a step makes of the files that the one before it made
 abbrev pub and_then : Result (List File) DirectoryFault → (List File → Result (List File) DirectoryFault)
     → Result (List File) DirectoryFault

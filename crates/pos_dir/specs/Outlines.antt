@@ -1,12 +1,14 @@
 -- What a check of a group keeps of the files: their names and sizes, which alone decide whether it is applicable.
-use Rattle.std.specs.Prelude.{◌≡◌, ℕ, Bool, List, length, map, Result, Ok, Err}
+use Rattle.std.specs.Prelude.{◌≡◌, ℕ, Bool, List, length, map, slice_get, Option, Some, None, Result, Ok, Err, nat_le, if◌then◌else◌}
 use Rattle.std.specs.List.{list_any}
+use Rattle.std.specs.Option.{option_map}
 use Rattle.std.specs.Str.{bytes_eq}
 use Rattle.pos_dir.specs.declared.file.File.{File}
 use Rattle.pos_dir.specs.declared.limits.Limits.{Limits}
 use Rattle.pos_dir.specs.declared.outlines.Outline.{Outline}
 use Rattle.pos_dir.specs.declared.change.Change.{Change}
 use Rattle.pos_dir.specs.declared.fault.DirectoryFault.{DirectoryFault}
+use Rattle.pos_dir.specs.declared.fault.DirectoryFault.TheVariants.{NoFile, Range}
 use Rattle.pos_dir.specs.Changes.{outcome}
 
 -- the name and the size of a file
@@ -39,3 +41,12 @@ Agrees (Err fault) expected outlines = expected ≡ Err fault
 abbrev pub Checks : Limits → List Outline → Change → Result (Unit {0}) DirectoryFault → List Outline → Type 0
 Checks limits old change result new =
     (files : List File) → AreOutlines old files → Agrees result (outcome limits files change) new
+
+-- the size of a file
+abbrev pub size_in : List File → ℕ → Option ℕ
+size_in files index = option_map (λ file. length file.bytes) (slice_get files index)
+
+-- the answer to a change of the bytes of a file, by its size and the least that it has to have
+abbrev pub answer_by_size : Option ℕ → ℕ → Result (Unit {0}) DirectoryFault
+answer_by_size None least = Err NoFile
+answer_by_size (Some size) least = if nat_le least size then Ok tt else Err Range

@@ -1,12 +1,12 @@
 //! A check of a group over the names and sizes of the files, which takes no memory.
-ghost use Rattle.std.specs.Prelude.{◌≡◌, ◌≤◌, ◌<◌, ◌^◌, ℕ, [], IfSome, length, sum_by};
-ghost use Rattle.pos_dir.specs.declared.change.Change.TheVariants.{Create, Delete, Rename, Write, SetAll};
+ghost use Rattle.std.specs.Prelude.{◌≡◌, ◌≤◌, ◌<◌, ◌^◌, [], IfSome, length, slice_get, sum_by};
+ghost use Rattle.pos_dir.specs.declared.change.Change.TheVariants.{Create, Delete, Rename};
+ghost use Rattle.std.specs.Option.{option_map};
 ghost use Rattle.std.specs.Result.{result_err};
 ghost use Rattle.pos_dir.specs.Files.{IsDirectory};
-ghost use Rattle.pos_dir.specs.Changes.{fault_of, outcome};
-ghost use Rattle.pos_dir.specs.Outlines.{AreOutlines, is_named, Checks};
+ghost use Rattle.pos_dir.specs.Changes.{fault_of, least_size_of, outcome};
+ghost use Rattle.pos_dir.specs.Outlines.{AreOutlines, is_named, size_in, answer_by_size, Checks};
 
-use crate::bytes::LentBytes;
 use crate::change::Change;
 use crate::directory::Directory;
 use crate::fault::DirectoryFault;
@@ -105,39 +105,48 @@ fn check_rename<'a, const N: usize>(
     Ok(())
 }
 
-/// Checks a Write.
-fn check_write<const N: usize>(
-    outlines: &ArrayVec<Outline<'_>, N>,
-    index: u16,
-    offset: u32,
-    bytes: &LentBytes<'_>,
-) -> Result<(), DirectoryFault>
-    ensures { (limits : Limits)
-        → Checks limits outlines.now.items (Write index offset bytes.now) result outlines.now.items }
+/// The file of a change of its bytes alone, and the least size that it has to have; None for another change.
+fn find_least_size(change: &Change<'_>) -> Option<(u16, usize)>
+    ensures { result ≡ least_size_of change.now }
 {
-    let outlines = outlines.as_slice();
-    if index as usize >= outlines.len() {
-        return Err(DirectoryFault::NoFile);
+    match change {
+        Change::Write {
+            index,
+            offset,
+            bytes,
+        } => Some((*index, *offset as usize + bytes.as_slice().len())),
+        Change::SetAll { index, value: _ } => Some((*index, 0)),
+        _ => None,
     }
-    let end = offset as usize + bytes.as_slice().len();
-    if end > outlines[index as usize].size {
+}
+
+/// Checks a change of the bytes of a file by the file's size, None where there is no file.
+fn check_size(size: Option<usize>, least: usize) -> Result<(), DirectoryFault>
+    ensures { result ≡ answer_by_size size least }
+{
+    let Some(size) = size else {
+        return Err(DirectoryFault::NoFile);
+    };
+    if least > size {
         return Err(DirectoryFault::Range);
     }
     Ok(())
 }
 
-/// Checks a SetAll, of whatever value.
-fn check_set_all<const N: usize>(
-    outlines: &ArrayVec<Outline<'_>, N>,
-    index: u16,
-) -> Result<(), DirectoryFault>
-    ensures { (limits : Limits) (value : ℕ)
-        → Checks limits outlines.now.items (SetAll index value) result outlines.now.items }
+/// The size of an outline; None behind the last one.
+fn outline_size(outlines: &[Outline<'_>], index: u16) -> Option<usize>
+    ensures { result ≡ option_map (λ outline. outline.size) (slice_get outlines.now index) }
 {
-    if index as usize >= outlines.len() {
-        return Err(DirectoryFault::NoFile);
-    }
-    Ok(())
+    let outline = outlines.get(index as usize)?;
+    Some(outline.size)
+}
+
+/// The size of a file; None behind the last one.
+fn file_size(files: &[File], index: u16) -> Option<usize>
+    ensures { result ≡ size_in files.now index }
+{
+    let file = files.get(index as usize)?;
+    Some(file.bytes.as_slice().len())
 }
 
 /// Checks one change, and makes of the outlines what it makes of the files.
@@ -150,16 +159,14 @@ fn check<'a, const N: usize>(
     requires total { sum_by (λ outline. outline.size) outlines.old.items ≤ limits.bytes }
     ensures { Checks limits outlines.old.items change.now result outlines.new.items }
 {
+    if let Some((index, least)) = find_least_size(change) {
+        return check_size(outline_size(outlines.as_slice(), index), least);
+    }
     match change {
         Change::Create { name, size } => check_create(outlines, limits, name.as_slice(), *size),
         Change::Delete { index } => check_delete(outlines, *index),
         Change::Rename { index, name } => check_rename(outlines, *index, name.as_slice()),
-        Change::Write {
-            index,
-            offset,
-            bytes,
-        } => check_write(outlines, *index, *offset, bytes),
-        Change::SetAll { index, value: _ } => check_set_all(outlines, *index),
+        _ => unreachable!(),
     }
 }
 
@@ -209,51 +216,13 @@ fn check_outlined<'a>(directory: &'a Directory, group: &'a Group<'_>) -> Result<
     check_within(&mut outlines, directory.limits, files, group)
 }
 
-/// Checks a Write over the files themselves.
-fn check_write_alone(
-    files: &[File],
-    index: u16,
-    offset: u32,
-    bytes: &LentBytes<'_>,
-) -> Result<(), DirectoryFault>
-    ensures { (limits : Limits)
-        → result_err result ≡ result_err (outcome limits files.now (Write index offset bytes.now)) }
-{
-    if index as usize >= files.len() {
-        return Err(DirectoryFault::NoFile);
-    }
-    let end = offset as usize + bytes.as_slice().len();
-    if end > files[index as usize].bytes.as_slice().len() {
-        return Err(DirectoryFault::Range);
-    }
-    Ok(())
-}
-
-/// Checks a SetAll over the files themselves, of whatever value.
-fn check_set_all_alone(files: &[File], index: u16) -> Result<(), DirectoryFault>
-    ensures { (limits : Limits) (value : ℕ)
-        → result_err result ≡ result_err (outcome limits files.now (SetAll index value)) }
-{
-    if index as usize >= files.len() {
-        return Err(DirectoryFault::NoFile);
-    }
-    Ok(())
-}
-
-/// Checks a change that goes by its own file alone, a Write or a SetAll; None for another one.
+/// Checks a change of the bytes of one file over the file itself; None for another change.
 fn check_alone(files: &[File], change: &Change<'_>) -> Option<Result<(), DirectoryFault>>
     ensures { (limits : Limits)
         → IfSome result (λ answer. result_err answer ≡ result_err (outcome limits files.now change.now)) }
 {
-    match change {
-        Change::Write {
-            index,
-            offset,
-            bytes,
-        } => Some(check_write_alone(files, *index, *offset, bytes)),
-        Change::SetAll { index, value: _ } => Some(check_set_all_alone(files, *index)),
-        _ => None,
-    }
+    let (index, least) = find_least_size(change)?;
+    Some(check_size(file_size(files, index), least))
 }
 
 /// Whether a group is applicable, or the fault of the first change that isn't: NoFile, Exists,

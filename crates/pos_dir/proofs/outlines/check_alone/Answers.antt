@@ -1,7 +1,10 @@
+use Rattle.std.proofs.Common.{ℕ, Option, sym, ap, ◌∙◌}
+use Rattle.pos_dir.specs.Outlines.{answer_by_size}
+use Rattle.pos_dir.proofs.Outlined.{answered_by_file}
 use Rattle.pos_dir.proofs.outlines.check_alone.Goals as goal
 
-pub returns-in-Write : goal.returns-in-Write
-returns-in-Write c = λ limits. rw c.in-Write.is (c.check_write_alone.ensures limits)
-
-pub returns-in-SetAll : goal.returns-in-SetAll
-returns-in-SetAll c = λ limits. rw c.in-SetAll.is (c.check_set_all_alone.ensures limits c.in-SetAll.value)
+pub returns : goal.returns
+returns c = λ limits.
+    answered_by_file limits c.args.files.now c.args.change.now (c.in_ok-index.index, c.in_ok-index.least) c.check_size.result
+    (sym c.in_ok-index.was ∙ c.find_least_size.ensures)
+    (c.check_size.ensures ∙ ap (λ (size : Option ℕ). answer_by_size size c.in_ok-index.least) c.file_size.ensures)

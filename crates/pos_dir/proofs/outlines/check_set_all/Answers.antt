@@ -1,9 +1,0 @@
-use Rattle.std.proofs.Common.{arith}
-use Rattle.pos_dir.proofs.Outlined.{outline_at, set_all_made}
-use Rattle.pos_dir.proofs.outlines.check_set_all.Goals as goal
-
-pub returns : goal.returns
-returns g c = λ limits value files same.
-    let outlines = c.args.outlines.now.items in
-    let at = outline_at outlines c.args.index (omega (arith, c.len.ensures.value, c.if-index-len.false)) in
-    set_all_made limits outlines files c.args.index value at.0 same at.1
