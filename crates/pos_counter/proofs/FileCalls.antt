@@ -204,7 +204,8 @@ module _ {D : Type 0} (bound : Ghosts D) (old new : TotalsView D) (n : ℕ) (ask
       by (inr empty) = let no : [] ≡ change ∷ cs = sym empty ∙ some in cc
 
   by_table : (outcome : Result Answer NoMemory) → OnErr outcome (takes_memory asked ≡ true) → IsTold outcome
-      → PutsGroup bound old (cond (is_none (first_refusal rows)) changes []) outcome new → (o : Option Answer) → first_refusal rows ≡ o → CallsFiles bound old n asked outcome new
+      → PutsGroup bound old (cond (is_none (first_refusal rows)) changes []) outcome new → (o : Option Answer) → first_refusal rows ≡ o
+      → CallsFiles bound old n asked outcome new
   by_table (Ok result) takes told puts (Some refusal) e =
       let y = subst (λ o. MatchOption o (Puts result) (λ refusal. (result ≡ refusal) × (new.totals ≡ old.totals))) e told.outcome in
       inl (quiet old new old.totals n asked (Ok result) (puts.untouched (ap (λ (o : Option Answer). cond (is_none o) changes []) e)) y.1 (λ left. refl)

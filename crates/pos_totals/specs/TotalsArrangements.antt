@@ -11,11 +11,25 @@ use Rattle.pos_service.specs.declared.code.Code.TheVariants as code
 use Rattle.pos_service.specs.Claims.{is_foreign, is_timeout}
 use Rattle.pos_service.specs.Refusals.{Row, when, Decided}
 use Rattle.pos_totals.specs.HardTotals.{File, Change, Totals, with_transaction, with_files}
--- an arrangement that a control makes for itself, as a call asks for it, without the disk
-pub use Rattle.pos_totals.specs.declared.arranging.Arrangement.{Arrangement}
-pub use Rattle.pos_totals.specs.declared.arranging.Arrangement.TheVariants.{ClaimFile, ReleaseFile, BeginTrans, Rollback}
+use Rattle.pos_totals.specs.declared.arranging.Arrangement.{Arrangement as Asked}
+use Rattle.pos_totals.specs.declared.arranging.Arrangement.TheVariants as asked
 use Rattle.pos_totals.specs.TotalsFiles.{is_called, has_file, is_own_file, is_foreign_file, with_each}
 use Rattle.pos_totals.specs.TotalsRows.{while_ready}
+
+-- an arrangement that a control makes for itself, as a call asks for it, without the disk: claimFile, releaseFile,
+-- beginTrans, rollback
+pub data Arrangement : Type 0 where
+  ClaimFile : (handle timeout : ℤ) → Arrangement
+  ReleaseFile : (handle : ℤ) → Arrangement
+  BeginTrans : Arrangement
+  Rollback : Arrangement
+
+-- the arrangement that is asked for
+abbrev pub arrangement_of : Asked → Arrangement
+arrangement_of (asked.ClaimFile handle timeout) = ClaimFile handle timeout
+arrangement_of (asked.ReleaseFile handle) = ReleaseFile handle
+arrangement_of asked.BeginTrans = BeginTrans
+arrangement_of asked.Rollback = Rollback
 
 -- the arrangement that a call makes, where it makes one
 abbrev pub arrangement_asked : Call → Option Arrangement
@@ -23,7 +37,7 @@ arrangement_asked (call.ClaimFile handle timeout) = Some (ClaimFile handle timeo
 arrangement_asked (call.ReleaseFile handle) = Some (ReleaseFile handle)
 arrangement_asked call.BeginTrans = Some BeginTrans
 arrangement_asked call.Rollback = Some Rollback
-arrangement_asked asked = None
+arrangement_asked other = None
 
 -- a transaction may begin: the control has a place for one, and is in none
 abbrev pub may_begin : Option (Option (List Change)) → Bool

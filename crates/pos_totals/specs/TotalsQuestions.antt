@@ -1,5 +1,6 @@
 -- Questions about the files: find, findByIndex, read (chapter Hard Totals).
-use Rattle.std.specs.Prelude.{◌≡◌, ℕ, ℤ, pos, nat_abs, Bool, true, false, not, List, [], ◌∷◌, length, take, drop, Option, Some, None, is_none, Result, MatchResult}
+use Rattle.std.specs.Prelude.{◌≡◌, ℕ, ℤ, pos, nat_abs, Bool, true, false, not, List, [], ◌∷◌, length, take, drop, Option, Some, None, is_none}
+use Rattle.std.specs.Prelude.{Result, MatchResult}
 use Rattle.std.specs.List.{find}
 use Rattle.pos_service.specs.declared.answer.Answer.{Answer}
 use Rattle.pos_service.specs.declared.answer.Answer.TheVariants as answer

@@ -1,6 +1,7 @@
 //! What a control arranges for itself, by its table.
 ghost use Rattle.std.specs.Prelude.{◌≡◌};
-ghost use Rattle.pos_totals.specs.TotalsArrangements.{Arranges, arrangement_asked};
+ghost use Rattle.std.specs.Option.{option_map};
+ghost use Rattle.pos_totals.specs.TotalsArrangements.{Arranges, arrangement_asked, arrangement_of};
 ghost use Rattle.pos_totals.specs.Views.{IsSound, totals_of};
 
 use crate::claims::{claim_file, release_file};
@@ -38,7 +39,7 @@ pub enum Arrangement {
 impl Arrangement {
     /// The arrangement that a call makes, where it makes one.
     pub(crate) fn of(call: &Call) -> Option<Arrangement>
-        ensures { result ≡ arrangement_asked call.now }
+        ensures { option_map arrangement_of result ≡ arrangement_asked call.now }
     {
         match call {
             Call::ClaimFile(handle, timeout) => Some(Arrangement::ClaimFile {
@@ -63,7 +64,7 @@ pub fn arrange<D: Disk>(
 ) -> Answer
     requires sound { IsSound store.now.layout store.now.state holdings.old }
     ensures sound { IsSound store.now.layout store.now.state holdings.new }
-    ensures arranges { Arranges (totals_of store.now.state holdings.old) control arrangement result
+    ensures arranges { Arranges (totals_of store.now.state holdings.old) control (arrangement_of arrangement) result
         (totals_of store.now.state holdings.new) }
 {
     match arrangement {

@@ -56,6 +56,7 @@ impl<D: Disk> Totals<D> {
     ghost use Rattle.pos_service.specs.declared.category.Category.TheVariants as category;
     ghost use Rattle.pos_service.specs.Calls.{has_call, takes_memory};
     ghost use Rattle.pos_totals.specs.HardTotals.{Off};
+    ghost use Rattle.pos_totals.specs.TotalsArrangements.{arrangement_of};
     ghost use Rattle.pos_totals.specs.TotalsClaims.{ClaimsArea, ReleasesArea};
     ghost use Rattle.pos_totals.specs.TotalsQuestions.{MayTell, question_of};
     ghost use Rattle.pos_totals.specs.TotalsCalls.{Calls, file_call};
@@ -151,7 +152,7 @@ impl<D: Disk> Totals<D> {
 
     /// Makes an arrangement for a control.
     pub fn arrange(&mut self, control: usize, arrangement: Arrangement) -> Answer
-        ensures { Arranged self.old control arrangement result self.new }
+        ensures { Arranged self.old control (arrangement_of arrangement) result self.new }
     {
         arrange(
             self.alloc,
