@@ -2,7 +2,7 @@
 use Rattle.std.proofs.Common.{◌≡◌, ◌∙◌, ◌<◌, ◌∷◌, [], ℕ, ℤ, List, Option, Some, None, Bool, true, false, inl, inr, get_or, set, length, ap, sym, subst, refl}
 use Rattle.std.proofs.Common.{arith}
 use Rattle.std.specs.Prelude.{IfSome, MatchOption, slice_get, is_none, is_some, not}
-use Rattle.std.proofs.lemmas.List.{map-set, set-get_or}
+use Rattle.std.proofs.lemmas.List.{map-set}
 use Rattle.std.proofs.lemmas.Option.{slice_get_within}
 use Rattle.pos_service.specs.declared.answer.Answer.{Answer}
 use Rattle.pos_service.specs.declared.answer.Answer.TheVariants as answer
@@ -22,7 +22,7 @@ use Rattle.pos_common.specs.KeptControls.{KeptControl, TurnsInto, controls_of}
 use Rattle.pos_counter.specs.Machine.{Device, Machine, machine_with, holder_in, with_control}
 use Rattle.pos_counter.specs.Steps.{CallOf, Answered, Step, claimed, dropped, released, is_taken, IsSound}
 use Rattle.pos_counter.specs.Totals.{TotalsPart, is_totals, settled}
-use Rattle.pos_counter.proofs.Lifts.{decided_step, match_at_some, match_at_none, match_cases}
+use Rattle.pos_counter.proofs.Lifts.{decided_step, kept_machine, match_at_some, match_at_none, match_cases}
 use Rattle.pos_counter.proofs.Sound.{seated, Served}
 
 -- the device of an open control has a claim
@@ -175,9 +175,7 @@ release_device hs cl dl ds part n c h g r at is here d =
     let after = after_release c.category c in
     decided_step m (machine_with (set hs n g) dl ds part) n c call.Release r _ _ _ at
     (ap (λ o. first_refusal (release_rows c (is_own n o))) (in_table c.category m n c is).holds)
-    (λ same.
-    ap (λ (ks : List KeptControl). machine_with ks dl ds part) (ap (set hs n) (same.0 ∙ here) ∙ set-get_or hs n h)
-    ∙ ap (λ claims. machine_with hs claims ds part) same.1)
+    (λ same. kept_machine hs dl ds part n g h same.0 here ∙ ap (λ claims. machine_with hs claims ds part) same.1)
     (λ y. (
       y.0,
       claims_machine hs cl dl ds n g after part y.1
@@ -212,9 +210,7 @@ release_area hs cl ds part n c h g r totals at is here d =
     let after = after_release c.category c in
     decided_step m (machine_with (set hs n g) cl ds now) n c call.Release r _ _ _ at
     (ap (λ k. first_refusal (release_rows c (is_own n (holder_in k cl part.totals.area c.device)))) is)
-    (λ same.
-    ap (λ (ks : List KeptControl). machine_with ks cl ds now) (ap (set hs n) (same.0 ∙ here) ∙ set-get_or hs n h)
-    ∙ ap (λ (t : Totals). machine_with hs cl ds (record part { totals = t })) same.1)
+    (λ same. kept_machine hs cl ds now n g h same.0 here ∙ ap (λ (t : Totals). machine_with hs cl ds (record part { totals = t })) same.1)
     (λ y. (
       y.0,
       subst (λ k. machine_with (set hs n g) cl ds now ≡ released k (with_control m n after) n c) (sym is)

@@ -9,7 +9,7 @@ use Rattle.pos_common.specs.KeptControls.{KeptControl, controls_of}
 use Rattle.pos_profile.specs.Registries.{Device as Registered, IsServed, MayServe, standing_at, with_peripheral}
 use Rattle.pos_profile.proofs.CallerLemmas.{put_back, with_twice}
 use Rattle.pos_counter.specs.AtDevices.{IsDoneAt}
-use Rattle.pos_counter.specs.Machine.{Device, hardware_in}
+use Rattle.pos_counter.specs.Machine.{Device, device_at, hardware_in, place_of}
 use Rattle.pos_counter.specs.Steps.{FindsFit}
 use Rattle.pos_counter.specs.KeptDevices.{device_of, devices_of}
 
@@ -84,9 +84,12 @@ pub vacant_there : {B : Type 0} (list : List Registered) (totals : Option (List 
 vacant_there list totals place None f is none = hardware_there list totals place ∙ ap (option_map hardware_of) (sym is)
 vacant_there list totals place (Some x) f is none = cc
 
-pub missing_there : (list : List Registered) (totals : Option (List ℕ)) (place : ℕ) → None ≡ standing_at list place
-    → hardware_in (slice_get (devices_of list totals) place) ≡ None
-missing_there list totals place none = hardware_there list totals place ∙ ap (option_map hardware_of) (sym none)
+-- what is found at the place of a name is what stands at the device of this name
+pub found_under_name : (list : List Registered) (totals : Option (List ℕ)) (name : List ℕ) (place : ℕ) (found : Option PeripheralState)
+    → Some place ≡ place_of (devices_of list totals) name → found ≡ standing_at list place
+    → hardware_in (device_at (devices_of list totals) (place_of (devices_of list totals) name)) ≡ option_map hardware_of found
+found_under_name list totals name place found finds is =
+    ap (λ o. hardware_in (device_at (devices_of list totals) o)) (sym finds) ∙ hardware_there list totals place ∙ ap (option_map hardware_of) (sym is)
 
 -- an input fits what is found, or doesn't
 pub found_fit : (list : List Registered) (totals : Option (List ℕ)) (place : ℕ) (state : PeripheralState) (given : Input) (fits : Bool)

@@ -1,5 +1,5 @@
 -- What is done at a device, and the steps that it makes.
-use Rattle.std.proofs.Common.{◌≡◌, ℕ, inl, inr, [], ◌∷◌, zero, suc, List, Option, Some, None, Result, Ok, Err, Bool, true, false, set, ap, sym, ◌∙◌, subst}
+use Rattle.std.proofs.Common.{◌≡◌, ℕ, inl, inr, [], ◌∷◌, zero, suc, List, Option, Some, None, Result, Ok, Err, true, false, set, ap, sym, ◌∙◌, subst}
 use Rattle.std.proofs.Common.{refl}
 use Rattle.std.specs.Prelude.{slice_get, is_some, is_none, ◌||◌, IfSome, IsSome, IsTrue}
 use Rattle.std.proofs.lemmas.Option.{MatchOption-at_some}
@@ -8,7 +8,6 @@ use Rattle.pos_service.specs.declared.call.Call.{Call}
 use Rattle.pos_service.specs.declared.call.Call.TheVariants as call
 use Rattle.pos_service.specs.declared.category.Category.{Category}
 use Rattle.pos_service.specs.declared.category.Category.TheVariants as category
-use Rattle.pos_service.specs.declared.input.Input.{Input}
 use Rattle.pos_service.specs.declared.kind.Kind.{Kind}
 use Rattle.pos_service.specs.declared.memory.NoMemory.{NoMemory}
 use Rattle.pos_service.specs.declared.worked.Worked.TheVariants as worked
@@ -24,7 +23,7 @@ use Rattle.pos_counter.specs.Machine.{Device, Machine, machine_with, hardware_in
 use Rattle.pos_counter.specs.AtDevices.{CallsAt, CallsFor, IsDoneAt, MayBeCalled}
 use Rattle.pos_counter.specs.Responses.{answered}
 use Rattle.pos_counter.specs.Steps.{OnHardware, Step, CallOf, Answered, Does, DeviceDoes, CategoryDoes, category_rows, device_rows, refusals, takes_memory}
-use Rattle.pos_counter.specs.Steps.{FindsFit, FindsWork, IsPlaceOn, IsSound}
+use Rattle.pos_counter.specs.Steps.{FindsWork, IsPlaceOn, IsSound}
 use Rattle.pos_counter.specs.Totals.{TotalsPart, is_totals}
 use Rattle.pos_counter.proofs.Lifts.{decided_step, match_cases, match_at_some}
 use Rattle.pos_counter.proofs.Sound.{seated, Served}
@@ -96,11 +95,6 @@ served_there m n c place asked sound at is peripheral has =
         cursor = subst (λ (o : Option Device). IsPlaceOn (kind_in o) c.cursor.place) (sym there) on;
       });
     }
-
--- a name finds a device whose peripheral has an input, or hasn't
-pub finds_fit : (m : Machine) (name : List ℕ) (place : ℕ) (given : Input) (fits : Bool) → Some place ≡ place_of m.devices name
-    → FindsFit (hardware_in (device_at m.devices (Some place))) given fits → FindsFit (hardware_named m name) given fits
-finds_fit m name place given fits finds fit = subst (λ o. FindsFit o given fits) (sym (named m name place finds)) fit
 
 -- where work finds no memory, there is a request that is to be done, and nothing has changed
 wants_work : (holder : Option ℕ) (place : ℕ) (want : NoMemory) (old : List Control) (before : Hardware) (new : List Control) (after : Hardware)

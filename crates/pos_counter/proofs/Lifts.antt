@@ -68,6 +68,11 @@ pub set_machine : (hs : List KeptControl) (cl : List (Option ℕ)) (ds : List De
     → machine_with (set hs n g) cl ds part ≡ with_control (machine_with hs cl ds part) n c
 set_machine hs cl ds part n g c e = over_same _ _ ds cl part (map-set (λ (h : KeptControl). h.control) hs n g ∙ ap (set (controls_of hs) n) e)
 
+-- the machine whose control is as it was
+pub kept_machine : (hs : List KeptControl) (cl : List (Option ℕ)) (ds : List Device) (part : TotalsPart) (n : ℕ) (g h : KeptControl) → g ≡ h → h ≡ get_or hs n h
+    → machine_with (set hs n g) cl ds part ≡ machine_with hs cl ds part
+kept_machine hs cl ds part n g h same is = ap (λ (ks : List KeptControl). machine_with ks cl ds part) (ap (set hs n) (same ∙ is) ∙ set-get_or hs n h)
+
 -- a call that is decided on one control is decided on the machine
 pub decided_at : (hs : List KeptControl) (ds : List Device) (cl : List (Option ℕ)) (part : TotalsPart) (n : ℕ) (g h : KeptControl) (rows : List Row)
     (r : Answer)
@@ -77,7 +82,7 @@ pub decided_at : (hs : List KeptControl) (ds : List Device) (cl : List (Option �
 decided_at hs ds cl part n g h rows r Done c e x = record {
   outcome = match_weaker (first_refusal rows) _ _ _ _
       (λ y. (y.0, set_machine hs cl ds part n g c y.1))
-      (λ refusal y. (y.0, ap (λ (ks : List KeptControl). machine_with ks cl ds part) (ap (set hs n) (y.1 ∙ e) ∙ set-get_or hs n h)))
+      (λ refusal y. (y.0, kept_machine hs cl ds part n g h y.1 e))
       x.outcome;
 }
 

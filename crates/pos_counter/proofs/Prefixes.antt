@@ -336,20 +336,29 @@ fits_begun layout start sequence totals is =
     fits_at (begun layout start) totals Off (Stands layout start sequence ∷ []) is.off is.left
     (start, refl, λ left one. elim one [ inl e ↦ inl (sequence, e) | inr e ↦ absurd e ])
 
-decided_grows : (history : History) (doubt : Option Group) (found : List PlainFile) → BeginsWith (decided history doubt found).settled history.settled
-decided_grows history None found = ([], sym (append-nil history.settled))
+-- What a history keeps, whatever happens: its layout, the files that it starts with, and the settled groups.
+pub record Grows (history after : History) : Type 0 where
+  pub layout : after.layout ≡ history.layout
+  pub start : after.start ≡ history.start
+  pub settled : BeginsWith after.settled history.settled
+
+decided_grows : (history : History) (doubt : Option Group) (found : List PlainFile) → Grows history (decided history doubt found)
+decided_grows history None found = record { layout = refl; start = refl; settled = ([], sym (append-nil history.settled)) }
 decided_grows history (Some group) found = by (has_made (files_after history (history.settled ++ group ∷ [])) found)
   where
-    by : (b : Bool) → BeginsWith (cond b (with_settled history group) (without_doubt history)).settled history.settled
-    by true = (group ∷ [], refl)
-    by false = ([], sym (append-nil history.settled))
+    by : (b : Bool) → Grows history (cond b (with_settled history group) (without_doubt history))
+    by true = record { layout = refl; start = refl; settled = (group ∷ [], refl) }
+    by false = record { layout = refl; start = refl; settled = ([], sym (append-nil history.settled)) }
+
+pub told_grows : (history : History) (event : FilesEvent) → Grows history (told history event)
+told_grows history (GroupAccepted group) = record { layout = refl; start = refl; settled = (group ∷ [], refl) }
+told_grows history (GroupInDoubt group) = record { layout = refl; start = refl; settled = ([], sym (append-nil history.settled)) }
+told_grows history (FilesFound found) = decided_grows history history.doubt found
+told_grows history NothingDone = record { layout = refl; start = refl; settled = ([], sym (append-nil history.settled)) }
 
 -- nothing alters the settled groups
 pub grows : (history : History) (event : FilesEvent) → BeginsWith (told history event).settled history.settled
-grows history (GroupAccepted group) = (group ∷ [], refl)
-grows history (GroupInDoubt group) = ([], sym (append-nil history.settled))
-grows history (FilesFound found) = decided_grows history history.doubt found
-grows history NothingDone = ([], sym (append-nil history.settled))
+grows history event = (told_grows history event).settled
 
 holds_less : (held : List Group) (after : History) (left : Standing) → BeginsWith after.settled held → IsPrefix after after.settled left
     → IsPrefix after held left

@@ -45,6 +45,7 @@ use Rattle.pos_counter.specs.KeptDevices.{AreDevicesSound}
 use Rattle.pos_counter.specs.Steps.{CallOf, Response, Answered, OutOfMemory, IsSound, Step, Sets, SetsByRecovery}
 use Rattle.pos_counter.specs.Totals.{TotalsPart, Recovers, asks_recovery, recovers, is_enabling, is_totals, settled}
 use Rattle.pos_counter.proofs.Serving.{same_sound, settled_twice}
+use Rattle.pos_counter.proofs.Claiming.{are_totals}
 use Rattle.pos_counter.proofs.Lifts.{kept_at, decided_at, decided_step, over_same, match_at_none, match_at_some, match_cases}
 use Rattle.pos_counter.proofs.Sound.{seated, set_seat, with_control_sound}
 
@@ -55,21 +56,14 @@ asks_enabling c p v e =
     let whole = and_parts (is_totals c.category && is_some c.device && not c.enabled) _ e in
     let front = and_parts (is_totals c.category && is_some c.device) _ whole.0 in
     let first = and_parts (is_totals c.category) _ front.0 in
-    (which p v whole.1, to_true p v whole.1, first.1, totals c.category first.0)
+    let sets = enables p v whole.1 in
+    (sets.0, sets.1, first.1, are_totals c.category first.0)
   where
-    which : (p : Property) (v : Value) → is_enabling p v ≡ true → p ≡ property.DeviceEnabled
-    which property.DeviceEnabled v e = refl
-    which p v e = cc
-
-    to_true : (p : Property) (v : Value) → is_enabling p v ≡ true → v ≡ value.Truth true
-    to_true property.DeviceEnabled (value.Truth true) e = refl
-    to_true property.DeviceEnabled (value.Truth false) e = cc
-    to_true property.DeviceEnabled v e = cc
-    to_true p v e = cc
-
-    totals : (k : Category) → is_totals k ≡ true → k ≡ category.HardTotals
-    totals category.HardTotals e = refl
-    totals k e = cc
+    enables : (p : Property) (v : Value) → is_enabling p v ≡ true → (p ≡ property.DeviceEnabled) × (v ≡ value.Truth true)
+    enables property.DeviceEnabled (value.Truth true) e = (refl, refl)
+    enables property.DeviceEnabled (value.Truth false) e = absurd cc
+    enables property.DeviceEnabled v e = absurd cc
+    enables p v e = absurd cc
 
 -- nothing refuses it, whoever holds the area
 enabling_unrefused : (n : ℕ) (holder : Option ℕ) (at : Option Kind) (c : Control) (p : Property) (v : Value) → asks_recovery c p v ≡ true

@@ -1,5 +1,5 @@
 -- What an enabling finds where a crash has left a disk that stands for some files.
-use Rattle.std.proofs.Common.{◌≡◌, ◌∙◌, ◌⊎◌, ℕ, ◌≤◌, Bool, true, false, cond, not, List, [], ◌∷◌, ◌++◌, length, Option, Some, None, Result, Ok, Err, inl, inr}
+use Rattle.std.proofs.Common.{◌≡◌, ◌∙◌, ◌⊎◌, ℕ, ◌≤◌, Bool, true, false, not, List, [], ◌∷◌, length, Some, Result, Ok, Err, inl, inr}
 use Rattle.std.proofs.Common.{refl, sym, ap, subst, arith}
 use Rattle.std.specs.Bool.{MatchBool}
 use Rattle.std.specs.Prelude.{slice_get, MatchOption}
@@ -31,8 +31,8 @@ use Rattle.pos_totals.specs.Recoveries.{AreLeft, HasTooMany, numbered}
 use Rattle.pos_totals.specs.Views.{TotalsView}
 use Rattle.pos_counter.specs.declared.counter.Counter.{Counter}
 use Rattle.pos_counter.specs.Counters.{Begins}
-use Rattle.pos_counter.specs.History.{Group, History, FilesEvent, GroupAccepted, GroupInDoubt, FilesFound, NothingDone, after_groups, begun, decided, event_of}
-use Rattle.pos_counter.specs.History.{files_after, has_made, history_along, history_of, history_with, told, with_settled, without_doubt}
+use Rattle.pos_counter.specs.History.{Group, History, after_groups, begun, event_of}
+use Rattle.pos_counter.specs.History.{history_along, history_of, history_with}
 use Rattle.pos_counter.specs.Leaving.{Leaves}
 use Rattle.pos_counter.specs.Machine.{Machine}
 use Rattle.pos_counter.specs.Prefixes.{StartsWith}
@@ -41,7 +41,7 @@ use Rattle.pos_counter.specs.Steps.{Request, CallOf, Response, Answered, OutOfMe
 use Rattle.pos_counter.specs.Totals.{TotalsPart, Recovered, Recovers, asks_recovery, recovers, settled}
 use Rattle.pos_counter.proofs.Lifts.{match_cases}
 use Rattle.pos_counter.proofs.PrefixRuns.{law_after, law_recovers}
-use Rattle.pos_counter.proofs.Prefixes.{same_Ok, same_stands}
+use Rattle.pos_counter.proofs.Prefixes.{same_Ok, same_stands, told_grows}
 use Rattle.pos_counter.proofs.PrefixSteps.{plain_numbered, refused_undone}
 
 -- ---- an enabling
@@ -159,28 +159,13 @@ few_groups limits files next (group ∷ groups) few made =
 abbrev HasStart : Layout → List PlainFile → History → Type 0
 HasStart layout files history = (history.layout ≡ layout) × (history.start ≡ files)
 
-decided_start : (history : History) (doubt : Option Group) (found : List PlainFile)
-    → HasStart history.layout history.start (decided history doubt found)
-decided_start history None found = (refl, refl)
-decided_start history (Some group) found = by (has_made (files_after history (history.settled ++ group ∷ [])) found)
-  where
-    by : (b : Bool) → HasStart history.layout history.start (cond b (with_settled history group) (without_doubt history))
-    by true = (refl, refl)
-    by false = (refl, refl)
-
-told_start : (history : History) (event : FilesEvent) → HasStart history.layout history.start (told history event)
-told_start history (GroupAccepted group) = (refl, refl)
-told_start history (GroupInDoubt group) = (refl, refl)
-told_start history (FilesFound found) = decided_start history history.doubt found
-told_start history NothingDone = (refl, refl)
-
 along_start : (history : History) (old : Machine) (steps : List (Request × Response)) (new : Machine) (run : Run old steps new)
     → HasStart history.layout history.start (history_along history old steps new run)
 along_start history old [] new run = (refl, refl)
 along_start history old (s ∷ steps) new run =
-    let first = told_start history (event_of old s.0 s.1 run.0) in
+    let first = told_grows history (event_of old s.0 s.1 run.0) in
     let rest = along_start (history_with history old s.0 s.1 run.0) run.0 steps new run.2 in
-    (rest.0 ∙ first.0, rest.1 ∙ first.1)
+    (rest.0 ∙ first.layout, rest.1 ∙ first.start)
 
 -- no layout allows more files than layout 2
 few_for_all : (layout : Layout) → (limits_of layout).files ≤ 250

@@ -96,14 +96,10 @@ not_there n holder c needs rest e = by (needs.is_open && is_none c.device) needs
     by false true more e = cc
     by false false more e = refl
 
--- a call of Hard Totals is one that no other category has
-other_category : (k : Category) → (k ≡ category.HardTotals → ⊥) → is_category (Some category.HardTotals) k ≡ false
+-- another category is not Hard Totals', and has none of its calls
+other_category : (k : Category) → (k ≡ category.HardTotals → ⊥) → (is_category (Some category.HardTotals) k ≡ false) × (is_totals k ≡ false)
 other_category category.HardTotals other = absurd (other refl)
-other_category k other = refl
-
-other_totals : (k : Category) → (k ≡ category.HardTotals → ⊥) → is_totals k ≡ false
-other_totals category.HardTotals other = absurd (other refl)
-other_totals k other = refl
+other_category k other = (refl, refl)
 
 -- so it is refused there
 refused_elsewhere : (m : Machine) (n : ℕ) (c : Control) (asked : Call) → has_call c.category asked ≡ false
@@ -117,11 +113,11 @@ spares_elsewhere m n c asked at other = match_at_some _ c _ _ at (by asked)
   where
     by : (asked : Call) → IsSome (first_refusal (refusals m n c asked)) ⊎ AsksNothing m.totals n c asked
     by (call.Set p v) = inr (subst (λ b. (b && is_some c.device && not c.enabled && is_enabling p v && not (is_ready m.totals.totals.mode)) ≡ false)
-        (sym (other_totals c.category other)) refl)
-    by (call.Create name size detection) = inl (refused_elsewhere m n c (call.Create name size detection) (other_category c.category other))
-    by (call.Delete name) = inl (refused_elsewhere m n c (call.Delete name) (other_category c.category other))
-    by (call.Write handle offset bytes) = inl (refused_elsewhere m n c (call.Write handle offset bytes) (other_category c.category other))
-    by (call.SetAll handle value) = inl (refused_elsewhere m n c (call.SetAll handle value) (other_category c.category other))
-    by (call.Rename handle name) = inl (refused_elsewhere m n c (call.Rename handle name) (other_category c.category other))
-    by call.CommitTrans = inl (refused_elsewhere m n c call.CommitTrans (other_category c.category other))
+        (sym (other_category c.category other).1) refl)
+    by (call.Create name size detection) = inl (refused_elsewhere m n c (call.Create name size detection) (other_category c.category other).0)
+    by (call.Delete name) = inl (refused_elsewhere m n c (call.Delete name) (other_category c.category other).0)
+    by (call.Write handle offset bytes) = inl (refused_elsewhere m n c (call.Write handle offset bytes) (other_category c.category other).0)
+    by (call.SetAll handle value) = inl (refused_elsewhere m n c (call.SetAll handle value) (other_category c.category other).0)
+    by (call.Rename handle name) = inl (refused_elsewhere m n c (call.Rename handle name) (other_category c.category other).0)
+    by call.CommitTrans = inl (refused_elsewhere m n c call.CommitTrans (other_category c.category other).0)
     by asked = inr refl

@@ -1,4 +1,4 @@
-use Rattle.std.proofs.Common.{◌∙◌, Ok, ap, refl, sym, true, false, arith, length, subst, Err}
+use Rattle.std.proofs.Common.{◌∙◌, Ok, ap, refl, sym, true, arith, length, subst, Err}
 use Rattle.std.proofs.lemmas.List.{with_items_is}
 use Rattle.pos_service.specs.Peripherals.{input_fits}
 use Rattle.pos_service.specs.Hardware.{TakenAt}
@@ -6,9 +6,9 @@ use Rattle.pos_profile.specs.Registries.{devices as registered}
 use Rattle.pos_counter.specs.AtDevices.{IsDoneAt}
 use Rattle.pos_counter.specs.Counters.{machine}
 use Rattle.pos_counter.specs.KeptDevices.{devices_in}
-use Rattle.pos_counter.proofs.DeviceLists.{found_fit, missing_there}
+use Rattle.pos_counter.proofs.DeviceLists.{found_fit, found_under_name}
 use Rattle.pos_counter.proofs.Serving.{beside_sound}
-use Rattle.pos_counter.proofs.Hardware.{finds_fit, named, on_hardware, unchanged, unnamed}
+use Rattle.pos_counter.proofs.Hardware.{on_hardware, unchanged, unnamed}
 use Rattle.pos_counter.proofs.counter.Counter.input.Goals as goal
 
 pub returns-in_default-clause-step : goal.returns-in_default-clause-step
@@ -20,27 +20,15 @@ returns-in_default-clause-step g c = record {
 pub returns-in_default-peripheral-clause-step : goal.returns-in_default-peripheral-clause-step
 returns-in_default-peripheral-clause-step g c =
     let devices = c.args.self.now.devices in
-    record {
-      step = λ part. (
-        named (machine g.P.Peripheral c.args.self.now part) c.args.device.now c.in-Some.place c.in-Some.ensures
-            ∙ missing_there (registered g.P.Peripheral devices.registry) devices.totals c.in-Some.place c.in_default-peripheral.ensures,
-        refl,
-      );
-      totals = refl;
-    }
+    let none = found_under_name (registered g.P.Peripheral devices.registry) devices.totals _ _ _ c.in-Some.ensures c.in_default-peripheral.ensures in
+    record { step = λ part. (none, refl); totals = refl }
 
 pub returns-then-not-fits-clause-step : goal.returns-then-not-fits-clause-step
 returns-then-not-fits-clause-step g c =
     let devices = c.args.self.now.devices in
     let fit = ap (λ k. input_fits k c.args.input.now) (sym c.kind.ensures.kind) ∙ sym c.fits.ensures ∙ c.if-not-fits.true in
-    record {
-      step = λ part. (
-        finds_fit (machine g.P.Peripheral c.args.self.now part) c.args.device.now c.in-Some.place c.args.input.now false c.in-Some.ensures
-            (found_fit (registered g.P.Peripheral devices.registry) devices.totals c.in-Some.place _ c.args.input.now false c.in-Some-peripheral.ensures fit),
-        refl,
-      );
-      totals = refl;
-    }
+    let there = found_under_name (registered g.P.Peripheral devices.registry) devices.totals _ _ _ c.in-Some.ensures c.in-Some-peripheral.ensures in
+    record { step = λ part. (record { before = _; is_attached = there; fit = fit }, refl); totals = refl }
 
 pub input_there-requires-clause-fits : goal.input_there-requires-clause-fits
 input_there-requires-clause-fits g c =
@@ -76,10 +64,11 @@ returns-in-Err-clause-step g c =
     let done = subst (λ gs. IsDoneAt ds place (TakenAt c.args.input.now place (Err c.in-Err.field-0)) old.controls.items gs es) (sym kept)
     (rw c.deref_mut.ensures.value at c.in-Err.ensures.done) in
     let fit = ap (λ k. input_fits k c.args.input.now) (sym c.kind.ensures.kind) ∙ sym c.fits.ensures ∙ c.if-not-fits.false in
+    let there = found_under_name (registered g.P.Peripheral old.devices.registry) old.devices.totals _ _ _ c.in-Some.ensures
+    c.in-Some-peripheral.ensures in
     record {
       step = λ part. (
-        finds_fit (machine g.P.Peripheral old part) c.args.device.now place c.args.input.now true c.in-Some.ensures
-            (found_fit (registered g.P.Peripheral old.devices.registry) old.devices.totals place _ c.args.input.now true c.in-Some-peripheral.ensures fit),
+        record { before = _; is_attached = there; fit = fit },
         unchanged old.controls.items _ ds es old.claims part place done.device done.before done.after done.is_device done.is_attached done.changed
             done.does,
       );
