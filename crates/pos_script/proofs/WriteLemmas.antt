@@ -50,15 +50,10 @@ behind a b c first second (Ok u) done w = Appends-trans a b c first second done 
 behind a b c first second (Err e) done w =
     (first ++ w.0, w.1, ap (λ x. first ++ x) w.2 ∙ sym (append_assoc first w.0 w.1), w.3, Appends-trans a b c first w.0 done w.4)
 
--- what fails behind a text that was written
-pub failed_behind : {E : Type 0} (a b c : Option (List ℕ)) (first second : List ℕ) (e : E) → Appends a b first → Writes b c second (Err e)
-    → Writes a c (first ++ second) (Err e)
-failed_behind a b c first second e done w = behind a b c first second (Err e) done w
-
 -- what fails between a text that was written and one that was to be
 pub failed_between : {E F : Type 0} (a b c : Option (List ℕ)) (first second third : List ℕ) (e : E) (f : F) → Appends a b first → Writes b c second (Err e)
     → Writes a c (first ++ (second ++ third)) (Err f)
-failed_between a b c first second third e f done w = failed_behind a b c first (second ++ third) f done (failed_front b c second third e f w)
+failed_between a b c first second third e f done w = behind a b c first (second ++ third) (Err f) done (failed_front b c second third e f w)
 
 -- a text behind two that were written
 pub behind_two : {E : Type 0} (a b c d : Option (List ℕ)) (first second third : List ℕ) (result : Result (Unit {0}) E) → Appends a b first

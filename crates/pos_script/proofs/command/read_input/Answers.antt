@@ -1,4 +1,4 @@
-use Rattle.std.proofs.Common.{◌≡◌, Some, ap, subst, sym}
+use Rattle.std.proofs.Common.{ap, subst, sym}
 use Rattle.std.specs.Prelude.{Err, option_map}
 use Rattle.pos_service.specs.declared.request.Request.TheVariants as request
 use Rattle.pos_script.specs.Arguments.{Reads}
@@ -7,10 +7,7 @@ use Rattle.pos_script.proofs.Readings.{faults_become}
 use Rattle.pos_script.proofs.command.read_input.Goals as goal
 
 pub returns-in-Ok : goal.returns-in-Ok
-returns-in-Ok c =
-    let name = c.args.name in
-    subst (λ words. (input_line name words).value ≡ Some (request.InputTo name c.in-Ok.input)) (sym c.in-Some.ensures)
-    (ap (option_map (λ input. request.InputTo name input)) c.in-Ok.ensures)
+returns-in-Ok c = rw c.in-Some.ensures (ap (option_map (λ input. request.InputTo c.args.name input)) c.in-Ok.ensures)
 
 pub returns-in-Err : goal.returns-in-Err
 returns-in-Err c =

@@ -1,4 +1,4 @@
-use Rattle.std.proofs.Common.{◌≡◌, Some, ap, subst, sym}
+use Rattle.std.proofs.Common.{ap, subst, sym}
 use Rattle.std.specs.Prelude.{Err, option_map}
 use Rattle.pos_service.specs.declared.request.Request.TheVariants as request
 use Rattle.pos_script.specs.Arguments.{Reads}
@@ -8,10 +8,7 @@ use Rattle.pos_script.proofs.Readings.{faults_become}
 use Rattle.pos_script.proofs.command.read_method.Goals as goal
 
 pub returns-in-Ok : goal.returns-in-Ok
-returns-in-Ok c =
-    let name = c.args.name in
-    subst (λ words. (call_line name words).value ≡ Some (request.CallOf name c.in-Ok.call)) (sym c.in-Some.ensures)
-    (ap (option_map (λ call. request.CallOf name call)) c.in-Ok.ensures)
+returns-in-Ok c = rw c.in-Some.ensures (ap (option_map (λ call. request.CallOf c.args.name call)) c.in-Ok.ensures)
 
 pub returns-in-Err : goal.returns-in-Err
 returns-in-Err c =

@@ -4,7 +4,7 @@ use Rattle.std.proofs.lemmas.Result.{err_from_is_err_and}
 use Rattle.std.proofs.KnownBytes.{Appends-trans}
 use Rattle.pos_service.specs.Receipts.{Line, CutAt}
 use Rattle.pos_script.specs.ReceiptText.{item_text}
-use Rattle.pos_script.proofs.WriteLemmas.{failed_front, failed_behind}
+use Rattle.pos_script.proofs.WriteLemmas.{failed_between}
 use Rattle.pos_script.proofs.ReceiptLemmas.{text_from, text_at_line, text_at_cut}
 use Rattle.pos_script.proofs.receipt.write_items.Goals.{in-Line+in_ok-write_line-in-Line, in-Cut+in_ok-write_cut-in-Cut}
 use Rattle.pos_script.proofs.receipt.write_items.Goals as goal
@@ -20,8 +20,8 @@ returns-in_err-write_line-in-Line g c =
     let behind = text_from marks (i + 1) (drop count c.loop-mark.rest.now) in
     let item = codes " " ++ item_text (Line c.in-Line.alignment (take count c.loop-mark.rest.now)) in
     rw (p.1, before.2 ∙ ap (λ x. before.0 ++ x) more)
-    (failed_behind _ _ _ before.0 (item ++ behind) p.0 before.1
-    (failed_front _ _ item behind c.in_err-write_line-in-Line.field-0 p.0 (rw c.split_line.ensures.line at c.in_err-write_line-in-Line.ensures)))
+    (failed_between _ _ _ before.0 item behind c.in_err-write_line-in-Line.field-0 p.0 before.1
+    (rw c.split_line.ensures.line at c.in_err-write_line-in-Line.ensures))
 
 pub returns-in_err-write_cut-in-Cut : goal.returns-in_err-write_cut-in-Cut
 returns-in_err-write_cut-in-Cut g c =
@@ -33,8 +33,7 @@ returns-in_err-write_cut-in-Cut g c =
     let behind = text_from marks (i + 1) c.loop-mark.rest.now in
     let item = codes " " ++ item_text (CutAt c.in-Cut.percentage) in
     rw (p.1, before.2 ∙ ap (λ x. before.0 ++ x) more)
-    (failed_behind _ _ _ before.0 (item ++ behind) p.0 before.1
-    (failed_front _ _ item behind c.in_err-write_cut-in-Cut.field-0 p.0 c.in_err-write_cut-in-Cut.ensures))
+    (failed_between _ _ _ before.0 item behind c.in_err-write_cut-in-Cut.field-0 p.0 before.1 c.in_err-write_cut-in-Cut.ensures)
 
 pub loop-mark-preserved : goal.loop-mark-preserved
 loop-mark-preserved g c =

@@ -3,7 +3,7 @@ use Rattle.std.specs.Prelude.{codes}
 use Rattle.std.proofs.lemmas.Result.{err_from_is_err_and}
 use Rattle.pos_script.specs.Glyphs.{printed_text}
 use Rattle.pos_script.specs.ReceiptText.{items_text}
-use Rattle.pos_script.proofs.WriteLemmas.{failed_front, failed_behind, behind}
+use Rattle.pos_script.proofs.WriteLemmas.{behind_two, failed_between, failed_front}
 use Rattle.pos_script.proofs.receipt.write_receipt.Goals as goal
 
 -- the parts of the text one after another, those in front together
@@ -44,9 +44,8 @@ returns-in_err-write_printed g c =
       ← c.format-left.ensures.text,
       receipt_line cover (codes " ") left text,
     )
-    (failed_behind _ _ _ front text p.0 c.in_ok-write_parts.ensures
-    (failed_front _ _ (printed_text receipt.buffer) (items_text receipt.items) c.in_err-write_printed.field-0 p.0
-    (rw buffer at c.in_err-write_printed.ensures)))
+    (failed_between _ _ _ front (printed_text receipt.buffer) (items_text receipt.items) c.in_err-write_printed.field-0 p.0 c.in_ok-write_parts.ensures
+    (rw buffer at c.in_err-write_printed.ensures))
 
 pub returns : goal.returns
 returns g c =
@@ -57,6 +56,5 @@ returns g c =
     let front = cover ++ (codes " " ++ (left ++ (codes " " ++ []))) in
     let buffer = c.line_buffer.ensures ∙ c.printed.ensures.buffer in
     rw (← c.is_cover_open.ensures, ← c.word_of-cover.ensures, ← c.lines_left.ensures, ← c.format-left.ensures.text, receipt_line cover (codes " ") left text)
-    (behind _ _ _ front text c.write_items.result c.in_ok-write_parts.ensures
-    (behind _ _ _ (printed_text receipt.buffer) (items_text receipt.items) c.write_items.result (rw buffer at c.in_ok-write_printed.ensures)
-    (rw c.printed.ensures.items at c.write_items.ensures)))
+    (behind_two _ _ _ _ front (printed_text receipt.buffer) (items_text receipt.items) c.write_items.result c.in_ok-write_parts.ensures
+    (rw buffer at c.in_ok-write_printed.ensures) (rw c.printed.ensures.items at c.write_items.ensures))
