@@ -55,7 +55,8 @@ call_line name (method ∷ words) = become (λ call. request.CallOf name call) (
 abbrev pub choice_of : List ℕ → List ℕ → List (List ℕ) → Reading Bool
 choice_of first second [] = misshapen
 choice_of first second (word ∷ words) =
-    if bytes_eq word first then from_none true words else (if bytes_eq word second then from_none false words else misshapen)
+    if bytes_eq word first then from_none true words
+    else (if bytes_eq word second then from_none false words else misshapen)
 
 -- what happens at a printer, by its word and the words behind it
 abbrev pub printer_input_of : List ℕ → List (List ℕ) → Reading Input

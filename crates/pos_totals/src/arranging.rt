@@ -25,8 +25,8 @@ pub enum Arrangement {
     ///
     /// Refused with E_ILLEGAL where no file has the handle, or the control hasn't claimed it.
     ReleaseFile { handle: i128 },
-    /// `beginTrans`: begins a transaction of a control, in which changes of bytes are buffered until it ends. The control's
-    /// place was made by `add_control`.
+    /// `beginTrans`: begins a transaction of a control, in which changes of bytes are buffered until it ends. The
+    /// control's place was made by `add_control`.
     ///
     /// Refused with E_ILLEGAL where the control is in a transaction, or has no place for one.
     BeginTrans,

@@ -32,8 +32,8 @@ use std::marker::Model;
 /// change or those after the whole of it; all transactions end, and no file is claimed any more. No sequence is left
 /// where a change needs a new image and the sequence is the last one, 18,446,744,073,709,551,615.
 ///
-/// Between `beginTrans` and `commitTrans` a control's changes of bytes are buffered: the disk and the files stay as they
-/// are, for `read` too.
+/// Between `beginTrans` and `commitTrans` a control's changes of bytes are buffered: the disk and the files stay as
+/// they are, for `read` too.
 #[derive(Drop)]
 pub struct Totals<D: Disk> {
     alloc: Global,
