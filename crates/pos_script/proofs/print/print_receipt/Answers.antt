@@ -19,4 +19,5 @@ returns-in_err-write_receipt g c =
 
 pub returns : goal.returns
 returns g c =
-    behind_two _ _ _ _ (codes "ok ") (printer_text c.args.receipt.now) (10 ∷ []) _ c.in_ok-write_parts.ensures c.in_ok-write_receipt.ensures c.write_parts-2.ensures
+    behind_two _ _ _ _ (codes "ok ") (printer_text c.args.receipt.now) (10 ∷ []) _
+    c.in_ok-write_parts.ensures c.in_ok-write_receipt.ensures c.write_parts-2.ensures
