@@ -2,12 +2,12 @@
 use Rattle.std.specs.Prelude.{◌≡◌, ◌≤◌, ◌<◌, ◌⊎◌, ◌++◌, ◌∷◌, [], ℕ, List, MatchResult, Result, Ok, false, true, codes, decimal, drop, length, map}
 use Rattle.std.specs.declared.vec.Vec.{Vec}
 use Rattle.pos_service.specs.declared.memory.NoMemory.{NoMemory}
+use Rattle.pos_service.specs.declared.order.Argument.{Argument}
+use Rattle.pos_service.specs.declared.order.Argument.TheVariants.{Bytes, Number}
 use Rattle.pos_service.specs.declared.order.Order.{Order}
-use Rattle.pos_service.specs.declared.order.Order.TheVariants as order
 use Rattle.pos_service.specs.declared.order.Reply.{Reply}
 use Rattle.pos_service.specs.declared.order.Reply.TheVariants as reply
-use Rattle.pos_service.specs.Displays.{attribute_number_of, direction_number_of}
-use Rattle.pos_service.specs.Peripherals.{Asked, PeripheralState, order_fits}
+use Rattle.pos_service.specs.Peripherals.{Asked, PeripheralState, order_arguments, order_fits, order_word}
 use Rattle.pos_script.specs.Text.{hex_text}
 use Rattle.pos_run.specs.declared.wrapped.Wrapped.{Wrapped}
 use Rattle.pos_run.specs.Simulating.{wrapped_state}
@@ -21,26 +21,19 @@ number_word n = codes " " ++ decimal n
 abbrev pub bytes_word : List ℕ → List ℕ
 bytes_word bytes = codes " " ++ hex_text bytes
 
--- what is said of an order behind the name of its device: its word and its arguments (docs/CONSOLE.md, "Methods")
-abbrev pub order_words : Order → List (List ℕ)
-order_words order.OpenDrawer = codes " openDrawer" ∷ []
-order_words (order.ShowText row column style bytes) =
-    codes " displayTextAt" ∷ number_word row ∷ number_word column ∷ bytes_word bytes
-    ∷ number_word (attribute_number_of style) ∷ []
-order_words order.ClearText = codes " clearText" ∷ []
-order_words (order.Scroll direction units) =
-    codes " scrollText" ∷ number_word (direction_number_of direction) ∷ number_word units ∷ []
-order_words (order.Print bytes) = codes " print" ∷ bytes_word bytes ∷ []
-order_words (order.Cut percentage) = codes " cutPaper" ∷ number_word percentage ∷ []
+-- an argument of an order behind a space (docs/CONSOLE.md, "Methods")
+abbrev pub argument_text : Argument → List ℕ
+argument_text (Number n) = number_word n
+argument_text (Bytes bytes) = bytes_word bytes
 
--- a line with words behind it
-abbrev pub with_words : List ℕ → List (List ℕ) → List ℕ
-with_words line [] = line
-with_words line (word ∷ words) = with_words (line ++ word) words
+-- a line with arguments behind it
+abbrev pub with_arguments : List ℕ → List Argument → List ℕ
+with_arguments line [] = line
+with_arguments line (argument ∷ arguments) = with_arguments (line ++ argument_text argument) arguments
 
--- the line of a device's order
+-- the line of a device's order: the device's name, the order's word and its arguments
 abbrev pub order_text : List ℕ → Order → List ℕ
-order_text device asked = with_words device (order_words asked)
+order_text device asked = with_arguments (device ++ codes " " ++ order_word asked) (order_arguments asked)
 
 -- what contracts see of a till's device: the simulated peripheral in it, with the count of the orders that came by the
 -- device

@@ -1,11 +1,11 @@
 //! The orders that a till's host is told, as lines.
-ghost use Rattle.std.specs.Prelude.{◌≡◌, ◌++◌, IfOk, OnOk};
-ghost use Rattle.kijolvar.specs.Orders.{AsksTwin, Keeps, TellsOrder, bytes_word, order_lines, number_word, order_text};
+ghost use Rattle.std.specs.Prelude.{◌≡◌, ◌++◌, IfOk, OnOk, codes};
+ghost use Rattle.kijolvar.specs.Orders.{AsksTwin, Keeps, TellsOrder, argument_text, bytes_word, order_lines, number_word, order_text};
 
 use crate::codes::{OK, ORDER, SHORT};
 use itoa::Buffer;
 use pos_run::Wrapped;
-use pos_service::{NoMemory, Order, Peripheral, Reply};
+use pos_service::{Argument, NoMemory, Order, Peripheral, Reply};
 use std::alloc::{AllocError, Global};
 use std::collections::VecDeque;
 
@@ -30,12 +30,27 @@ fn add_bytes(alloc: Global, line: &mut Vec<u8>, bytes: &[u8]) -> Result<(), Allo
     line.extend_from_slice(text.as_bytes())
 }
 
-/// A device's name, and what stands behind it.
-fn line_with(alloc: Global, device: &[u8], word: &[u8]) -> Result<Vec<u8>, AllocError>
-    ensures { IfOk result (λ line. line.items ≡ device.now ++ word.now) }
+/// Adds an argument of an order.
+fn add_argument(
+    alloc: Global,
+    line: &mut Vec<u8>,
+    argument: &Argument<'_>,
+) -> Result<(), AllocError>
+    ensures { OnOk result (line.new.items ≡ line.old.items ++ argument_text argument.now) }
+{
+    match argument {
+        Argument::Number(number) => add_number(line, *number),
+        Argument::Bytes(bytes) => add_bytes(alloc, line, bytes.as_slice()),
+    }
+}
+
+/// A device's name, and a word behind it.
+fn line_with(alloc: Global, device: &[u8], word: &str) -> Result<Vec<u8>, AllocError>
+    ensures { IfOk result (λ line. line.items ≡ device.now ++ codes " " ++ word.now) }
 {
     let mut line = Vec::from_slice(alloc, device)?;
-    line.extend_from_slice(word)?;
+    line.extend_from_slice(b" ")?;
+    line.extend_from_slice(word.as_bytes())?;
     Ok(line)
 }
 
@@ -44,39 +59,14 @@ fn line_with(alloc: Global, device: &[u8], word: &[u8]) -> Result<Vec<u8>, Alloc
 pub fn order_line(alloc: Global, device: &[u8], order: &Order) -> Result<Vec<u8>, AllocError>
     ensures { IfOk result (λ line. line.items ≡ order_text device.now order.now) }
 {
-    match order {
-        Order::OpenDrawer => line_with(alloc, device, b" openDrawer"),
-        Order::ShowText {
-            row,
-            column,
-            attribute,
-            bytes,
-        } => {
-            let mut line = line_with(alloc, device, b" displayTextAt")?;
-            add_number(&mut line, *row)?;
-            add_number(&mut line, *column)?;
-            add_bytes(alloc, &mut line, bytes.as_slice())?;
-            add_number(&mut line, attribute.number())?;
-            Ok(line)
-        }
-        Order::ClearText => line_with(alloc, device, b" clearText"),
-        Order::Scroll { direction, units } => {
-            let mut line = line_with(alloc, device, b" scrollText")?;
-            add_number(&mut line, direction.number())?;
-            add_number(&mut line, *units)?;
-            Ok(line)
-        }
-        Order::Print { bytes } => {
-            let mut line = line_with(alloc, device, b" print")?;
-            add_bytes(alloc, &mut line, bytes.as_slice())?;
-            Ok(line)
-        }
-        Order::Cut { percentage } => {
-            let mut line = line_with(alloc, device, b" cutPaper")?;
-            add_number(&mut line, u32::from(*percentage))?;
-            Ok(line)
+    let mut line = line_with(alloc, device, order.word())?;
+    let arguments = order.arguments();
+    for argument in &arguments {
+        if let Some(given) = argument {
+            add_argument(alloc, &mut line, given)?;
         }
     }
+    Ok(line)
 }
 
 /// Asks the simulated peripheral that stands for a device of the host's, and keeps the order's line where it was
