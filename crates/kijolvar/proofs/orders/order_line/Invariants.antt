@@ -1,10 +1,11 @@
-use Rattle.std.proofs.Common.{◌≡◌, drop}
+use Rattle.std.proofs.Common.{◌≡◌, Option, drop}
 use Rattle.std.specs.List.{filter_map}
+use Rattle.pos_service.specs.declared.order.Argument.{Argument}
 use Rattle.kijolvar.specs.Orders.{order_text, with_arguments}
 use Rattle.kijolvar.proofs.orders.order_line.Given as goal
 
 -- the line with the arguments that are left is the whole
 abbrev pub invariant-loop-argument : goal.invariant-loop-argument
 invariant-loop-argument l =
-    with_arguments l.line.items (filter_map (λ given. given) (drop l.argument-index l.arguments))
-    ≡ order_text l.device.now l.order.now
+    with_arguments l.line.items (filter_map (λ (given : Option Argument). given) (drop l.argument-index l.argument-items))
+    ≡ order_text l.device l.order

@@ -1,0 +1,30 @@
+use Rattle.std.proofs.Common.{◌∙◌, ◌++◌, List, ℕ, Option, codes, ap, sym, arith}
+use Rattle.std.specs.List.{filter_map}
+use Rattle.std.proofs.lemmas.List.{at_drop_more, drop_all}
+use Rattle.pos_service.specs.declared.order.Argument.{Argument}
+use Rattle.pos_service.specs.Peripherals.{order_word}
+use Rattle.kijolvar.specs.Orders.{with_arguments}
+use Rattle.kijolvar.proofs.orders.order_line.Goals.{in-Some+in_ok-add_argument, in_default}
+use Rattle.kijolvar.proofs.orders.order_line.Goals as goal
+
+pub loop-argument-init : goal.loop-argument-init
+loop-argument-init c =
+    ap (λ (items : List ℕ). with_arguments items (filter_map (λ (given : Option Argument). given) c.arguments-arguments.result))
+    (c.in_ok-line.ensures ∙ ap (λ (w : List ℕ). c.args.device.now ++ codes " " ++ w) c.word.ensures)
+    ∙ ap (with_arguments (c.args.device.now ++ codes " " ++ order_word c.args.order.now)) c.arguments-arguments.ensures
+
+pub loop-argument-preserved : goal.loop-argument-preserved
+loop-argument-preserved c =
+    let rest = λ (line : List ℕ) (left : List (Option Argument)). with_arguments line (filter_map (λ (given : Option Argument). given) left) in
+    let step = at_drop_more (rest c.loop-argument.line.items) c.arguments-arguments.result c.loop-argument.argument-index c.argument-item.result
+    (omega (arith, c.type_inv.argument-items, c.loop-argument-test.true)) in
+    elim c.match-argument.branch [
+      | in-Some+in_ok-add_argument w ↦ grind (arith, step, c.loop-argument.invariant, c.argument-item.is, w)
+      | in_default w ↦ grind (arith, step, c.loop-argument.invariant, c.argument-item.is, w)
+    ]
+
+pub returns : goal.returns
+returns c =
+    let none = drop_all c.loop-argument.argument-index c.arguments-arguments.result (omega arith) in
+    ap (λ (left : List (Option Argument)). with_arguments c.loop-argument.line.items (filter_map (λ (given : Option Argument). given) left)) (sym none)
+    ∙ c.loop-argument.invariant
