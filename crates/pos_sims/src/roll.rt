@@ -69,8 +69,7 @@ impl Roll {
         None
     }
 
-    /// Carries out a request, all of it or nothing: with the cover open CoverOpen, else with no line of paper left, or
-    /// fewer than the request needs, PaperEnd. Want of memory changes nothing.
+    /// Carries out a request, as `print` says.
     fn request(&mut self, asked: &Asked<'_>) -> Result<Outcome, NoMemory>
         ensures outcome { IfOk result (λ outcome. Prints self.old (pieces_asked asked.now) outcome self.new) }
         ensures no_memory { OnErr result (self.new ≡ self.old) }
@@ -88,7 +87,8 @@ impl Roll {
         }
     }
 
-    /// Prints the data of a request.
+    /// Prints the data of a request, all of it or nothing: with the cover open CoverOpen, else with no line of paper
+    /// left, or fewer than the request needs, PaperEnd. Want of memory changes nothing.
     pub fn print(&mut self, bytes: &[u8]) -> Result<Outcome, NoMemory>
         ensures outcome { IfOk result (λ outcome. Prints self.old (pieces bytes.now) outcome self.new) }
         ensures no_memory { OnErr result (self.new ≡ self.old) }
@@ -96,7 +96,8 @@ impl Roll {
         self.request(&Asked::Text(bytes))
     }
 
-    /// Cuts the paper by 0 to 100 percent, a request with that cut alone.
+    /// Cuts the paper by 0 to 100 percent, a request with that cut alone, which ends as `print` does. Want of memory
+    /// changes nothing.
     pub fn cut(&mut self, percentage: u8) -> Result<Outcome, NoMemory>
         requires { percentage ≤ 100 }
         ensures outcome { IfOk result (λ outcome. Prints self.old (cut_pieces percentage) outcome self.new) }
