@@ -2,6 +2,7 @@
 use Rattle.std.proofs.Common.{◌≡◌, inl, inr, ⊎_elim, ℕ, ◌+◌, ◌-◌, ◌≤◌, ◌/◌, List, length, take, get_or, refl, sym, ◌∙◌, ap, subst, arith, Result, Ok, Err, OnOk}
 use Rattle.std.proofs.lemmas.Bool.{cases_lt}
 use Rattle.std.proofs.lemmas.List.{length-take-le, ext_get_or}
+use Rattle.std.proofs.lemmas.Grind.{common_steps, elements}
 use Rattle.pos_disk.specs.State.{DiskState, InRange, MayLeave, Rises, HasCause, Reads, Writes, splice, part}
 use Rattle.pos_disk.specs.Fuse.{Spoils, Loosens, PutsHalf}
 use Rattle.pos_disk.specs.declared.device.DiskFault.{DiskFault}
@@ -14,20 +15,14 @@ spoils_read old new place out result at reads = record {
   same_length = ap length reads.reading;
   elsewhere = λ i outside. ap (λ (b : List ℕ). get_or b i 0) reads.reading;
   loose = λ i is. inl (reads.loose i is);
-  reached = λ i either. ⊎_elim (reads.still_loose i) (λ inside. absurd (omega (arith, inside.0, inside.1))) either;
+  reached = λ i either. ⊎_elim (reads.still_loose i) (λ inside. absurd (omega arith)) either;
   time = reads.time;
 }
 
 -- a write spoils its range
 pub spoils_write : {T : Type 0} (old new : DiskState) (at : ℕ) (bytes : List ℕ) (result : Result T DiskFault) → Writes old new at bytes result
     → Spoils old new at (length bytes)
-spoils_write old new at bytes result writes = record {
-  same_length = writes.same_length;
-  elsewhere = writes.elsewhere;
-  loose = writes.loose;
-  reached = writes.reached;
-  time = writes.time;
-}
+spoils_write old new at bytes result writes = assumption
 
 -- one range, and then the range behind it
 pub spoils_on : (old mid new : DiskState) (at n m : ℕ) → Spoils old mid at n → Spoils mid new (at + n) m → Spoils old new at (n + m)
@@ -59,13 +54,7 @@ spoils_on old mid new at n m first second =
 
 -- a count that didn't rise was met by no failure
 steady : (before mid now : ℕ) → before ≤ mid → mid ≤ now → ¬ (Rises before now) → (¬ (Rises before mid)) × (¬ (Rises mid now))
-steady before mid now first second steady_all = (
-  λ rises. steady_all (⊎_elim (λ less. inl (omega (arith, less, second))) (λ last. inr last) rises),
-  λ rises. steady_all (⊎_elim (λ less. inl (omega (arith, less, first))) (λ last. elim (cases_lt before now) [
-    | inl less ↦ inl less
-    | inr same ↦ inr (omega (arith, last, first, second, same))
-  ]) rises),
-)
+steady before mid now first second steady_all = (λ rises. steady_all (grind arith), λ rises. steady_all (grind arith))
 
 succeeded : {T : Type 0} (old new : DiskState) (result : Result T DiskFault) (P : Type 0) → HasCause old new result
     → ¬ (Rises old.failures new.failures) → OnOk result P → P
@@ -76,14 +65,8 @@ succeeded old new (Err e) P cause no_failure holds = absurd (no_failure cause.ri
 pub splice-part : (old : List ℕ) (at n : ℕ) → at + n ≤ length old → splice old at (part at n old) ≡ old
 splice-part old at n fits =
     let long = length-part at n old fits in
-    let room : at + length (part at n old) ≤ length old = omega (arith, long) in
-    ext_get_or 0 (splice old at (part at n old)) old (length-splice old (part at n old) at room) (λ i inside. elim (in_range at n i) [
-      | inl hit ↦
-          let back : at + (i - at) ≡ i = omega (arith, hit.0) in
-          spliced_within 0 old (part at n old) at i room (hit.0, omega (arith, hit.1, long))
-          ∙ get_or-part at n old (i - at) (omega (arith, hit.0, hit.1)) ∙ ap (λ (k : ℕ). get_or old k 0) back
-      | inr missed ↦ splice_elsewhere old (part at n old) at i room (λ hit. missed (hit.0, omega (arith, hit.1, long)))
-    ])
+    ext_get_or 0 _ old (length-splice old (part at n old) at (omega (arith, long))) (λ i _.
+    grind (arith, long, in_range at n i, spliced_within 0 old (part at n old) at i, splice_elsewhere old (part at n old) at i, get_or-part at n old (i - at)))
 
 -- before the first place nothing is loosened
 pub loosens_none : (disk : DiskState) (at : ℕ) → Loosens disk disk at 0
