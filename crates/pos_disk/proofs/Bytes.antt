@@ -1,8 +1,8 @@
 -- Bytes written over others, and parts of bytes.
-use Rattle.std.proofs.Common.{◌≡◌, ◌⊎◌, inl, inr, ℕ, ◌+◌, ◌-◌, ◌≤◌, ◌<◌, List, ◌++◌, length, take, drop, get_or, refl, sym, ◌∙◌, ap, arith, length-append}
-use Rattle.std.proofs.Common.{length-drop, append_assoc}
+use Rattle.std.proofs.Common.{◌≡◌, ◌⊎◌, ℕ, ◌+◌, ◌-◌, ◌≤◌, ◌<◌, List, length, drop, get_or, arith}
+use Rattle.std.proofs.Common.{append_assoc}
 use Rattle.std.proofs.lemmas.Bool.{cases_lt}
-use Rattle.std.proofs.lemmas.List.{length-take-le, take_at, drop_at, get_or-take, get_or-drop, get_or-append_right, get_or_append_left, ext_get_or}
+use Rattle.std.proofs.lemmas.List.{take_at, drop_at, get_or-append_right, get_or_append_left}
 use Rattle.std.proofs.lemmas.List.{drop-take}
 use Rattle.std.proofs.lemmas.Grind.{common_steps, elements}
 use Rattle.pos_disk.specs.State.{InRange, splice, part}

@@ -1,5 +1,5 @@
 -- A run of writes that stay within one range.
-use Rattle.std.proofs.Common.{◌≡◌, ⊎_elim, ℕ, ◌+◌, ◌≤◌, List, length, get_or, refl, ap, ◌∙◌, arith, Result}
+use Rattle.std.proofs.Common.{◌≡◌, ⊎_elim, ℕ, ◌+◌, ◌≤◌, List, length, refl, ◌∙◌, arith, Result}
 use Rattle.pos_disk.specs.State.{DiskState, InRange, IsAtRest, MayLeave, Elapses, LeavesOnly, Reads, Writes, Syncs}
 use Rattle.pos_disk.proofs.Moments.{goes_on}
 use Rattle.pos_disk.specs.declared.device.DiskFault.{DiskFault}

@@ -1,16 +1,15 @@
 -- What a write does to a disk in memory.
 use Rattle.std.proofs.lemmas.Bool.Decides.{nat_tests}
-use Rattle.std.proofs.Common.{◌≡◌, inl, inr, ⊎_elim, ℕ, zero, suc, ◌+◌, ◌-◌, ◌≤◌, ◌<◌, List, [], ◌∷◌, ◌++◌, Bool, true, false, ◌==◌, length, take, drop, map}
-use Rattle.std.proofs.Common.{replicate, get_or, refl, sym, ◌∙◌, ap, arith}
-use Rattle.std.proofs.lemmas.Bool.{false≢true}
-use Rattle.std.proofs.lemmas.List.{length-map, length-replicate, map-append, get_or-replicate, ext_get_or, drop-map}
+use Rattle.std.proofs.Common.{◌≡◌, ℕ, zero, suc, ◌+◌, ◌-◌, ◌≤◌, ◌<◌, List, [], ◌∷◌, ◌++◌, true, false, ◌==◌, length}
+use Rattle.std.proofs.Common.{replicate, get_or, refl, sym, ◌∙◌, arith}
+use Rattle.std.proofs.lemmas.List.{length-map, length-replicate, map-append, ext_get_or, drop-map}
 use Rattle.std.specs.List.{take-map}
 use Rattle.std.specs.List.{list_any}
 use Rattle.std.proofs.lemmas.List.Folds.{list_any_at}
 use Rattle.pos_disk.specs.State.{InRange, splice, part}
 use Rattle.pos_disk.specs.Memory.{Moment, choose, written}
 use Rattle.pos_disk.specs.Stamps.{loose_by, moment_of, memory_of, IsKept, IsSaved}
-use Rattle.pos_disk.proofs.Bytes.{in_range, length-splice, spliced_within, spliced_elsewhere, splice_elsewhere, length-part, get_or-part}
+use Rattle.pos_disk.proofs.Bytes.{in_range, length-splice, spliced_within, splice_elsewhere, length-part, get_or-part}
 use Rattle.pos_disk.proofs.Stamps.{loose_is, length-choose, choose_at}
 use Rattle.std.proofs.lemmas.Grind.{common_steps}
 
@@ -58,9 +57,19 @@ module _ (bytes saved stamps : List ℕ) (stamp at n : ℕ) (kept : IsKept bytes
       ext_get_or 0 (choose L' saved' now) (choose L saved bytes) (size ∙ sym (length-choose L saved bytes L_long kept.saved_length)) (λ i inside.
       let below : i < length bytes = omega (arith, inside, size) in
       grind (
-        arith, nat_tests, choose_at L' saved' now i L'_long after.saved_length, choose_at L saved bytes i L_long kept.saved_length,
-        loose_is stamp stamps_now i (omega (arith, after.stamps_length, size, below)), loose_is stamp stamps i (omega (arith, kept.stamps_length, below)),
-        in_range at n i, inside_bears i, outside_same i, save.saved i, save.kept i, save.elsewhere i, splice_elsewhere bytes new at i,
+        arith,
+        nat_tests,
+        choose_at L' saved' now i L'_long after.saved_length,
+        choose_at L saved bytes i L_long kept.saved_length,
+        loose_is stamp stamps_now i (omega (arith, after.stamps_length, size, below)),
+        loose_is stamp stamps i (omega (arith, kept.stamps_length, below)),
+        in_range at n i,
+        inside_bears i,
+        outside_same i,
+        save.saved i,
+        save.kept i,
+        save.elsewhere i,
+        splice_elsewhere bytes new at i,
       ))
 
   -- and the disk is the one that was written to
