@@ -1,8 +1,7 @@
 -- What each change of the images leaves.
-use Rattle.std.proofs.Common.{◌≡◌, inl, inr, ℕ, ◌+◌, ◌-◌, ◌≤◌, ◌<◌, ◌^◌, List, [], ◌∷◌, length, get_or, sym, ap, subst, ◌∙◌, arith, true, false, Option, Some}
-use Rattle.std.specs.Prelude.{⊤, MatchOption}
+use Rattle.std.proofs.Common.{◌≡◌, inl, inr, ℕ, ◌+◌, ◌-◌, ◌≤◌, ◌<◌, ◌^◌, List, [], ◌∷◌, length, get_or, sym, ap, subst, ◌∙◌, arith, true, false, Some}
 use Rattle.std.proofs.lemmas.Bool.{cases_Bool}
-use Rattle.pos_disk.specs.State.{DiskState, MayLeave, LeavesOnly, splice, part}
+use Rattle.pos_disk.specs.State.{DiskState, MayLeave, LeavesOnly, splice}
 use Rattle.pos_disk.proofs.Moments.{weaker, rest_leaves}
 use Rattle.pos_disk.proofs.Bytes.{length-splice, splice_elsewhere, spliced_within}
 use Rattle.pos_disk.specs.declared.device.Disk.{Ghosts}
@@ -56,7 +55,7 @@ written_gate old new at byte fits written =
     rw written (
       record { same_length = length-splice old (byte ∷ []) at fits; elsewhere = λ i outside. splice_elsewhere old (byte ∷ []) at i fits outside },
       let here : at - at ≡ 0 = omega arith in
-      spliced_within 0 old (byte ∷ []) at at fits (omega arith, omega arith) ∙ ap (λ (k : ℕ). get_or (byte ∷ []) k 0) here,
+          spliced_within 0 old (byte ∷ []) at at fits (omega arith, omega arith) ∙ ap (λ (k : ℕ). get_or (byte ∷ []) k 0) here,
     )
 
 -- and opened

@@ -1,7 +1,6 @@
 -- The current image, and what changes of the other slots leave of it.
 use Rattle.std.proofs.Common.{◌≡◌, ◌⊎◌, inl, inr, ℕ, ◌+◌, ◌≤◌, ◌<◌, List, length, get_or, refl, sym, ap, subst, ◌∙◌, arith, true, false, nat_lt, nat_le, nat_eq}
 use Rattle.std.specs.Int.{w32, w64, from_be_bytes}
-use Rattle.std.proofs.lemmas.Bool.{cases_Bool}
 use Rattle.std.proofs.lemmas.Bool.Decides.{nat_tests}
 use Rattle.pos_disk.specs.State.{InRange, part}
 use Rattle.pos_disk.proofs.Bytes.{same_part}

@@ -1,9 +1,4 @@
-use Rattle.std.proofs.Common.{ℕ, subst, false}
-use Rattle.std.specs.Prelude.{◌≡◌, if◌then◌else◌}
-use Rattle.pos_disk.specs.State.{LeavesOnly}
-use Rattle.pos_disk.specs.Within.{SameBut}
 use Rattle.pos_disk.proofs.Moments.{followed_by, weaker}
-use Rattle.pos_image.specs.Layout.{is_open}
 use Rattle.pos_image.proofs.Staged.{closing_stages, writing_stages}
 use Rattle.pos_image.proofs.disk_calls.place_image.Goals as goal
 

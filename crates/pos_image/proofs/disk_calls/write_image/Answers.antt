@@ -1,4 +1,4 @@
-use Rattle.std.proofs.Common.{◌≡◌, ◌+◌, ◌-◌, ℕ, List, [], ◌∷◌, length, ◌∙◌, ap, subst, arith}
+use Rattle.std.proofs.Common.{◌≡◌, ◌+◌, ◌-◌, ℕ, List, [], ◌∷◌, length, ◌∙◌, ap, arith}
 use Rattle.pos_disk.specs.State.{DiskState, splice}
 use Rattle.pos_image.specs.Layout.{start, layout_of, log_place, slot_size}
 use Rattle.pos_image.proofs.Places.{places}

@@ -1,8 +1,7 @@
-use Rattle.std.proofs.Common.{◌+◌, ℕ, List, ap, ◌∙◌, subst}
+use Rattle.std.proofs.Common.{◌+◌, ℕ, List, ap, ◌∙◌}
 use Rattle.pos_disk.specs.State.{Watches, part}
 use Rattle.pos_disk.proofs.Moments.{watches_sync, watches_on}
 use Rattle.pos_image.specs.Layout.{start}
-use Rattle.pos_image.specs.Slots.{HasHeads}
 use Rattle.pos_image.proofs.Current.{found_current}
 use Rattle.pos_image.proofs.finding.find.Given.{Over}
 use Rattle.pos_image.proofs.finding.find.Goals.{After-read_body}

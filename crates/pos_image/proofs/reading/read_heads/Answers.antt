@@ -1,5 +1,4 @@
-use Rattle.std.proofs.Common.{◌≤◌, ◌≡◌, ℕ, List, length, refl, subst, ◌∙◌, arith}
-use Rattle.pos_image.specs.Slots.{HasHead}
+use Rattle.std.proofs.Common.{◌≤◌, ◌≡◌, ℕ, List, length, refl, ◌∙◌, arith}
 use Rattle.pos_image.specs.declared.slot.Slot.TheVariants.{Third, Fourth}
 use Rattle.pos_image.proofs.Current.{first_here, second_layout}
 use Rattle.pos_image.proofs.reading.read_heads.Given.{Over}
