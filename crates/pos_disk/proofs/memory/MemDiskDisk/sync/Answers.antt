@@ -20,7 +20,8 @@ becomes c =
     let d = c.self.inside in
     let past_now : c.and-self-inside.result.moments ≡ d.past.moments ++ moment_of d.bytes.items d.stamps.items d.stamp ∷ [] = search rules in
     rw (← past_now) (memory_fresh d.bytes.items d.saved.items c.next_stamp-self-inside.new.stamps.items c.next_stamp-self-inside.result
-    c.and-self-inside.result.moments c.self.invariant.saved_length (c.next_stamp-self-inside.ensures.length ∙ c.self.invariant.stamps_length) c.next_stamp-self-inside.ensures.later)
+    c.and-self-inside.result.moments c.self.invariant.saved_length
+    (c.next_stamp-self-inside.ensures.length ∙ c.self.invariant.stamps_length) c.next_stamp-self-inside.ensures.later)
 
 pub returns-clause-memory : goal.returns-clause-memory
 returns-clause-memory c = let d = (goal.at.returns-clause-memory c).After-next_stamp-self-inside in rw (← d.self.view_is) (becomes d)
