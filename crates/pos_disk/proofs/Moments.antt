@@ -50,21 +50,21 @@ seen_before old new bytes same loose may = record {
 }
 
 module _ {T : Type 0} (old new : DiskState) (only : (c : List ℕ) → old.left_since old.moment c → MayLeave old c) (result : Result T DiskFault) where
-  -- a read only looks at the disk
-  pub watches_read : (at : ℕ) (out : List ℕ) → Reads old new at out result → Watches old new
-  watches_read at out reads = record {
-    reading = reads.reading;
-    loose = reads.loose;
-    any_moment = goes_on old old new (MayLeave old) (started old (MayLeave old) only) reads.time (λ c may. seen_before old new c reads.reading reads.loose may);
+  -- a call that leaves what a read gives and loosens nothing only looks at the disk
+  watches : new.reading ≡ old.reading → ((i : ℕ) → new.loose i → old.loose i) → Elapses old new → Watches old new
+  watches same loose time = record {
+    reading = same;
+    loose = loose;
+    any_moment = goes_on old old new (MayLeave old) (started old (MayLeave old) only) time (λ c may. seen_before old new c same loose may);
   }
 
-  -- and so does a sync
+  -- so does a read
+  pub watches_read : (at : ℕ) (out : List ℕ) → Reads old new at out result → Watches old new
+  watches_read at out reads = watches reads.reading reads.loose reads.time
+
+  -- and a sync
   pub watches_sync : Syncs old new result → Watches old new
-  watches_sync syncs = record {
-    reading = syncs.reading;
-    loose = syncs.loose;
-    any_moment = goes_on old old new (MayLeave old) (started old (MayLeave old) only) syncs.time (λ c may. seen_before old new c syncs.reading syncs.loose may);
-  }
+  watches_sync syncs = watches syncs.reading syncs.loose syncs.time
 
 -- no call
 pub watches_none : (disk : DiskState) → ((c : List ℕ) → disk.left_since disk.moment c → MayLeave disk c) → Watches disk disk

@@ -1,10 +1,11 @@
 -- Several calls that may leave any bytes within one range, which is loose afterwards.
-use Rattle.std.proofs.Common.{◌≡◌, inl, inr, ⊎_elim, ℕ, ◌+◌, ◌-◌, ◌≤◌, ◌/◌, List, length, take, get_or, refl, sym, ◌∙◌, ap, subst, arith, Result, Ok, Err, OnOk}
+use Rattle.std.proofs.Common.{◌≡◌, inl, ⊎_elim, ℕ, ◌+◌, ◌-◌, ◌≤◌, ◌/◌, List, length, take, get_or, refl, sym, ◌∙◌, ap, arith, Result, Ok, Err, OnOk}
 use Rattle.std.proofs.lemmas.Bool.{cases_lt}
 use Rattle.std.proofs.lemmas.List.{length-take-le, ext_get_or}
-use Rattle.pos_disk.specs.State.{DiskState, InRange, MayLeave, Rises, HasCause, Reads, Writes, splice, part}
+use Rattle.pos_disk.specs.State.{DiskState, MayLeave, Rises, HasCause, Reads, Writes, splice, part}
 use Rattle.pos_disk.specs.Fuse.{Spoils, Loosens, PutsHalf}
 use Rattle.pos_disk.specs.declared.device.DiskFault.{DiskFault}
+use Rattle.pos_disk.proofs.Moments.{elapses_none}
 use Rattle.pos_disk.proofs.Bytes.{in_range, length-splice, spliced_within, splice_elsewhere, length-part, get_or-part}
 
 -- a read spoils nothing
@@ -14,58 +15,37 @@ spoils_read old new place out result at reads = record {
   same_length = ap length reads.reading;
   elsewhere = λ i outside. ap (λ (b : List ℕ). get_or b i 0) reads.reading;
   loose = λ i is. inl (reads.loose i is);
-  reached = λ i either. ⊎_elim (reads.still_loose i) (λ inside. absurd (omega (arith, inside.0, inside.1))) either;
+  reached = λ i either. ⊎_elim (reads.still_loose i) (λ inside. absurd (omega arith)) either;
   time = reads.time;
 }
 
 -- a write spoils its range
 pub spoils_write : {T : Type 0} (old new : DiskState) (at : ℕ) (bytes : List ℕ) (result : Result T DiskFault) → Writes old new at bytes result
     → Spoils old new at (length bytes)
-spoils_write old new at bytes result writes = record {
-  same_length = writes.same_length;
-  elsewhere = writes.elsewhere;
-  loose = writes.loose;
-  reached = writes.reached;
-  time = writes.time;
-}
+spoils_write old new at bytes result writes = assumption
 
 -- one range, and then the range behind it
 pub spoils_on : (old mid new : DiskState) (at n m : ℕ) → Spoils old mid at n → Spoils mid new (at + n) m → Spoils old new at (n + m)
 spoils_on old mid new at n m first second =
-    let near : (i : ℕ) → InRange at n i → InRange at (n + m) i = λ i inside. (inside.0, omega (arith, inside.1)) in
-    let far : (i : ℕ) → InRange (at + n) m i → InRange at (n + m) i = λ i inside. (omega (arith, inside.0), omega (arith, inside.1)) in
     let stays : (c : List ℕ) → MayLeave mid c → MayLeave new c = λ c may. record {
       same_length = may.same_length ∙ sym second.same_length;
-      settled = λ i tight. may.settled i (λ was. tight (second.reached i (inl was)))
-          ∙ sym (second.elsewhere i (λ inside. tight (second.reached i (inr inside))));
+      settled = λ i tight. grind (arith, may.settled i, second.reached i, second.elsewhere i, in_range (at + n) m i);
     } in
     record {
       same_length = second.same_length ∙ first.same_length;
-      elsewhere = λ i outside. second.elsewhere i (λ inside. outside (far i inside)) ∙ first.elsewhere i (λ inside. outside (near i inside));
-      loose = λ i is. ⊎_elim (λ was. ⊎_elim (λ before. inl before) (λ inside. inr (near i inside)) (first.loose i was))
-          (λ inside. inr (far i inside)) (second.loose i is);
-      reached = λ i either. ⊎_elim (λ was. second.reached i (inl (first.reached i (inl was)))) (λ inside. elim (cases_lt i (at + n)) [
-        | inl before ↦ second.reached i (inl (first.reached i (inr (inside.0, before))))
-        | inr behind ↦ second.reached i (inr (behind, omega (arith, inside.1)))
-      ]) either;
+      elsewhere = λ i outside. grind (arith, second.elsewhere i, first.elsewhere i, in_range at n i, in_range (at + n) m i);
+      loose = λ i is. grind (arith, second.loose i, first.loose i);
+      reached = λ i either. grind (arith, second.reached i, first.reached i, cases_lt i (at + n));
       time = record {
         later = omega (arith, first.time.later, second.time.later);
         keeps = λ t c le left. second.time.keeps t c (omega (arith, le, first.time.later)) (first.time.keeps t c le left);
-        nothing_else = λ t c le left. ⊎_elim
-            (λ then_left. ⊎_elim (λ was. inl was) (λ may. inr (stays c may)) (first.time.nothing_else t c le then_left)) (λ may. inr may)
-            (second.time.nothing_else t c (omega (arith, le, first.time.later)) left);
+        nothing_else = λ t c le left. grind (arith, second.time.nothing_else t c, first.time.nothing_else t c, stays c, first.time.later);
       };
     }
 
 -- a count that didn't rise was met by no failure
 steady : (before mid now : ℕ) → before ≤ mid → mid ≤ now → ¬ (Rises before now) → (¬ (Rises before mid)) × (¬ (Rises mid now))
-steady before mid now first second steady_all = (
-  λ rises. steady_all (⊎_elim (λ less. inl (omega (arith, less, second))) (λ last. inr last) rises),
-  λ rises. steady_all (⊎_elim (λ less. inl (omega (arith, less, first))) (λ last. elim (cases_lt before now) [
-    | inl less ↦ inl less
-    | inr same ↦ inr (omega (arith, last, first, second, same))
-  ]) rises),
-)
+steady before mid now first second steady_all = (λ rises. steady_all (grind arith), λ rises. steady_all (grind arith))
 
 succeeded : {T : Type 0} (old new : DiskState) (result : Result T DiskFault) (P : Type 0) → HasCause old new result
     → ¬ (Rises old.failures new.failures) → OnOk result P → P
@@ -76,14 +56,8 @@ succeeded old new (Err e) P cause no_failure holds = absurd (no_failure cause.ri
 pub splice-part : (old : List ℕ) (at n : ℕ) → at + n ≤ length old → splice old at (part at n old) ≡ old
 splice-part old at n fits =
     let long = length-part at n old fits in
-    let room : at + length (part at n old) ≤ length old = omega (arith, long) in
-    ext_get_or 0 (splice old at (part at n old)) old (length-splice old (part at n old) at room) (λ i inside. elim (in_range at n i) [
-      | inl hit ↦
-          let back : at + (i - at) ≡ i = omega (arith, hit.0) in
-          spliced_within 0 old (part at n old) at i room (hit.0, omega (arith, hit.1, long))
-          ∙ get_or-part at n old (i - at) (omega (arith, hit.0, hit.1)) ∙ ap (λ (k : ℕ). get_or old k 0) back
-      | inr missed ↦ splice_elsewhere old (part at n old) at i room (λ hit. missed (hit.0, omega (arith, hit.1, long)))
-    ])
+    ext_get_or 0 _ old (length-splice old (part at n old) at (omega (arith, long))) (λ i _.
+    grind (arith, long, in_range at n i, spliced_within 0 old (part at n old) at i, splice_elsewhere old (part at n old) at i, get_or-part at n old (i - at)))
 
 -- before the first place nothing is loosened
 pub loosens_none : (disk : DiskState) (at : ℕ) → Loosens disk disk at 0
@@ -92,8 +66,8 @@ loosens_none disk at = record {
     same_length = refl;
     elsewhere = λ i outside. refl;
     loose = λ i is. inl is;
-    reached = λ i either. ⊎_elim (λ was. was) (λ inside. absurd (omega (arith, inside.0, inside.1))) either;
-    time = record { later = omega arith; keeps = λ t c le left. left; nothing_else = λ t c le left. inl left };
+    reached = λ i either. ⊎_elim (λ was. was) (λ inside. absurd (omega arith)) either;
+    time = elapses_none disk;
   };
   later = omega arith;
   kept = λ no_failure. refl;
@@ -108,22 +82,17 @@ module _ {T : Type 0} (old mid read new : DiskState) (at n : ℕ) (out : List �
       let start : Spoils mid read (at + n) 0 = spoils_read mid read (at + n) out first (at + n) reads in
       let here : at + n + 0 ≡ at + n = omega arith in
       let single : 0 + length out ≡ 1 = omega (arith, one) in
-      let wrote : Spoils read new (at + n + 0) (length out) =
-      subst (λ (p : ℕ). Spoils read new p (length out)) (sym here) (spoils_write read new (at + n) out second writes) in
-      let both : Spoils mid new (at + n) (0 + length out) = spoils_on mid read new (at + n) 0 (length out) start wrote in
+      let wrote : Spoils read new (at + n + 0) (length out) = rw here (spoils_write read new (at + n) out second writes) in
       record {
-        spoils = spoils_on old mid new at n 1 so_far.spoils (subst (λ (k : ℕ). Spoils mid new (at + n) k) single both);
+        spoils = spoils_on old mid new at n 1 so_far.spoils (rw (← single) (spoils_on mid read new (at + n) 0 (length out) start wrote));
         later = omega (arith, so_far.later, reads.cause.later, writes.cause.later);
         kept = λ no_failure.
             let halves = steady old.failures mid.failures new.failures so_far.later (omega (arith, reads.cause.later, writes.cause.later)) no_failure in
             let calls = steady mid.failures read.failures new.failures reads.cause.later writes.cause.later halves.1 in
             let is_read : out ≡ part (at + n) (length out) mid.reading = succeeded mid read first _ reads.cause calls.0 reads.bytes in
             let written : new.reading ≡ splice read.reading (at + n) out = succeeded read new second _ writes.cause calls.1 writes.written in
-            written
-            ∙ ap (λ (b : List ℕ). splice b (at + n) out) reads.reading
-            ∙ ap (λ (o : List ℕ). splice mid.reading (at + n) o) is_read
-            ∙ splice-part mid.reading (at + n) (length out) (omega (arith, one, fits))
-            ∙ so_far.kept halves.0;
+            let same = splice-part mid.reading (at + n) (length out) (omega (arith, one, fits)) in
+            cc (written, reads.reading, is_read, same, so_far.kept halves.0);
       }
 
 -- half of the bytes, and then the rest of the places
@@ -133,10 +102,10 @@ pub puts_half : {T : Type 0} (old mid new : DiskState) (at : ℕ) (bytes : List 
 puts_half old mid new at bytes result fits writes rest =
     let half = length bytes / 2 in
     let short : length (take half bytes) ≡ half = length-take-le half bytes (omega arith) in
-    let front : Spoils old mid at half = subst (λ (k : ℕ). Spoils old mid at k) short (spoils_write old mid at (take half bytes) result writes) in
-    let whole : half + (length bytes - half) ≡ length bytes = omega arith in
+    let front : Spoils old mid at half = rw (← short) (spoils_write old mid at (take half bytes) result writes) in
+    let whole : length bytes ≡ half + (length bytes - half) = omega arith in
     record {
-      spoils = subst (λ (k : ℕ). Spoils old new at k) whole (spoils_on old mid new at half (length bytes - half) front rest.spoils);
+      spoils = rw whole (spoils_on old mid new at half (length bytes - half) front rest.spoils);
       later = omega (arith, writes.cause.later, rest.later);
       half = λ no_failure.
           let steps = steady old.failures mid.failures new.failures writes.cause.later rest.later no_failure in

@@ -1,5 +1,5 @@
 -- A run of writes that stay within one range.
-use Rattle.std.proofs.Common.{⊎_elim, ℕ, ◌+◌, ◌≤◌, List, length, get_or, refl, ap, ◌∙◌, arith, Result}
+use Rattle.std.proofs.Common.{◌≡◌, ⊎_elim, ℕ, ◌+◌, ◌≤◌, List, length, refl, ◌∙◌, arith, Result}
 use Rattle.pos_disk.specs.State.{DiskState, InRange, IsAtRest, MayLeave, Elapses, LeavesOnly, Reads, Writes, Syncs}
 use Rattle.pos_disk.proofs.Moments.{goes_on}
 use Rattle.pos_disk.specs.declared.device.DiskFault.{DiskFault}
@@ -43,22 +43,14 @@ module _ {T : Type 0} (was : List ℕ) (at n : ℕ) (old new : DiskState) (resul
         loose = λ i loose. ⊎_elim (within.loose i) (wider i) (writes.loose i loose);
       }
 
+  -- a call that leaves what a read gives and loosens nothing does too
+  within_looked : new.reading ≡ old.reading → ((i : ℕ) → new.loose i → old.loose i) → IsWithin was at n old → IsWithin was at n new
+  within_looked same loose within = rw same (search (loose, within.loose, within.same))
+
   -- a sync does too
   pub within_sync : IsWithin was at n old → Syncs old new result → IsWithin was at n new
-  within_sync within syncs = record {
-    same = record {
-      same_length = ap length syncs.reading ∙ within.same.same_length;
-      elsewhere = λ i outside. ap (λ (b : List ℕ). get_or b i 0) syncs.reading ∙ within.same.elsewhere i outside;
-    };
-    loose = λ i loose. within.loose i (syncs.loose i loose);
-  }
+  within_sync within syncs = within_looked syncs.reading syncs.loose within
 
   -- and a read
   pub within_read : (place : ℕ) (out : List ℕ) → IsWithin was at n old → Reads old new place out result → IsWithin was at n new
-  within_read place out within reads = record {
-    same = record {
-      same_length = ap length reads.reading ∙ within.same.same_length;
-      elsewhere = λ i outside. ap (λ (b : List ℕ). get_or b i 0) reads.reading ∙ within.same.elsewhere i outside;
-    };
-    loose = λ i loose. within.loose i (reads.loose i loose);
-  }
+  within_read place out within reads = within_looked reads.reading reads.loose within

@@ -1,13 +1,12 @@
 -- What each change of the images leaves.
-use Rattle.std.proofs.Common.{◌≡◌, inl, inr, ℕ, ◌+◌, ◌≤◌, ◌<◌, ◌^◌, List, [], ◌∷◌, length, get_or, sym, ap, subst, ◌∙◌, arith, true, false, Option, Some}
-use Rattle.std.specs.Prelude.{⊤, MatchOption}
+use Rattle.std.proofs.Common.{◌≡◌, inl, inr, ℕ, ◌+◌, ◌-◌, ◌≤◌, ◌<◌, ◌^◌, List, [], ◌∷◌, length, get_or, sym, ap, subst, ◌∙◌, arith, true, false, Some}
 use Rattle.std.proofs.lemmas.Bool.{cases_Bool}
-use Rattle.pos_disk.specs.State.{DiskState, MayLeave, LeavesOnly, splice, part}
+use Rattle.pos_disk.specs.State.{DiskState, MayLeave, LeavesOnly, splice}
 use Rattle.pos_disk.proofs.Moments.{weaker, rest_leaves}
-use Rattle.pos_disk.proofs.Bytes.{length-splice, splice_elsewhere, part-splice, get_or-part}
+use Rattle.pos_disk.proofs.Bytes.{length-splice, splice_elsewhere, spliced_within}
 use Rattle.pos_disk.specs.declared.device.Disk.{Ghosts}
 use Rattle.pos_disk.specs.Within.{SameBut}
-use Rattle.pos_image.specs.Layout.{start, layout_of, longest, log_place, is_open}
+use Rattle.pos_image.specs.Layout.{start, layout_of, longest, log_place, is_open, length_at}
 use Rattle.pos_image.specs.DiskCalls.{Stages}
 use Rattle.pos_image.specs.Slots.{IsCurrent, IsPrepared, HasFields}
 use Rattle.pos_image.specs.Standing.{log_of, HasImage, HasNewImage}
@@ -22,8 +21,7 @@ use Rattle.pos_image.proofs.Staged.{gate_open}
 pub sound_leaves : {D : Type 0} (state : DiskState) (images : View D) → IsSound state images → (c : List ℕ) → MayLeave state c
     → HasImage (layout_of images.slot) images.body images.sequence (log_of state.reading) c
 sound_leaves state images sound c may =
-    subst (HasImage (layout_of images.slot) images.body images.sequence (log_of state.reading)) (sym (rest_leaves state c sound.at_rest may))
-    (image_here images.slot state.reading images.body images.sequence sound.current)
+    rw (rest_leaves state c sound.at_rest may) (image_here images.slot state.reading images.body images.sequence sound.current)
 
 -- sound images are ready
 pub ready : {D : Type 0} (bound : Ghosts D) (images : View D) → 327680 ≤ bound.size images.disk → images.sequence < 2 ^ 64
@@ -48,26 +46,16 @@ beside_leaves bound old disk it beside was is_ready moments =
 pub placed : (bytes body : List ℕ) (slot : Slot) (sequence : ℕ) → length body ≤ longest (layout_of slot) → is_open bytes (start slot) ≡ false
     → get_or bytes (start slot + log_place (layout_of slot)) 0 ≡ 0 → HasFields bytes (start slot) sequence body
     → IsPrepared bytes slot body sequence
-placed bytes body slot sequence short shut no_log fields = record {
-  gate = shut;
-  sequence_is = fields.sequence_is;
-  fits = omega (arith, fields.length_is, short);
-  body_is = fields.body_is;
-  log = no_log;
-}
+placed bytes body slot sequence short shut no_log fields =
+    let fits : length_at bytes (start slot) ≤ longest (layout_of slot) = omega (arith, fields.length_is, short) in assumption
 
 -- a gate that was written
 pub written_gate : (old new : List ℕ) (at byte : ℕ) → at + 1 ≤ length old → new ≡ splice old at (byte ∷ []) → (SameBut at 1 old new) × (get_or new at 0 ≡ byte)
 written_gate old new at byte fits written =
-    let here : at + 0 ≡ at = omega arith in
-    let first : get_or (part at 1 (splice old at (byte ∷ []))) 0 0 ≡ get_or (splice old at (byte ∷ [])) (at + 0) 0 =
-    get_or-part at 1 (splice old at (byte ∷ [])) 0 (omega arith) in (
-      record {
-        same_length = ap length written ∙ length-splice old (byte ∷ []) at fits;
-        elsewhere = λ i outside. ap (λ (b : List ℕ). get_or b i 0) written ∙ splice_elsewhere old (byte ∷ []) at i fits outside;
-      },
-      ap (λ (b : List ℕ). get_or b at 0) written ∙ ap (λ (k : ℕ). get_or (splice old at (byte ∷ [])) k 0) (sym here) ∙ sym first
-          ∙ ap (λ (b : List ℕ). get_or b 0 0) (part-splice old (byte ∷ []) at fits),
+    rw written (
+      record { same_length = length-splice old (byte ∷ []) at fits; elsewhere = λ i outside. splice_elsewhere old (byte ∷ []) at i fits outside },
+      let here : at - at ≡ 0 = omega arith in
+          spliced_within 0 old (byte ∷ []) at at fits (omega arith, omega arith) ∙ ap (λ (k : ℕ). get_or (byte ∷ []) k 0) here,
     )
 
 -- and opened
@@ -80,7 +68,7 @@ opened_gate old new at fits written =
 pub prepared_is : {D : Type 0} (state : DiskState) (images : View D) (it : Prepared) → images.prepared ≡ Some it → IsSound state images
     → HasPrepared state.reading images.slot images.sequence it
 prepared_is state images it is sound =
-    subst (λ (p : Option Prepared). MatchOption p ⊤ (HasPrepared state.reading images.slot images.sequence)) is sound.prepared
+    rw is at sound.prepared
 
 module _ {D : Type 0} (bound : Ghosts D) (old : View D) (disk : D) (it : Prepared) (is_next : old.prepared ≡ Some it) (was : bound.honest old.disk)
     (is_ready : IsReady bound old) where

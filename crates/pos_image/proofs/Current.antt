@@ -1,7 +1,6 @@
 -- The current image, and what changes of the other slots leave of it.
 use Rattle.std.proofs.Common.{◌≡◌, ◌⊎◌, inl, inr, ℕ, ◌+◌, ◌≤◌, ◌<◌, List, length, get_or, refl, sym, ap, subst, ◌∙◌, arith, true, false, nat_lt, nat_le, nat_eq}
 use Rattle.std.specs.Int.{w32, w64, from_be_bytes}
-use Rattle.std.proofs.lemmas.Bool.{cases_Bool}
 use Rattle.std.proofs.lemmas.Bool.Decides.{nat_tests}
 use Rattle.pos_disk.specs.State.{InRange, part}
 use Rattle.pos_disk.proofs.Bytes.{same_part}
@@ -55,11 +54,8 @@ pub first_layout : (bytes : List ℕ) → layout_on bytes ≡ Layout1 → (slot 
 unfolding layout_on
 first_layout bytes is First later opened = absurd cc
 first_layout bytes is Second later opened = absurd cc
-first_layout bytes is Third later opened = let migrated : layout_on bytes ≡ Layout2 = rw opened refl in absurd (cc (is, migrated))
-first_layout bytes is Fourth later opened = elim (cases_Bool (is_open bytes 65536)) [
-  | inl third ↦ let migrated : layout_on bytes ≡ Layout2 = rw third refl in absurd (cc (is, migrated))
-  | inr shut ↦ let migrated : layout_on bytes ≡ Layout2 = rw (shut, opened) refl in absurd (cc (is, migrated))
-]
+first_layout bytes is Third later opened = grind arith
+first_layout bytes is Fourth later opened = grind arith
 
 -- where a gate of layout 2 is open, it is the disk's
 pub second_layout : (bytes : List ℕ) (slot : Slot) → layout_of slot ≡ Layout2 → is_open bytes (start slot) ≡ true → layout_on bytes ≡ Layout2
@@ -67,10 +63,7 @@ unfolding layout_on
 second_layout bytes First later opened = absurd cc
 second_layout bytes Second later opened = absurd cc
 second_layout bytes Third later opened = rw opened refl
-second_layout bytes Fourth later opened = elim (cases_Bool (is_open bytes 65536)) [
-  | inl third ↦ rw third refl
-  | inr shut ↦ rw (shut, opened) refl
-]
+second_layout bytes Fourth later opened = grind arith
 
 -- where both gates are closed, the disk is of layout 1
 pub first_here : (bytes : List ℕ) → is_open bytes 65536 ≡ false → is_open bytes 196608 ≡ false → layout_on bytes ≡ Layout1
@@ -79,13 +72,7 @@ first_here bytes shut shut_too = rw (shut, shut_too) refl
 
 -- and else layout 1
 none_later : (bytes : List ℕ) → ((slot : Slot) → layout_of slot ≡ Layout2 → is_open bytes (start slot) ≡ true → ⊥) → layout_on bytes ≡ Layout1
-none_later bytes none = elim (cases_Bool (is_open bytes 65536)) [
-  | inl third ↦ absurd (none Third refl third)
-  | inr shut ↦ elim (cases_Bool (is_open bytes 196608)) [
-    | inl fourth ↦ absurd (none Fourth refl fourth)
-    | inr shut_too ↦ first_here bytes shut shut_too
-  ]
-]
+none_later bytes none = grind (arith, first_here bytes, none Third refl, none Fourth refl)
 
 -- by layout 2 one of them is open
 pub none_open : (bytes : List ℕ) → layout_on bytes ≡ Layout2 → is_open bytes 65536 ≡ false → is_open bytes 196608 ≡ false → ⊥
@@ -280,28 +267,12 @@ record IsGreater (bytes : List ℕ) (first slot : Slot) : Type 0 where
 first_greater : (bytes : List ℕ) (first : Slot) → is_open bytes (start first) ≡ true
     → (is_open bytes (start (other first)) ≡ true → sequence_at bytes (start (other first)) < sequence_at bytes (start first))
     → IsGreater bytes first first
-first_greater bytes first here lesser = elim (cases_Bool (is_open bytes (start (other first)))) [
-  | inl also ↦
-      let less = lesser also in
-      record {
-        place = rw (here, also, less_than (sequence_at bytes (start (other first))) (sequence_at bytes (start first)) less) refl;
-        untied = rw (here, also, (differ (sequence_at bytes (start (other first))) (sequence_at bytes (start first)) less).1) refl;
-      }
-  | inr shut ↦ record { place = rw (here, shut) refl; untied = rw (here, shut) refl }
-]
+first_greater bytes first here lesser = record { place = grind (arith, nat_tests); untied = grind (arith, nat_tests) }
 
 second_greater : (bytes : List ℕ) (first : Slot) → is_open bytes (start (other first)) ≡ true
     → (is_open bytes (start first) ≡ true → sequence_at bytes (start first) < sequence_at bytes (start (other first)))
     → IsGreater bytes first (other first)
-second_greater bytes first here lesser = elim (cases_Bool (is_open bytes (start first))) [
-  | inl also ↦
-      let less = lesser also in
-      record {
-        place = rw (also, here, long_enough (sequence_at bytes (start (other first))) (sequence_at bytes (start first)) (omega (arith, less))) refl;
-        untied = rw (also, here, (differ (sequence_at bytes (start first)) (sequence_at bytes (start (other first))) less).0) refl;
-      }
-  | inr shut ↦ record { place = rw shut refl; untied = rw shut refl }
-]
+second_greater bytes first here lesser = record { place = grind (arith, nat_tests); untied = grind (arith, nat_tests) }
 
 greater : (bytes : List ℕ) (slot : Slot) → is_open bytes (start slot) ≡ true
     → (is_open bytes (start (other slot)) ≡ true → sequence_at bytes (start (other slot)) < sequence_at bytes (start slot))
@@ -314,27 +285,9 @@ greater bytes Fourth = second_greater bytes Third
 -- a disk with an open gate is marked
 pub marked : (bytes : List ℕ) (slot : Slot) → is_open bytes (start slot) ≡ true → is_marked bytes ≡ true
 marked bytes First here = rw here refl
-marked bytes Second here = elim (cases_Bool (is_open bytes 0)) [
-  | inl first ↦ rw first refl
-  | inr shut ↦ rw (shut, here) refl
-]
-marked bytes Third here = elim (cases_Bool (is_open bytes 0)) [
-  | inl first ↦ rw first refl
-  | inr shut ↦ elim (cases_Bool (is_open bytes 32768)) [
-    | inl second ↦ rw (shut, second) refl
-    | inr shut_too ↦ rw (shut, shut_too, here) refl
-  ]
-]
-marked bytes Fourth here = elim (cases_Bool (is_open bytes 0)) [
-  | inl first ↦ rw first refl
-  | inr shut ↦ elim (cases_Bool (is_open bytes 32768)) [
-    | inl second ↦ rw (shut, second) refl
-    | inr shut_too ↦ elim (cases_Bool (is_open bytes 65536)) [
-      | inl third ↦ rw (shut, shut_too, third) refl
-      | inr none ↦ rw (shut, shut_too, none, here) refl
-    ]
-  ]
-]
+marked bytes Second here = grind arith
+marked bytes Third here = grind arith
+marked bytes Fourth here = grind arith
 
 -- The slot is chosen, and there is no tie.
 pub record IsChosen (bytes : List ℕ) (slot : Slot) : Type 0 where
@@ -370,12 +323,7 @@ current_stands slot bytes body sequence current =
 pub found_current : (slot : Slot) (bytes body : List ℕ) (sequence size : ℕ) → 327680 ≤ length bytes → IsFound bytes slot sequence size
     → body ≡ part (start slot + 13) size bytes → IsCurrent bytes slot body sequence
 unfolding body_at
-found_current slot bytes body sequence size whole found is = record {
-  whole = whole;
-  layout_is = found.layout_is;
-  gate = found.gate;
-  sequence_is = found.sequence_is;
-  fits = omega (arith, found.length_is, found.fits);
-  body_is = ap (λ (n : ℕ). part (start slot + 13) n bytes) found.length_is ∙ sym is;
-  greater = found.greater;
-}
+found_current slot bytes body sequence size whole found is =
+    let fits : length_at bytes (start slot) ≤ longest (layout_of slot) = omega (arith, found.length_is, found.fits) in
+    let body_is : body_at bytes (start slot) ≡ body = rw found.length_is (sym is) in
+    assumption

@@ -1,5 +1,5 @@
 -- The log span of the current slot.
-use Rattle.std.proofs.Common.{◌≡◌, ℕ, ◌+◌, List, get_or, refl, sym, ap, ◌∙◌, arith}
+use Rattle.std.proofs.Common.{◌≡◌, ℕ, ◌+◌, List, get_or, refl, sym, ap, ◌∙◌, arith, add-zero}
 use Rattle.pos_disk.proofs.Bytes.{get_or-part}
 use Rattle.pos_image.specs.Layout.{start, layout_of, slot_size, log_place, log_size}
 use Rattle.pos_image.specs.Slots.{IsCurrent}
@@ -40,12 +40,8 @@ kept_image slot target apart old new body sequence was stages =
 pub new_image : (slot : Slot) (bytes body : List ℕ) (sequence : ℕ) → IsCurrent bytes slot body sequence
     → get_or bytes (start slot + log_place (layout_of slot)) 0 ≡ 0 → HasNewImage (layout_of slot) body sequence bytes
 new_image slot bytes body sequence current shut =
-    let here : start slot + log_place (layout_of slot) + 0 ≡ start slot + log_place (layout_of slot) = omega arith in
-    let first : get_or (log_of bytes) 0 0 ≡ get_or bytes (start slot + log_place (layout_of slot)) 0 =
-    ap (λ (l : List ℕ). get_or l 0 0) (log_here slot bytes body sequence current)
-    ∙ get_or-part (start slot + log_place (layout_of slot)) (log_size (layout_of slot)) bytes 0 (places (layout_of slot)).some
-    ∙ ap (λ (k : ℕ). get_or bytes k 0) here in
+    let first = get_or-part (start slot + log_place (layout_of slot)) (log_size (layout_of slot)) bytes 0 (places (layout_of slot)).some in
     record {
       image = current_stands slot bytes body sequence current;
-      log = first ∙ shut;
+      log = rw (log_here slot bytes body sequence current, first, add-zero) shut;
     }

@@ -1,5 +1,5 @@
 -- What formatting leaves.
-use Rattle.std.proofs.Common.{◌≡◌, inl, inr, ℕ, ◌≤◌, List, [], ◌∷◌, length, get_or, sym, ap, subst, ◌∙◌, arith, true, false, nat_eq}
+use Rattle.std.proofs.Common.{◌≡◌, ℕ, ◌≤◌, List, [], ◌∷◌, length, get_or, sym, ap, ◌∙◌, arith, true, false, nat_eq}
 use Rattle.std.proofs.lemmas.Bool.{cases_lt}
 use Rattle.pos_disk.specs.State.{part, splice}
 use Rattle.pos_disk.proofs.Bytes.{part-part, part-splice}
@@ -16,15 +16,7 @@ use Rattle.pos_image.proofs.Logs.{new_image}
 
 -- a gate stays 0 while 0 is written to another one, or to itself
 pub stays_closed : (old new : List ℕ) (at place : ℕ) → SameBut at 1 old new → get_or new at 0 ≡ 0 → get_or old place 0 ≡ 0 → get_or new place 0 ≡ 0
-stays_closed old new at place same shut was = elim (cases_lt place at) [
-  | inl before ↦ same.elsewhere place (λ hit. absurd (omega (arith, before, hit.0))) ∙ was
-  | inr from ↦ elim (cases_lt at place) [
-    | inl behind ↦ same.elsewhere place (λ hit. absurd (omega (arith, behind, hit.1))) ∙ was
-    | inr not_behind ↦
-        let here : place ≡ at = omega (arith, from, not_behind) in
-        subst (λ (p : ℕ). get_or new p 0 ≡ 0) (sym here) shut
-  ]
-]
+stays_closed old new at place same shut was = grind (arith, same.elsewhere place, cases_lt place at, cases_lt at place)
 
 -- a gate that holds 0 is closed
 pub shut_gate : (bytes : List ℕ) (at : ℕ) → get_or bytes at 0 ≡ 0 → is_open bytes at ≡ false

@@ -1,6 +1,4 @@
-use Rattle.std.proofs.Common.{rules, ◌≡◌, ◌≤◌, ◌+◌, ◌-◌, ℕ, length, ◌∙◌, sym, subst, arith}
-use Rattle.pos_disk.specs.State.{Reads, Writes}
-use Rattle.pos_disk.specs.Fuse.{Loosens}
+use Rattle.std.proofs.Common.{rules, ◌≡◌, ◌≤◌, ◌+◌, ◌-◌, length, ◌∙◌, arith}
 use Rattle.pos_disk.proofs.Spoils.{loosens_on}
 use Rattle.pos_disk.proofs.fuse.loosen.Goals as goal
 
@@ -23,12 +21,8 @@ loop-place-preserved g c =
           let one : length c.read.new.out ≡ 1 = search rules in
           let fits : from + (k - from) + 1 ≤ length (D.state c.loop-place.disk).reading =
           omega (arith, inv.from, inv.size, c.requires.size, c.loop-place-test.true, g.met.D.Disk.whole c.loop-place.disk start) in
-          let next : k - from + 1 ≡ k + 1 - from = omega (arith, inv.from) in
-          subst (λ (n : ℕ). Loosens (D.state c.args.disk.now) (D.state c.write.new.self) from n) next
-          (loosens_on (D.state c.args.disk.now) (D.state c.loop-place.disk) (D.state c.read.new.self) (D.state c.write.new.self) from
+          let next : k + 1 - from ≡ k - from + 1 = omega (arith, inv.from) in
+          rw next (loosens_on (D.state c.args.disk.now) (D.state c.loop-place.disk) (D.state c.read.new.self) (D.state c.write.new.self) from
           (k - from) c.read.new.out c.read.result c.write.result (inv.loosens h) one fits
-          (subst (λ (n : ℕ). Reads (D.state c.loop-place.disk) (D.state c.read.new.self) n c.read.new.out c.read.result) (sym place)
-          (c.read.ensures.reads start))
-          (subst (λ (n : ℕ). Writes (D.state c.read.new.self) (D.state c.write.new.self) n c.read.new.out c.write.result) (sym place)
-          (c.write.ensures.writes (c.read.ensures.honest.0 start))));
+          (rw place (c.read.ensures.reads start)) (rw place (c.write.ensures.writes (c.read.ensures.honest.0 start))));
     }

@@ -1,5 +1,4 @@
-use Rattle.std.proofs.Common.{rules, ◌≡◌, ◌+◌, ◌≤◌, ◌-◌, ◌/◌, ℕ, length, subst, arith}
-use Rattle.pos_disk.specs.Fuse.{Loosens}
+use Rattle.std.proofs.Common.{rules, ◌≡◌, ◌+◌, ◌≤◌, ◌-◌, ◌/◌, length, arith}
 use Rattle.pos_disk.proofs.Spoils.{puts_half}
 use Rattle.pos_disk.proofs.fuse.put_half.Goals as goal
 
@@ -11,9 +10,5 @@ returns-clause-half g c honest =
     let end : c.min-end.result ≡ c.args.at + length bytes = search rules in
     let rest : c.min-end.result - c.min-middle.result ≡ length bytes - length bytes / 2 = omega (arith, middle, end) in
     let fits : c.args.at + length bytes ≤ length (D.state c.args.disk.now).reading = omega (arith, c.requires, g.met.D.Disk.whole c.args.disk.now honest) in
-    let ended = c.loosen.ensures.loosens (c.write.ensures.honest.0 honest) in
-    let moved : Loosens (D.state c.write.new.self) (D.state c.loosen.new.disk) (c.args.at + length bytes / 2) (length bytes - length bytes / 2) =
-    subst (λ (n : ℕ). Loosens (D.state c.write.new.self) (D.state c.loosen.new.disk) (c.args.at + length bytes / 2) n) rest
-    (subst (λ (m : ℕ). Loosens (D.state c.write.new.self) (D.state c.loosen.new.disk) m (c.min-end.result - c.min-middle.result)) middle ended) in
     puts_half (D.state c.args.disk.now) (D.state c.write.new.self) (D.state c.loosen.new.disk) c.args.at bytes c.write.result fits
-    (c.write.ensures.writes honest) moved
+    (c.write.ensures.writes honest) (rw (← middle, ← rest) (c.loosen.ensures.loosens (c.write.ensures.honest.0 honest)))

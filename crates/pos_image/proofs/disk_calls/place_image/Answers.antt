@@ -1,9 +1,4 @@
-use Rattle.std.proofs.Common.{ℕ, subst, false}
-use Rattle.std.specs.Prelude.{◌≡◌, if◌then◌else◌}
-use Rattle.pos_disk.specs.State.{LeavesOnly}
-use Rattle.pos_disk.specs.Within.{SameBut}
 use Rattle.pos_disk.proofs.Moments.{followed_by, weaker}
-use Rattle.pos_image.specs.Layout.{is_open}
 use Rattle.pos_image.proofs.Staged.{closing_stages, writing_stages}
 use Rattle.pos_image.proofs.disk_calls.place_image.Goals as goal
 
@@ -14,10 +9,9 @@ returns-clause-any_moment g c honest =
     let s2 = g.D.Disk.state c.write_image.new.disk in
     let slot = c.args.slot in
     let at_is = c.start.ensures in
-    let closing = subst (λ (at : ℕ). LeavesOnly s0 s1 (SameBut at (if is_open s0.reading at then 1 else 0) s0.reading)) at_is
-    (c.close_gate.ensures.any_moment honest) in
-    let same = subst (λ (at : ℕ). SameBut at 1 s0.reading s1.reading) at_is (c.close_gate.ensures.same honest) in
-    let shut = subst (λ (at : ℕ). is_open s1.reading at ≡ false) at_is (c.in_ok-close_gate.ensures.closed honest) in
+    let closing = rw at_is at (c.close_gate.ensures.any_moment honest) in
+    let same = rw at_is at (c.close_gate.ensures.same honest) in
+    let shut = rw at_is at (c.in_ok-close_gate.ensures.closed honest) in
     followed_by s0 s1 s2 _ (weaker s0 s1 _ _ (closing_stages slot s0.reading) closing)
     (weaker s1 s2 _ _ (λ f after. writing_stages slot s0.reading s1.reading f same shut after)
     (c.write_image.ensures.any_moment (c.close_gate.ensures.keeps.honest.0 honest)))

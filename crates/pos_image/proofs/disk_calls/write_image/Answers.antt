@@ -1,4 +1,4 @@
-use Rattle.std.proofs.Common.{◌≡◌, ◌+◌, ◌-◌, ℕ, List, [], ◌∷◌, length, ◌∙◌, ap, subst, arith}
+use Rattle.std.proofs.Common.{◌≡◌, ◌+◌, ◌-◌, ℕ, List, [], ◌∷◌, length, ◌∙◌, ap, arith}
 use Rattle.pos_disk.specs.State.{DiskState, splice}
 use Rattle.pos_image.specs.Layout.{start, layout_of, log_place, slot_size}
 use Rattle.pos_image.proofs.Places.{places}
@@ -90,7 +90,4 @@ returns-clause-written g c honest =
     where_ok c.sync.result _ (
     fields_written s0.reading _ c.head_of.result body slot c.args.sequence
     (omega (arith, whole, c.requires.large)) c.requires.short c.ranges.sequence.fits c.head_of.ensures
-    (subst (λ (log : ℕ). (g.D.Disk.state c.sync.new.self).reading
-    ≡ splice (splice (splice s0.reading (start slot + 1) c.head_of.result) (start slot + 13) body) (start slot + log) (0 ∷ [])) log_is
-    (subst (λ (at : ℕ). (g.D.Disk.state c.sync.new.self).reading
-    ≡ splice (splice (splice s0.reading (at + 1) c.head_of.result) (at + 13) body) (at + c.log.result) (0 ∷ [])) c.start-at.ensures wrote)))
+    (rw (← log_is, ← c.start-at.ensures) wrote))

@@ -1,8 +1,7 @@
-use Rattle.std.proofs.Common.{◌+◌, ℕ, List, ap, ◌∙◌, subst}
+use Rattle.std.proofs.Common.{◌+◌, ℕ, List, ap, ◌∙◌}
 use Rattle.pos_disk.specs.State.{Watches, part}
 use Rattle.pos_disk.proofs.Moments.{watches_sync, watches_on}
 use Rattle.pos_image.specs.Layout.{start}
-use Rattle.pos_image.specs.Slots.{HasHeads}
 use Rattle.pos_image.proofs.Current.{found_current}
 use Rattle.pos_image.proofs.finding.find.Given.{Over}
 use Rattle.pos_image.proofs.finding.find.Goals.{After-read_body}
@@ -28,8 +27,7 @@ returns-clause-found g c honest =
     let honest2 = c.read_heads.ensures.keeps.honest.0 honest1 in
     let same1 = (c.sync.ensures.syncs honest).reading in
     let same2 = (c.read_heads.ensures.watches honest1).reading ∙ same1 in
-    let heads = subst (λ (b : List ℕ). HasHeads b c.in_ok-heads.heads.layout c.in_ok-heads.heads.first c.in_ok-heads.heads.second) same1
-    (c.in_ok-heads.ensures.heads honest1) in
+    let heads = rw same1 at (c.in_ok-heads.ensures.heads honest1) in
     let found = c.in_ok-slot.ensures.found (g.D.Disk.state c.args.disk.now).reading heads in
     found_current c.in_ok-slot.slot
     (g.D.Disk.state c.args.disk.now).reading c.in_ok-body.body.items c.in_ok-slot.head.sequence c.in_ok-slot.head.length heads.whole found

@@ -1,5 +1,4 @@
-use Rattle.std.proofs.Common.{◌≤◌, ◌≡◌, ℕ, List, length, refl, subst, ◌∙◌, arith}
-use Rattle.pos_image.specs.Slots.{HasHead}
+use Rattle.std.proofs.Common.{◌≤◌, ◌≡◌, ℕ, List, length, refl, ◌∙◌, arith}
 use Rattle.pos_image.specs.declared.slot.Slot.TheVariants.{Third, Fourth}
 use Rattle.pos_image.proofs.Current.{first_here, second_layout}
 use Rattle.pos_image.proofs.reading.read_heads.Given.{Over}
@@ -29,7 +28,7 @@ pub returns-then-third-clause-heads : goal.returns-then-third-clause-heads
 returns-then-third-clause-heads g c honest =
     let here = (goal.at.returns-then-third-clause-heads g c).After-read_head-2 in
     let third = c.in_ok-third.ensures.head honest in
-    let fourth = subst (λ (b : List ℕ). HasHead b 196608 c.in_ok-fourth.fourth) (same1 g here honest) (c.in_ok-fourth.ensures.head (honest1 g here honest)) in
+    let fourth = rw (same1 g here honest) at (c.in_ok-fourth.ensures.head (honest1 g here honest)) in
     record {
       whole = whole g here honest;
       layout_is = elim c.then-third.branch [
@@ -44,12 +43,12 @@ pub returns-clause-heads : goal.returns-clause-heads
 returns-clause-heads g c honest =
     let here = (goal.at.returns-clause-heads g c).After-read_head-2 in
     let third = c.in_ok-third.ensures.head honest in
-    let fourth = subst (λ (b : List ℕ). HasHead b 196608 c.in_ok-fourth.fourth) (same1 g here honest) (c.in_ok-fourth.ensures.head (honest1 g here honest)) in
+    let fourth = rw (same1 g here honest) at (c.in_ok-fourth.ensures.head (honest1 g here honest)) in
     let honest3 = c.read_head-3.ensures.keeps.honest.0 (honest2 g here honest) in
     let same3 = (c.read_head-3.ensures.watches (honest2 g here honest)).reading ∙ same2 g here honest in
     record {
       whole = whole g here honest;
       layout_is = first_here (bytes g here honest) (third.gate ∙ c.if-third.false) (fourth.gate ∙ c.if-fourth.false);
-      at_first = subst (λ (b : List ℕ). HasHead b 0 c.in_ok-first.first) (same2 g here honest) (c.in_ok-first.ensures.head (honest2 g here honest));
-      at_second = subst (λ (b : List ℕ). HasHead b 32768 c.in_ok-second.second) same3 (c.in_ok-second.ensures.head honest3);
+      at_first = rw (same2 g here honest) at (c.in_ok-first.ensures.head (honest2 g here honest));
+      at_second = rw same3 at (c.in_ok-second.ensures.head honest3);
     }

@@ -1,7 +1,6 @@
-use Rattle.std.proofs.Common.{rules, ◌≡◌, ap, ◌∙◌, refl, sym, subst, ℕ, List, length, ◌==◌, replicate, IfOk}
+use Rattle.std.proofs.Common.{rules, ◌≡◌, ◌∙◌, refl, subst, ℕ, List, length, ◌==◌, replicate}
 use Rattle.std.proofs.lemmas.List.{length-map, length-replicate}
-use Rattle.pos_disk.specs.State.{MayLeave}
-use Rattle.pos_disk.specs.Memory.{Memory, LeftAt, choose, fresh, filled, state_of}
+use Rattle.pos_disk.specs.Memory.{Memory, LeftAt, choose, fresh, filled}
 use Rattle.pos_disk.specs.Stamps.{IsSaved, loose_by, memory_of}
 use Rattle.pos_disk.specs.declared.fill.Fill.{Fill}
 use Rattle.pos_disk.specs.declared.fill.Fill.TheVariants.{Old, New, Byte}
@@ -39,10 +38,7 @@ answered : (c : After-new) (fill : Fill) (xs : List ℕ) → c.args.fill ≡ fil
     → choose (loose_by c.self.inside.stamp c.self.inside.stamps.items) xs c.self.inside.bytes.items ≡ filled fill (shown c) → IsAnswered c
 answered c fill xs is starts long holds =
     let from = chosen c xs starts long in
-    record {
-      filled = from ∙ holds ∙ ap (λ (f : Fill). filled f (shown c)) (sym is);
-      left = subst (λ (bytes : List ℕ). LeftAt (shown c).present bytes) (sym from) (choose_left (shown c).present xs (loose_long c) long);
-    }
+    record { filled = rw is (from ∙ holds); left = rw from (choose_left (shown c).present xs (loose_long c) long) }
 
 answer : (c : After-new) → IsAnswered c
 answer c =
@@ -61,14 +57,9 @@ answer c =
     ]
 
 pub returns-clause-filled : goal.returns-clause-filled
-returns-clause-filled c =
-    let is : c.save.new.saved.items ≡ filled c.args.fill c.args.self.now = (answer c).filled ∙ ap (filled c.args.fill) c.self.view_is in
-    subst (λ (bytes : List ℕ). IfOk c.new.result (λ disk. disk ≡ fresh bytes)) is c.new.ensures
+returns-clause-filled c = rw (← c.self.view_is, ← (answer c).filled) c.new.ensures
 
 pub returns-clause-allowed : goal.returns-clause-allowed
 returns-clause-allowed c =
-    let left : LeftAt c.args.self.now.present c.save.new.saved.items =
-    subst (λ (m : Memory). LeftAt m.present c.save.new.saved.items) c.self.view_is (answer c).left in
-    IfOk-weaker c.new.result (λ disk. disk ≡ fresh c.save.new.saved.items) (λ disk. MayLeave (state_of c.args.self.now) disk.present.reading) (λ disk is.
-    subst (λ (m : Memory). MayLeave (state_of c.args.self.now) m.present.reading) (sym is)
-    (record { same_length = left.same_length; settled = left.settled })) c.new.ensures
+    let left = (answer c).left in
+    rw (← c.self.view_is) (IfOk-weaker c.new.result (λ disk. disk ≡ fresh c.save.new.saved.items) _ (λ disk is. rw is assumption) c.new.ensures)

@@ -1,8 +1,8 @@
-use Rattle.std.proofs.Common.{rules, ◌≡◌, ◌≤◌, ◌+◌, ℕ, List, ◌++◌, [], ◌∷◌, length, replicate, refl, sym, ap, subst, ◌∙◌, ◌==◌, Ok}
+use Rattle.std.proofs.Common.{rules, ◌≡◌, ◌≤◌, ◌+◌, ◌++◌, [], ◌∷◌, length, replicate, refl, sym, subst, ◌∙◌, ◌==◌, Ok}
 use Rattle.std.proofs.lemmas.List.{length-map}
 use Rattle.pos_disk.specs.State.{Writes, splice}
-use Rattle.pos_disk.specs.Memory.{Memory, Moment, state_of, written}
-use Rattle.pos_disk.specs.Stamps.{IsKept, IsSaved, memory_of, moment_of}
+use Rattle.pos_disk.specs.Memory.{Memory, state_of, written}
+use Rattle.pos_disk.specs.Stamps.{IsSaved, memory_of, moment_of}
 use Rattle.pos_disk.proofs.Written.{still_kept, is_written}
 use Rattle.pos_disk.proofs.Calls.{writes}
 use Rattle.pos_disk.proofs.memory.MemDiskDisk.write.Goals.{After-overwrite}
@@ -14,7 +14,7 @@ shown c =
     memory_of d.bytes.items d.saved.items d.stamps.items d.stamp d.past.moments
 
 fits : (c : After-overwrite) → c.args.at + length c.args.bytes.now ≤ length c.self.inside.bytes.items
-fits c = subst (λ (m : Memory). c.args.at + length c.args.bytes.now ≤ length m.present.reading) (sym c.self.view_is) c.requires
+fits c = rw (← c.self.view_is) at c.requires
 
 saved : (c : After-overwrite) → IsSaved c.self.inside.stamps.items c.self.inside.stamp c.self.inside.bytes.items c.args.at
     (length c.args.bytes.now) c.self.inside.saved.items c.save.new.saved.items
@@ -33,10 +33,8 @@ past_now c = search rules
 pub invariant_of-self : goal.invariant_of-self
 invariant_of-self c =
     let d = c.self.inside in
-    let kept = still_kept d.bytes.items d.saved.items d.stamps.items d.stamp c.args.at (length c.args.bytes.now) c.self.invariant
-    (fits c) c.args.bytes.now c.save.new.saved.items refl (saved c) in
-    subst (λ (bytes : List ℕ). IsKept bytes c.save.new.saved.items c.mark.new.stamps.items d.stamp) (sym (bytes_now c))
-    (subst (λ (stamps : List ℕ). IsKept (splice d.bytes.items c.args.at c.args.bytes.now) c.save.new.saved.items stamps d.stamp) (sym (marked c)) kept)
+    rw (bytes_now c, marked c) (still_kept d.bytes.items d.saved.items d.stamps.items d.stamp c.args.at (length c.args.bytes.now) c.self.invariant
+    (fits c) c.args.bytes.now c.save.new.saved.items refl (saved c))
 
 -- the disk afterwards
 becomes : (c : After-overwrite)
@@ -44,24 +42,15 @@ becomes : (c : After-overwrite)
     written c.args.at c.args.bytes.now (shown c)
 becomes c =
     let d = c.self.inside in
-    let new = splice d.bytes.items c.args.at c.args.bytes.now in
-    let stamps = splice d.stamps.items c.args.at (replicate (length c.args.bytes.now) d.stamp) in
-    ap (λ (bytes : List ℕ). memory_of bytes c.save.new.saved.items c.mark.new.stamps.items d.stamp c.and-self-inside.result.moments) (bytes_now c)
-    ∙ ap (λ (s : List ℕ). memory_of new c.save.new.saved.items s d.stamp c.and-self-inside.result.moments) (marked c)
-    ∙ ap (λ (past : List Moment). memory_of new c.save.new.saved.items stamps d.stamp past) (past_now c)
-    ∙ is_written d.bytes.items d.saved.items d.stamps.items d.stamp c.args.at (length c.args.bytes.now) c.self.invariant
-    (fits c) c.args.bytes.now c.save.new.saved.items refl (saved c) d.past.moments
+    rw (bytes_now c, marked c, past_now c) (is_written d.bytes.items d.saved.items d.stamps.items d.stamp c.args.at (length c.args.bytes.now) c.self.invariant
+    (fits c) c.args.bytes.now c.save.new.saved.items refl (saved c) d.past.moments)
 
 pub returns-clause-memory : goal.returns-clause-memory
-returns-clause-memory c = becomes c ∙ ap (λ (m : Memory). written c.args.at c.args.bytes.now m) c.self.view_is
+returns-clause-memory c = rw (← c.self.view_is) (becomes c)
 
 pub returns-clause-writes : goal.returns-clause-writes
 returns-clause-writes c =
-    let d = c.self.inside in
     let long : length (shown c).present.loose ≡ length (shown c).present.reading =
-    length-map d.stamps.items (λ s. s == d.stamp) ∙ c.self.invariant.stamps_length in
-    let done = subst (λ (m : Memory). Writes {T = Unit {0}} (state_of (shown c)) (state_of m) c.args.at c.args.bytes.now (Ok tt)) (sym (becomes c))
-    (writes (shown c) c.args.at c.args.bytes.now long (fits c)) in
-    subst (λ (m : Memory). Writes {T = Unit {0}} (state_of m)
-    (state_of (memory_of c.overwrite.new.bytes.items c.save.new.saved.items c.mark.new.stamps.items d.stamp c.and-self-inside.result.moments))
-    c.args.at c.args.bytes.now (Ok tt)) c.self.view_is done
+    length-map c.self.inside.stamps.items (λ s. s == c.self.inside.stamp) ∙ c.self.invariant.stamps_length in
+    rw (← c.self.view_is) (subst (λ (m : Memory). Writes {T = Unit {0}} (state_of (shown c)) (state_of m) c.args.at c.args.bytes.now (Ok tt))
+    (sym (becomes c)) (writes (shown c) c.args.at c.args.bytes.now long (fits c)))
