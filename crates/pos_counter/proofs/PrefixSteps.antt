@@ -1,7 +1,7 @@
 -- What each step of the machine does to the totals' files.
 use Rattle.std.proofs.Common.{◌≡◌, ◌∙◌, ◌⊎◌, ◌+◌, ℕ, Bool, true, false, not, List, [], ◌∷◌, Option, Some, cond, inl, inr, refl, sym, ap, subst}
 use Rattle.std.specs.Bool.{MatchBool}
-use Rattle.std.specs.Prelude.{slice_get, is_some, Ok, None}
+use Rattle.std.specs.Prelude.{slice_get, is_none, is_some, Ok, None}
 use Rattle.std.proofs.lemmas.Bool.{and_parts}
 use Rattle.std.proofs.lemmas.Option.{same_Some}
 use Rattle.pos_dir.specs.Changes.{outcome_of_all}
@@ -337,19 +337,22 @@ asks_nothing : (own : Call) → has_call category.HardTotals own ≡ false → f
 asks_nothing (call.Open name) other = refl
 asks_nothing own other = cc
 
--- a call of one category is none of another's
-one_category : (o : Option Category) (k : Category) → is_totals k ≡ false → is_category o k ≡ true → is_category o category.HardTotals ≡ false
-one_category None k other is = refl
-one_category (Some category.HardTotals) category.HardTotals other is = cc
-one_category (Some category.HardTotals) k other is = absurd cc
-one_category (Some c) k other is = refl
+-- nor does a call of another category, or one that all have
+pub none_of_totals : (k : Category) (asked : Call) → is_totals k ≡ false → (is_common asked ≡ false → has_call k asked ≡ true) → file_call asked ≡ Nothing
+none_of_totals k asked other has = asks_nothing asked (by (row_of asked).category k other has)
+  where
+    by : (o : Option Category) (k : Category) → is_totals k ≡ false → (is_none o ≡ false → is_category o k ≡ true) → is_category o category.HardTotals ≡ false
+    by None k other is = refl
+    by (Some category.HardTotals) category.HardTotals other is = cc
+    by (Some category.HardTotals) k other is = absurd (let no = is refl in cc)
+    by (Some c) k other is = refl
 
 category_told : (k : Category) (old new : Machine) (n : ℕ) (c : Control) (own : Call) (result : Answer)
     → IsSettled old.totals.totals old.totals.left → has_call k own ≡ true → CategoryDoes k old n c own result new → CallTold old n own result new
 category_told category.HardTotals old new n c own result is has h = files_told (file_call own) old.totals new.totals n result is h.0
 category_told k old new n c own result is has h =
     subst (λ asked. Told (changes_asked old.totals.totals n asked) old.totals (Answered result) new.totals)
-    (sym (asks_nothing own (one_category (row_of own).category k refl has)))
+    (sym (none_of_totals k own refl (λ common. has)))
     (rested old new result _ h.machine (same_rest old.totals))
 
 -- what a control leaves of the files that has nothing any more
@@ -370,7 +373,7 @@ does_told old new n c (call.Get p) result is has h = rested old new result old h
 does_told old new n c own result is has h = category_told c.category old new n c own result is (has refl) h
 
 -- a call of a category's own that nothing refuses is one of its control's category
-own_of : (m : Machine) (n : ℕ) (c : Control) (asked : Call) → is_common asked ≡ false → first_refusal (refusals m n c asked) ≡ None
+pub own_of : (m : Machine) (n : ℕ) (c : Control) (asked : Call) → is_common asked ≡ false → first_refusal (refusals m n c asked) ≡ None
     → has_call c.category asked ≡ true
 own_of m n c asked own none = unless_not (has_call c.category asked)
     (none_applies (table n (holder_of m c) c (needs_of c.category asked) (category_rows c.category m n c asked))

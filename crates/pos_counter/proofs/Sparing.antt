@@ -1,29 +1,28 @@
 -- Requests that spare the disk are steps whatever the disk is.
-use Rattle.std.proofs.Common.{◌≡◌, ◌⊎◌, ◌∙◌, ◌&&◌, inl, inr, ⊎_elim, ℕ, List, [], ◌∷◌, Option, Some, Bool, true, false, not, ap, sym, subst, refl}
-use Rattle.std.specs.Prelude.{IsSome, is_none, is_some, slice_get}
+use Rattle.std.proofs.Common.{◌≡◌, ◌⊎◌, ◌∙◌, ◌&&◌, inl, inr, ⊎_elim, ℕ, List, [], ◌∷◌, Option, Some, None, true, false, not, ap, sym, subst, refl}
+use Rattle.std.specs.Prelude.{IsSome, is_some, slice_get}
 use Rattle.pos_service.specs.declared.call.Call.{Call}
 use Rattle.pos_service.specs.declared.call.Call.TheVariants as call
 use Rattle.pos_service.specs.declared.category.Category.{Category}
 use Rattle.pos_service.specs.declared.category.Category.TheVariants as category
-use Rattle.pos_service.specs.declared.code.Code.TheVariants as code
 use Rattle.pos_service.specs.declared.peripheral.Peripheral.{Ghosts}
-use Rattle.pos_service.specs.declared.needs.Needs.{Needs}
-use Rattle.pos_service.specs.Calls.{has_call, is_category, needs_of}
 use Rattle.pos_service.specs.Controls.{Control}
-use Rattle.pos_service.specs.Claims.{is_foreign}
-use Rattle.pos_service.specs.Needs.{needs_holder, needs_no_other, table}
-use Rattle.pos_service.specs.Refusals.{Row, first_refusal, when}
+use Rattle.pos_service.specs.declared.answer.Answer.{Answer}
+use Rattle.pos_service.specs.Refusals.{first_refusal}
 use Rattle.pos_disk.specs.declared.device.Disk.{Ghosts as DiskGhosts}
 use Rattle.pos_store.specs.Standing.{Standing}
 use Rattle.pos_totals.specs.HardTotals.{is_ready}
 use Rattle.pos_counter.specs.declared.counter.Counter.{Counter}
 use Rattle.pos_counter.specs.Counters.{machine as machine_of_counter, IsRun, RunsAnyhow}
+use Rattle.pos_totals.specs.TotalsCalls.{Nothing, file_call}
+use Rattle.pos_counter.specs.History.{changes_asked}
 use Rattle.pos_counter.specs.DiskUse.{AsksNothing, ChangesTotalsAlone, SparesDisk}
 use Rattle.pos_counter.specs.Leaving.{part_with, IsSettled, Spared}
-use Rattle.pos_counter.specs.Machine.{Machine, holder_of}
+use Rattle.pos_counter.specs.Machine.{Machine}
 use Rattle.pos_counter.specs.Sparing.{AllSpare, RunSparing, StepSparing}
-use Rattle.pos_counter.specs.Steps.{CallOf, Request, Response, Run, Step, category_rows, refusals}
+use Rattle.pos_counter.specs.Steps.{CallOf, Request, Response, Run, Step, refusals}
 use Rattle.pos_counter.specs.Totals.{TotalsPart, is_enabling, is_totals, settled}
+use Rattle.pos_counter.proofs.PrefixSteps.{none_of_totals, own_of}
 use Rattle.pos_counter.proofs.Serving.{settled_twice}
 use Rattle.pos_counter.proofs.Lifts.{match_at_some, match_weaker}
 
@@ -78,46 +77,25 @@ runs_anyhow bound peripherals failures a c (s ∷ steps) left is run =
 
 -- ---- calls of other categories
 
--- what its control's category doesn't have is refused
-not_there : (n : ℕ) (holder : Option ℕ) (c : Control) (needs : Needs) (rest : List Row) → needs.is_there ≡ false
-    → IsSome (first_refusal (table n holder c needs rest))
-not_there n holder c needs rest e = by (needs.is_open && is_none c.device) needs.is_there others e
-  where
-    others : List Row
-    others =
-        when (needs_no_other needs.claim && is_foreign n holder) code.Claimed
-        ∷ when (needs_holder needs.claim && is_none holder) code.NotClaimed
-        ∷ when (needs.is_enabled && not c.enabled) code.Disabled
-        ∷ rest
+-- another category is not Hard Totals'
+not_totals : (k : Category) → (k ≡ category.HardTotals → ⊥) → is_totals k ≡ false
+not_totals category.HardTotals other = absurd (other refl)
+not_totals k other = refl
 
-    by : (closed there : Bool) (more : List Row) → there ≡ false
-        → IsSome (first_refusal (when closed code.Closed ∷ when (not there) code.Illegal ∷ more))
-    by true there more e = refl
-    by false true more e = cc
-    by false false more e = refl
-
--- another category is not Hard Totals', and has none of its calls
-other_category : (k : Category) → (k ≡ category.HardTotals → ⊥) → (is_category (Some category.HardTotals) k ≡ false) × (is_totals k ≡ false)
-other_category category.HardTotals other = absurd (other refl)
-other_category k other = (refl, refl)
-
--- so it is refused there
-refused_elsewhere : (m : Machine) (n : ℕ) (c : Control) (asked : Call) → has_call c.category asked ≡ false
-    → IsSome (first_refusal (table n (holder_of m c) c (needs_of c.category asked) (category_rows c.category m n c asked)))
-refused_elsewhere m n c asked none = not_there n (holder_of m c) c (needs_of c.category asked) (category_rows c.category m n c asked) none
+-- a call that asks nothing of the files, and recovers nothing, asks nothing of the disk
+asks_none : (part : TotalsPart) (n : ℕ) (c : Control) (asked : Call) → is_totals c.category ≡ false → file_call asked ≡ Nothing → AsksNothing part n c asked
+asks_none part n c (call.Set p v) other none =
+    subst (λ b. (b && is_some c.device && not c.enabled && is_enabling p v && not (is_ready part.totals.mode)) ≡ false) (sym other) refl
+asks_none part n c asked other none = ap (changes_asked part.totals n) none
 
 -- a call of another category spares the disk
 pub spares_elsewhere : (m : Machine) (n : ℕ) (c : Control) (asked : Call) → slice_get m.controls n ≡ Some c → (c.category ≡ category.HardTotals → ⊥)
     → SparesDisk m (CallOf n asked)
-spares_elsewhere m n c asked at other = match_at_some _ c _ _ at (by asked)
+spares_elsewhere m n c asked at other = match_at_some _ c _ _ at (by (first_refusal (refusals m n c asked)) refl)
   where
-    by : (asked : Call) → IsSome (first_refusal (refusals m n c asked)) ⊎ AsksNothing m.totals n c asked
-    by (call.Set p v) = inr (subst (λ b. (b && is_some c.device && not c.enabled && is_enabling p v && not (is_ready m.totals.totals.mode)) ≡ false)
-        (sym (other_category c.category other).1) refl)
-    by (call.Create name size detection) = inl (refused_elsewhere m n c (call.Create name size detection) (other_category c.category other).0)
-    by (call.Delete name) = inl (refused_elsewhere m n c (call.Delete name) (other_category c.category other).0)
-    by (call.Write handle offset bytes) = inl (refused_elsewhere m n c (call.Write handle offset bytes) (other_category c.category other).0)
-    by (call.SetAll handle value) = inl (refused_elsewhere m n c (call.SetAll handle value) (other_category c.category other).0)
-    by (call.Rename handle name) = inl (refused_elsewhere m n c (call.Rename handle name) (other_category c.category other).0)
-    by call.CommitTrans = inl (refused_elsewhere m n c call.CommitTrans (other_category c.category other).0)
-    by asked = inr refl
+    elsewhere : is_totals c.category ≡ false
+    elsewhere = not_totals c.category other
+
+    by : (o : Option Answer) → first_refusal (refusals m n c asked) ≡ o → IsSome (first_refusal (refusals m n c asked)) ⊎ AsksNothing m.totals n c asked
+    by (Some refusal) is = inl (subst IsSome (sym is) refl)
+    by None is = inr (asks_none m.totals n c asked elsewhere (none_of_totals c.category asked elsewhere (λ own. own_of m n c asked own is)))
