@@ -11,8 +11,10 @@ use Rattle.pos_dir.specs.declared.file.File.{File}
 use Rattle.pos_dir.specs.declared.limits.Limits.{Limits}
 use Rattle.pos_dir.specs.declared.limits.TheConstants.{LAYOUT_1, LAYOUT_2}
 use Rattle.pos_dir.specs.Files.{is_name, are_distinct, total_size, IsDirectory, AreWritable}
-use Rattle.pos_dir.specs.Spelling.{name_spelling, text_spelling, file_spelling, spelling, body_limit}
-use Rattle.pos_dir.specs.Reading.{◌>>=◌, number_at, name_at, text_at, file_at, items_at, end_within, is_sound, is_end, directory_at}
+use Rattle.pos_dir.specs.Fields.{name_spelling, text_spelling}
+use Rattle.pos_dir.specs.Spelling.{file_spelling, spelling, body_limit}
+use Rattle.pos_dir.specs.Fields.{◌>>=◌, number_at, name_at, text_at}
+use Rattle.pos_dir.specs.Reading.{file_at, items_at, end_within, is_sound, is_end, directory_at}
 use Rattle.pos_dir.proofs.Readers.{IsBytes, IsReader, Takes, Takes-then, bind_some, passed, u16_reads, name_reads, text_reads, both_take, both_again}
 use Rattle.pos_dir.proofs.Items.{items_take, items_again}
 

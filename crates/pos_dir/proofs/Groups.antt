@@ -13,8 +13,11 @@ use Rattle.pos_dir.specs.declared.fault.DirectoryFault.{DirectoryFault}
 use Rattle.pos_dir.specs.declared.fault.DirectoryFault.TheVariants.{BadName, Range}
 use Rattle.pos_dir.specs.Files.{is_name}
 use Rattle.pos_dir.specs.Changes.{write_limit, IsChange, IsGroup}
-use Rattle.pos_dir.specs.Spelling.{name_spelling, text_spelling, change_spelling, group_spelling}
-use Rattle.pos_dir.specs.Reading.{◌>>=◌, byte_at, number_at, name_at, text_at, create_at, delete_at, rename_at, write_at, set_all_at, fields_at, change_at}
+use Rattle.pos_dir.specs.Fields.{name_spelling, text_spelling}
+use Rattle.pos_dir.specs.ChangeTexts.{change_spelling}
+use Rattle.pos_dir.specs.Spelling.{group_spelling}
+use Rattle.pos_dir.specs.Fields.{◌>>=◌, byte_at, number_at, name_at, text_at}
+use Rattle.pos_dir.specs.ChangeTexts.{create_at, delete_at, rename_at, write_at, set_all_at, fields_at, change_at}
 use Rattle.pos_dir.specs.Reading.{items_at, is_end, group_at}
 use Rattle.pos_dir.proofs.Readers.{IsBytes, IsReader, Takes, Takes-then, bind_some, passed, some_is, byte_spelling, byte_reads, u16_reads, u32_reads}
 use Rattle.pos_dir.proofs.Readers.{name_reads, text_reads, both_take, both_again}

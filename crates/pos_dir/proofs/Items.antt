@@ -5,7 +5,8 @@ use Rattle.std.specs.List.{flat_map, AllByRecursion}
 use Rattle.std.specs.Prelude.{IsSome, IfSome}
 use Rattle.std.proofs.lemmas.Bool.{false≢true}
 use Rattle.std.proofs.lemmas.List.{append-nil}
-use Rattle.pos_dir.specs.Reading.{◌>>=◌, items_at}
+use Rattle.pos_dir.specs.Fields.{◌>>=◌}
+use Rattle.pos_dir.specs.Reading.{items_at}
 use Rattle.pos_dir.proofs.Readers.{IsBytes, IsReader, Takes, Takes-then, bind_some, some_is}
 
 -- an item before those that were read

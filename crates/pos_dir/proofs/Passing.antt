@@ -13,7 +13,8 @@ use Rattle.pos_dir.specs.Files.{has_name, are_distinct, total_size}
 use Rattle.pos_dir.specs.Flaws.{end_of_files, HasFileFlaw, HasFlaw}
 use Rattle.pos_dir.specs.declared.flaw.Flaw.{Flaw}
 use Rattle.pos_dir.specs.declared.flaw.Flaw.TheVariants as flaw
-use Rattle.pos_dir.specs.Reading.{◌>>=◌, number_at, file_at, items_at, is_sound, is_end}
+use Rattle.pos_dir.specs.Fields.{◌>>=◌, number_at}
+use Rattle.pos_dir.specs.Reading.{file_at, items_at, is_sound, is_end}
 use Rattle.pos_dir.specs.Spelling.{file_spelling}
 use Rattle.pos_dir.proofs.Directories.{IsFile, file_reads, directory_is, directory_takes, body}
 use Rattle.pos_dir.proofs.Items.{items_take}

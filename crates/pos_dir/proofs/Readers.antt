@@ -6,8 +6,8 @@ use Rattle.std.proofs.lemmas.Bool.{cases_lt, ltb-false, le-ltb}
 use Rattle.std.proofs.lemmas.List.{take_at, drop_at, take-append-drop, length-append, length-take, get_or-drop, get_or-take, get_or_past}
 use Rattle.std.proofs.lemmas.Nat.{be_bytes_2, be_bytes_4, from_be_bytes-to_be_bytes_2, from_be_bytes-to_be_bytes_4}
 use Rattle.pos_dir.specs.Files.{is_name}
-use Rattle.pos_dir.specs.Spelling.{name_spelling, text_spelling}
-use Rattle.pos_dir.specs.Reading.{◌>>=◌, byte_at, part_at, number_at, name_at, text_at}
+use Rattle.pos_dir.specs.Fields.{name_spelling, text_spelling}
+use Rattle.pos_dir.specs.Fields.{◌>>=◌, byte_at, part_at, number_at, name_at, text_at}
 
 -- each is a byte
 abbrev pub IsBytes : List ℕ → Type 0

@@ -7,7 +7,8 @@ use Rattle.pos_dir.specs.declared.flaw.Flaw.{Flaw}
 use Rattle.pos_dir.specs.declared.flaw.Flaw.TheVariants as flaw
 use Rattle.pos_dir.specs.declared.limits.Limits.{Limits}
 use Rattle.pos_dir.specs.Files.{is_name, has_name, are_distinct, total_size}
-use Rattle.pos_dir.specs.Reading.{◌>>=◌, byte_at, part_at, number_at, file_at, items_at}
+use Rattle.pos_dir.specs.Fields.{◌>>=◌, byte_at, part_at, number_at}
+use Rattle.pos_dir.specs.Reading.{file_at, items_at}
 use Rattle.pos_dir.specs.Spelling.{file_spelling}
 
 -- what was read is no good name

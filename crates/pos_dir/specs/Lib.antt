@@ -1,5 +1,7 @@
 pub mod Files
 pub mod Changes
+pub mod Fields
+pub mod ChangeTexts
 pub mod Spelling
 pub mod Calls
 pub mod Reading

@@ -1,47 +1,13 @@
--- Reading bytes from left to right: an item and the bytes behind it, or none.
-use Rattle.std.specs.Prelude.{◌≡◌, ℕ, zero, suc, Bool, true, false, ◌&&◌, ◌==◌, List, [], ◌∷◌, length, take, drop, Option, Some, None, nat_lt, nat_le}
+-- Reading files and changes from left to right: an item and the bytes behind it, or none.
+use Rattle.std.specs.Prelude.{◌≡◌, ℕ, zero, suc, Bool, true, false, ◌&&◌, List, [], ◌∷◌, length, Option, Some, None, nat_le}
 use Rattle.std.specs.Prelude.{if◌then◌else◌}
-use Rattle.std.specs.Int.{Width, w16, w32, byte_len, from_be_bytes}
+use Rattle.std.specs.Int.{w16}
 use Rattle.pos_dir.specs.declared.file.File.{File}
 use Rattle.pos_dir.specs.declared.limits.Limits.{Limits}
 use Rattle.pos_dir.specs.declared.change.Change.{Change}
-use Rattle.pos_dir.specs.declared.change.Change.TheVariants.{Create, Delete, Rename, Write, SetAll}
-use Rattle.pos_dir.specs.Files.{is_name, are_distinct, total_size}
-use Rattle.pos_dir.specs.Changes.{write_limit}
-
-infixl 10 ◌>>=◌
--- what is read behind what was read
-abbrev pub ◌>>=◌ : {A B : Type 0} → Option A → (A → Option B) → Option B
-None >>= read = None
-(Some x) >>= read = read x
-
--- one byte
-abbrev pub byte_at : List ℕ → Option (ℕ × List ℕ)
-byte_at [] = None
-byte_at (byte ∷ rest) = Some (byte, rest)
-
--- so many bytes
-abbrev pub part_at : ℕ → List ℕ → Option (List ℕ × List ℕ)
-part_at size bytes = if nat_lt (length bytes) size then None else Some (take size bytes, drop size bytes)
-
--- a big-endian number of some width
-abbrev pub number_at : Width → List ℕ → Option (ℕ × List ℕ)
-number_at width bytes =
-    if nat_lt (length bytes) (byte_len width) then None
-    else Some (from_be_bytes width (take (byte_len width) bytes), drop (byte_len width) bytes)
-
--- a good name behind its length
-unfoldable pub name_at : List ℕ → Option (List ℕ × List ℕ)
-name_at bytes = do
-  size ← byte_at bytes
-  name ← part_at size.0 size.1
-  if is_name name.0 then Some name else None
-
--- bytes behind their number
-unfoldable pub text_at : List ℕ → Option (List ℕ × List ℕ)
-text_at bytes = do
-  size ← number_at w32 bytes
-  part_at size.0 size.1
+use Rattle.pos_dir.specs.Files.{are_distinct, total_size}
+use Rattle.pos_dir.specs.ChangeTexts.{change_at}
+use Rattle.pos_dir.specs.Fields.{◌>>=◌, number_at, name_at, text_at}
 
 -- a file
 unfoldable pub file_at : List ℕ → Option (File × List ℕ)
@@ -84,56 +50,6 @@ directory_at limits bytes = do
   count ← number_at w16 bytes
   files ← items_at file_at count.0 count.1
   if is_sound limits files.0 && is_end files.1 then Some files.0 else None
-
--- the fields of a Create
-unfoldable pub create_at : List ℕ → Option (Change × List ℕ)
-create_at bytes = do
-  name ← name_at bytes
-  size ← number_at w32 name.1
-  Some (Create name.0 size.0, size.1)
-
--- the fields of a Delete
-unfoldable pub delete_at : List ℕ → Option (Change × List ℕ)
-delete_at bytes = do
-  index ← number_at w16 bytes
-  Some (Delete index.0, index.1)
-
--- the fields of a Rename
-unfoldable pub rename_at : List ℕ → Option (Change × List ℕ)
-rename_at bytes = do
-  index ← number_at w16 bytes
-  name ← name_at index.1
-  Some (Rename index.0 name.0, name.1)
-
--- the fields of a Write
-unfoldable pub write_at : List ℕ → Option (Change × List ℕ)
-write_at bytes = do
-  index ← number_at w16 bytes
-  offset ← number_at w32 index.1
-  text ← text_at offset.1
-  if nat_le (length text.0) write_limit then Some (Write index.0 offset.0 text.0, text.1) else None
-
--- the fields of a SetAll
-unfoldable pub set_all_at : List ℕ → Option (Change × List ℕ)
-set_all_at bytes = do
-  index ← number_at w16 bytes
-  value ← byte_at index.1
-  Some (SetAll index.0 value.0, value.1)
-
--- the fields behind a tag
-unfoldable pub fields_at : ℕ → List ℕ → Option (Change × List ℕ)
-fields_at tag bytes =
-    if tag == 1 then create_at bytes
-    else (if tag == 2 then delete_at bytes
-    else (if tag == 3 then rename_at bytes
-    else (if tag == 4 then write_at bytes
-    else (if tag == 5 then set_all_at bytes else None))))
-
--- a change
-unfoldable pub change_at : List ℕ → Option (Change × List ℕ)
-change_at bytes = do
-  tag ← byte_at bytes
-  fields_at tag.0 tag.1
 
 -- a group, all of the bytes
 unfoldable pub group_at : List ℕ → Option (List Change)

@@ -1,20 +1,13 @@
 -- The one spelling of a directory and of a group as bytes. Numbers are big-endian.
-use Rattle.std.specs.Prelude.{ℕ, ◌+◌, ◌*◌, List, [], ◌∷◌, ◌++◌, length}
+use Rattle.std.specs.Prelude.{ℕ, ◌+◌, ◌*◌, List, ◌++◌, length}
 use Rattle.std.specs.List.{flat_map}
-use Rattle.std.specs.Int.{w16, w32, to_be_bytes}
+use Rattle.std.specs.Int.{w16, to_be_bytes}
 use Rattle.pos_dir.specs.declared.file.File.{File}
 use Rattle.pos_dir.specs.declared.limits.Limits.{Limits}
 use Rattle.pos_dir.specs.declared.change.Change.{Change}
-use Rattle.pos_dir.specs.declared.change.Change.TheVariants.{Create, Delete, Rename, Write, SetAll}
 use Rattle.pos_dir.specs.Changes.{write_limit}
-
--- a name: one byte of length, and its bytes
-abbrev pub name_spelling : List ℕ → List ℕ
-name_spelling name = length name ∷ name
-
--- a text: four bytes of length, and its bytes
-abbrev pub text_spelling : List ℕ → List ℕ
-text_spelling bytes = to_be_bytes w32 (length bytes) ++ bytes
+use Rattle.pos_dir.specs.ChangeTexts.{change_spelling}
+use Rattle.pos_dir.specs.Fields.{name_spelling, text_spelling}
 
 -- a file: its name, its size and its bytes
 abbrev pub file_spelling : File → List ℕ
@@ -27,15 +20,6 @@ spelling files = to_be_bytes w16 (length files) ++ flat_map file_spelling files
 -- the most bytes of a directory's spelling: the count, and for each file a name of 10 bytes with its length and a size
 abbrev pub body_limit : Limits → ℕ
 body_limit limits = 2 + 15 * limits.files + limits.bytes
-
--- a change: its tag, and its fields
-abbrev pub change_spelling : Change → List ℕ
-change_spelling (Create name size) = 1 ∷ (name_spelling name ++ to_be_bytes w32 size)
-change_spelling (Delete index) = 2 ∷ to_be_bytes w16 index
-change_spelling (Rename index name) = 3 ∷ (to_be_bytes w16 index ++ name_spelling name)
-change_spelling (Write index offset bytes) =
-    4 ∷ (to_be_bytes w16 index ++ (to_be_bytes w32 offset ++ text_spelling bytes))
-change_spelling (SetAll index value) = 5 ∷ (to_be_bytes w16 index ++ value ∷ [])
 
 -- the most bytes of a change's spelling: a Write of the most bytes behind its tag, index, offset and length
 abbrev pub change_limit : ℕ

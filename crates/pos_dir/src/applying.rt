@@ -6,6 +6,7 @@ ghost use Rattle.pos_dir.specs.Calls.{Applies};
 ghost use Rattle.pos_dir.specs.Supplies.{supplies_of};
 ghost use Rattle.std.specs.List.{flat_map};
 
+use crate::change::carry_out_change;
 use crate::directory::Directory;
 use crate::fault::DirectoryFault;
 use crate::file::File;
@@ -13,7 +14,7 @@ use crate::group::Group;
 use crate::laws::{is_directory, is_group};
 use crate::limits::Limits;
 use crate::outlines::check_group;
-use crate::supplying::{Supply, carry_out_change, make_supplies, take_supply};
+use crate::supplying::{Supply, make_supplies, take_supply};
 use crate::writing::{limit_body, put_directory};
 use std::alloc::Global;
 

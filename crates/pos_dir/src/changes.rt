@@ -1,18 +1,22 @@
-//! Changes read from the bytes that spell them.
-ghost use Rattle.std.specs.Prelude.{◌≡◌, None, IsSome, IfSome, MatchOption, MatchResult};
+//! The spelling of changes: a change read from the bytes that spell it, and written.
+ghost use Rattle.std.specs.Prelude.{◌≡◌, ◌≤◌, length, None, IsSome, IfSome, MatchOption, MatchResult};
 ghost use Rattle.std.specs.Option.{option_map};
-ghost use Rattle.pos_dir.specs.Reading.{create_at, delete_at, rename_at, write_at, set_all_at, fields_at, change_at, items_at, group_at, Locates};
+ghost use Rattle.pos_dir.specs.Changes.{IsChange};
+ghost use Rattle.pos_dir.specs.Room.{HasRoom, Puts};
+ghost use Rattle.pos_dir.specs.ChangeTexts.{change_spelling, create_at, delete_at, rename_at, write_at, set_all_at, fields_at, change_at};
+ghost use Rattle.pos_dir.specs.Spelling.{change_limit};
+ghost use Rattle.pos_dir.specs.Reading.{items_at, group_at, Locates};
 
 use crate::bytes::LentBytes;
-use crate::change::Change;
+use crate::change::{Change, WRITE_LIMIT};
 use crate::collecting::Item;
 use crate::fault::DirectoryFault;
 use crate::fields::{read_byte, read_name, read_text, read_u16, read_u32};
-use crate::group::WRITE_LIMIT;
+use crate::writing::{put, put_name, put_text, put_u16, put_u32};
 use std::alloc::Global;
 
 /// A change.
-#[tactic(auto, unfolding(crate::specs::Reading::change_at))]
+#[tactic(auto, unfolding(crate::specs::ChangeTexts::change_at))]
 fn read_change(bytes: &[u8]) -> Option<(Change<'_>, &[u8])>
     ensures { option_map (λ x. (x.0, x.1.now)) result ≡ change_at bytes.now }
 {
@@ -21,7 +25,7 @@ fn read_change(bytes: &[u8]) -> Option<(Change<'_>, &[u8])>
 }
 
 /// The fields behind a tag.
-#[tactic(auto, unfolding(crate::specs::Reading::fields_at))]
+#[tactic(auto, unfolding(crate::specs::ChangeTexts::fields_at))]
 fn read_fields(tag: u8, bytes: &[u8]) -> Option<(Change<'_>, &[u8])>
     ensures { option_map (λ x. (x.0, x.1.now)) result ≡ fields_at tag bytes.now }
 {
@@ -36,7 +40,7 @@ fn read_fields(tag: u8, bytes: &[u8]) -> Option<(Change<'_>, &[u8])>
 }
 
 /// The fields of a Create.
-#[tactic(auto, unfolding(crate::specs::Reading::create_at))]
+#[tactic(auto, unfolding(crate::specs::ChangeTexts::create_at))]
 fn read_create(bytes: &[u8]) -> Option<(Change<'_>, &[u8])>
     ensures { option_map (λ x. (x.0, x.1.now)) result ≡ create_at bytes.now }
 {
@@ -52,7 +56,7 @@ fn read_create(bytes: &[u8]) -> Option<(Change<'_>, &[u8])>
 }
 
 /// The fields of a Delete.
-#[tactic(auto, unfolding(crate::specs::Reading::delete_at))]
+#[tactic(auto, unfolding(crate::specs::ChangeTexts::delete_at))]
 fn read_delete(bytes: &[u8]) -> Option<(Change<'_>, &[u8])>
     ensures { option_map (λ x. (x.0, x.1.now)) result ≡ delete_at bytes.now }
 {
@@ -61,7 +65,7 @@ fn read_delete(bytes: &[u8]) -> Option<(Change<'_>, &[u8])>
 }
 
 /// The fields of a Rename.
-#[tactic(auto, unfolding(crate::specs::Reading::rename_at))]
+#[tactic(auto, unfolding(crate::specs::ChangeTexts::rename_at))]
 fn read_rename(bytes: &[u8]) -> Option<(Change<'_>, &[u8])>
     ensures { option_map (λ x. (x.0, x.1.now)) result ≡ rename_at bytes.now }
 {
@@ -77,7 +81,7 @@ fn read_rename(bytes: &[u8]) -> Option<(Change<'_>, &[u8])>
 }
 
 /// The fields of a Write.
-#[tactic(auto, unfolding(crate::specs::Reading::write_at))]
+#[tactic(auto, unfolding(crate::specs::ChangeTexts::write_at))]
 fn read_write(bytes: &[u8]) -> Option<(Change<'_>, &[u8])>
     ensures { option_map (λ x. (x.0, x.1.now)) result ≡ write_at bytes.now }
 {
@@ -98,13 +102,79 @@ fn read_write(bytes: &[u8]) -> Option<(Change<'_>, &[u8])>
 }
 
 /// The fields of a SetAll.
-#[tactic(auto, unfolding(crate::specs::Reading::set_all_at))]
+#[tactic(auto, unfolding(crate::specs::ChangeTexts::set_all_at))]
 fn read_set_all(bytes: &[u8]) -> Option<(Change<'_>, &[u8])>
     ensures { option_map (λ x. (x.0, x.1.now)) result ≡ set_all_at bytes.now }
 {
     let (index, rest) = read_u16(bytes)?;
     let (value, rest) = read_byte(rest)?;
     Some((Change::SetAll { index, value }, rest))
+}
+
+/// The bytes of a change's spelling.
+pub(crate) fn measure_change(change: &Change<'_>) -> usize
+    requires { IsChange change.now }
+    ensures size { result ≡ length (change_spelling change.now) }
+    ensures bound { result ≤ change_limit }
+{
+    match change {
+        Change::Create { name, size: _ } => 6 + name.as_slice().len(),
+        Change::Delete { index: _ } => 3,
+        Change::Rename { index: _, name } => 4 + name.as_slice().len(),
+        Change::Write {
+            index: _,
+            offset: _,
+            bytes,
+        } => 11 + bytes.as_slice().len(),
+        Change::SetAll { index: _, value: _ } => 4,
+    }
+}
+
+/// Writes a change behind its tag.
+///
+/// | Tag | Change | Fields |
+/// |---|---|---|
+/// | 1 | Create | length of the name in one byte, name, size in four bytes |
+/// | 2 | Delete | index |
+/// | 3 | Rename | index, length of the name in one byte, name |
+/// | 4 | Write | index, offset in four bytes, length in four bytes, bytes |
+/// | 5 | SetAll | index, value in one byte |
+pub(crate) fn put_change(out: &mut Vec<u8>, change: &Change<'_>)
+    requires change { IsChange change.now }
+    requires room { HasRoom out.old (change_spelling change.now) }
+    ensures { Puts out.old (change_spelling change.now) out.new }
+{
+    match change {
+        Change::Create { name, size } => {
+            put(out, &[1]);
+            put_name(out, name.as_slice());
+            put_u32(out, *size);
+        }
+        Change::Delete { index } => {
+            put(out, &[2]);
+            put_u16(out, *index);
+        }
+        Change::Rename { index, name } => {
+            put(out, &[3]);
+            put_u16(out, *index);
+            put_name(out, name.as_slice());
+        }
+        Change::Write {
+            index,
+            offset,
+            bytes,
+        } => {
+            put(out, &[4]);
+            put_u16(out, *index);
+            put_u32(out, *offset);
+            put_text(out, bytes.as_slice());
+        }
+        Change::SetAll { index, value } => {
+            put(out, &[5]);
+            put_u16(out, *index);
+            put(out, &[*value]);
+        }
+    }
 }
 
 impl<'a> Item<'a> for Change<'a> {

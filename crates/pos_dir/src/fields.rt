@@ -2,7 +2,7 @@
 ghost use Rattle.std.specs.Prelude.{◌≡◌};
 ghost use Rattle.std.specs.Option.{option_map};
 ghost use Rattle.std.specs.Int.{w16, w32};
-ghost use Rattle.pos_dir.specs.Reading.{byte_at, part_at, number_at, name_at, text_at};
+ghost use Rattle.pos_dir.specs.Fields.{byte_at, part_at, number_at, name_at, text_at};
 
 use crate::names::is_name;
 
@@ -51,7 +51,7 @@ pub(crate) fn read_u32(bytes: &[u8]) -> Option<(u32, &[u8])>
 }
 
 /// A good name behind its length.
-#[tactic(auto, unfolding(crate::specs::Reading::name_at))]
+#[tactic(auto, unfolding(crate::specs::Fields::name_at))]
 pub(crate) fn read_name(bytes: &[u8]) -> Option<(&[u8], &[u8])>
     ensures { option_map (λ x. (x.0.now, x.1.now)) result ≡ name_at bytes.now }
 {
@@ -64,7 +64,7 @@ pub(crate) fn read_name(bytes: &[u8]) -> Option<(&[u8], &[u8])>
 }
 
 /// Bytes behind their number.
-#[tactic(auto, unfolding(crate::specs::Reading::text_at))]
+#[tactic(auto, unfolding(crate::specs::Fields::text_at))]
 pub(crate) fn read_text(bytes: &[u8]) -> Option<(&[u8], &[u8])>
     ensures { option_map (λ x. (x.0.now, x.1.now)) result ≡ text_at bytes.now }
 {

@@ -1,19 +1,11 @@
-ghost use Rattle.std.specs.Prelude.{◌≡◌, [], length, slice_get, if◌then◌else◌};
+ghost use Rattle.std.specs.Prelude.{◌≡◌, [], length, slice_get};
 ghost use Rattle.std.specs.Option.{option_copied};
-ghost use Rattle.pos_dir.specs.declared.fault.DirectoryFault.TheVariants.{BadName};
-ghost use Rattle.pos_dir.specs.Files.{is_name};
-ghost use Rattle.pos_dir.specs.Changes.{flaw_of, HasWidths};
 ghost use Rattle.pos_dir.specs.Calls.{Pushes};
 
-use crate::bytes::LentBytes;
-use crate::change::Change;
+use crate::change::{Change, find_flaw};
 use crate::fault::DirectoryFault;
-use crate::names::is_name;
 use std::alloc::Global;
 use std::marker::Model;
-
-/// The most bytes that one Write may have.
-pub(crate) const WRITE_LIMIT: usize = 65_536;
 
 /// The most changes of a group.
 const GROUP_LIMIT: usize = 65_535;
@@ -77,53 +69,5 @@ impl<'a> Group<'a> {
             Ok(()) => Ok(()),
             Err(refused) => Err((DirectoryFault::NoMemory, refused.value)),
         }
-    }
-}
-
-/// Why a group doesn't take a change, whatever its room.
-fn find_flaw(change: &Change<'_>) -> Option<DirectoryFault>
-    ensures flaw { result ≡ flaw_of change.now }
-    ensures widths { HasWidths change.now }
-{
-    match change {
-        Change::Create { name, size } => {
-            let _size = *size;
-            find_name_flaw(name)
-        }
-        Change::Delete { index } => {
-            let _index = *index;
-            None
-        }
-        Change::Rename { index, name } => {
-            let _index = *index;
-            find_name_flaw(name)
-        }
-        Change::Write {
-            index,
-            offset,
-            bytes,
-        } => {
-            let _place = (*index, *offset);
-            if bytes.as_slice().len() <= WRITE_LIMIT {
-                None
-            } else {
-                Some(DirectoryFault::Range)
-            }
-        }
-        Change::SetAll { index, value } => {
-            let _place = (*index, *value);
-            None
-        }
-    }
-}
-
-/// Why a group doesn't take a name.
-fn find_name_flaw(name: &LentBytes<'_>) -> Option<DirectoryFault>
-    ensures { result ≡ (if is_name name.now then None else Some BadName) }
-{
-    if is_name(name.as_slice()) {
-        None
-    } else {
-        Some(DirectoryFault::BadName)
     }
 }

@@ -4,10 +4,10 @@ ghost use Rattle.pos_dir.specs.declared.change.Change.TheVariants.{Create, Delet
 ghost use Rattle.std.specs.Option.{option_map};
 ghost use Rattle.std.specs.Result.{result_err};
 ghost use Rattle.pos_dir.specs.Files.{IsDirectory};
-ghost use Rattle.pos_dir.specs.Changes.{fault_of, least_size_of, outcome};
+ghost use Rattle.pos_dir.specs.Changes.{fault_of, outcome};
 ghost use Rattle.pos_dir.specs.Outlines.{AreOutlines, is_named, size_in, answer_by_size, Checks};
 
-use crate::change::Change;
+use crate::change::{Change, find_least_size};
 use crate::directory::Directory;
 use crate::fault::DirectoryFault;
 use crate::file::File;
@@ -103,21 +103,6 @@ fn check_rename<'a, const N: usize>(
     let Outline { name: _, size } = outlines.remove(index);
     outlines.insert(index, Outline { name, size });
     Ok(())
-}
-
-/// The file of a change of its bytes alone, and the least size that it has to have; None for another change.
-fn find_least_size(change: &Change<'_>) -> Option<(u16, usize)>
-    ensures { result ≡ least_size_of change.now }
-{
-    match change {
-        Change::Write {
-            index,
-            offset,
-            bytes,
-        } => Some((*index, *offset as usize + bytes.as_slice().len())),
-        Change::SetAll { index, value: _ } => Some((*index, 0)),
-        _ => None,
-    }
 }
 
 /// Checks a change of the bytes of a file by the file's size, None where there is no file.
@@ -226,7 +211,7 @@ fn check_alone(files: &[File], change: &Change<'_>) -> Option<Result<(), Directo
 }
 
 /// Whether a group is applicable, or the fault of the first change that isn't: NoFile, Exists,
-/// Range or NoRoom. It takes no memory, and a single Write or SetAll takes no time for the other files.
+/// Range or NoRoom. It takes no memory, and a single change of a file's bytes takes no time for the other files.
 pub fn check_group(directory: &Directory, group: &Group<'_>) -> Result<(), DirectoryFault>
     ensures { result_err result ≡ fault_of directory.now.limits directory.now.files group.now }
 {

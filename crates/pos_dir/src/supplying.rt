@@ -1,9 +1,8 @@
 //! The memory that changes take, all of it made before the first is carried out, so that carrying them out can't fail.
-ghost use Rattle.std.specs.Prelude.{◌≡◌, ◌≤◌, ◌++◌, List, replicate, IsOk, Ok, MatchResult, vec_capacity};
+ghost use Rattle.std.specs.Prelude.{◌≡◌, ◌++◌, List, replicate, MatchResult};
 ghost use Rattle.std.specs.List.{flat_map};
 ghost use Rattle.std.specs.Vec.Iter.{into_iter_items};
 ghost use Rattle.pos_dir.specs.declared.supplying.Supply.{Supply};
-ghost use Rattle.pos_dir.specs.Changes.{outcome};
 ghost use Rattle.pos_dir.specs.Supplies.{supplies_of, IsSupplied};
 
 use crate::bytes::{Bytes, LentBytes, Name};
@@ -11,7 +10,6 @@ use crate::change::Change;
 use crate::fault::DirectoryFault;
 use crate::file::File;
 use crate::group::Group;
-use crate::limits::Limits;
 use std::alloc::Global;
 use std::vec::IntoIter;
 
@@ -77,46 +75,5 @@ pub(crate) fn take_supply(change: &Change<'_>, left: &mut IntoIter<Supply>) -> O
     match change {
         Change::Create { .. } | Change::Rename { .. } => left.next(),
         _ => None,
-    }
-}
-
-/// Carries out a change that is applicable, with what it takes, where there is room for all files.
-pub(crate) fn carry_out_change(
-    limits: Limits,
-    files: &mut Vec<File>,
-    change: &Change<'_>,
-    supply: Option<Supply>,
-)
-    requires applicable { IsOk (outcome limits files.old.items change.now) }
-    requires supplied { IsSupplied change.now supply }
-    requires room { limits.files ≤ vec_capacity files.old }
-    ensures outcome { outcome limits files.old.items change.now ≡ Ok files.new.items }
-    ensures room { limits.files ≤ vec_capacity files.new }
-{
-    match change {
-        Change::Create { .. } => {
-            let Some(Supply::NewFile(file)) = supply else {
-                unreachable!()
-            };
-            prove!(files.len() < limits.files as usize);
-            files.push_reserved(file)
-        }
-        Change::Delete { index } => {
-            let _removed = files.remove(*index as usize);
-        }
-        Change::Rename { index, name: _ } => {
-            let Some(Supply::NewName(name)) = supply else {
-                unreachable!()
-            };
-            files[*index as usize].name = name
-        }
-        Change::Write {
-            index,
-            offset,
-            bytes,
-        } => files[*index as usize]
-            .bytes
-            .overwrite(*offset as usize, bytes.as_slice()),
-        Change::SetAll { index, value } => files[*index as usize].bytes.fill(*value),
     }
 }

@@ -3,10 +3,13 @@ ghost use Rattle.std.specs.Int.{w16, w32, to_be_bytes};
 ghost use Rattle.std.specs.List.{flat_map};
 ghost use Rattle.pos_dir.specs.Files.{IsDirectory};
 ghost use Rattle.pos_dir.specs.Room.{HasRoom, Puts};
-ghost use Rattle.pos_dir.specs.Changes.{group_limit, IsGroup, IsChange};
-ghost use Rattle.pos_dir.specs.Spelling.{body_limit, change_limit, spelling, group_spelling, name_spelling, text_spelling, file_spelling, change_spelling};
+ghost use Rattle.pos_dir.specs.Changes.{group_limit, IsGroup};
+ghost use Rattle.pos_dir.specs.Fields.{name_spelling, text_spelling};
+ghost use Rattle.pos_dir.specs.ChangeTexts.{change_spelling};
+ghost use Rattle.pos_dir.specs.Spelling.{body_limit, change_limit, spelling, group_spelling, file_spelling};
 
 use crate::change::Change;
+use crate::changes::{measure_change, put_change};
 use crate::directory::Directory;
 use crate::fault::DirectoryFault;
 use crate::file::File;
@@ -61,17 +64,8 @@ pub(crate) fn put_directory(out: &mut Vec<u8>, directory: &Directory)
 }
 
 /// The one spelling of a group: the number of changes in two bytes; then for each change a tag of
-/// one byte and its fields. Numbers are big-endian; a file is named by its index in two bytes.
-///
-/// | Tag | Change | Fields |
-/// |---|---|---|
-/// | 1 | Create | length of the name in one byte, name, size in four bytes |
-/// | 2 | Delete | index |
-/// | 3 | Rename | index, length of the name in one byte, name |
-/// | 4 | Write | index, offset in four bytes, length in four bytes, bytes |
-/// | 5 | SetAll | index, value in one byte |
-///
-/// It is refused for want of memory alone (NoMemory).
+/// one byte and its fields (docs/DISK.md, "The layouts"). Numbers are big-endian; a file is named
+/// by its index in two bytes. It is refused for want of memory alone (NoMemory).
 pub fn encode_group(alloc: Global, group: &Group<'_>) -> Result<Vec<u8>, DirectoryFault>
     ensures group { IsGroup group.now }
     ensures spelling { MatchResult result (λ bytes. bytes.items ≡ group_spelling group.now)
@@ -106,27 +100,8 @@ fn measure_changes(changes: &[Change<'_>]) -> usize
     size
 }
 
-/// The bytes of a change's spelling.
-fn measure_change(change: &Change<'_>) -> usize
-    requires { IsChange change.now }
-    ensures size { result ≡ length (change_spelling change.now) }
-    ensures bound { result ≤ change_limit }
-{
-    match change {
-        Change::Create { name, size: _ } => 6 + name.as_slice().len(),
-        Change::Delete { index: _ } => 3,
-        Change::Rename { index: _, name } => 4 + name.as_slice().len(),
-        Change::Write {
-            index: _,
-            offset: _,
-            bytes,
-        } => 11 + bytes.as_slice().len(),
-        Change::SetAll { index: _, value: _ } => 4,
-    }
-}
-
 /// Writes bytes.
-fn put(out: &mut Vec<u8>, bytes: &[u8])
+pub(crate) fn put(out: &mut Vec<u8>, bytes: &[u8])
     requires { HasRoom out.old bytes.now }
     ensures { Puts out.old bytes.now out.new }
 {
@@ -136,7 +111,7 @@ fn put(out: &mut Vec<u8>, bytes: &[u8])
 }
 
 /// Writes a big-endian number of two bytes.
-fn put_u16(out: &mut Vec<u8>, number: u16)
+pub(crate) fn put_u16(out: &mut Vec<u8>, number: u16)
     requires room { HasRoom out.old (to_be_bytes w16 number) }
     ensures { Puts out.old (to_be_bytes w16 number) out.new }
 {
@@ -144,7 +119,7 @@ fn put_u16(out: &mut Vec<u8>, number: u16)
 }
 
 /// Writes a big-endian number of four bytes.
-fn put_u32(out: &mut Vec<u8>, number: u32)
+pub(crate) fn put_u32(out: &mut Vec<u8>, number: u32)
     requires room { HasRoom out.old (to_be_bytes w32 number) }
     ensures { Puts out.old (to_be_bytes w32 number) out.new }
 {
@@ -152,7 +127,7 @@ fn put_u32(out: &mut Vec<u8>, number: u32)
 }
 
 /// Writes a name behind its length.
-fn put_name(out: &mut Vec<u8>, name: &[u8])
+pub(crate) fn put_name(out: &mut Vec<u8>, name: &[u8])
     requires name { length name.now < 256 }
     requires room { HasRoom out.old (name_spelling name.now) }
     ensures { Puts out.old (name_spelling name.now) out.new }
@@ -162,7 +137,7 @@ fn put_name(out: &mut Vec<u8>, name: &[u8])
 }
 
 /// Writes bytes behind their number.
-fn put_text(out: &mut Vec<u8>, bytes: &[u8])
+pub(crate) fn put_text(out: &mut Vec<u8>, bytes: &[u8])
     requires bytes { length bytes.now < 2 ^ 32 }
     requires room { HasRoom out.old (text_spelling bytes.now) }
     ensures { Puts out.old (text_spelling bytes.now) out.new }
@@ -180,43 +155,4 @@ fn put_file(out: &mut Vec<u8>, file: &File)
 {
     put_name(out, file.name.as_slice());
     put_text(out, file.bytes.as_slice());
-}
-
-/// Writes a change behind its tag.
-fn put_change(out: &mut Vec<u8>, change: &Change<'_>)
-    requires change { IsChange change.now }
-    requires room { HasRoom out.old (change_spelling change.now) }
-    ensures { Puts out.old (change_spelling change.now) out.new }
-{
-    match change {
-        Change::Create { name, size } => {
-            put(out, &[1]);
-            put_name(out, name.as_slice());
-            put_u32(out, *size);
-        }
-        Change::Delete { index } => {
-            put(out, &[2]);
-            put_u16(out, *index);
-        }
-        Change::Rename { index, name } => {
-            put(out, &[3]);
-            put_u16(out, *index);
-            put_name(out, name.as_slice());
-        }
-        Change::Write {
-            index,
-            offset,
-            bytes,
-        } => {
-            put(out, &[4]);
-            put_u16(out, *index);
-            put_u32(out, *offset);
-            put_text(out, bytes.as_slice());
-        }
-        Change::SetAll { index, value } => {
-            put(out, &[5]);
-            put_u16(out, *index);
-            put(out, &[*value]);
-        }
-    }
 }

@@ -1,5 +1,5 @@
 use Rattle.std.proofs.Common.{◌∙◌, sym, ap}
-use Rattle.pos_dir.specs.Reading.{change_at}
+use Rattle.pos_dir.specs.ChangeTexts.{change_at}
 use Rattle.pos_dir.proofs.Items.{one_more, none_more, no_more}
 use Rattle.pos_dir.proofs.Loops.{rest_of, rest_of_first}
 use Rattle.pos_dir.proofs.changes.skip_changes.Goals as goal

@@ -1,6 +1,7 @@
 use Rattle.std.proofs.Common.{◌≡◌, ◌-◌}
 use Rattle.std.specs.Option.{option_map}
-use Rattle.pos_dir.specs.Reading.{change_at, items_at}
+use Rattle.pos_dir.specs.ChangeTexts.{change_at}
+use Rattle.pos_dir.specs.Reading.{items_at}
 use Rattle.pos_dir.proofs.changes.skip_changes.Given as goal
 
 abbrev pub invariant-loop : goal.invariant-loop

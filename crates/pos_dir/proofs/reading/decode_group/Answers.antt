@@ -3,7 +3,8 @@ use Rattle.std.proofs.lemmas.Result.{err_from_is_err_and}
 use Rattle.pos_dir.specs.declared.change.Change.{Change}
 use Rattle.pos_dir.specs.Changes.{IsGroup}
 use Rattle.pos_dir.specs.Spelling.{group_spelling}
-use Rattle.pos_dir.specs.Reading.{change_at, items_at}
+use Rattle.pos_dir.specs.ChangeTexts.{change_at}
+use Rattle.pos_dir.specs.Reading.{items_at}
 use Rattle.pos_dir.proofs.Items.{same_items}
 use Rattle.pos_dir.proofs.Readers.{IsBytes}
 use Rattle.pos_dir.proofs.Groups.{group_takes, no_group}
