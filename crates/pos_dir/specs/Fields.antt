@@ -1,5 +1,5 @@
--- The fields of which spellings are made: how each is spelled, and how it is read from the front of bytes, with the bytes
--- behind it, or none. Numbers are big-endian.
+-- The fields of which spellings are made: how each is spelled, and how it is read from the front of bytes, with what
+-- stands behind it, or none. Numbers are big-endian.
 use Rattle.std.specs.Prelude.{ℕ, List, [], ◌∷◌, ◌++◌, length, take, drop, Option, Some, None, nat_lt, if◌then◌else◌}
 use Rattle.std.specs.Int.{Width, w32, byte_len, from_be_bytes, to_be_bytes}
 use Rattle.pos_dir.specs.Files.{is_name}
