@@ -44,8 +44,12 @@ module _ (bytes stamps old new : List ℕ) (stamp : ℕ) (long : length stamps �
       let loose_long : length (loose_by stamp stamps) ≡ length bytes = length-map stamps (λ s. s == stamp) ∙ long in
       ext_get_or 0 new _ (omega (arith, saved.same_length, same, length-choose _ old bytes loose_long same)) (λ i inside.
       grind (
-        arith, nat_tests, choose_at (loose_by stamp stamps) old bytes i loose_long same, loose_is stamp stamps i (omega (arith, saved.same_length)),
-        saved.saved i, saved.kept i,
+        arith,
+        nat_tests,
+        choose_at (loose_by stamp stamps) old bytes i loose_long same,
+        loose_is stamp stamps i (omega (arith, saved.same_length)),
+        saved.saved i,
+        saved.kept i,
       ))
 
 -- a byte is chosen from either of two equal lists
