@@ -32,6 +32,6 @@ count "a property that can be set" 8 'AutoDisable|auto_disable'
 count "an input of every kind" 9 'PowerMoved'
 count "a reply with its code" 10 'Offline\b'
 count "a request of the script" 13 'Deliver\b|deliver_event|"deliver"'
-count "a category" 23 'CashDrawer'
+count "a category" 13 'CashDrawer'
 echo "$passed passed, $failed failed"
 [ "$failed" -eq 0 ]

@@ -1,13 +1,13 @@
 -- What is faulty in a document, by its two lists.
 use Rattle.std.proofs.Common.{◌≡◌, ◌∙◌, ◌<◌, ◌+◌, ◌-◌, ℕ, zero, suc, List, [], ◌∷◌, ◌++◌, Bool, true, false, Option, Some, None, option_map, option_and_then}
 use Rattle.std.proofs.Common.{cond, map, length, take, slice_get, refl, sym, ap, subst, arith, inl, inr, add-one}
-use Rattle.std.specs.Prelude.{codes, if◌then◌else◌}
+use Rattle.std.specs.Prelude.{codes}
 use Rattle.std.proofs.lemmas.Bool.{cases_lt, false≢true}
 use Rattle.std.proofs.lemmas.List.{length-map, take-append-le}
 use Rattle.std.proofs.lemmas.Option.{slice_get-map}
 use Rattle.toml.specs.Data.{Data, Members, as_table}
 use Rattle.pos_service.specs.declared.category.Category.{Category}
-use Rattle.pos_service.specs.declared.category.Category.TheVariants.{CashDrawer, Scanner, LineDisplay, PosPrinter, HardTotals}
+use Rattle.pos_service.specs.declared.category.Category.TheVariants.{HardTotals}
 use Rattle.pos_profile.specs.declared.entry.Entry.{Entry}
 use Rattle.pos_profile.specs.declared.listing.Flaw.{Flaw}
 use Rattle.pos_profile.specs.declared.mistake.Place.TheVariants.{Root}
@@ -73,34 +73,21 @@ plain_entry : (category : Category) → is_totals category ≡ false
     → (name : Option (List ℕ)) (numbers : Option Numbers) (variation : Option Variation) (only : Bool)
     → is_totals_entry (option_and_then
     (λ text. option_and_then (λ ns. option_and_then (λ v. cond only (Some (entry_with category text ns v)) None) variation) numbers) name) ≡ false
-plain_entry category plain None numbers variation only = refl
-plain_entry category plain (Some text) None variation only = refl
-plain_entry category plain (Some text) (Some ns) None only = refl
 plain_entry category plain (Some text) (Some ns) (Some v) true = plain
-plain_entry category plain (Some text) (Some ns) (Some v) false = refl
+plain_entry category plain _ _ _ _ = refl
 
-plain_category : (table : Members) (category : Option Category)
-    → is_totals_entry (option_and_then
-    (λ c. option_and_then (λ name. option_and_then
-    (λ numbers. option_and_then (λ v. if has_only (is_key (OfEntry Spare c)) table then Some (entry_with c name numbers v) else None)
-    (variation_of c table)) (numbers_of c table)) (name_for Spare table)) (option_and_then (allowed Spare) category)) ≡ false
-plain_category table None = refl
-plain_category table (Some CashDrawer) =
-    plain_entry CashDrawer refl (name_for Spare table) (numbers_of CashDrawer table) (variation_of CashDrawer table)
-    (has_only (is_key (OfEntry Spare CashDrawer)) table)
-plain_category table (Some Scanner) =
-    plain_entry Scanner refl (name_for Spare table) (numbers_of Scanner table) (variation_of Scanner table) (has_only (is_key (OfEntry Spare Scanner)) table)
-plain_category table (Some LineDisplay) =
-    plain_entry LineDisplay refl (name_for Spare table) (numbers_of LineDisplay table) (variation_of LineDisplay table)
-    (has_only (is_key (OfEntry Spare LineDisplay)) table)
-plain_category table (Some PosPrinter) =
-    plain_entry PosPrinter refl (name_for Spare table) (numbers_of PosPrinter table) (variation_of PosPrinter table)
-    (has_only (is_key (OfEntry Spare PosPrinter)) table)
-plain_category table (Some HardTotals) = refl
+plain_category : (entry : Category → Option Entry) (asked : Option Category)
+    → ((category : Category) → is_totals category ≡ false → is_totals_entry (entry category) ≡ false)
+    → is_totals_entry (option_and_then entry (option_and_then (allowed Spare) asked)) ≡ false
+plain_category entry None plain = refl
+plain_category entry (Some HardTotals) plain = refl
+plain_category entry (Some category) plain = plain category refl
 
 plain_table : (table : Option Members) → is_totals_entry (option_and_then (table_entry Spare) table) ≡ false
 plain_table None = refl
-plain_table (Some table) = plain_category table (option_and_then category_named (text_at (codes "category") table))
+plain_table (Some table) =
+    plain_category _ (option_and_then category_named (text_at (codes "category") table))
+    (λ c is. plain_entry c is (name_for Spare table) (numbers_of c table) (variation_of c table) (has_only (is_key (OfEntry Spare c)) table))
 
 after_plain : (earlier others : List (Option Entry)) (entry : Option Entry) → is_totals_entry entry ≡ false
     → is_refused_after earlier (Some entry) ≡ is_refused_after others (Some entry)

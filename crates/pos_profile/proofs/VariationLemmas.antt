@@ -7,9 +7,9 @@ use Rattle.toml.specs.Data.{Data, Members, as_integer, get_member}
 use Rattle.pos_service.specs.declared.category.Category.{Category}
 use Rattle.pos_profile.specs.declared.optional.OptionalKey.{OptionalKey}
 use Rattle.pos_profile.specs.declared.optional.OptionalKey.TheVariants.{Ring, Flaky, Record}
-use Rattle.pos_profile.specs.declared.reading.Numbers.{Numbers}
 use Rattle.pos_profile.specs.declared.variation.Variation.{Variation}
-use Rattle.pos_profile.specs.Entries.{entry_with, flaky_of, truth_of, variation_of}
+use Rattle.pos_profile.specs.declared.entry.Entry.{Entry}
+use Rattle.pos_profile.specs.Entries.{flaky_of, truth_of, variation_of}
 use Rattle.pos_profile.specs.OptionalKeys.{has_option, key_of_option, most_orders}
 use Rattle.pos_profile.specs.Soundness.{AreOrders, differs_by}
 use Rattle.pos_profile.specs.Tables.{array_in, failing_number, failing_in, flaky_at, flaky_in, number_within, truth_at}
@@ -26,34 +26,31 @@ has_orders true read found is differs = refl
 has_orders false read None is differs = absurd (false≢true differs)
 has_orders false read (Some orders) is differs = absurd (none-some orders (same_Some None (Some orders) is))
 
--- what the three optional keys of an entry give
-record AreRead (category : Category) (table : Members) (variation : Variation) : Type 0 where
-  ring : truth_of category Ring table ≡ Some variation.ring
-  flaky : flaky_of category table ≡ Some variation.flaky
-  recorded : truth_of category Record table ≡ Some variation.recorded
+-- optional keys that are read are those of the whole
+options_read : (ring : Option Bool) (flaky : Option (Option (ℕ × ℕ))) (recorded : Option Bool) (variation : Variation)
+    → option_and_then (λ r. option_and_then (λ f. option_and_then (λ c. Some (record { ring = r; flaky = f; recorded = c })) recorded) flaky) ring
+    ≡ Some variation → (ring ≡ Some variation.ring) × (flaky ≡ Some variation.flaky) × (recorded ≡ Some variation.recorded)
+options_read (Some r) (Some f) (Some c) variation is = (cc, cc, cc)
+options_read _ _ _ variation is = absurd cc
 
-are_read : (category : Category) (table : Members) (variation : Variation) → variation_of category table ≡ Some variation → AreRead category table variation
-are_read category table variation is =
-    option_and_then_some (λ ring. option_and_then
-    (λ flaky. option_and_then (λ recorded. Some (record { ring = ring; flaky = flaky; recorded = recorded })) (truth_of category Record table))
-    (flaky_of category table)) (truth_of category Ring table) variation is (λ ring has_ring rest.
-    option_and_then_some (λ flaky. option_and_then (λ recorded. Some (record { ring = ring; flaky = flaky; recorded = recorded }))
-    (truth_of category Record table)) (flaky_of category table) variation rest (λ flaky has_flaky last.
-    option_and_then_some (λ recorded. Some (record { ring = ring; flaky = flaky; recorded = recorded }))
-    (truth_of category Record table) variation last (λ recorded has_record made.
-    subst (AreRead category table) (same_Some (record { ring = ring; flaky = flaky; recorded = recorded }) variation made)
-    (record { ring = has_ring; flaky = has_flaky; recorded = has_record }))))
+are_read : (category : Category) (table : Members) (variation : Variation) → variation_of category table ≡ Some variation
+    → (truth_of category Ring table ≡ Some variation.ring) × (flaky_of category table ≡ Some variation.flaky)
+    × (truth_of category Record table ≡ Some variation.recorded)
+are_read category table variation is = options_read (truth_of category Ring table) (flaky_of category table) (truth_of category Record table) variation is
+
+-- how an entry's device differs from a plain one
+abbrev pub variation_in : Entry → Variation
+variation_in entry = record { ring = entry.ring; flaky = entry.flaky; recorded = entry.recorded }
 
 -- a device differs from a plain one by keys of its category alone
-pub options_sound : (category : Category) (table : Members) (name : List ℕ) (numbers : Numbers) (variation : Variation)
-    → variation_of category table ≡ Some variation
-    → (key : OptionalKey) → differs_by (entry_with category name numbers variation) key ≡ true → has_option category key ≡ true
-options_sound category table name numbers variation is Ring =
-    has_truth (has_option category Ring) (truth_at Ring table) variation.ring (are_read category table variation is).ring
-options_sound category table name numbers variation is Flaky =
-    has_orders (has_option category Flaky) (flaky_at table) variation.flaky (are_read category table variation is).flaky
-options_sound category table name numbers variation is Record =
-    has_truth (has_option category Record) (truth_at Record table) variation.recorded (are_read category table variation is).recorded
+pub options_sound : (table : Members) (entry : Entry) → variation_of entry.category table ≡ Some (variation_in entry)
+    → (key : OptionalKey) → differs_by entry key ≡ true → has_option entry.category key ≡ true
+options_sound table entry is Ring =
+    has_truth (has_option entry.category Ring) (truth_at Ring table) entry.ring (are_read entry.category table (variation_in entry) is).0
+options_sound table entry is Flaky =
+    has_orders (has_option entry.category Flaky) (flaky_at table) entry.flaky (are_read entry.category table (variation_in entry) is).1
+options_sound table entry is Record =
+    has_truth (has_option entry.category Record) (truth_at Record table) entry.recorded (are_read entry.category table (variation_in entry) is).2
 
 -- a number of failing orders is within its range
 orders_within : (value : Data) (number : ℕ) → failing_number value ≡ Some number → number ≤ most_orders
@@ -91,4 +88,4 @@ chosen_within false table flaky is = subst (λ (f : Option (ℕ × ℕ)). IfSome
 pub orders_sound : (category : Category) (table : Members) (variation : Variation) → variation_of category table ≡ Some variation
     → IfSome variation.flaky AreOrders
 orders_sound category table variation is =
-    chosen_within (has_option category Flaky) table variation.flaky (are_read category table variation is).flaky
+    chosen_within (has_option category Flaky) table variation.flaky (are_read category table variation is).1

@@ -2,7 +2,6 @@
 use Rattle.std.specs.Prelude.{◌≡◌, ℕ, List, Option, Some, None, Bool, true, false, Result, Ok, Err, option_and_then, if◌then◌else◌}
 use Rattle.toml.specs.Data.{Data, Members, as_table}
 use Rattle.pos_service.specs.declared.category.Category.{Category}
-use Rattle.pos_service.specs.declared.category.Category.TheVariants.{LineDisplay, PosPrinter}
 use Rattle.pos_profile.specs.declared.entry.Entry.{Entry}
 use Rattle.pos_profile.specs.declared.number.NumberKey.{NumberKey}
 use Rattle.pos_profile.specs.declared.number.NumberKey.TheVariants.{Rows, Columns, Chars, Lines, Near}
@@ -20,34 +19,33 @@ use Rattle.pos_profile.specs.Tables.{category_for, flaky_at, has_only, is_key, n
 abbrev pub no_numbers : Numbers
 no_numbers = record { rows = 0; columns = 0; chars = 0; lines = 0; near = 0 }
 
--- the numbers of a display
-abbrev pub display_numbers : Members → Option Numbers
-display_numbers table =
-    option_and_then (λ rows. option_and_then (λ columns.
-    Some (record no_numbers { rows = rows; columns = columns }))
-    (number_at Columns table))
-    (number_at Rows table)
+-- a number of a category, where it is there and in its range; 0 where the category doesn't have it
+abbrev pub number_of : Category → Members → NumberKey → Option ℕ
+number_of category table key = if has_number category key then number_at key table else Some 0
 
--- the numbers of a printer
-abbrev pub printer_numbers : Members → Option Numbers
-printer_numbers table =
-    option_and_then (λ chars. option_and_then (λ lines. option_and_then (λ near.
-    Some (record no_numbers { chars = chars; lines = lines; near = near }))
-    (number_at Near table))
-    (number_at Lines table))
-    (number_at Chars table)
-
--- the numbers that a category has, where each is there and in its range
+-- the numbers of an entry, where each that its category has is there and in its range
 abbrev pub numbers_of : Category → Members → Option Numbers
-numbers_of LineDisplay table = display_numbers table
-numbers_of PosPrinter table = printer_numbers table
-numbers_of _ table = Some no_numbers
+numbers_of category table =
+    option_and_then (λ rows. option_and_then (λ columns. option_and_then (λ chars. option_and_then (λ lines.
+    option_and_then (λ near.
+    Some (record { rows = rows; columns = columns; chars = chars; lines = lines; near = near }))
+    (number_of category table Near))
+    (number_of category table Lines))
+    (number_of category table Chars))
+    (number_of category table Columns))
+    (number_of category table Rows)
 
 -- a number that the category has is missing or not in its range
 pub record IsBadNumber (category : Category) (table : Members) (number : NumberKey) : Type 0 where
   pub has : has_number category number ≡ true
   pub bad : number_at number table ≡ None
   pub unsound : numbers_of category table ≡ None
+
+-- a number is read, or the category has it, and it is missing or not in its range
+abbrev pub ReadsNumber : Category → NumberKey → Members → Result ℕ NumberKey → Type 0
+ReadsNumber category key table (Ok number) = number_of category table key ≡ Some number
+ReadsNumber category key table (Err bad) =
+    (bad ≡ key) × (has_number category key ≡ true) × (number_at key table ≡ None)
 
 -- the numbers are read, or one is bad
 abbrev pub ReadsNumbers : Category → Members → Result Numbers NumberKey → Type 0

@@ -1,5 +1,6 @@
 -- The numbers of a profile's entries: their keys, their ranges, and which a category has (docs/PROFILE.md).
-use Rattle.std.specs.Prelude.{ℕ, List, Bool, true, false, ◌||◌, codes, bytes_eq}
+use Rattle.std.specs.Prelude.{ℕ, List, [], ◌∷◌, Bool, true, false, ◌&&◌, codes, bytes_eq}
+use Rattle.std.specs.List.{list_any}
 use Rattle.pos_service.specs.declared.category.Category.{Category}
 use Rattle.pos_service.specs.declared.category.Category.TheVariants.{LineDisplay, PosPrinter}
 use Rattle.pos_profile.specs.declared.number.NumberKey.{NumberKey}
@@ -38,9 +39,11 @@ has_number PosPrinter Lines = true
 has_number PosPrinter Near = true
 has_number _ number = false
 
+-- all numbers
+abbrev pub all_numbers : List NumberKey
+all_numbers = Rows ∷ Columns ∷ Chars ∷ Lines ∷ Near ∷ []
+
 -- entries of a category have a number of this key
 abbrev pub is_number_key : Category → List ℕ → Bool
-is_number_key LineDisplay key = bytes_eq key (key_of_number Rows) || bytes_eq key (key_of_number Columns)
-is_number_key PosPrinter key =
-    (bytes_eq key (key_of_number Chars) || bytes_eq key (key_of_number Lines)) || bytes_eq key (key_of_number Near)
-is_number_key _ key = false
+is_number_key category key =
+    list_any (λ number. has_number category number && bytes_eq key (key_of_number number)) all_numbers

@@ -1,5 +1,6 @@
 -- The keys that a profile's entries may have or lack: which a category has, and their values (docs/PROFILE.md).
-use Rattle.std.specs.Prelude.{ℕ, List, Bool, true, false, ◌||◌, codes, bytes_eq}
+use Rattle.std.specs.Prelude.{ℕ, List, [], ◌∷◌, Bool, true, false, ◌&&◌, codes, bytes_eq}
+use Rattle.std.specs.List.{list_any}
 use Rattle.pos_service.specs.declared.category.Category.{Category}
 use Rattle.pos_service.specs.declared.category.Category.TheVariants.{LineDisplay, HardTotals}
 use Rattle.pos_profile.specs.declared.optional.OptionalKey.{OptionalKey}
@@ -27,12 +28,11 @@ has_option LineDisplay key = true
 has_option HardTotals key = false
 has_option _ key = is_shared key
 
--- a key that every device with a peripheral may have
-abbrev pub is_shared_key : List ℕ → Bool
-is_shared_key key = bytes_eq key (key_of_option Flaky) || bytes_eq key (key_of_option Record)
+-- all optional keys
+abbrev pub all_options : List OptionalKey
+all_options = Ring ∷ Flaky ∷ Record ∷ []
 
 -- entries of a category may have an optional key that is spelt so
 abbrev pub is_option_key : Category → List ℕ → Bool
-is_option_key LineDisplay key = bytes_eq key (key_of_option Ring) || is_shared_key key
-is_option_key HardTotals key = false
-is_option_key _ key = is_shared_key key
+is_option_key category key =
+    list_any (λ option. has_option category option && bytes_eq key (key_of_option option)) all_options

@@ -1,34 +1,22 @@
 ghost use Rattle.std.specs.Prelude.{◌≡◌, IfOk};
 ghost use Rattle.pos_profile.specs.Built.{built, built_devices, built_spares};
 
+use crate::category::{ALL_CATEGORIES, SPARE_CATEGORY, built_device};
 use crate::entry::Entry;
 use crate::profile::Profile;
-use crate::reading::{NO_NUMBERS, Numbers, named_entry};
+use crate::reading::{NO_NUMBERS, named_entry};
 use crate::variation::PLAIN;
-use pos_service::{Category, NoMemory};
+use pos_service::NoMemory;
 use std::alloc::Global;
 
-/// The built devices.
+/// The built devices, one of each category.
 fn make_devices(alloc: Global) -> Result<Vec<Entry>, NoMemory>
     ensures { IfOk result (λ devices. devices.items ≡ built_devices) }
 {
-    let size = Numbers {
-        rows: 2,
-        columns: 4,
-        ..NO_NUMBERS
-    };
-    let roll = Numbers {
-        chars: 8,
-        lines: 5,
-        near: 2,
-        ..NO_NUMBERS
-    };
-    let mut devices = Vec::with_capacity(alloc, 5)?;
-    devices.push_reserved(named_entry(alloc, Category::CashDrawer, "d1", NO_NUMBERS, PLAIN)?);
-    devices.push_reserved(named_entry(alloc, Category::Scanner, "s1", NO_NUMBERS, PLAIN)?);
-    devices.push_reserved(named_entry(alloc, Category::LineDisplay, "p1", size, PLAIN)?);
-    devices.push_reserved(named_entry(alloc, Category::PosPrinter, "r1", roll, PLAIN)?);
-    devices.push_reserved(named_entry(alloc, Category::HardTotals, "t1", NO_NUMBERS, PLAIN)?);
+    let mut devices = Vec::with_capacity(alloc, ALL_CATEGORIES.len())?;
+    for category in ALL_CATEGORIES {
+        devices.push_reserved(built_device(alloc, category)?);
+    }
     Ok(devices)
 }
 
@@ -37,7 +25,7 @@ fn make_spares(alloc: Global) -> Result<Vec<Entry>, NoMemory>
     ensures { IfOk result (λ spares. spares.items ≡ built_spares) }
 {
     let mut spares = Vec::with_capacity(alloc, 1)?;
-    spares.push_reserved(named_entry(alloc, Category::CashDrawer, "", NO_NUMBERS, PLAIN)?);
+    spares.push_reserved(named_entry(alloc, SPARE_CATEGORY, "", NO_NUMBERS, PLAIN)?);
     Ok(spares)
 }
 

@@ -1,6 +1,7 @@
 ghost use Rattle.std.specs.Prelude.{◌≡◌};
 ghost use Rattle.pos_profile.specs.Kinds.{kind_of};
 
+use crate::category::kind_with;
 use crate::text::Text;
 use pos_service::{Category, Kind};
 
@@ -36,18 +37,6 @@ impl Entry {
     pub fn kind(&self) -> Option<Kind>
         ensures { result ≡ kind_of self.now }
     {
-        match self.category {
-            Category::CashDrawer => Some(Kind::Drawer),
-            Category::Scanner => Some(Kind::Scanner),
-            Category::LineDisplay => Some(Kind::Display {
-                rows: self.rows,
-                columns: self.columns,
-            }),
-            Category::PosPrinter => Some(Kind::Printer {
-                chars: self.chars,
-                near: self.near,
-            }),
-            Category::HardTotals => None,
-        }
+        kind_with(self.category, self)
     }
 }

@@ -1,5 +1,7 @@
 ghost use Rattle.std.specs.Prelude.{◌≡◌};
-ghost use Rattle.pos_profile.specs.Numbers.{key_of_number, least_of, most_of};
+ghost use Rattle.pos_profile.specs.Numbers.{has_number, key_of_number, least_of, most_of};
+
+use pos_service::Category;
 
 /// A number of a display or of a printer.
 #[derive(Clone, Copy, PartialEq, Eq)]
@@ -16,7 +18,28 @@ pub enum NumberKey {
     Near,
 }
 
+/// All numbers.
+pub(crate) const ALL_NUMBERS: [NumberKey; 5] = [
+    NumberKey::Rows,
+    NumberKey::Columns,
+    NumberKey::Chars,
+    NumberKey::Lines,
+    NumberKey::Near,
+];
+
 impl NumberKey {
+    /// Whether entries of a category have it: a display its rows and columns, a printer the others.
+    pub(crate) fn is_of(self, category: Category) -> bool
+        ensures { result ≡ has_number category self }
+    {
+        match self {
+            NumberKey::Rows | NumberKey::Columns => category == Category::LineDisplay,
+            NumberKey::Chars | NumberKey::Lines | NumberKey::Near => {
+                category == Category::PosPrinter
+            }
+        }
+    }
+
     /// The key of an entry at which it stands.
     pub fn key(self) -> &'static str
         ensures { result.now ≡ key_of_number self }

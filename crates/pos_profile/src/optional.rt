@@ -14,6 +14,13 @@ pub enum OptionalKey {
     Record,
 }
 
+/// All optional keys.
+pub(crate) const ALL_OPTIONS: [OptionalKey; 3] = [
+    OptionalKey::Ring,
+    OptionalKey::Flaky,
+    OptionalKey::Record,
+];
+
 impl OptionalKey {
     /// The key of an entry at which it stands.
     pub fn key(self) -> &'static str

@@ -1,8 +1,7 @@
 //! An entry of a profile, read from a value.
 ghost use Rattle.std.specs.Prelude.{◌≡◌, IfOk, option_copied};
 ghost use Rattle.toml.specs.View.{view, table_view};
-ghost use Rattle.pos_service.specs.declared.category.Category.TheVariants.{LineDisplay, PosPrinter};
-ghost use Rattle.pos_profile.specs.Entries.{ReadsNumbers, entry_with};
+ghost use Rattle.pos_profile.specs.Entries.{ReadsNumber, ReadsNumbers, entry_with};
 ghost use Rattle.pos_profile.specs.Mistakes.{ReadsTable, ReadsValue};
 ghost use Rattle.pos_profile.specs.Tables.{category_for, name_for};
 
@@ -71,51 +70,31 @@ pub(crate) const NO_NUMBERS: Numbers = Numbers {
     near: 0,
 };
 
-fn display_numbers(table: &Table) -> Result<Numbers, NumberKey>
-    ensures { ReadsNumbers LineDisplay (table_view table.now) result }
+fn number_of(category: Category, key: NumberKey, table: &Table) -> Result<u32, NumberKey>
+    ensures { ReadsNumber category key (table_view table.now) result }
 {
-    let Some(rows) = number_at(table, NumberKey::Rows) else {
-        return Err(NumberKey::Rows);
-    };
-    let Some(columns) = number_at(table, NumberKey::Columns) else {
-        return Err(NumberKey::Columns);
-    };
-    Ok(Numbers {
-        rows,
-        columns,
-        ..NO_NUMBERS
-    })
-}
-
-fn printer_numbers(table: &Table) -> Result<Numbers, NumberKey>
-    ensures { ReadsNumbers PosPrinter (table_view table.now) result }
-{
-    let Some(chars) = number_at(table, NumberKey::Chars) else {
-        return Err(NumberKey::Chars);
-    };
-    let Some(lines) = number_at(table, NumberKey::Lines) else {
-        return Err(NumberKey::Lines);
-    };
-    let Some(near) = number_at(table, NumberKey::Near) else {
-        return Err(NumberKey::Near);
-    };
-    Ok(Numbers {
-        chars,
-        lines,
-        near,
-        ..NO_NUMBERS
-    })
+    if !key.is_of(category) {
+        return Ok(0);
+    }
+    number_at(table, key).ok_or(key)
 }
 
 /// The numbers that a category has, or the first that is missing or not in its range.
 fn numbers_of(category: Category, table: &Table) -> Result<Numbers, NumberKey>
     ensures { ReadsNumbers category (table_view table.now) result }
 {
-    match category {
-        Category::LineDisplay => display_numbers(table),
-        Category::PosPrinter => printer_numbers(table),
-        _ => Ok(NO_NUMBERS),
-    }
+    let rows = number_of(category, NumberKey::Rows, table)?;
+    let columns = number_of(category, NumberKey::Columns, table)?;
+    let chars = number_of(category, NumberKey::Chars, table)?;
+    let lines = number_of(category, NumberKey::Lines, table)?;
+    let near = number_of(category, NumberKey::Near, table)?;
+    Ok(Numbers {
+        rows,
+        columns,
+        chars,
+        lines,
+        near,
+    })
 }
 
 /// The entry of a category with a copy of this name and these numbers, whose device differs so from a plain one.

@@ -3,11 +3,11 @@ ghost use Rattle.std.specs.Prelude.{◌≡◌, map, option_map, option_copied};
 ghost use Rattle.toml.specs.Data.{get_member};
 ghost use Rattle.toml.specs.View.{view, table_view};
 ghost use Rattle.pos_profile.specs.Numbers.{is_number_key};
-ghost use Rattle.pos_profile.specs.OptionalKeys.{is_option_key, is_shared_key, most_orders};
+ghost use Rattle.pos_profile.specs.OptionalKeys.{is_option_key, most_orders};
 ghost use Rattle.pos_profile.specs.Tables.{FindsUnknown, array_in, failing_number, failing_in, flaky_at, is_category_key, is_key, is_list, number_at, number_within, text_at, truth_at, values_at};
 
-use crate::number::NumberKey;
-use crate::optional::OptionalKey;
+use crate::number::{ALL_NUMBERS, NumberKey};
+use crate::optional::{ALL_OPTIONS, OptionalKey};
 use crate::role::Role;
 use pos_service::Category;
 use toml::{Table, Value};
@@ -115,29 +115,18 @@ pub(crate) fn flaky_at(table: &Table) -> Option<Option<(u32, u32)>>
 fn is_number_key(category: Category, key: &str) -> bool
     ensures { result ≡ is_number_key category key.now }
 {
-    match category {
-        Category::LineDisplay => key == "rows" || key == "columns",
-        Category::PosPrinter => key == "chars" || key == "lines" || key == "near",
-        _ => false,
-    }
-}
-
-/// Whether each device with a peripheral may have this optional key.
-fn is_shared_key(key: &str) -> bool
-    ensures { result ≡ is_shared_key key.now }
-{
-    key == "flaky" || key == "record"
+    ALL_NUMBERS
+        .iter()
+        .any(|number| number.is_of(category) && key == number.key())
 }
 
 /// Whether entries of a category may have this optional key.
 fn is_option_key(category: Category, key: &str) -> bool
     ensures { result ≡ is_option_key category key.now }
 {
-    match category {
-        Category::LineDisplay => key == "ring" || is_shared_key(key),
-        Category::HardTotals => false,
-        _ => is_shared_key(key),
-    }
+    ALL_OPTIONS
+        .iter()
+        .any(|option| option.is_of(category) && key == option.key())
 }
 
 /// Whether entries of a category may have this number or this optional key.

@@ -10,12 +10,11 @@ use Rattle.std.proofs.lemmas.Slice.Eq.{bytes_eq-Decides}
 use Rattle.pos_profile.specs.declared.entry.Entry.{Entry}
 use Rattle.pos_service.specs.declared.exchange_fault.AttachFault.{AttachFault}
 use Rattle.pos_service.specs.declared.exchange_fault.AttachFault.TheVariants as attach
-use Rattle.pos_profile.specs.Kinds.{kind_of, kind_with}
+use Rattle.std.specs.Option.{option_map}
+use Rattle.pos_profile.specs.Kinds.{kind_of}
 use Rattle.pos_profile.specs.Profiles.{is_repeated, names_of, stands_after}
 use Rattle.pos_profile.specs.Registries.{vacant_devices}
 use Rattle.pos_profile.proofs.ListLemmas.{name_at}
-use Rattle.pos_service.specs.declared.category.Category.{Category}
-use Rattle.pos_service.specs.declared.category.Category.TheVariants.{CashDrawer, Scanner, LineDisplay, PosPrinter, HardTotals}
 use Rattle.pos_service.specs.declared.kind.Kind.{Kind}
 use Rattle.pos_service.specs.Peripherals.{PeripheralState}
 use Rattle.pos_service.specs.Hardware.{Hardware, hardware_of}
@@ -26,7 +25,7 @@ use Rattle.pos_counter.specs.Steps.{Response, Step, Attach, Attached, NotAttache
 use Rattle.pos_counter.specs.Steps.{Worked, Detached, NotDetached, OutOfMemory}
 use Rattle.pos_counter.specs.Totals.{TotalsPart}
 use Rattle.pos_run.specs.Running.{begun_with, device_with}
-use Rattle.pos_run.specs.Simulating.{device_for, simulated_devices, simulated_for, simulated_with}
+use Rattle.pos_run.specs.Simulating.{device_for, simulated_devices, simulated_for, new_device}
 use Rattle.pos_run.proofs.Profiling.{one_more}
 
 -- what two options have, where they are the same
@@ -164,22 +163,14 @@ there_behind : (front : List Device) (device : Device) (back : List Device) → 
 there_behind [] device back = refl
 there_behind (first ∷ front) device back = there_behind front device back
 
--- what is simulated for an entry is of its kind
-kind_fits : (category : Category) (entry : Entry) (state : PeripheralState) → simulated_with category entry ≡ Some state
-    → kind_with category entry ≡ Some state.kind
-kind_fits CashDrawer entry state is = ap (λ (s : PeripheralState). Some s.kind) (the_same is)
-kind_fits Scanner entry state is = ap (λ (s : PeripheralState). Some s.kind) (the_same is)
-kind_fits LineDisplay entry state is = ap (λ (s : PeripheralState). Some s.kind) (the_same is)
-kind_fits PosPrinter entry state is = ap (λ (s : PeripheralState). Some s.kind) (the_same is)
-kind_fits HardTotals entry state is = cc
+-- what is simulated of a kind is of that kind, and there is nothing only where there is no kind
+kind_fits : (kind : Option Kind) (lines : ℕ) (state : PeripheralState) → option_map (λ is. new_device is lines) kind ≡ Some state → kind ≡ Some state.kind
+kind_fits None lines state is = absurd cc
+kind_fits (Some kind) lines state is = ap (λ (s : PeripheralState). Some s.kind) (the_same is)
 
--- only Hard Totals have nothing simulated
-no_kind : (category : Category) (entry : Entry) → simulated_with category entry ≡ None → kind_with category entry ≡ None
-no_kind CashDrawer entry is = cc
-no_kind Scanner entry is = cc
-no_kind LineDisplay entry is = cc
-no_kind PosPrinter entry is = cc
-no_kind HardTotals entry is = refl
+no_kind : (kind : Option Kind) (lines : ℕ) → option_map (λ is. new_device is lines) kind ≡ None → kind ≡ None
+no_kind None lines is = refl
+no_kind (Some kind) lines is = absurd cc
 
 -- the name of an entry isn't that of an earlier one
 unnamed_before : (entries : List Entry) (i : ℕ) (entry : Entry) → i < length entries → entry ≡ get_or entries i entry
@@ -208,7 +199,7 @@ module _ (entries : List Entry) (i : ℕ) (entry : Entry) (lt : i < length entri
   -- Hard Totals are served by nothing
   pub skips : (part : TotalsPart) → simulated_for entry ≡ None → begun_partly entries i part ≡ begun_partly entries (i + 1) part
   skips part simulated =
-      let none : kind_of entry ≡ None = no_kind entry.category entry simulated in
+      let none : kind_of entry ≡ None = no_kind (kind_of entry) entry.lines simulated in
       let nothing : filter_map served (entry ∷ []) ≡ [] = rw none refl in
       let same : filter_map unserved (entry ∷ drop (i + 1) entries) ≡ filter_map unserved (drop (i + 1) entries) = rw none refl in
       let more : front ≡ filter_map served (take (i + 1) entries) = sym (served_more ∙ ap (λ (ds : List Device). front ++ ds) nothing ∙ append-nil front) in
@@ -221,13 +212,13 @@ module _ (entries : List Entry) (i : ℕ) (entry : Entry) (lt : i < length entri
       → is_repeated (names_of entries) i ≡ false → old ≡ begun_partly entries i part → Step old (Attach entry.name (hardware_of state)) response new
       → new ≡ begun_partly entries (i + 1) part
   serves_more part old new state response simulated single begun step =
-      let kind : kind_of entry ≡ Some state.kind = kind_fits entry.category entry state simulated in
+      let kind : kind_of entry ≡ Some state.kind = kind_fits (kind_of entry) entry.lines state simulated in
       let vacant = device_with entry.name state.kind None in
       let full = device_with entry.name state.kind (Some state) in
       let over = λ (ds : List Device). machine_with [] (replicate (length (profile_devices entries)) None) ds part in
       let taken : filter_map unserved (entry ∷ drop (i + 1) entries) ≡ vacant ∷ filter_map unserved (drop (i + 1) entries) = rw kind refl in
       let one : filter_map served (entry ∷ []) ≡ full ∷ [] =
-      rw kind (ap (λ (s : Option PeripheralState). device_with entry.name state.kind s ∷ []) simulated) in
+      rw kind (ap (λ (s : Option PeripheralState). device_with entry.name state.kind s ∷ []) (rw kind at simulated)) in
       let whole : partly (take i entries) (drop i entries) totals ≡ front ++ vacant ∷ back =
       ap (λ (ds : List Device). front ++ (ds ++ totals_devices totals)) (ap (filter_map unserved) one_less ∙ taken) in
       let before : old ≡ over (front ++ vacant ∷ back) = begun ∙ ap over whole in

@@ -1,11 +1,11 @@
 -- The entries of a profile, what is simulated for them in its wrappers, and the spares.
-use Rattle.std.proofs.Common.{◌≡◌, ◌∙◌, ◌<◌, ◌≤◌, ◌+◌, ◌-◌, ◌^◌, ◌∷◌, ◌++◌, [], ℕ, Bool, true, false, List, Option, Some, None, All, IfSome, get_or, length}
+use Rattle.std.proofs.Common.{◌≡◌, ◌∙◌, ◌<◌, ◌≤◌, ◌+◌, ◌-◌, ◌^◌, ◌∷◌, ◌++◌, [], ℕ, Bool, true, false, List, Option, Some, None, All, get_or, length}
 use Rattle.std.proofs.Common.{min, take, refl, sym, ap, subst, arith}
 use Rattle.std.proofs.lemmas.List.{map-append, take_more}
 use Rattle.std.proofs.lemmas.List.Elements.{All-map}
-use Rattle.std.proofs.lemmas.Option.{none-some, same_Some}
+use Rattle.std.proofs.lemmas.Option.{same_Some}
 use Rattle.pos_service.specs.declared.category.Category.{Category}
-use Rattle.pos_service.specs.declared.category.Category.TheVariants.{CashDrawer, Scanner, LineDisplay, PosPrinter, HardTotals}
+use Rattle.pos_service.specs.declared.category.Category.TheVariants.{PosPrinter}
 use Rattle.pos_service.specs.declared.kind.Kind.{Kind}
 use Rattle.pos_service.specs.declared.plant.Plant.{Plant}
 use Rattle.pos_service.specs.Peripherals.{PeripheralState}
@@ -13,12 +13,14 @@ use Rattle.pos_profile.specs.declared.entry.Entry.{Entry}
 use Rattle.pos_profile.specs.declared.number.NumberKey.TheVariants.{Lines}
 use Rattle.pos_profile.specs.declared.role.Role.{Role}
 use Rattle.pos_profile.specs.declared.optional.OptionalKey.TheVariants.{Ring}
+use Rattle.pos_profile.specs.Kinds.{kind_of}
 use Rattle.pos_profile.specs.Numbers.{has_number}
+use Rattle.std.specs.Option.{option_map}
 use Rattle.pos_profile.specs.OptionalKeys.{has_option}
 use Rattle.pos_profile.specs.Soundness.{IsInItsRange, IsSoundEntry}
 use Rattle.pos_run.specs.declared.simulation.Simulation.{Simulation}
 use Rattle.pos_run.specs.declared.wrapped.Wrapped.{Wrapped}
-use Rattle.pos_run.specs.Simulating.{HoldsOnlyIf, IsDeviceFor, IsSimulable, IsSimulatedFor, simulated_all, simulated_for, simulated_with, state_of, wrapped_by}
+use Rattle.pos_run.specs.Simulating.{HoldsOnlyIf, IsDeviceFor, IsSimulable, IsSimulatedFor, simulated_all, simulated_for, new_device, state_of, wrapped_by}
 use Rattle.pos_run.specs.Simulating.{wrapped_state}
 use Rattle.pos_run.specs.Spares.{IsInService}
 
@@ -35,41 +37,31 @@ module _ (entries : List Entry) (i : ℕ) (entry : Entry) (lt : i < length entri
       ∙ ap (λ (s : Option PeripheralState). simulated_all (take i entries) ++ s ∷ []) same
       ∙ sym (map-append simulated_for (take i entries) (entry ∷ [])) ∙ ap simulated_all (sym one_more)
 
--- what is simulated is in service
-serves : (category : Category) (entry : Entry) → IsInService (simulated_with category entry)
-serves CashDrawer entry = refl
-serves Scanner entry = refl
-serves LineDisplay entry = refl
-serves PosPrinter entry = refl
-serves HardTotals entry = tt
+-- what is simulated is in service, and was given no order yet
+new_serves : (kind : Option Kind) (lines : ℕ) → IsInService (option_map (λ is. new_device is lines) kind)
+new_serves None lines = tt
+new_serves (Some kind) lines = refl
+
+new_is_fresh : (kind : Option Kind) (lines : ℕ) (state : PeripheralState) → Some state ≡ option_map (λ is. new_device is lines) kind → state.orders ≡ 0
+new_is_fresh None lines state is = absurd cc
+new_is_fresh (Some kind) lines state is = ap (λ (s : PeripheralState). s.orders) (same_Some state (new_device kind lines) is)
 
 pub state_serves : (entry : Entry) (state : PeripheralState) → Some state ≡ simulated_for entry → state.is_parked ≡ false
-state_serves entry state is = subst IsInService (sym is) (serves entry.category entry)
-
--- and was given no order yet
-is_fresh : (category : Category) (entry : Entry) → IfSome (simulated_with category entry) (λ state. state.orders ≡ 0)
-is_fresh CashDrawer entry = refl
-is_fresh Scanner entry = refl
-is_fresh LineDisplay entry = refl
-is_fresh PosPrinter entry = refl
-is_fresh HardTotals entry = tt
+state_serves entry state is = subst IsInService (sym is) (new_serves (kind_of entry) entry.lines)
 
 pub state_is_fresh : (entry : Entry) (state : PeripheralState) → Some state ≡ simulated_for entry → state.orders ≡ 0
-state_is_fresh entry state is = subst (λ simulated. IfSome simulated (λ state. state.orders ≡ 0)) (sym is) (is_fresh entry.category entry)
+state_is_fresh entry state is = new_is_fresh (kind_of entry) entry.lines state is
 
 pub device_serves : (entry : Entry) (device : Simulation) → Some (state_of device) ≡ simulated_for entry → (state_of device).is_parked ≡ false
 device_serves entry device is = state_serves entry (state_of device) is
 
 pub all_serve : (entries : List Entry) → All IsInService (simulated_all entries)
-all_serve entries = All-map IsInService simulated_for entries (λ k entry lt. serves (get_or entries k entry).category (get_or entries k entry))
+all_serve entries = All-map IsInService simulated_for entries (λ k entry lt. new_serves (kind_of (get_or entries k entry)) (get_or entries k entry).lines)
 
 -- the lines of paper are in their range
 lines_within : (category : Category) (lines : ℕ) → IsInItsRange Lines (has_number category Lines) lines → lines ≤ 100000
-lines_within CashDrawer lines none = omega (arith, none)
-lines_within Scanner lines none = omega (arith, none)
-lines_within LineDisplay lines none = omega (arith, none)
 lines_within PosPrinter lines within = within.1
-lines_within HardTotals lines none = omega (arith, none)
+lines_within _ lines none = omega (arith, none)
 
 -- an entry has a ring only where its category may have one
 only_if : (may holds : Bool) → (holds ≡ true → may ≡ true) → HoldsOnlyIf may holds
@@ -108,24 +100,19 @@ same_behind None false kind plant is_parked = refl
 same_behind None true kind plant is_parked = refl
 same_behind (Some asks) recorded kind plant is_parked = refl
 
-begins_behind : (flaky : Option (ℕ × ℕ)) (recorded : Bool) (category : Category) (entry : Entry) (state : PeripheralState)
-    → simulated_with category entry ≡ Some state → behind flaky recorded state ≡ state
-begins_behind flaky recorded CashDrawer entry state is =
-    subst (λ (s : PeripheralState). behind flaky recorded s ≡ s) (same_Some _ state is) (same_behind flaky recorded _ _ false)
-begins_behind flaky recorded Scanner entry state is =
-    subst (λ (s : PeripheralState). behind flaky recorded s ≡ s) (same_Some _ state is) (same_behind flaky recorded _ _ false)
-begins_behind flaky recorded LineDisplay entry state is =
-    subst (λ (s : PeripheralState). behind flaky recorded s ≡ s) (same_Some _ state is) (same_behind flaky recorded _ _ false)
-begins_behind flaky recorded PosPrinter entry state is =
-    subst (λ (s : PeripheralState). behind flaky recorded s ≡ s) (same_Some _ state is) (same_behind flaky recorded _ _ false)
-begins_behind flaky recorded HardTotals entry state is = absurd (none-some state is)
+begins_behind : (flaky : Option (ℕ × ℕ)) (recorded : Bool) (kind : Option Kind) (lines : ℕ) (state : PeripheralState)
+    → Some state ≡ option_map (λ is. new_device is lines) kind → behind flaky recorded state ≡ state
+begins_behind flaky recorded None lines state is = absurd cc
+begins_behind flaky recorded (Some kind) lines state is =
+    subst (λ (s : PeripheralState). behind flaky recorded s ≡ s) (sym (same_Some state (new_device kind lines) is))
+    (same_behind flaky recorded kind (new_device kind lines).plant false)
 
 -- what an entry's wrappers have in them is what is simulated for it
 pub wrapped_begins : (entry : Entry) (device : Simulation) → Some (state_of device) ≡ simulated_for entry
     → Some (wrapped_state (wrapped_by entry.flaky entry.recorded device)) ≡ simulated_for entry
 wrapped_begins entry device is =
     ap (λ (s : PeripheralState). Some s)
-    (is_behind entry.flaky entry.recorded device ∙ begins_behind entry.flaky entry.recorded entry.category entry (state_of device) (sym is)) ∙ is
+    (is_behind entry.flaky entry.recorded device ∙ begins_behind entry.flaky entry.recorded (kind_of entry) entry.lines (state_of device) is) ∙ is
 
 module _ (entry : Entry) (device : Simulation) (made : Wrapped) (simulates : IsDeviceFor entry (Some device))
     (is : made ≡ wrapped_by entry.flaky entry.recorded device) where

@@ -1,19 +1,21 @@
 -- What is simulated for the entries of a profile (docs/CONSOLE.md, "The program").
 use Rattle.std.specs.Prelude.{◌≡◌, ◌≤◌, ◌⊎◌, ◌++◌, ℕ, Bool, true, false, List, Option, Some, None, Result, Err, IfSome, map, option_map, ⊤}
-use Rattle.pos_service.specs.declared.category.Category.{Category}
-use Rattle.pos_service.specs.declared.category.Category.TheVariants.{CashDrawer, Scanner, LineDisplay, PosPrinter, HardTotals}
+use Rattle.pos_service.specs.declared.kind.Kind.{Kind}
+use Rattle.pos_service.specs.declared.kind.Kind.TheVariants as kind
+use Rattle.pos_service.specs.declared.plant.Form.{Form}
+use Rattle.pos_service.specs.declared.plant.Form.TheVariants as form
 use Rattle.pos_service.specs.declared.peripheral.Peripheral.{Ghosts}
 use Rattle.pos_service.specs.Displays.{blank_display}
 use Rattle.pos_service.specs.Peripherals.{IsInRange, PeripheralState}
 use Rattle.pos_service.specs.Receipts.{empty_roll}
 use Rattle.pos_sims.specs.declared.flaky.Flaky.{Flaky}
-use Rattle.pos_sims.specs.Drawers.{drawer_state, state_of as state_of_drawer}
+use Rattle.pos_sims.specs.Drawers.{state_of as state_of_drawer}
 use Rattle.pos_sims.specs.Flakies.{flaky_of, state_of as state_of_flaky}
 use Rattle.pos_sims.specs.LineDisplays.{display_state, state_of as state_of_display}
-use Rattle.pos_sims.specs.ReceiptPrinters.{printer_state, state_of as state_of_printer}
+use Rattle.pos_sims.specs.ReceiptPrinters.{state_of as state_of_printer}
 use Rattle.pos_sims.specs.Recorders.{recorder_of, state_of as state_of_recorder}
 use Rattle.pos_sims.specs.RingDisplays.{state_of as state_of_ring}
-use Rattle.pos_sims.specs.Scanners.{scanner_state, state_of as state_of_scanner}
+use Rattle.pos_sims.specs.Scanners.{state_of as state_of_scanner}
 use Rattle.pos_profile.specs.declared.entry.Entry.{Entry}
 use Rattle.pos_profile.specs.declared.optional.OptionalKey.TheVariants.{Ring}
 use Rattle.pos_profile.specs.Kinds.{kind_of}
@@ -39,7 +41,7 @@ use Rattle.pos_run.specs.Transcript.{Leads, Session, begun_session}
 use Rattle.pos_run.specs.declared.simulation.Simulation.{Simulation}
 use Rattle.pos_run.specs.declared.simulation.Simulation.TheVariants as simulation
 use Rattle.pos_run.specs.declared.wrapped.Wrapped.{Wrapped}
-use Rattle.pos_run.specs.declared.wrapped.Wrapped.TheVariants as form
+use Rattle.pos_run.specs.declared.wrapped.Wrapped.TheVariants as wrapped
 
 -- what contracts see of what is simulated without a wrapper
 abbrev pub state_of : Simulation → PeripheralState
@@ -58,35 +60,44 @@ flaky_simulations = record { state = λ flaky. state_of_flaky simulations flaky 
 
 -- what contracts see of what is simulated
 abbrev pub wrapped_state : Wrapped → PeripheralState
-wrapped_state (form.Bare device) = state_of device
-wrapped_state (form.Flaky flaky) = state_of_flaky simulations flaky
-wrapped_state (form.Recorded recorder) = state_of_recorder simulations recorder
-wrapped_state (form.Both recorder) = state_of_recorder flaky_simulations recorder
+wrapped_state (wrapped.Bare device) = state_of device
+wrapped_state (wrapped.Flaky flaky) = state_of_flaky simulations flaky
+wrapped_state (wrapped.Recorded recorder) = state_of_recorder simulations recorder
+wrapped_state (wrapped.Both recorder) = state_of_recorder flaky_simulations recorder
 
 -- a device in its wrappers: a line that fails by these two numbers, and a recorder round it
 abbrev pub wrapped_by : Option (ℕ × ℕ) → Bool → Simulation → Wrapped
-wrapped_by None false device = form.Bare device
-wrapped_by None true device = form.Recorded (recorder_of device)
-wrapped_by (Some (first, times)) false device = form.Flaky (flaky_of device first times)
-wrapped_by (Some (first, times)) true device = form.Both (recorder_of (flaky_of device first times))
+wrapped_by None false device = wrapped.Bare device
+wrapped_by None true device = wrapped.Recorded (recorder_of device)
+wrapped_by (Some (first, times)) false device = wrapped.Flaky (flaky_of device first times)
+wrapped_by (Some (first, times)) true device = wrapped.Both (recorder_of (flaky_of device first times))
 
 -- the rows of a display are a ring
 abbrev pub is_ring : Simulation → Bool
 is_ring (simulation.Ring ring) = true
 is_ring _ = false
 
--- what is simulated for a category with the numbers of an entry: a closed drawer, a scanner, a blank display, or a
--- printer that has printed nothing, in service; Hard Totals have no peripheral
-abbrev pub simulated_with : Category → Entry → Option PeripheralState
-simulated_with CashDrawer entry = Some (drawer_state false false)
-simulated_with Scanner entry = Some (scanner_state false 0)
-simulated_with LineDisplay entry = Some (display_state (blank_display entry.rows entry.columns) false)
-simulated_with PosPrinter entry = Some (printer_state (empty_roll entry.chars entry.lines) entry.near false)
-simulated_with HardTotals entry = None
+-- what is simulated of a kind, physically: a closed drawer, a scanner, a blank display, or a printer with so many lines
+-- of paper that has printed nothing
+abbrev pub new_form : Kind → ℕ → Form
+new_form kind.Drawer lines = form.Drawer false
+new_form kind.Scanner lines = form.Scanner
+new_form (kind.Display rows columns) lines = form.Display (blank_display rows columns)
+new_form (kind.Printer chars near) lines = form.Printer (empty_roll chars lines)
 
--- what is simulated for an entry
+-- what is simulated of a kind: it is on and in service, its line has never failed, and it was given no order
+abbrev pub new_device : Kind → ℕ → PeripheralState
+new_device is lines = record {
+  kind = is;
+  plant = record { powered = true; form = new_form is lines };
+  is_parked = false;
+  failures = 0;
+  orders = 0;
+}
+
+-- what is simulated for an entry; Hard Totals have no peripheral
 abbrev pub simulated_for : Entry → Option PeripheralState
-simulated_for entry = simulated_with entry.category entry
+simulated_for entry = option_map (λ is. new_device is entry.lines) (kind_of entry)
 
 -- a blank display in service, whose rows are a ring or not
 pub record IsDisplay (rows columns : ℕ) (turns : Bool) (device : Simulation) : Type 0 where

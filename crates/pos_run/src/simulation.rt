@@ -4,9 +4,7 @@ ghost use Rattle.pos_run.specs.Simulating.{IsDeviceFor, IsDisplay, IsSimulable, 
 
 use crate::wrapped::{Wrapped, wrap};
 use pos_profile::Entry;
-use pos_service::{
-    Category, Input, Kind, NoMemory, Order, Peripheral, Reply, Signs, Snapshot, Taken,
-};
+use pos_service::{Input, Kind, NoMemory, Order, Peripheral, Reply, Signs, Snapshot, Taken};
 use pos_sims::{PlainDisplay, PlainDrawer, PlainScanner, RingDisplay, RollPrinter};
 use std::alloc::Global;
 
@@ -124,20 +122,18 @@ fn simulate_device(alloc: Global, entry: &Entry) -> Result<Option<Simulation>, N
     requires { IsSimulable entry.now }
     ensures { IfOk result (IsDeviceFor entry.now) }
 {
-    match entry.category {
-        Category::CashDrawer => Ok(Some(Simulation::Drawer(PlainDrawer::new()))),
-        Category::Scanner => Ok(Some(Simulation::Scanner(PlainScanner::new()))),
-        Category::LineDisplay => Ok(Some(simulate_display(
-            alloc,
-            entry.rows,
-            entry.columns,
-            entry.ring,
-        )?)),
-        Category::PosPrinter => {
-            let printer = RollPrinter::new(alloc, entry.chars, entry.lines, entry.near);
+    match entry.kind() {
+        Some(Kind::Drawer) => Ok(Some(Simulation::Drawer(PlainDrawer::new()))),
+        Some(Kind::Scanner) => Ok(Some(Simulation::Scanner(PlainScanner::new()))),
+        Some(Kind::Display { rows, columns }) => {
+            let display = simulate_display(alloc, rows, columns, entry.ring)?;
+            Ok(Some(display))
+        }
+        Some(Kind::Printer { chars, near }) => {
+            let printer = RollPrinter::new(alloc, chars, entry.lines, near);
             Ok(Some(Simulation::Printer(printer)))
         }
-        Category::HardTotals => Ok(None),
+        None => Ok(None),
     }
 }
 
