@@ -70,8 +70,8 @@ pub(crate) const NO_NUMBERS: Numbers = Numbers {
     near: 0,
 };
 
-/// A number of an entry: 0 where its category doesn't have it, else what stands at its key. Refused where that is missing
-/// or not in its range.
+/// A number of an entry: 0 where its category doesn't have it, else what stands at its key. Refused where that is
+/// missing or not in its range.
 fn number_of(category: Category, key: NumberKey, table: &Table) -> Result<u32, NumberKey>
     ensures { ReadsNumber category key (table_view table.now) result }
 {
