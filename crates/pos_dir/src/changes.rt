@@ -130,15 +130,7 @@ pub(crate) fn measure_change(change: &Change<'_>) -> usize
     }
 }
 
-/// Writes a change behind its tag.
-///
-/// | Tag | Change | Fields |
-/// |---|---|---|
-/// | 1 | Create | length of the name in one byte, name, size in four bytes |
-/// | 2 | Delete | index |
-/// | 3 | Rename | index, length of the name in one byte, name |
-/// | 4 | Write | index, offset in four bytes, length in four bytes, bytes |
-/// | 5 | SetAll | index, value in one byte |
+/// Writes a change: its tag, and its fields (docs/DISK.md, "The layouts").
 pub(crate) fn put_change(out: &mut Vec<u8>, change: &Change<'_>)
     requires change { IsChange change.now }
     requires room { HasRoom out.old (change_spelling change.now) }
