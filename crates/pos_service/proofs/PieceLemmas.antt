@@ -15,7 +15,7 @@ past (suc n) (b ∷ bs) = past n bs
 
 -- a test of the first byte from a place on
 pub begins_at : (test : ℕ → Bool) (bs : List ℕ) (i : ℕ) → i < length bs → starts_with test (drop i bs) ≡ test (get_or bs i 0)
-begins_at test bs i lt = ap (starts_with test) (drop_more bs i 0 lt)
+begins_at test bs i lt = rw (drop_more bs i 0 lt)
 
 -- an escape sequence behind ESC |
 at_prefix : (bs : List ℕ) → starts_with is_upper (drop (prefix_len is_inner bs) bs) ≡ true
@@ -23,12 +23,11 @@ at_prefix : (bs : List ℕ) → starts_with is_upper (drop (prefix_len is_inner 
 at_prefix bs h =
     let k = prefix_len is_inner bs in
     let e : k + 2 ≡ suc (k + 1) = omega arith in
-    rw h (ap (λ (ps : List Piece). sequence_pieces (take (k + 1) bs) ++ ps) (past (k + 2) (124 ∷ bs) ∙ ap (λ n. pieces (drop n (124 ∷ bs))) e))
+    rw (h, past (k + 2) (124 ∷ bs), e)
 
 pub at_sequence : (bs : List ℕ) (k : ℕ) → k ≡ prefix_len is_inner bs → starts_with is_upper (drop k bs) ≡ true
     → pieces (27 ∷ 124 ∷ bs) ≡ sequence_pieces (take (k + 1) bs) ++ pieces (drop (k + 1) bs)
-at_sequence bs k e h = at_prefix bs (ap (λ n. starts_with is_upper (drop n bs)) (sym e) ∙ h)
-    ∙ ap (λ n. sequence_pieces (take (n + 1) bs) ++ pieces (drop (n + 1) bs)) (sym e)
+at_sequence bs k e h = rw e (at_prefix bs (rw (← e) h))
 
 pub all_line_ends : (n : ℕ) → list_all is_in_range (replicate n piece.LineEnd) ≡ true
 all_line_ends zero = refl

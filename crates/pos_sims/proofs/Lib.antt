@@ -1,7 +1,7 @@
 pub mod WindowLemmas
 pub mod ScrollLemmas
-pub mod RingLemmas
 pub mod RunLemmas
+pub mod RingLemmas
 pub mod ChunkLemmas
 pub mod RequestLemmas
 pub mod TapeLemmas

@@ -1,112 +1,48 @@
 -- Cells that move within parts of the list are rows and columns that move.
-use Rattle.std.proofs.Common.{◌≡◌, inl, inr, ℕ, ◌+◌, ◌-◌, ◌*◌, ◌<◌, ◌≤◌, List, true, false, length, get_or, ap, ◌∙◌, refl, arith}
-use Rattle.std.specs.Prelude.{nat_lt, nat_le, if◌then◌else◌}
+use Rattle.std.proofs.Common.{◌≡◌, ℕ, ◌+◌, ◌-◌, ◌*◌, ◌<◌, ◌≤◌, List, length, ap, ◌∙◌, arith}
+use Rattle.std.specs.Prelude.{nat_le, if◌then◌else◌}
 use Rattle.std.proofs.lemmas.Bool.Decides.{nat_tests}
-use Rattle.std.proofs.lemmas.List.{get_or_past}
 use Rattle.std.proofs.lemmas.Nat.{mod-mul-add}
-use Rattle.std.proofs.Math.Nat.{mul-le-mul_right}
 use Rattle.pos_service.specs.declared.display_text.DisplayCell.{DisplayCell}
+use Rattle.pos_service.specs.declared.display_text.Direction.{Direction}
 use Rattle.pos_service.specs.declared.display_text.Direction.TheVariants as direction
-use Rattle.pos_service.specs.Displays.{Scrolls, blank, cell_at}
-use Rattle.pos_sims.specs.Windows.{ShiftsToFront, ShiftsToEnd, MovesToFront, MovesToEnd, display_of}
-use Rattle.pos_sims.proofs.WindowLemmas.{two_ways, in_window, shifted, past_cells}
+use Rattle.pos_service.specs.Displays.{Display, Scrolls, blank, cell_at, scrolled_at}
+use Rattle.pos_sims.specs.Windows.{MovesToEnd, MovesToFront, SameSize, ShiftsToEnd, ShiftsToFront, display_of}
+use Rattle.pos_sims.proofs.WindowLemmas.{in_rows}
 
-rows_later : (columns row column units : ℕ) → row * columns + column + units * columns ≡ (row + units) * columns + column
-rows_later columns row column units = omega arith
+-- how the cells move as so many units are scrolled
+abbrev pub Moves : Direction → ℕ → ℕ → List DisplayCell → List DisplayCell → Type 0
+Moves direction.Up columns units old new = ShiftsToFront (units * columns) old new
+Moves direction.Down columns units old new = ShiftsToEnd (units * columns) old new
+Moves direction.Left columns units old new = MovesToFront columns units old new
+Moves direction.Right columns units old new = MovesToEnd columns units old new
 
-rows_before : (columns row column units : ℕ) → units ≤ row → row * columns + column - units * columns ≡ (row - units) * columns + column
-rows_before columns row column units le =
-    let n = row - units in
-    let e : row ≡ n + units = omega arith in
-    let f : row * columns ≡ (n + units) * columns = ap (λ m. m * columns) e in
-    omega (arith, f)
+moved_down : (rows columns units row column : ℕ) (old new : List DisplayCell) → length old ≡ rows * columns → ShiftsToEnd (units * columns) old new
+    → row < rows → column < columns → cell_at columns new row column ≡ (if nat_le units row then cell_at columns old (row - units) column else blank)
+moved_down rows columns units row column old new count moved r c =
+    let now = moved (row * columns + column) (omega (arith, in_rows rows columns row column c)) in
+    let some = in_rows units columns row column c in
+    grind (arith, nat_tests)
 
--- up
-pub scrolls_up : (rows columns units : ℕ) (old new : List DisplayCell) → length old ≡ rows * columns → length new ≡ length old
-    → ShiftsToFront (units * columns) old new → Scrolls (display_of rows columns old) direction.Up units (display_of rows columns new)
-scrolls_up rows columns units old new count same moved = record {
-  rows = refl;
-  columns = refl;
-  count = same ∙ count;
-  cells = λ row column r c.
-      shifted old new (units * columns) moved (row * columns + column) (omega (arith, count, in_window rows columns row column r c))
-      ∙ ap (λ k. get_or old k blank) (rows_later columns row column units)
-      ∙ elim (two_ways (row + units) rows) as
-      (λ _. cell_at columns old (row + units) column ≡ (if nat_lt (row + units) rows then cell_at columns old (row + units) column else blank)) [
-        | inl inside ↦
-            let t : nat_lt (row + units) rows ≡ true = grind (arith, nat_tests, inside) in
-            rw t
-        | inr outside ↦
-            let t : nat_lt (row + units) rows ≡ false = grind (arith, nat_tests, outside) in
-            rw t (get_or_past old ((row + units) * columns + column) blank (omega (arith, count, past_cells rows columns (row + units) column outside)))
-      ];
-}
+pub moved_cell : (direction : Direction) (rows columns units row column : ℕ) (old new : List DisplayCell) → length old ≡ rows * columns
+    → Moves direction columns units old new → row < rows → column < columns
+    → cell_at columns new row column ≡ scrolled_at (display_of rows columns old) direction units row column
+moved_cell direction.Up rows columns units row column old new count moved r c =
+    let now = moved (row * columns + column) (omega (arith, in_rows rows columns row column c)) in
+    grind (arith, nat_tests, in_rows rows columns (row + units) column c)
+moved_cell direction.Down rows columns units row column old new count moved r c = moved_down rows columns units row column old new count moved r c
+moved_cell direction.Left rows columns units row column old new count moved r c =
+    let now = rw mod-mul-add at (moved (row * columns + column) (omega (arith, in_rows rows columns row column c))) in
+    grind (arith, nat_tests)
+moved_cell direction.Right rows columns units row column old new count moved r c =
+    let now = rw mod-mul-add at (moved (row * columns + column) (omega (arith, in_rows rows columns row column c))) in
+    grind (arith, nat_tests)
 
-before_all : (columns row column units : ℕ) → column < columns → row < units → row * columns + column < units * columns
-before_all columns row column units c lt =
-    let h : (row + 1) * columns ≤ units * columns = mul-le-mul_right columns (omega arith) in
-    omega (arith, h)
-
--- down
-pub scrolls_down : (rows columns units : ℕ) (old new : List DisplayCell) → length old ≡ rows * columns → length new ≡ length old
-    → ShiftsToEnd (units * columns) old new → Scrolls (display_of rows columns old) direction.Down units (display_of rows columns new)
-scrolls_down rows columns units old new count same moved = record {
-  rows = refl;
-  columns = refl;
-  count = same ∙ count;
-  cells = λ row column r c.
-      let k = row * columns + column in
-      let lt : k < length old = omega (arith, count, in_window rows columns row column r c) in
-      moved k lt
-      ∙ elim (two_ways row units) as
-      (λ _. (if nat_le (units * columns) k then get_or old (k - units * columns) blank else blank) ≡
-      (if nat_le units row then cell_at columns old (row - units) column else blank)) [
-        | inl outside ↦
-            let t : nat_le units row ≡ false = grind (arith, nat_tests, outside) in
-            let before = before_all columns row column units c outside in
-            let u : nat_le (units * columns) k ≡ false = grind (arith, nat_tests, before) in
-            rw (t, u)
-        | inr inside ↦
-            let t : nat_le units row ≡ true = grind (arith, nat_tests, inside) in
-            let le : units * columns ≤ row * columns = mul-le-mul_right columns inside in
-            let u : nat_le (units * columns) k ≡ true = grind (arith, nat_tests, le) in
-            rw (t, u) (ap (λ n. get_or old n blank) (rows_before columns row column units inside))
-      ];
-}
-
--- left
-pub scrolls_left : (rows columns units : ℕ) (old new : List DisplayCell) → length old ≡ rows * columns → length new ≡ length old
-    → MovesToFront columns units old new → Scrolls (display_of rows columns old) direction.Left units (display_of rows columns new)
-scrolls_left rows columns units old new count same moved = record {
-  rows = refl;
-  columns = refl;
-  count = same ∙ count;
-  cells = λ row column r c.
-      let k = row * columns + column in
-      moved k (omega (arith, count, in_window rows columns row column r c))
-      ∙ ap (λ n. if nat_lt (n + units) columns then get_or old (k + units) blank else blank) (mod-mul-add row columns column c)
-      ∙ ap (λ n. if nat_lt (column + units) columns then get_or old n blank else blank)
-      (let e : k + units ≡ row * columns + (column + units) = omega arith in e);
-}
-
--- right
-pub scrolls_right : (rows columns units : ℕ) (old new : List DisplayCell) → length old ≡ rows * columns → length new ≡ length old
-    → MovesToEnd columns units old new → Scrolls (display_of rows columns old) direction.Right units (display_of rows columns new)
-scrolls_right rows columns units old new count same moved = record {
-  rows = refl;
-  columns = refl;
-  count = same ∙ count;
-  cells = λ row column r c.
-      let k = row * columns + column in
-      moved k (omega (arith, count, in_window rows columns row column r c))
-      ∙ ap (λ n. if nat_le units n then get_or old (k - units) blank else blank) (mod-mul-add row columns column c)
-      ∙ elim (two_ways column units) as
-      (λ _. (if nat_le units column then get_or old (k - units) blank else blank) ≡
-      (if nat_le units column then cell_at columns old row (column - units) else blank)) [
-        | inl outside ↦
-            let t : nat_le units column ≡ false = grind (arith, nat_tests, outside) in
-            rw t
-        | inr inside ↦ ap (λ n. if nat_le units column then get_or old n blank else blank)
-            (let e : k - units ≡ row * columns + (column - units) = omega (arith, inside) in e)
-      ];
+pub scrolls : (direction : Direction) (units : ℕ) (old new : Display) → length old.cells ≡ old.rows * old.columns → SameSize old new
+    → Moves direction old.columns units old.cells new.cells → Scrolls old direction units new
+scrolls direction units old new count size moved = record {
+  rows = size.rows;
+  columns = size.columns;
+  count = size.count ∙ count;
+  cells = λ row column. moved_cell direction old.rows old.columns units row column old.cells new.cells count moved;
 }

@@ -1,20 +1,17 @@
-use Rattle.std.proofs.Common.{◌∙◌, sym, subst}
-use Rattle.pos_service.specs.Displays.{Strip, fed}
+use Rattle.std.proofs.Common.{◌∙◌, sym}
+use Rattle.pos_service.specs.Displays.{fed}
 use Rattle.pos_service.proofs.StripLemmas.{line_feed_text}
-use Rattle.pos_sims.specs.Windows.{Follows}
 use Rattle.pos_sims.proofs.RunLemmas.{row_full}
 use Rattle.pos_sims.proofs.WindowLemmas.{wrapped}
 use Rattle.pos_sims.proofs.laying.lay_byte.Goals as goal
 
 pub returns-then-byte-eq10-clause-follows : goal.returns-then-byte-eq10-clause-follows
 returns-then-byte-eq10-clause-follows g c = λ old strip h.
-    subst (λ (s : Strip). Follows c.args.manner old s (g.W.Grid.shown c.next_row.new.window).cells c.next_row.result)
-    (sym (line_feed_text c.args.manner.columns c.args.byte strip c.if-byte-eq10.true)) (c.next_row.ensures.follows old strip h)
+    rw (line_feed_text c.args.manner.columns c.args.byte strip c.if-byte-eq10.true) (c.next_row.ensures.follows old strip h)
 
 pub returns-clause-follows : goal.returns-clause-follows
 returns-clause-follows g c = λ old strip h.
     let full = sym h.column ∙ row_full c.args.byte c.args.place.column c.args.manner.columns c.if-byte-eq10.false c.if-byte-eq13.false
     c.requires.within.column c.requires.full in
-    subst (λ (s : Strip). Follows c.args.manner old s (g.W.Grid.shown c.lay_run.new.window).cells c.lay_run.result)
-    (wrapped c.args.manner.columns c.args.byte strip c.requires.within.some full c.if-byte-eq10.false c.if-byte-eq13.false)
+    rw (← wrapped c.args.manner.columns c.args.byte strip c.requires.within.some full c.if-byte-eq10.false c.if-byte-eq13.false)
     (c.lay_run.ensures.follows old (fed strip) (c.next_row-start.ensures.follows old strip h))

@@ -3,5 +3,5 @@ use Rattle.pos_sims.proofs.laying.lay_run.Goals as goal
 
 pub returns-clause-follows : goal.returns-clause-follows
 returns-clause-follows g c = λ old strip h.
-    rw c.put_run.ensures (rw c.requires.size.columns (run_here c.args.manner old (g.W.Grid.shown c.args.window.now).cells strip c.args.place
-    c.args.characters.now c.requires.within c.requires.printed c.requires.room h))
+    rw (c.put_run.ensures, c.requires.size.columns) (run_here c.args.manner old c.args.characters.now (g.W.Grid.shown c.args.window.now).cells strip
+    c.args.place c.requires.within c.requires.printed c.requires.room h)

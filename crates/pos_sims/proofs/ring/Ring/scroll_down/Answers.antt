@@ -1,13 +1,13 @@
 use Rattle.std.proofs.Common.{◌*◌, arith, refl}
 use Rattle.pos_sims.specs.Rings.{shown_on}
-use Rattle.pos_sims.proofs.RingLemmas.{no_units, shift_end_more, no_shift_end}
+use Rattle.pos_sims.proofs.RingLemmas.{no_shift_end, shift_end_more}
 use Rattle.pos_sims.proofs.WindowLemmas.{size_twice}
 use Rattle.pos_sims.proofs.ring.Ring.scroll_down.Goals as goal
 
 pub loop-init : goal.loop-init
 loop-init c = record {
   size = record { rows = refl; columns = refl; count = refl };
-  moved = rw (no_units c.args.self.now.columns) (no_shift_end (shown_on c.args.self.now).cells);
+  moved = no_shift_end c.args.self.now.columns (shown_on c.args.self.now).cells;
 }
 
 pub loop-preserved : goal.loop-preserved
