@@ -79,26 +79,6 @@ feeds_back rows columns first above cells next count lt is by =
       | inr under ↦ inr (rw (← under) (omega arith))
     ])
 
--- no shift
-pub no_shift_front : (columns : ℕ) (cells : List DisplayCell) → ShiftsToFront (0 * columns) cells cells
-no_shift_front columns cells = λ k lt. grind (arith, nat_tests)
-
-pub no_shift_end : (columns : ℕ) (cells : List DisplayCell) → ShiftsToEnd (0 * columns) cells cells
-no_shift_end columns cells = λ k lt. grind (arith, nat_tests)
-
--- a shift, and one more
-pub shift_front_more : (a w b : ℕ) (old mid new : List DisplayCell) → b ≡ a + w → length mid ≡ length old → ShiftsToFront a old mid →
-    ShiftsToFront w mid new → ShiftsToFront b old new
-shift_front_more a w b old mid new e same first second = λ k lt.
-    let now = second k (omega arith) in
-    grind (arith, nat_tests, first (k + w))
-
-pub shift_end_more : (a w b : ℕ) (old mid new : List DisplayCell) → b ≡ a + w → length mid ≡ length old → ShiftsToEnd a old mid →
-    ShiftsToEnd w mid new → ShiftsToEnd b old new
-shift_end_more a w b old mid new e same first second = λ k lt.
-    let now = second k (omega arith) in
-    grind (arith, nat_tests, first (k - w))
-
 -- a row of the window is a row of the ring
 row_of : (rows columns first row : ℕ) → first < rows → row < rows
     → (r : ℕ) × (r < rows) × ((cells : List DisplayCell) (column : ℕ) → length cells ≡ rows * columns → column < columns

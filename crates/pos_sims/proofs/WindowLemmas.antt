@@ -36,14 +36,6 @@ shown_more : (columns : ℕ) (attribute : Attribute) (old : List DisplayCell) (p
     ≡ (if at.row == row && at.column == column then cell_with attribute b else shown_at columns attribute old placed row column)
 shown_more columns attribute old placed at b row column = rw (last_more placed at b row column) (grind arith)
 
--- a row further, within the window
-pub lower : (manner : Manner) (old cells : List DisplayCell) (strip : Strip) (place : Place) → place.row + 1 < manner.rows
-    → Follows manner old strip cells place → Follows manner old (fed strip) cells (place_at (place.row + 1) 0)
-lower manner old cells strip place lt h =
-    let at = h.row in
-    let same : rows_above manner.rows (fed strip).place ≡ rows_above manner.rows strip.place = omega arith in
-    record { window = rw same h.window; below = rw same h.below; row = omega arith; column = refl }
-
 -- cells that shift to the front: past the end stands a blank
 pub shifted : (cells next : List DisplayCell) (places : ℕ) → ShiftsToFront places cells next →
     (k : ℕ) → k < length cells → get_or next k blank ≡ get_or cells (k + places) blank
@@ -119,19 +111,6 @@ placed_here manner old cells strip place b within free e f h =
 pub wrapped : (columns b : ℕ) (strip : Strip) → 0 < columns → strip.place.column ≡ columns → b ≢ 10 → b ≢ 13
     → with_text columns [] (b ∷ []) (fed strip) ≡ with_text columns [] (b ∷ []) strip
 wrapped columns b strip some e f g = grind (arith, character_text, first_free, first_full)
-
--- a text begins
-pub begins : (manner : Manner) (cells : List DisplayCell) (start : Place) → IsWithin manner cells start → Follows manner cells (strip_at [] start) cells start
-begins manner cells start within =
-    let lt = within.row in
-    let none : rows_above manner.rows start ≡ 0 = omega arith in
-    record {
-      window = λ row column r c. grind arith;
-      below = λ row column le c. get_or_past cells (row * manner.columns + column) blank
-          (omega (arith, within.count, in_rows manner.rows manner.columns row column c));
-      row = omega arith;
-      column = refl;
-    }
 
 -- a size kept twice
 pub size_twice : {old mid new : Display} → SameSize old mid → SameSize mid new → SameSize old new

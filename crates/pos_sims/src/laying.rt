@@ -37,6 +37,7 @@ fn next_row<W: Grid>(window: &mut W, manner: Manner, place: Place) -> Place
 }
 
 /// Puts characters with an attribute over cells, from a place on.
+#[tactic(auto, using(crate::proofs::RunLemmas::run_more))]
 pub(crate) fn put_characters(
     cells: &mut [DisplayCell],
     at: usize,

@@ -43,6 +43,7 @@ impl Tape {
     }
 
     /// The line buffer is a line.
+    #[tactic(auto, using(crate::proofs::TapeLemmas::characters_append))]
     fn end_line(&mut self) -> Result<(), Stop>
         ensures ok { OnOk result (work_of self.new ≡ end_line (work_of self.old)) }
         ensures empty { OnOk result (vec_len self.new.characters ≡ self.new.start) }
@@ -105,6 +106,7 @@ impl Tape {
     }
 
     /// A cut behind the items.
+    #[tactic(auto, using(crate::proofs::TapeLemmas::items_append, crate::proofs::TapeLemmas::characters_append))]
     fn cut(&mut self, percentage: u8) -> Result<(), Stop>
         ensures ok { OnOk result (work_of self.new ≡ add_cut percentage (work_of self.old)) }
         ensures err { OnErr result (result ≡ Err Stop.NoMemory) }

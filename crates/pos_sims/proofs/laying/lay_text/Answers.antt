@@ -2,16 +2,8 @@ use Rattle.std.proofs.Common.{arith, refl, take}
 use Rattle.std.proofs.lemmas.List.{length-drop, take_rest}
 use Rattle.pos_service.specs.Displays.{text_from}
 use Rattle.pos_sims.proofs.RunLemmas.{text_further}
-use Rattle.pos_sims.proofs.WindowLemmas.{begins, size_twice}
+use Rattle.pos_sims.proofs.WindowLemmas.{size_twice}
 use Rattle.pos_sims.proofs.laying.lay_text.Goals as goal
-
-pub loop-done-init : goal.loop-done-init
-loop-done-init g c = record {
-  follows = begins c.args.manner (g.W.Grid.shown c.args.window.now).cells c.args.start c.requires.within;
-  within = c.requires.within;
-  size = record { rows = refl; columns = refl; count = refl };
-  done = omega arith;
-}
 
 pub loop-done-preserved : goal.loop-done-preserved
 loop-done-preserved g c =
