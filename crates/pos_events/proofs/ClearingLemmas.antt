@@ -1,6 +1,7 @@
 -- What a deletion does to the list of a queue.
-use Rattle.std.proofs.Common.{◌≡◌, ℕ, ◌+◌, Bool, true, false, not, List, [], ◌∷◌, ◌++◌, take, drop, All, refl, sym, ap, ◌∙◌, append_assoc}
+use Rattle.std.proofs.Common.{◌≡◌, inl, inr, ℕ, ◌+◌, Bool, true, false, not, List, [], ◌∷◌, ◌++◌, take, drop, All, refl, arith, append_assoc}
 use Rattle.std.specs.List.{filter}
+use Rattle.std.proofs.lemmas.Bool.{cases_Bool}
 use Rattle.std.proofs.Math.Seq.{take-nil, drop-nil, take-add}
 use Rattle.std.proofs.lemmas.List.{take-append-drop, drop-drop}
 use Rattle.std.proofs.lemmas.List.Elements.{filter-append, All-head, All-tail, All-take, All-drop, All-weaker}
@@ -31,9 +32,7 @@ none_told [] w = refl
 none_told (event ∷ events) w = rw (All-head IsWaiting event events w, none_told events (All-tail IsWaiting event events w))
 
 told_filtered : (event : Told) (events : List Enqueued) → filter is_told (told_event event ∷ events) ≡ told_event event ∷ filter is_told events
-told_filtered (told.Status status) events = refl
-told_filtered (told.OutputError code extended) events = refl
-told_filtered (told.Complete id) events = refl
+told_filtered event events = grind arith
 
 weave_filtered : (waiting : List Enqueued) (others : List Other) → All IsWaiting waiting → filter is_told (weave waiting others) ≡ tolds others
 weave_filtered waiting [] w = none_told waiting w
@@ -48,18 +47,12 @@ weave_filtered waiting (other ∷ others) w =
 
 input_data_filtered : (events : List Enqueued) → filter is_told (with_input_data events) ≡ filter is_told events
 input_data_filtered [] = refl
-input_data_filtered (Data scan ∷ events) = refl
-input_data_filtered (Status status ∷ events) = ap (λ (l : List Enqueued). Status status ∷ l) (input_data_filtered events)
-input_data_filtered (Error code extended locus.Output ∷ events) = ap (λ (l : List Enqueued). Error code extended locus.Output ∷ l) (input_data_filtered events)
-input_data_filtered (Error code extended locus.Input ∷ events) = input_data_filtered events
-input_data_filtered (Error code extended locus.InputData ∷ events) = input_data_filtered events
-input_data_filtered (Complete id ∷ events) = ap (λ (l : List Enqueued). Complete id ∷ l) (input_data_filtered events)
+input_data_filtered (event ∷ events) = grind (arith, input_data_filtered events)
 
 all_filtered : (input_data in_error : Bool) (scans : List Scan) (others : List Other)
     → filter is_told (events_in input_data (waiting_in scans in_error) others) ≡ tolds others
 all_filtered false in_error scans others = weave_filtered (waiting_in scans in_error) others (all_wait scans in_error)
-all_filtered true in_error scans others =
-    input_data_filtered (weave (waiting_in scans in_error) others) ∙ weave_filtered (waiting_in scans in_error) others (all_wait scans in_error)
+all_filtered true in_error scans others = rw input_data_filtered (weave_filtered (waiting_in scans in_error) others (all_wait scans in_error))
 
 pub input_deleted : (input_data in_error : Bool) (scans none : List Scan) (others after : List Other) → none ≡ [] → tolds after ≡ tolds others
     → list_of false false none after ≡ input_cleared (list_of input_data in_error scans others)
@@ -70,68 +63,20 @@ abbrev IsKept : Enqueued → Type 0
 IsKept event = is_kept event ≡ true
 
 waits_and_stays : (event : Enqueued) → IsWaiting event → IsKept event
-waits_and_stays (Status status) w = refl
-waits_and_stays (Data scan) w = refl
-waits_and_stays (Error code extended locus.Output) w = cc
-waits_and_stays (Error code extended locus.Input) w = refl
-waits_and_stays (Error code extended locus.InputData) w = refl
-waits_and_stays (Complete id) w = refl
+waits_and_stays event w = grind arith
 
 all_stay : (events : List Enqueued) → All IsKept events → filter is_kept events ≡ events
 all_stay [] k = refl
 all_stay (event ∷ events) k = rw (All-head IsKept event events k, all_stay events (All-tail IsKept event events k))
 
-error_goes : (event : Told) (events : List Enqueued) → is_error event ≡ true → filter is_kept (told_event event ∷ events) ≡ filter is_kept events
-error_goes (told.Status status) events e = cc
-error_goes (told.OutputError code extended) events e = refl
-error_goes (told.Complete id) events e = cc
-
-other_stays : (event : Told) (events : List Enqueued) → is_error event ≡ false
-    → filter is_kept (told_event event ∷ events) ≡ told_event event ∷ filter is_kept events
-other_stays (told.Status status) events e = refl
-other_stays (told.OutputError code extended) events e = cc
-other_stays (told.Complete id) events e = refl
+error_goes : (event : Told) → is_error event ≡ is_output_error (told_event event)
+error_goes event = grind arith
 
 -- the waiting events before an event and those before them, as one part
-regroup : (waiting rest : List Enqueued) (others : List Other) (count before : ℕ) (event : Enqueued)
-    → take count waiting ++ (take before (drop count waiting) ++ event ∷ weave (drop before (drop count waiting)) others) ≡ take
-    (count + before) waiting ++ event ∷ weave (drop (count + before) waiting) others
-regroup waiting rest others count before event =
-    rw (take-add count before waiting, ← drop-drop before count waiting)
-    (sym (append_assoc (take count waiting) (take before (drop count waiting)) (event ∷ weave (drop before (drop count waiting)) others)))
-
--- the next is deleted
-error_woven : (waiting : List Enqueued) (other : Other) (others : List Other) (count : ℕ) → is_error other.event ≡ true
-    → filter is_kept (take (count + other.before) waiting ++ weave (drop (count + other.before) waiting) others) ≡ weave waiting
-    (without_errors (count + other.before) others)
-    → filter is_kept (take count waiting ++ weave (drop count waiting) (other ∷ others)) ≡ weave waiting (without_errors count (other ∷ others))
-error_woven waiting other others count e more =
-    let n = count + other.before in
-    let rest = weave (drop n waiting) others in
-    rw (e, regroup waiting [] others count other.before (told_event other.event))
-    (filter-append is_kept (take n waiting) (told_event other.event ∷ rest)
-    ∙ ap (λ (l : List Enqueued). filter is_kept (take n waiting) ++ l) (error_goes other.event rest e)
-    ∙ sym (filter-append is_kept (take n waiting) rest) ∙ more)
-
--- the next stays
-other_woven : (waiting : List Enqueued) (other : Other) (others : List Other) (count : ℕ) → All IsKept waiting → is_error other.event ≡ false
-    → filter is_kept (weave (drop (count + other.before) waiting) others) ≡ weave (drop (count + other.before) waiting) (without_errors 0 others)
-    → filter is_kept (take count waiting ++ weave (drop count waiting) (other ∷ others)) ≡ weave waiting (without_errors count (other ∷ others))
-other_woven waiting other others count k e more =
-    let n = count + other.before in
-    let rest = weave (drop n waiting) others in
-    rw (e, regroup waiting [] others count other.before (told_event other.event))
-    (filter-append is_kept (take n waiting) (told_event other.event ∷ rest)
-    ∙ (rw (other_stays other.event rest e, all_stay (take n waiting) (All-take IsKept n waiting k), more)))
-
-woven : (waiting : List Enqueued) (other : Other) (others : List Other) (count : ℕ) (is_deleted : Bool) → All IsKept waiting
-    → is_error other.event ≡ is_deleted
-    → filter is_kept (take (count + other.before) waiting ++ weave (drop (count + other.before) waiting) others) ≡ weave waiting
-    (without_errors (count + other.before) others)
-    → filter is_kept (weave (drop (count + other.before) waiting) others) ≡ weave (drop (count + other.before) waiting) (without_errors 0 others)
-    → filter is_kept (take count waiting ++ weave (drop count waiting) (other ∷ others)) ≡ weave waiting (without_errors count (other ∷ others))
-woven waiting other others count true k e deleted kept = error_woven waiting other others count e deleted
-woven waiting other others count false k e deleted kept = other_woven waiting other others count k e kept
+regroup : (waiting : List Enqueued) (others : List Other) (count before : ℕ) (event : Enqueued)
+    → take count waiting ++ (take before (drop count waiting) ++ event ∷ weave (drop before (drop count waiting)) others)
+    ≡ take (count + before) waiting ++ event ∷ weave (drop (count + before) waiting) others
+regroup waiting others count before event = rw (take-add count before waiting, ← drop-drop before count waiting, append_assoc)
 
 -- the list without errors of output, when so many waiting events stand before the others besides
 errors_woven : (waiting : List Enqueued) (others : List Other) (count : ℕ) → All IsKept waiting
@@ -139,18 +84,20 @@ errors_woven : (waiting : List Enqueued) (others : List Other) (count : ℕ) →
 errors_woven waiting [] count k = rw (take-append-drop count waiting) (all_stay waiting k)
 errors_woven waiting (other ∷ others) count k =
     let n = count + other.before in
-    woven waiting other others count (is_error other.event) k refl (errors_woven waiting others n k)
-    (errors_woven (drop n waiting) others 0 (All-drop IsKept n waiting k))
+    let rest = weave (drop n waiting) others in
+    let deleted = errors_woven waiting others n k in
+    let kept = errors_woven (drop n waiting) others 0 (All-drop IsKept n waiting k) in
+    let front = all_stay (take n waiting) (All-take IsKept n waiting k) in
+    rw (regroup waiting others count other.before (told_event other.event)) (elim (cases_Bool (is_error other.event)) [
+      | inl e ↦ rw (e, filter-append is_kept (take n waiting) (told_event other.event ∷ rest), ← error_goes other.event, e,
+          ← filter-append is_kept (take n waiting) rest) deleted
+      | inr e ↦ rw (e, filter-append is_kept (take n waiting) (told_event other.event ∷ rest), ← error_goes other.event, e, front, kept)
+    ])
 
 -- EL_INPUT_DATA stays
 input_data_stays : (events : List Enqueued) → filter is_kept (with_input_data events) ≡ with_input_data (filter is_kept events)
 input_data_stays [] = refl
-input_data_stays (Data scan ∷ events) = refl
-input_data_stays (Status status ∷ events) = ap (λ (l : List Enqueued). Status status ∷ l) (input_data_stays events)
-input_data_stays (Error code extended locus.Output ∷ events) = input_data_stays events
-input_data_stays (Error code extended locus.Input ∷ events) = ap (λ (l : List Enqueued). Error code extended locus.Input ∷ l) (input_data_stays events)
-input_data_stays (Error code extended locus.InputData ∷ events) = ap (λ (l : List Enqueued). Error code extended locus.InputData ∷ l) (input_data_stays events)
-input_data_stays (Complete id ∷ events) = ap (λ (l : List Enqueued). Complete id ∷ l) (input_data_stays events)
+input_data_stays (event ∷ events) = grind (arith, input_data_stays events)
 
 stays : (in_error : Bool) (scans : List Scan) (others : List Other)
     → filter is_kept (weave (waiting_in scans in_error) others) ≡ weave (waiting_in scans in_error) (without_errors 0 others)

@@ -35,9 +35,7 @@ all_wait scans true = All-append IsWaiting (map Data scans) (input_error locus.I
     (All-cons IsWaiting (input_error locus.Input) [] refl (All-nil IsWaiting))
 
 told_goes : (event : Told) → is_waiting (told_event event) ≡ false
-told_goes (told.Status status) = refl
-told_goes (told.OutputError code extended) = refl
-told_goes (told.Complete id) = refl
+told_goes event = grind arith
 
 -- a list whose first events wait
 split_behind : (front rest : List Enqueued) (event : Enqueued) → All IsWaiting front → is_waiting event ≡ false
@@ -53,22 +51,11 @@ split_none (first ∷ events) w = rw (All-head IsWaiting first events w, split_n
 -- EL_INPUT_DATA waits, and stays in its place
 deliverable_with_input_data : (events : List Enqueued) → (split false (with_input_data events)).deliverable ≡ (split false events).deliverable
 deliverable_with_input_data [] = refl
-deliverable_with_input_data (Data scan ∷ events) = refl
-deliverable_with_input_data (Status status ∷ events) = refl
-deliverable_with_input_data (Error code extended locus.Output ∷ events) = refl
-deliverable_with_input_data (Error code extended locus.Input ∷ events) = deliverable_with_input_data events
-deliverable_with_input_data (Error code extended locus.InputData ∷ events) = deliverable_with_input_data events
-deliverable_with_input_data (Complete id ∷ events) = refl
+deliverable_with_input_data (event ∷ events) = grind (arith, deliverable_with_input_data events)
 
 left_with_input_data : (events : List Enqueued) → left_by false (with_input_data events) ≡ with_input_data (left_by false events)
 left_with_input_data [] = refl
-left_with_input_data (Data scan ∷ events) = refl
-left_with_input_data (Status status ∷ events) = refl
-left_with_input_data (Error code extended locus.Output ∷ events) = refl
-left_with_input_data (Error code extended locus.Input ∷ events) = ap (λ (l : List Enqueued). Error code extended locus.Input ∷ l) (left_with_input_data events)
-left_with_input_data (Error code extended locus.InputData ∷ events) =
-    ap (λ (l : List Enqueued). Error code extended locus.InputData ∷ l) (left_with_input_data events)
-left_with_input_data (Complete id ∷ events) = refl
+left_with_input_data (event ∷ events) = grind (arith, left_with_input_data events)
 
 -- what stood before an event that is gone stands before the next
 pub weave_lead : (waiting : List Enqueued) (others : List Other) (count : ℕ)
@@ -108,52 +95,35 @@ left_by_told true in_error scans others =
     ∙ ap with_input_data (left_woven (waiting_in scans in_error) others (all_wait scans in_error))
 
 -- no reply to an event that doesn't wait changes the events
-pub told_stays : (events : List Enqueued) (answer : ErrorReply) (list : EventList) → after_reply (split false events).deliverable answer list ≡ list
+told_stays : (events : List Enqueued) (answer : ErrorReply) (list : EventList) → after_reply (split false events).deliverable answer list ≡ list
 told_stays [] answer list = refl
-told_stays (Status status ∷ events) answer list = refl
-told_stays (Data scan ∷ events) answer list = told_stays events answer list
-told_stays (Error code extended locus.Output ∷ events) answer list = refl
-told_stays (Error code extended locus.Input ∷ events) answer list = told_stays events answer list
-told_stays (Error code extended locus.InputData ∷ events) answer list = told_stays events answer list
-told_stays (Complete id ∷ events) answer list = refl
+told_stays (event ∷ events) answer list = grind (arith, told_stays events answer list)
 
 -- where something waits before the others, it is the first
-take_some : (event : Enqueued) (waiting : List Enqueued) (n : ℕ) → 0 < n → take n (event ∷ waiting) ≡ event ∷ take (n - 1) waiting
-take_some event waiting zero some = absurd (omega arith)
-take_some event waiting (suc n) some = ap (λ (k : ℕ). event ∷ take k waiting) (omega arith)
-
-drop_some : (event : Enqueued) (waiting : List Enqueued) (n : ℕ) → 0 < n → drop n (event ∷ waiting) ≡ drop (n - 1) waiting
-drop_some event waiting zero some = absurd (omega arith)
-drop_some event waiting (suc n) some = ap (λ (k : ℕ). drop k waiting) (omega arith)
-
-pub first_waits : (event : Enqueued) (waiting : List Enqueued) (others : List Other) (behind : ℕ) → 0 < before_first others behind
+first_waits : (event : Enqueued) (waiting : List Enqueued) (others : List Other) (behind : ℕ) → 0 < before_first others behind
     → weave (event ∷ waiting) others ≡ event ∷ weave waiting (one_less others)
 first_waits event waiting [] behind some = refl
 first_waits event waiting (other ∷ others) behind some =
-    rw (take_some event waiting other.before some, drop_some event waiting other.before some)
+    let next : other.before ≡ suc (other.before - 1) = omega arith in
+    let first : take other.before (event ∷ waiting) ≡ event ∷ take (other.before - 1) waiting = ap (λ n. take n (event ∷ waiting)) next in
+    let rest : drop other.before (event ∷ waiting) ≡ drop (other.before - 1) waiting = ap (λ n. drop n (event ∷ waiting)) next in
+    rw (first, rest)
 
 -- EL_INPUT_DATA is the first
-input_data_first : (in_error : Bool) (scans : List Scan) (others : List Other) (behind : ℕ) → 0 < length scans → 0 < before_first others behind
-    → events_in true (waiting_in scans in_error) others ≡ input_error locus.InputData ∷ events_in false (waiting_in scans in_error) others
-input_data_first in_error [] others behind held some = absurd (omega arith)
-input_data_first false (scan ∷ scans) others behind held some = rw (first_waits (Data scan) (map Data scans) others behind some)
-input_data_first true (scan ∷ scans) others behind held some = rw (first_waits (Data scan) (map Data scans ++ input_error locus.Input ∷ []) others behind some)
-
 pub first_is_input_data : (input_data in_error : Bool) (scans : List Scan) (others : List Other) (behind : ℕ)
     → Fits input_data in_error scans others behind → input_data ≡ true → 0 < before_first others behind
     → events_in input_data (waiting_in scans in_error) others ≡ input_error locus.InputData ∷ events_in false (waiting_in scans in_error) others
-first_is_input_data input_data in_error scans others behind fits e some = rw e (input_data_first in_error scans others behind (fits.held e) some)
+first_is_input_data input_data in_error [] others behind fits e some = let held = fits.held e in absurd (omega arith)
+first_is_input_data input_data false (scan ∷ scans) others behind fits e some = rw (e, first_waits (Data scan) (map Data scans) others behind some)
+first_is_input_data input_data true (scan ∷ scans) others behind fits e some =
+    rw (e, first_waits (Data scan) (waiting_in scans true) others behind some)
 
 -- a DataEvent is the first
-data_first : (in_error : Bool) (scan : Scan) (scans : List Scan) (others : List Other) (behind : ℕ) → 0 < before_first others behind
-    → weave (waiting_in (scan ∷ scans) in_error) others ≡ Data scan ∷ weave (waiting_in scans in_error) (one_less others)
-data_first false scan scans others behind some = first_waits (Data scan) (map Data scans) others behind some
-data_first true scan scans others behind some = first_waits (Data scan) (map Data scans ++ input_error locus.Input ∷ []) others behind some
-
 pub first_is_data : (input_data in_error : Bool) (scan : Scan) (scans rest : List Scan) (others : List Other) (behind : ℕ) → input_data ≡ false
     → scans ≡ scan ∷ rest → 0 < before_first others behind
     → events_in input_data (waiting_in scans in_error) others ≡ Data scan ∷ weave (waiting_in rest in_error) (one_less others)
-first_is_data input_data in_error scan scans rest others behind e s some = rw (e, s) (data_first in_error scan rest others behind some)
+first_is_data input_data false scan scans rest others behind e s some = rw (e, s) (first_waits (Data scan) (map Data rest) others behind some)
+first_is_data input_data true scan scans rest others behind e s some = rw (e, s) (first_waits (Data scan) (waiting_in rest true) others behind some)
 
 -- what is left of a list when its first event has been delivered
 abbrev pub after_first : ErrorReply → EventList → EventList
@@ -199,16 +169,7 @@ data_rest answer input_data in_error scan scans rest others after behind list l 
 
 -- what the kind of the first waiting event tells of the parts
 pub is_input_data : (input_data no_scans : Bool) → first_waiting input_data no_scans ≡ waiting.InputData → input_data ≡ true
-is_input_data true no_scans e = refl
-is_input_data false true e = cc
-is_input_data false false e = cc
-
-pub is_input : (input_data no_scans : Bool) → first_waiting input_data no_scans ≡ waiting.Input → (input_data ≡ false) × (no_scans ≡ true)
-is_input true no_scans e = cc
-is_input false true e = (refl, refl)
-is_input false false e = cc
+is_input_data input_data no_scans e = grind arith
 
 pub is_scan : (input_data no_scans : Bool) → first_waiting input_data no_scans ≡ waiting.Data → (input_data ≡ false) × (no_scans ≡ false)
-is_scan true no_scans e = cc
-is_scan false true e = cc
-is_scan false false e = (refl, refl)
+is_scan input_data no_scans e = grind arith

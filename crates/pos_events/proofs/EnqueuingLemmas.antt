@@ -40,20 +40,8 @@ weave_more waiting (first ∷ others) event h =
 -- an event that is no DataEvent, behind the others
 with_input_data_push : (events : List Enqueued) (event : Enqueued) → is_data event ≡ false
     → with_input_data (events ++ event ∷ []) ≡ with_input_data events ++ event ∷ []
-with_input_data_push [] (Status status) e = refl
-with_input_data_push [] (Data scan) e = cc
-with_input_data_push [] (Error code extended at) e = refl
-with_input_data_push [] (Complete id) e = refl
-with_input_data_push (Status status ∷ events) event e = ap (λ (l : List Enqueued). Status status ∷ l) (with_input_data_push events event e)
-with_input_data_push (Data scan ∷ events) event e = refl
-with_input_data_push (Error code extended at ∷ events) event e = ap (λ (l : List Enqueued). Error code extended at ∷ l) (with_input_data_push events event e)
-with_input_data_push (Complete id ∷ events) event e = ap (λ (l : List Enqueued). Complete id ∷ l) (with_input_data_push events event e)
-
--- an event that doesn't wait is no DataEvent
-told_is_no_data : (event : Told) → is_data (told_event event) ≡ false
-told_is_no_data (told.Status status) = refl
-told_is_no_data (told.OutputError code extended) = refl
-told_is_no_data (told.Complete id) = refl
+with_input_data_push [] event e = grind arith
+with_input_data_push (first ∷ events) event e = grind (arith, with_input_data_push events event e)
 
 -- an event that doesn't wait, behind the whole list
 pub events_push : (input_data : Bool) (waiting : List Enqueued) (others : List Other) (other : Other)
@@ -61,7 +49,7 @@ pub events_push : (input_data : Bool) (waiting : List Enqueued) (others : List O
     → events_in input_data waiting (others ++ other ∷ []) ≡ events_in input_data waiting others ++ told_event other.event ∷ []
 events_push false waiting others other e = weave_push waiting others other e
 events_push true waiting others other e =
-    ap with_input_data (weave_push waiting others other e) ∙ with_input_data_push (weave waiting others) (told_event other.event) (told_is_no_data other.event)
+    rw (weave_push waiting others other e) (with_input_data_push (weave waiting others) (told_event other.event) (grind arith))
 
 -- the parts fit with an event that doesn't wait behind the whole list
 pub fits_push : (input_data in_error : Bool) (scans : List Scan) (others : List Other) (behind : ℕ) (event : Told)
@@ -75,51 +63,38 @@ fits_push input_data in_error scans others behind event fits =
     }
 
 -- one more scan, outside the input error state
-one_more : (scans : List Scan) (others : List Other) (behind : ℕ) (scan : Scan) → Fits false false scans others behind
-    → weave (map Data (scans ++ scan ∷ [])) others ≡ weave (map Data scans) others ++ Data scan ∷ []
-one_more scans others behind scan fits =
-    ap (λ (l : List Enqueued). weave l others) (map-append Data scans (scan ∷ []))
-    ∙ weave_more (map Data scans) others (Data scan) (let e = fits.counted in omega (arith, length-map scans Data))
-
 pub one_more_scan : (input_data in_error : Bool) (scans : List Scan) (others : List Other) (behind : ℕ) (scan : Scan)
     → Fits input_data in_error scans others behind → in_error ≡ false
     → list_of input_data in_error (scans ++ scan ∷ []) others ≡ scanned scan (list_of input_data in_error scans others)
 one_more_scan input_data true scans others behind scan fits none = cc
 one_more_scan true false scans others behind scan fits none = cc (fits.error refl)
-one_more_scan false false scans others behind scan fits none = rw (one_more scans others behind scan fits)
-
--- behind an event that doesn't wait
-behind_told : (event : Told) (events : List Enqueued) → with_input_data events ≡ events
-    → with_input_data (told_event event ∷ events) ≡ told_event event ∷ events
-behind_told (told.Status status) events e = ap (λ (l : List Enqueued). Status status ∷ l) e
-behind_told (told.OutputError code extended) events e = ap (λ (l : List Enqueued). Error code extended locus.Output ∷ l) e
-behind_told (told.Complete id) events e = ap (λ (l : List Enqueued). Complete id ∷ l) e
+one_more_scan false false scans others behind scan fits none =
+    let counted = fits.counted in
+    rw (map-append Data scans (scan ∷ []), weave_more (map Data scans) others (Data scan) (omega (arith, length-map scans Data)))
 
 -- without scans, EL_INPUT_DATA has no place
 no_place : (others : List Other) → with_input_data (weave [] others) ≡ weave [] others
 no_place [] = refl
-no_place (other ∷ others) = rw (take-nil {A = Enqueued} other.before, drop-nil {A = Enqueued} other.before)
-    (behind_told other.event (weave [] others) (no_place others))
+no_place (other ∷ others) = rw (take-nil {A = Enqueued} other.before, drop-nil {A = Enqueued} other.before) (grind (arith, no_place others))
 
 -- an input error: EL_INPUT_DATA is held where there is a scan
 failed : (input_data some : Bool) (scans : List Scan) (others : List Other) (behind : ℕ) → Fits input_data false scans others behind
     → some ≡ not (length scans == 0)
-    → events_in some (map Data scans ++ input_error locus.Input ∷ []) others ≡ with_input_data
-    (events_in input_data (map Data scans) others) ++ input_error locus.Input ∷ []
+    → events_in some (map Data scans ++ input_error locus.Input ∷ []) others
+    ≡ with_input_data (events_in input_data (map Data scans) others) ++ input_error locus.Input ∷ []
 failed true some scans others behind fits e = cc (fits.error refl)
 failed false some [] others behind fits e =
-    rw e (weave_more [] others (input_error locus.Input) (let f = fits.counted in omega arith)
-    ∙ ap (λ (l : List Enqueued). l ++ input_error locus.Input ∷ []) (sym (no_place others)))
+    let counted = fits.counted in
+    rw (e, no_place others) (weave_more [] others (input_error locus.Input) (omega arith))
 failed false some (scan ∷ scans) others behind fits e =
     let some_scan : (length (scan ∷ scans) == 0) ≡ false = grind (arith, nat_tests) in
-    rw (e ∙ ap not some_scan)
-    (ap with_input_data (weave_more (map Data (scan ∷ scans)) others (input_error locus.Input)
-    (let f = fits.counted in omega (arith, length-map (scan ∷ scans) Data)))
-    ∙ with_input_data_push (weave (map Data (scan ∷ scans)) others) (input_error locus.Input) refl)
+    let counted = fits.counted in
+    rw (e, some_scan, weave_more (map Data (scan ∷ scans)) others (input_error locus.Input) (omega (arith, length-map (scan ∷ scans) Data)))
+    (with_input_data_push (weave (map Data (scan ∷ scans)) others) (input_error locus.Input) refl)
 
 pub one_more_error : (input_data in_error no_scans : Bool) (count : ℕ) (scans : List Scan) (others : List Other) (behind : ℕ)
     → Fits input_data in_error scans others behind → in_error ≡ false → no_scans ≡ (count == 0) → count ≡ length scans
     → list_of (not no_scans) true scans others ≡ input_failed (list_of input_data in_error scans others)
 one_more_error input_data true no_scans count scans others behind fits none e n = cc
 one_more_error input_data false no_scans count scans others behind fits none e n =
-    rw (failed input_data (not no_scans) scans others behind fits (ap not (e ∙ ap (λ (k : ℕ). k == 0) n)))
+    rw (failed input_data (not no_scans) scans others behind fits (rw (e, n)))

@@ -31,15 +31,6 @@ pub record Removing (start rest : List Other) (carried : ℕ) (now : List Other)
   pub same : done ++ without_errors carried rest ≡ without_errors 0 start
   pub counted : all_before done + carried + all_before rest ≡ all_before start
 
--- one step of the deletion
-kept_first : (rest : List Other) (first other : Other) (carried : ℕ) → other ≡ first → is_error other.event ≡ false
-    → without_errors carried (first ∷ rest) ≡ record { before = carried + other.before; event = other.event } ∷ without_errors 0 rest
-kept_first rest first other carried e stays = rw (← e) (rw stays)
-
-error_first : (rest : List Other) (first other : Other) (carried : ℕ) → other ≡ first → is_error other.event ≡ true
-    → without_errors carried (first ∷ rest) ≡ without_errors (carried + other.before) rest
-error_first rest first other carried e goes = rw (← e) (rw goes)
-
 -- the next stays
 pub removing_kept : (start rest now more : List Other) (first other : Other) (carried : ℕ) → Removing start (first ∷ rest) carried now
     → now ≡ other ∷ more → is_error other.event ≡ false → Removing start rest 0 (more ++ record { before = carried + other.before; event = other.event } ∷ [])
@@ -50,9 +41,8 @@ removing_kept start rest now more first other carried r e stays =
     let kept : Other = record { before = carried + other.before; event = other.event } in
     record {
       done = r.done ++ kept ∷ [];
-      parts = ap (λ (l : List Other). l ++ kept ∷ []) is_rest ∙ append_assoc rest r.done (kept ∷ []);
-      same = append_assoc r.done (kept ∷ []) (without_errors 0 rest)
-          ∙ ap (λ (l : List Other). r.done ++ l) (sym (kept_first rest first other carried is_first stays)) ∙ r.same;
+      parts = rw (is_rest, append_assoc);
+      same = rw append_assoc (rw (← is_first, stays) at r.same);
       counted = let c = r.counted in omega (arith, all_before-append r.done (kept ∷ []), ap (λ (o : Other). o.before) is_first);
     }
 
@@ -66,7 +56,7 @@ removing_error start rest now more first other carried r e goes =
     record {
       done = r.done;
       parts = is_rest;
-      same = ap (λ (l : List Other). r.done ++ l) (sym (error_first rest first other carried is_first goes)) ∙ r.same;
+      same = rw (← is_first, goes) at r.same;
       counted = let c = r.counted in omega (arith, ap (λ (o : Other). o.before) is_first);
     }
 

@@ -18,9 +18,7 @@ count_cons : (event : Enqueued) (events : List Enqueued) → count_by is_data (e
 count_cons event events = sum_by-append worth (event ∷ []) events
 
 count_told : (event : Told) → count_by is_data (told_event event ∷ []) ≡ 0
-count_told (told.Status status) = refl
-count_told (told.OutputError code extended) = refl
-count_told (told.Complete id) = refl
+count_told event = grind arith
 
 count_weave : (waiting : List Enqueued) (others : List Other) → count_by is_data (weave waiting others) ≡ count_by is_data waiting
 count_weave waiting [] = refl
@@ -37,13 +35,11 @@ count_weave waiting (other ∷ others) =
 
 count_with_input_data : (events : List Enqueued) → count_by is_data (with_input_data events) ≡ count_by is_data events
 count_with_input_data [] = refl
-count_with_input_data (Data scan ∷ events) = count_cons (input_error locus.InputData) (Data scan ∷ events) ∙ omega arith
-count_with_input_data (Status status ∷ events) =
-    omega (arith, count_cons (Status status) (with_input_data events), count_cons (Status status) events, count_with_input_data events)
-count_with_input_data (Error code extended at ∷ events) =
-    omega (arith, count_cons (Error code extended at) (with_input_data events), count_cons (Error code extended at) events, count_with_input_data events)
-count_with_input_data (Complete id ∷ events) =
-    omega (arith, count_cons (Complete id) (with_input_data events), count_cons (Complete id) events, count_with_input_data events)
+count_with_input_data (event ∷ events) =
+    let old = count_cons event events in
+    let new = count_cons event (with_input_data events) in
+    let held = count_cons (input_error locus.InputData) (event ∷ events) in
+    grind (arith, count_with_input_data events)
 
 count_scans : (scans : List Scan) → count_by is_data (map Data scans) ≡ length scans
 count_scans [] = refl
@@ -56,6 +52,5 @@ count_waiting scans true = sum_by-append worth (map Data scans) (input_error loc
 -- DataCount is the number of scans
 pub count_events : (input_data in_error : Bool) (scans : List Scan) (others : List Other)
     → count_by is_data (events_in input_data (waiting_in scans in_error) others) ≡ length scans
-count_events false in_error scans others = count_weave (waiting_in scans in_error) others ∙ count_waiting scans in_error
-count_events true in_error scans others =
-    count_with_input_data (weave (waiting_in scans in_error) others) ∙ count_weave (waiting_in scans in_error) others ∙ count_waiting scans in_error
+count_events false in_error scans others = rw count_weave (count_waiting scans in_error)
+count_events true in_error scans others = rw (count_with_input_data, count_weave) (count_waiting scans in_error)
