@@ -25,7 +25,7 @@ use Rattle.pos_profile.specs.Entries.{entry_of, entry_with, numbers_of, table_en
 use Rattle.pos_profile.specs.Mistakes.{IsFlawedList, IsMistake, IsSoundList, RootHas, mistake_at}
 use Rattle.pos_profile.specs.Profiles.{IsLowest, IsRead, entries_of, is_faulty, is_refused, is_refused_after, is_root, is_totals_entry}
 use Rattle.pos_profile.specs.Tables.{allowed, has_only, is_key, key_of, name_for, text_at, values_at}
-use Rattle.pos_profile.proofs.ListLemmas.{none_past}
+use Rattle.pos_profile.proofs.ListLemmas.{before_end, none_past}
 
 -- the entries of both lists
 abbrev both : Members → List (Option Entry)
@@ -43,14 +43,6 @@ faultless : (root : Members) → is_root root ≡ true → ((n : ℕ) → is_ref
 faultless root is sound zero = rw is
 faultless root is sound (suc n) = sound n
 
--- a refused place is one of the list
-within : (found : List (Option Entry)) (place : ℕ) → is_refused found place ≡ true → place < length found
-within found place refused =
-    elim (cases_lt place (length found)) [
-      | inl less ↦ less
-      | inr past ↦ absurd (false≢true (sym (none_past found place past) ∙ refused))
-    ]
-
 get_front : (front back : List (Option Entry)) (n : ℕ) → n < length front → slice_get (front ++ back) n ≡ slice_get front n
 get_front [] back n less = absurd (omega arith)
 get_front (x ∷ front) back zero less = refl
@@ -63,10 +55,7 @@ get_back (x ∷ front) back n (suc k) e = get_back front back n k (omega arith)
 
 -- what is refused of the first of two lists
 pub refused_front : (front back : List (Option Entry)) (n : ℕ) → n < length front → is_refused (front ++ back) n ≡ is_refused front n
-refused_front front back n less =
-    let same : slice_get (front ++ back) n ≡ slice_get front n = get_front front back n less in
-    let prefix : take n (front ++ back) ≡ take n front = take-append-le n front back (omega arith) in
-    rw (same, prefix)
+refused_front front back n less = rw (get_front front back n less, take-append-le n front back (omega arith))
 
 -- a spare isn't Hard Totals
 plain_entry : (category : Category) → is_totals category ≡ false
@@ -103,15 +92,12 @@ refused_back : (front : List (Option Entry)) (values : List Data) (n k : ℕ) �
     → is_refused (front ++ map (entry_of Spare) values) k ≡ is_refused (map (entry_of Spare) values) n
 refused_back front values n k e =
     let back = map (entry_of Spare) values in
-    let same : slice_get (front ++ back) k ≡ option_map (entry_of Spare) (slice_get values n) =
-    get_back front back n k e ∙ slice_get-map (entry_of Spare) values n in
-    let here : slice_get back n ≡ option_map (entry_of Spare) (slice_get values n) = slice_get-map (entry_of Spare) values n in
-    rw (same, here) (after_spare (take k (front ++ back)) (take n back) (slice_get values n))
+    rw (get_back front back n k e, slice_get-map (entry_of Spare) values n) (after_spare (take k (front ++ back)) (take n back) (slice_get values n))
 
 -- the lowest of the devices is the lowest of both
 lowest_front : (front back : List (Option Entry)) (place : ℕ) → IsLowest (is_refused front) place → IsLowest (is_refused (front ++ back)) place
 lowest_front front back place lowest =
-    let less = within front place lowest.here in
+    let less = before_end (is_refused front) (length front) place (none_past front) lowest.here in
     record {
       here = refused_front front back place less ∙ lowest.here;
       below = λ n before. refused_front front back n (omega arith) ∙ lowest.below n before;

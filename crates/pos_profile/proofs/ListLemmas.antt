@@ -26,8 +26,14 @@ any_totals (entry ∷ entries) = ap (λ rest. is_totals entry.category || rest) 
 -- the document's value at a place of a list
 pub value_at : (values : List Value) (place : ℕ) (value : Value) → place < length values → value ≡ get_or values place value
     → slice_get (map view values) place ≡ Some (view value)
-value_at values place value within at =
-    slice_get-map view values place ∙ ap (option_map view) (slice_get_read values (length values) place value refl within at)
+value_at values place value within at = rw (slice_get-map view values place, slice_get_read values (length values) place value refl within at)
+
+-- a place that passes a test is before those of which none does
+pub before_end : (test : ℕ → Bool) (count place : ℕ) → ((n : ℕ) → count ≤ n → test n ≡ false) → test place ≡ true → place < count
+before_end test count place past is = elim (cases_lt place count) [
+  | inl less ↦ less
+  | inr end ↦ absurd (false≢true (sym (past place end) ∙ is))
+]
 
 -- no place past the end is refused
 pub none_past : (found : List (Option Entry)) (place : ℕ) → length found ≤ place → is_refused found place ≡ false
@@ -35,7 +41,7 @@ none_past found place past = rw (slice_get_past found place past)
 
 module _ (role : Role) (values : List Data) (place : ℕ) (value : Data) (at : slice_get values place ≡ Some value) where
   entry_at : (next : Option Entry) → entry_of role value ≡ next → slice_get (map (entry_of role) values) place ≡ Some next
-  entry_at next is = slice_get-map (entry_of role) values place ∙ ap (option_map (entry_of role)) at ∙ ap (λ (o : Option Entry). Some o) is
+  entry_at next is = rw (slice_get-map (entry_of role) values place, at, is)
 
   -- the first value that isn't sound by itself
   pub flawed_at : (why : Reason) → IsFlawedValue role value why → ((n : ℕ) → n < place → is_refused (map (entry_of role) values) n ≡ false)
@@ -73,10 +79,8 @@ module _ (role : Role) (values : List Data) (place : ℕ) (value : Data) (at : s
     taken =
         let found = map (entry_of role) values in
         let here : slice_get found place ≡ Some (Some entry) = entry_at (Some entry) is in
-        map-append (λ e. Some e) read (entry ∷ [])
-        ∙ ap (λ front. front ++ Some entry ∷ []) so_far
-        ∙ sym (take_more found place None (slice_get_within found place (Some entry) here)
-        ∙ ap (λ e. take place found ++ e ∷ []) (get_or_from_slice_get found place (Some entry) None here))
+        rw (map-append (λ e. Some e) read (entry ∷ []), so_far, take_more found place None (slice_get_within found place (Some entry) here),
+            get_or_from_slice_get found place (Some entry) None here)
 
 -- all entries were read
 pub all_read : (role : Role) (values : List Data) (read : List Entry) (place : ℕ) → length values ≤ place
@@ -107,14 +111,12 @@ not_not false = refl
 pub known : (lent : Bor (List ℕ)) (keys : List (Bor (List ℕ))) (earlier : List (List ℕ)) (is_new : Bool)
     → is_new ≡ not (list_any (λ (other : Bor (List ℕ)). bytes_eq lent.now other.now) keys) → map (λ (name : Bor (List ℕ)). name.now) keys ≡ earlier
     → list_any (bytes_eq lent.now) earlier ≡ not is_new
-known lent keys earlier is_new added so_far =
-    ap (list_any (bytes_eq lent.now)) (sym so_far) ∙ sym (any_lent lent.now keys)
-    ∙ sym (ap not added ∙ not_not (list_any (λ (other : Bor (List ℕ)). bytes_eq lent.now other.now) keys))
+known lent keys earlier is_new added so_far = rw (← so_far, ← any_lent lent.now keys, added, not_not)
 
 -- one more name
 names_more : (names : List (List ℕ)) (place : ℕ) (name : List ℕ) → slice_get names place ≡ Some name → take (place + 1) names ≡ take place names ++ name ∷ []
 names_more names place name at =
-    take_more names place [] (slice_get_within names place name at) ∙ ap (λ n. take place names ++ n ∷ []) (get_or_from_slice_get names place name [] at)
+    rw (take_more names place [] (slice_get_within names place name at), get_or_from_slice_get names place name [] at)
 
 -- a set of the names so far gets one more
 pub names_taken : (lent : Bor (List ℕ)) (keys : List (Bor (List ℕ))) (names : List (List ℕ)) (place : ℕ)
@@ -125,16 +127,13 @@ names_taken lent keys names place added so_far at =
     let fresh : list_any (λ (other : Bor (List ℕ)). bytes_eq lent.now other.now) keys ≡ false =
     sym (ap not added ∙ not_not (list_any (λ (other : Bor (List ℕ)). bytes_eq lent.now other.now) keys)) in
     ap (λ b. map (λ (name : Bor (List ℕ)). name.now) (cond b keys (keys ++ lent ∷ []))) fresh
-    ∙ map-append (λ (name : Bor (List ℕ)). name.now) keys (lent ∷ [])
-    ∙ ap (λ front. front ++ lent.now ∷ []) so_far
-    ∙ sym (names_more names place lent.now at)
+    ∙ rw (map-append (λ (name : Bor (List ℕ)). name.now) keys (lent ∷ []), so_far, names_more names place lent.now at)
 
 -- the name at a place of a list of entries
-pub name_at : (entries : List Entry) (place : ℕ) (entry : Entry) → place < length entries → entry ≡ get_or entries place entry
-    → slice_get (names_of entries) place ≡ Some entry.name
-name_at entries place entry within at =
-    slice_get-map (λ (e : Entry). e.name) entries place
-    ∙ ap (option_map (λ (e : Entry). e.name)) (slice_get_read entries (length entries) place entry refl within at)
+pub name_at : (entries : List Entry) (place : ℕ) (entry : Entry) (name : List ℕ) → place < length entries → entry ≡ get_or entries place entry
+    → name ≡ entry.name → slice_get (names_of entries) place ≡ Some name
+name_at entries place entry name within at is =
+    rw (slice_get-map (λ (e : Entry). e.name) entries place, slice_get_read entries (length entries) place entry refl within at, is)
 
 -- the verdict on the name at a place
 pub repeated_at : (names : List (List ℕ)) (place : ℕ) (name : List ℕ) (verdict : Bool) → slice_get names place ≡ Some name
@@ -156,8 +155,4 @@ all_single names place past single n =
 
 -- a repeated place is one of the list
 pub repeated_within : (names : List (List ℕ)) (place : ℕ) → is_repeated names place ≡ true → place < length names
-repeated_within names place repeated =
-    elim (cases_lt place (length names)) [
-      | inl less ↦ less
-      | inr past ↦ absurd (false≢true (sym (none_repeated names place past) ∙ repeated))
-    ]
+repeated_within names place repeated = before_end (is_repeated names) (length names) place (none_repeated names) repeated

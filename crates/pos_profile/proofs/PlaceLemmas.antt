@@ -31,10 +31,9 @@ pub place_more : (names : List (List ℕ)) (place : ℕ) (noted : List ℕ) → 
     → place_of (take (place + 1) names) name ≡ first_of (place_of (take place names) name) (where_same name noted place)
 place_more names place noted at name =
     let within : place < length names = slice_get_within names place noted at in
-    let longer : take (place + 1) names ≡ take place names ++ noted ∷ [] =
-    take_more names place [] within ∙ ap (λ n. take place names ++ n ∷ []) (get_or_from_slice_get names place noted [] at) in
     let count : length (take place names) ≡ place = length-take-le place names (omega arith) in
-    ap (λ ns. place_of ns name) longer ∙ place_longer 0 name (take place names) noted place (omega (arith, count))
+    rw (take_more names place [] within, get_or_from_slice_get names place noted [] at)
+    (place_longer 0 name (take place names) noted place (omega (arith, count)))
 
 -- a place that is found is one of the list
 bound_here : (here : Bool) (at : ℕ) (rest : Option ℕ) (place count : ℕ) → (rest ≡ Some place → place < at + 1 + count)

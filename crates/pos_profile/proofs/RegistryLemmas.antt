@@ -24,34 +24,45 @@ use Rattle.pos_profile.specs.Registries.{Device, HasKindInRange, IsNamed, IsRegi
 use Rattle.pos_profile.specs.Registries.{planned_for, planned_of, standing_at, vacant, vacant_devices, with_peripheral}
 use Rattle.pos_profile.proofs.PlaceLemmas.{place_within}
 
+-- what there is, where there is something
+pub some_of : {A : Type 0} (o : Option A) → is_some o ≡ true → (x : A) × (o ≡ Some x)
+some_of None is = absurd (false≢true is)
+some_of (Some x) is = (x, refl)
+
+-- there is nothing, where there isn't something
+pub none_of : {A : Type 0} (o : Option A) → is_some o ≡ false → o ≡ None
+none_of None is = refl
+none_of (Some x) is = absurd (false≢true (sym is))
+
+-- something isn't nothing
+pub never : {A : Type 0} {x : A} → None ≡ Some x → ⊥
+never is = false≢true (ap is_some is)
+
 -- what one more entry plans
 planned_more : (entries : List Entry) (place : ℕ) (entry : Entry) → place < length entries → entry ≡ get_or entries place entry
     → planned_of (take (place + 1) entries) ≡ planned_of (take place entries) ++ planned_of (entry ∷ [])
 planned_more entries place entry within at =
-    ap planned_of (take_more entries place entry within ∙ ap (λ e. take place entries ++ e ∷ []) (sym at))
-    ∙ filter_map-append planned_for (take place entries) (entry ∷ [])
+    rw (take_more entries place entry within, ← at) (filter_map-append planned_for (take place entries) (entry ∷ []))
 
 -- an entry without a peripheral plans nothing
 pub planned_skips : (entries : List Entry) (place : ℕ) (entry : Entry) → place < length entries → entry ≡ get_or entries place entry
     → kind_of entry ≡ None → planned_of (take (place + 1) entries) ≡ planned_of (take place entries)
 planned_skips entries place entry within at none =
-    let plans : planned_of (entry ∷ []) ≡ [] = rw none refl in
-    planned_more entries place entry within at ∙ ap (λ (ps : List Planned). planned_of (take place entries) ++ ps) plans
-    ∙ append-nil (planned_of (take place entries))
+    let plans : planned_of (entry ∷ []) ≡ [] = rw none in
+    rw (planned_more entries place entry within at, plans, append-nil)
 
 -- an entry with a peripheral plans its device
 pub planned_takes : (entries : List Entry) (place : ℕ) (entry : Entry) (kind : Kind) → place < length entries → entry ≡ get_or entries place entry
     → kind_of entry ≡ Some kind → planned_of (take (place + 1) entries) ≡ planned_of (take place entries) ++ record { name = entry.name; kind = kind } ∷ []
 planned_takes entries place entry kind within at some =
-    let plans : planned_of (entry ∷ []) ≡ record { name = entry.name; kind = kind } ∷ [] = rw some refl in
-    planned_more entries place entry within at ∙ ap (λ (ps : List Planned). planned_of (take place entries) ++ ps) plans
+    let plans : planned_of (entry ∷ []) ≡ record { name = entry.name; kind = kind } ∷ [] = rw some in
+    rw (planned_more entries place entry within at, plans)
 
 -- the device at the place of a slot
 pub device_at : {P : Type 0} (peripherals : Ghosts P) (slots : List (Slot P)) (place : ℕ) (slot : Slot P) → place < length slots
     → slot ≡ get_or slots place slot → slice_get (devices_of peripherals slots) place ≡ Some (device_of peripherals slot)
 device_at peripherals slots place slot within at =
-    slice_get-map (λ s. device_of peripherals s) slots place
-    ∙ ap (λ o. option_map (λ s. device_of peripherals s) o) (slice_get_read slots (length slots) place slot refl within at)
+    rw (slice_get-map (λ s. device_of peripherals s) slots place, slice_get_read slots (length slots) place slot refl within at)
 
 pub devices_count : {P : Type 0} (peripherals : Ghosts P) (slots : List (Slot P)) → length (devices_of peripherals slots) ≡ length slots
 devices_count peripherals slots = length-map slots (λ s. device_of peripherals s)
@@ -66,17 +77,25 @@ named_within peripherals slots name place found =
     let list = devices_of peripherals slots in
     omega (arith, place_within (names_of list) name place found, names_count list, devices_count peripherals slots)
 
-pub named_at : {P : Type 0} (peripherals : Ghosts P) (slots : List (Slot P)) (name : List ℕ) (place : ℕ) (slot : Slot P)
-    → place_of (names_of (devices_of peripherals slots)) name ≡ Some place → slot ≡ get_or slots place slot
-    → slice_get (devices_of peripherals slots) place ≡ Some (device_of peripherals slot)
-named_at peripherals slots name place slot found at =
-    device_at peripherals slots place slot (named_within peripherals slots name place found) at
-
 pub named_device : {P : Type 0} (peripherals : Ghosts P) (slots : List (Slot P)) (name : List ℕ) (place : ℕ) (slot : Slot P)
     → place_of (names_of (devices_of peripherals slots)) name ≡ Some place → slot ≡ get_or slots place slot
     → IsNamed (devices_of peripherals slots) name (device_of peripherals slot)
-named_device peripherals slots name place slot found at =
-    record { place = place; found = found; at = named_at peripherals slots name place slot found at }
+named_device peripherals slots name place slot found at = record {
+  place = place;
+  found = found;
+  at = device_at peripherals slots place slot (named_within peripherals slots name place found) at;
+}
+
+-- what may serve a device that is named, while nothing serves it
+pub named_serves : {P : Type 0} (peripherals : Ghosts P) (slots : List (Slot P)) (name : List ℕ) (place : ℕ) (slot : Slot P) (state : PeripheralState)
+    → place_of (names_of (devices_of peripherals slots)) name ≡ Some place → slot ≡ get_or slots place slot → is_some slot.peripheral ≡ false
+    → state.kind ≡ slot.kind → MayServe (devices_of peripherals slots) place state
+named_serves peripherals slots name place slot state found at vacant same = record {
+  device = device_of peripherals slot;
+  at = device_at peripherals slots place slot (named_within peripherals slots name place found) at;
+  vacant = ap (option_map peripherals.state) (none_of slot.peripheral vacant);
+  kind = same;
+}
 
 -- another peripheral, or none, is put into a slot
 pub devices_set : {P : Type 0} (peripherals : Ghosts P) (slots : List (Slot P)) (place : ℕ) (slot other : Slot P) (x : Option P)
@@ -84,29 +103,27 @@ pub devices_set : {P : Type 0} (peripherals : Ghosts P) (slots : List (Slot P)) 
     → devices_of peripherals (set slots place (record slot { peripheral = x })) ≡ with_peripheral (devices_of peripherals slots) place
     (option_map peripherals.state x)
 devices_set peripherals [] place slot other x at = refl
-devices_set peripherals (first ∷ slots) zero slot other x at =
-    ap (λ (s : Slot _). (record (device_of peripherals s) { peripheral = option_map peripherals.state x } ∷ devices_of peripherals slots)) at
-devices_set peripherals (first ∷ slots) (suc place) slot other x at =
-    ap (λ (ds : List Device). (device_of peripherals first ∷ ds)) (devices_set peripherals slots place slot other x at)
+devices_set peripherals (first ∷ slots) zero slot other x at = rw at
+devices_set peripherals (first ∷ slots) (suc place) slot other x at = rw (devices_set peripherals slots place slot other x at)
 
 -- past the end there is nothing to change
 pub with_past : (list : List Device) (place : ℕ) (x : Option PeripheralState) → length list ≤ place → with_peripheral list place x ≡ list
 with_past [] place x past = refl
 with_past (device ∷ list) zero x past = absurd (omega (arith, past))
-with_past (device ∷ list) (suc place) x past = ap (λ (ds : List Device). (device ∷ ds)) (with_past list place x (omega (arith, past)))
+with_past (device ∷ list) (suc place) x past = rw (with_past list place x (omega (arith, past)))
 
 pub standing_past : (list : List Device) (place : ℕ) → length list ≤ place → standing_at list place ≡ None
 standing_past list place past = rw (slice_get_past list place past)
 
 -- what stands at the place of a device
 pub standing_is : (list : List Device) (place : ℕ) (device : Device) → slice_get list place ≡ Some device → standing_at list place ≡ device.peripheral
-standing_is list place device at = ap (λ (o : Option Device). option_and_then (λ (d : Device). d.peripheral) o) at
+standing_is list place device at = rw at
 
 -- the names stay
 names_with : (list : List Device) (place : ℕ) (x : Option PeripheralState) → names_of (with_peripheral list place x) ≡ names_of list
 names_with [] place x = refl
 names_with (device ∷ list) zero x = refl
-names_with (device ∷ list) (suc place) x = ap (λ (ns : List (List ℕ)). (device.name ∷ ns)) (names_with list place x)
+names_with (device ∷ list) (suc place) x = rw (names_with list place x)
 
 -- each device is served rightly, where the changed one is
 served_with : (list : List Device) (place : ℕ) (x : Option PeripheralState) → AllByRecursion IsServed list
@@ -129,10 +146,9 @@ pub sound_with : {P : Type 0} (peripherals : Ghosts P) (old new : Registry P) (p
     → ((device : Device) → slice_get (devices peripherals old) place ≡ Some device → IsServed (record device { peripheral = x }))
     → IsRegistrySound peripherals new
 sound_with peripherals old new place x sound places is here = record {
-  index = λ name. ap (λ p. found_in p name) places ∙ sound.index name
-      ∙ ap (λ (ns : List (List ℕ)). place_of ns name) (sym (ap names_of is ∙ names_with (devices peripherals old) place x));
-  kinds = subst (AllByRecursion HasKindInRange) (sym is) (kinds_with (devices peripherals old) place x sound.kinds);
-  served = subst (AllByRecursion IsServed) (sym is) (served_with (devices peripherals old) place x sound.served here);
+  index = λ name. rw (places, is, names_with (devices peripherals old) place x) (sound.index name);
+  kinds = rw is (kinds_with (devices peripherals old) place x sound.kinds);
+  served = rw is (served_with (devices peripherals old) place x sound.served here);
 }
 
 -- what may serve a place is of the kind of its device
@@ -142,24 +158,10 @@ same_kind list place state device may at =
     let same : may.device ≡ device = cc in
     may.kind ∙ ap (λ (d : Device). d.kind) same
 
--- what there is, where there is something
-pub some_of : {A : Type 0} (o : Option A) → is_some o ≡ true → (x : A) × (o ≡ Some x)
-some_of None is = absurd (false≢true is)
-some_of (Some x) is = (x, refl)
-
--- there is nothing, where there isn't something
-pub none_of : {A : Type 0} (o : Option A) → is_some o ≡ false → o ≡ None
-none_of None is = refl
-none_of (Some x) is = absurd (false≢true (sym is))
-
--- something isn't nothing
-pub never : {A : Type 0} {x : A} → None ≡ Some x → ⊥
-never is = false≢true (ap is_some is)
-
 -- what is planned is sound, vacant
 names_vacant : (plan : List Planned) → names_of (map vacant plan) ≡ map (λ (p : Planned). p.name) plan
 names_vacant [] = refl
-names_vacant (planned ∷ plan) = ap (λ (ns : List (List ℕ)). (planned.name ∷ ns)) (names_vacant plan)
+names_vacant (planned ∷ plan) = rw (names_vacant plan)
 
 served_vacant : (plan : List Planned) → AllByRecursion IsServed (map vacant plan)
 served_vacant [] = tt
@@ -180,10 +182,9 @@ pub sound_planned : {P : Type 0} (peripherals : Ghosts P) (registry : Registry P
     → All (IsSoundEntry role.Device) entries → plan ≡ planned_of entries → devices peripherals registry ≡ map vacant plan
     → IsIndexOf registry.places (map (λ (p : Planned). p.name) plan) → IsRegistrySound peripherals registry
 sound_planned peripherals registry entries plan sound planned is index = record {
-  index = λ name. index name ∙ ap (λ (ns : List (List ℕ)). place_of ns name) (sym (ap names_of is ∙ names_vacant plan));
-  kinds = subst (AllByRecursion HasKindInRange) (sym (is ∙ ap (map vacant) planned))
-      (kinds_planned entries (recursion_from_All (IsSoundEntry role.Device) entries sound));
-  served = subst (AllByRecursion IsServed) (sym is) (served_vacant plan);
+  index = λ name. rw (is, names_vacant plan) (index name);
+  kinds = rw (is, planned) (kinds_planned entries (recursion_from_All (IsSoundEntry role.Device) entries sound));
+  served = rw is (served_vacant plan);
 }
 
 -- one more device is out of service
@@ -200,6 +201,4 @@ parked_more peripherals slots olds place old new within same front at parks =
 
 -- once the place is behind the last, all are out of service
 pub parked_whole : (list olds : List Device) (place : ℕ) → length olds ≤ place → list ≡ map parked (take place olds) ++ drop place olds → list ≡ map parked olds
-parked_whole list olds place past front =
-    front ∙ ap (λ (xs : List Device). map parked xs ++ drop place olds) (take_all place olds past)
-    ∙ ap (λ (xs : List Device). map parked olds ++ xs) (drop_all place olds past) ∙ append-nil (map parked olds)
+parked_whole list olds place past front = rw (front, take_all place olds past, drop_all place olds past, append-nil)

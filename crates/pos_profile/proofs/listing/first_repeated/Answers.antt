@@ -12,9 +12,7 @@ returns-then-not-is_new c =
     let names = names_of c.args.entries.now in
     let place = c.loop-place.place in
     let lent = c.as_str.result in
-    let at : slice_get names place ≡ Some lent.now =
-    name_at c.args.entries.now place c.index-entries-place.result c.loop-place-test.true c.index-entries-place.is
-    ∙ ap (λ (n : List ℕ). Some n) (sym c.as_str.ensures) in
+    let at = name_at c.args.entries.now place c.index-entries-place.result lent.now c.loop-place-test.true c.index-entries-place.is c.as_str.ensures in
     let repeated : list_any (bytes_eq lent.now) (take place names) ≡ true =
     known lent c.loop-place.names.keys (take place names) c.in-Ok.is_new c.in-Ok.ensures.added c.loop-place.invariant.so_far ∙ ap not c.if-not-is_new.true in
     record { here = repeated_at names place lent.now true at repeated; below = c.loop-place.invariant.single }
@@ -24,9 +22,7 @@ loop-place-preserved c =
     let names = names_of c.args.entries.now in
     let place = c.loop-place.place in
     let lent = c.as_str.result in
-    let at : slice_get names place ≡ Some lent.now =
-    name_at c.args.entries.now place c.index-entries-place.result c.loop-place-test.true c.index-entries-place.is
-    ∙ ap (λ (n : List ℕ). Some n) (sym c.as_str.ensures) in
+    let at = name_at c.args.entries.now place c.index-entries-place.result lent.now c.loop-place-test.true c.index-entries-place.is c.as_str.ensures in
     let single : list_any (bytes_eq lent.now) (take place names) ≡ false =
     known lent c.loop-place.names.keys (take place names) c.in-Ok.is_new c.in-Ok.ensures.added c.loop-place.invariant.so_far ∙ ap not c.if-not-is_new.false in
     record {

@@ -17,9 +17,8 @@ returns-in-Err-Flawed c =
     let place = c.loop-place.place in
     let value = c.index-values-place.result in
     let at : slice_get data_values place ≡ Some (view value) = value_at c.args.values.now place value (omega arith) c.index-values-place.is in
-    let flawed : IsFlawedValue c.args.role (view value) c.in-Err-Flawed.reason =
-    subst (λ (fault : EntryFault). ReadsValue c.args.role (view value) (Err fault)) c.in-Err-Flawed.field-0-is c.in-Err-Flawed.ensures in
-    subst (λ (why : Reason). IsFlawedList c.args.role data_values place why) (sym c.in-Err-Flawed.reason-is)
+    let flawed = rw c.in-Err-Flawed.field-0-is at c.in-Err-Flawed.ensures in
+    rw c.in-Err-Flawed.reason-is
     (flawed_at c.args.role data_values place (view value) at c.in-Err-Flawed.reason flawed c.loop-place.invariant.sound (omega arith))
 
 pub returns-then-is_second_totals : goal.returns-then-is_second_totals
@@ -30,8 +29,7 @@ returns-then-is_second_totals c =
     let read = c.loop-place.entries.items in
     let at : slice_get data_values place ≡ Some (view value) = value_at c.args.values.now place value (omega arith) c.index-values-place.is in
     let second : is_refused_after (map (λ (e : Entry). Some e) read) (Some (Some c.in-Ok-read_value.entry)) ≡ true =
-    ap (λ (es : List Entry). is_refused_after (map (λ (e : Entry). Some e) es) (Some (Some c.in-Ok-read_value.entry))) (sym c.deref.ensures.value)
-    ∙ sym c.is_second_totals.ensures ∙ c.if-is_second_totals.true in
+    rw (← c.deref.ensures.value) (sym c.is_second_totals.ensures ∙ c.if-is_second_totals.true) in
     second_at c.args.role data_values place
     (view value) at c.in-Ok-read_value.entry c.in-Ok-read_value.ensures read c.loop-place.invariant.so_far second c.loop-place.invariant.sound (omega arith)
 
@@ -44,11 +42,10 @@ loop-place-preserved c =
     let entry = c.in-Ok-read_value.entry in
     let at : slice_get data_values place ≡ Some (view value) = value_at c.args.values.now place value (omega arith) c.index-values-place.is in
     let single : is_refused_after (map (λ (e : Entry). Some e) read) (Some (Some entry)) ≡ false =
-    ap (λ (es : List Entry). is_refused_after (map (λ (e : Entry). Some e) es) (Some (Some entry))) (sym c.deref.ensures.value)
-    ∙ sym c.is_second_totals.ensures ∙ c.if-is_second_totals.false in
+    rw (← c.deref.ensures.value) (sym c.is_second_totals.ensures ∙ c.if-is_second_totals.false) in
     record {
-      so_far = ap (map (λ (e : Entry). Some e)) c.push_reserved.ensures.items
-          ∙ taken c.args.role data_values place (view value) at entry c.in-Ok-read_value.ensures read c.loop-place.invariant.so_far;
+      so_far = rw c.push_reserved.ensures.items
+          (taken c.args.role data_values place (view value) at entry c.in-Ok-read_value.ensures read c.loop-place.invariant.so_far);
       sound = below_more (λ n. is_refused (map (entry_of c.args.role) data_values) n ≡ false) place c.loop-place.invariant.sound
           (refused_at c.args.role data_values place (view value) at entry c.in-Ok-read_value.ensures read c.loop-place.invariant.so_far false single);
       count = omega arith;

@@ -7,9 +7,6 @@ use Rattle.pos_profile.proofs.PlaceLemmas.{already, lookup_more}
 use Rattle.pos_profile.proofs.RegistryLemmas.{none_of}
 use Rattle.pos_profile.proofs.places.note.Goals as goal
 
-pub returns-then-contains_key : goal.returns-then-contains_key
-returns-then-contains_key c = already (looked_up c.args.places.now) c.args.name.now c.args.place (sym c.contains_key.ensures ∙ c.if-contains_key.true)
-
 pub returns : goal.returns
 returns c = λ name.
     let old = c.args.places.now in

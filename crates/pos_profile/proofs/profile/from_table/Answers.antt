@@ -1,4 +1,4 @@
-use Rattle.std.proofs.Common.{◌≡◌, ◌<◌, List, ℕ, None, Some, false, length, subst, arith}
+use Rattle.std.proofs.Common.{◌≡◌, ◌<◌, List, ℕ, None, Some, false, length, refl, arith}
 use Rattle.std.proofs.lemmas.List.{length-map}
 use Rattle.toml.specs.View.{table_view}
 use Rattle.pos_profile.specs.declared.entry.Entry.{Entry}
@@ -10,20 +10,16 @@ use Rattle.pos_profile.proofs.profile.from_table.Goals as goal
 
 pub invariant_of-result : goal.invariant_of-result
 invariant_of-result c =
-    let found : FindsRepeated (names_of c.deref.result.now) None =
-    subst (FindsRepeated (names_of c.deref.result.now)) c.in-Ok-None.field-0-is c.in-Ok-None.ensures in
-    let single : (place : ℕ) → is_repeated (names_of c.in-Ok.lists.devices.items) place ≡ false =
-    subst (λ (entries : List Entry). FindsRepeated (names_of entries) None) c.deref.ensures.value found in
+    let found = rw c.in-Ok-None.field-0-is at c.in-Ok-None.ensures in
+    let single = rw c.deref.ensures.value at found in
     profile_sound (table_view c.args.root.now) (contents_of c.in-Ok.lists) c.in-Ok.ensures single
 
 pub returns-in-Ok-Some : goal.returns-in-Ok-Some
 returns-in-Ok-Some c =
     let devices = c.in-Ok.lists.devices.items in
     let place = c.in-Ok-Some.place in
-    let found : FindsRepeated (names_of c.deref.result.now) (Some place) =
-    subst (FindsRepeated (names_of c.deref.result.now)) c.in-Ok-Some.field-0-is c.in-Ok-Some.ensures in
-    let first : IsLowest (is_repeated (names_of devices)) place =
-    subst (λ (entries : List Entry). FindsRepeated (names_of entries) (Some place)) c.deref.ensures.value found in
+    let found = rw c.in-Ok-Some.field-0-is at c.in-Ok-Some.ensures in
+    let first = rw c.deref.ensures.value at found in
     let within : place < length devices =
     omega (arith, repeated_within (names_of devices) place first.here, length-map devices (λ (e : Entry). e.name)) in
     record {
@@ -31,5 +27,5 @@ returns-in-Ok-Some c =
       read = c.in-Ok.ensures;
       place = place;
       first = first;
-      name_is = name_at devices place c.swap_remove.result within c.swap_remove.ensures.value;
+      name_is = name_at devices place c.swap_remove.result _ within c.swap_remove.ensures.value refl;
     }

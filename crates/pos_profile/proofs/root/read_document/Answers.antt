@@ -13,10 +13,9 @@ pub returns-in-Err-Flawed-read_list : goal.returns-in-Err-Flawed-read_list
 returns-in-Err-Flawed-read_list c =
     let root = table_view c.args.root.now in
     let fault = c.in-Err-Flawed-read_list in
-    let flawed : IsFlawedList Device (values_at (key_of Device) root) fault.flaw.place fault.flaw.reason =
-    subst (λ (f : ListFault). ReadsList Device (values_at (key_of Device) root) (Err f)) fault.field-0-is fault.ensures in
+    let flawed = rw fault.field-0-is at fault.ensures in
     let is : c.listed.result ≡ Mistaken (mistake_at 0 Device fault.flaw.place fault.flaw.reason) = listed_at 0 Device fault.flaw-is c.listed.ensures in
-    subst (λ (f : DocumentFault). ReadsDocument root (Err f)) (sym is) (device_mistaken root c.in-Ok.ensures fault.flaw.place fault.flaw.reason flawed)
+    rw is (device_mistaken root c.in-Ok.ensures fault.flaw.place fault.flaw.reason flawed)
 
 pub returns-in-Ok-read_list-2 : goal.returns-in-Ok-read_list-2
 returns-in-Ok-read_list-2 c =
@@ -27,10 +26,9 @@ pub returns-in-Err-Flawed-read_list-2 : goal.returns-in-Err-Flawed-read_list-2
 returns-in-Err-Flawed-read_list-2 c =
     let root = table_view c.args.root.now in
     let fault = c.in-Err-Flawed-read_list-2 in
-    let flawed : IsFlawedList Spare (values_at (key_of Spare) root) fault.flaw.place fault.flaw.reason =
-    subst (λ (f : ListFault). ReadsList Spare (values_at (key_of Spare) root) (Err f)) fault.field-0-is fault.ensures in
+    let flawed = rw fault.field-0-is at fault.ensures in
     let devices = c.in-Ok-read_list.devices.items in
     let is : c.listed-in-Err-Flawed-read_list-2.result ≡ Mistaken (mistake_at c.len.result Spare fault.flaw.place fault.flaw.reason) =
     listed_at c.len.result Spare fault.flaw-is c.listed-in-Err-Flawed-read_list-2.ensures in
-    subst (λ (f : DocumentFault). ReadsDocument root (Err f)) (sym is)
+    rw is
     (spare_mistaken root c.in-Ok.ensures devices c.in-Ok-read_list.ensures c.len.result fault.flaw.place fault.flaw.reason (omega arith) flawed)

@@ -1,6 +1,6 @@
 use Rattle.std.proofs.Common.{◌≡◌, ◌∙◌, None, option_map, sym, ap, refl, arith}
 use Rattle.pos_profile.specs.Registries.{device_of}
-use Rattle.pos_profile.proofs.RegistryLemmas.{named_at, named_device, named_within, none_of, some_of}
+use Rattle.pos_profile.proofs.RegistryLemmas.{named_device, named_serves, named_within, none_of, some_of}
 use Rattle.pos_profile.proofs.registry.Registry.attach.Goals as goal
 
 pub index-slot-requires : goal.index-slot-requires
@@ -44,33 +44,14 @@ returns-then-not-is_same-clause-attaches g c =
 
 pub put-requires-clause-may_serve : goal.put-requires-clause-may_serve
 put-requires-clause-may_serve g c =
-    let slots = c.args.self.now.slots.items in
-    let place = c.in-Some.place in
-    let slot = c.index-slot.result.now in
-    let at = named_at g.P.Peripheral slots c.args.name.now place slot (sym c.in-Some.ensures) c.index-slot.ensures in
-    let none : slot.peripheral ≡ None = none_of slot.peripheral (sym c.is_some.ensures ∙ c.if-is_some.false) in
-    record {
-      device = device_of g.P.Peripheral slot;
-      at = at;
-      vacant = ap (option_map g.P.Peripheral.state) none;
-      kind = sym c.kind.ensures.kind ∙ sym (c.is_same.ensures.same c.if-not-is_same.false);
-    }
+    named_serves g.P.Peripheral c.args.self.now.slots.items c.args.name.now c.in-Some.place c.index-slot.result.now _ (sym c.in-Some.ensures)
+    c.index-slot.ensures (sym c.is_some.ensures ∙ c.if-is_some.false) (sym c.kind.ensures.kind ∙ sym (c.is_same.ensures.same c.if-not-is_same.false))
 
 pub returns-clause-attaches : goal.returns-clause-attaches
-returns-clause-attaches g c =
-    let slots = c.args.self.now.slots.items in
-    let place = c.in-Some.place in
-    let slot = c.index-slot.result.now in
-    let at = named_at g.P.Peripheral slots c.args.name.now place slot (sym c.in-Some.ensures) c.index-slot.ensures in
-    let none : slot.peripheral ≡ None = none_of slot.peripheral (sym c.is_some.ensures ∙ c.if-is_some.false) in
-    record {
-      place = place;
-      found = sym c.in-Some.ensures;
-      may = record {
-        device = device_of g.P.Peripheral slot;
-        at = at;
-        vacant = ap (option_map g.P.Peripheral.state) none;
-        kind = sym c.kind.ensures.kind ∙ sym (c.is_same.ensures.same c.if-not-is_same.false);
-      };
-      served = c.put.ensures.served;
-    }
+returns-clause-attaches g c = record {
+  place = c.in-Some.place;
+  found = sym c.in-Some.ensures;
+  may = named_serves g.P.Peripheral c.args.self.now.slots.items c.args.name.now c.in-Some.place c.index-slot.result.now _ (sym c.in-Some.ensures)
+      c.index-slot.ensures (sym c.is_some.ensures ∙ c.if-is_some.false) (sym c.kind.ensures.kind ∙ sym (c.is_same.ensures.same c.if-not-is_same.false));
+  served = c.put.ensures.served;
+}

@@ -1,6 +1,6 @@
 use Rattle.std.proofs.Common.{◌≡◌, ◌∙◌, Some, None, not, option_map, sym, ap, refl, arith}
 use Rattle.pos_profile.specs.Registries.{device_of, devices}
-use Rattle.pos_profile.proofs.RegistryLemmas.{named_at, named_device, named_within, never, none_of, some_of, standing_is}
+use Rattle.pos_profile.proofs.RegistryLemmas.{device_at, named_device, named_within, never, none_of, some_of, standing_is}
 use Rattle.pos_profile.proofs.registry.Registry.detach.Goals as goal
 
 pub index-requires : goal.index-requires
@@ -48,7 +48,8 @@ unreachable-requires g c =
     let list = devices g.P.Peripheral c.args.self.now in
     let place = c.in-Some.place in
     let slot = c.index.result.now in
-    let at = named_at g.P.Peripheral slots c.args.name.now place slot (sym c.in-Some.ensures) c.index.ensures in
+    let within = named_within g.P.Peripheral slots c.args.name.now place (sym c.in-Some.ensures) in
+    let at = device_at g.P.Peripheral slots place slot within c.index.ensures in
     let some = some_of slot.peripheral (c.is_none.ensures ∙ ap not c.if-is_none.false) in
     let clash : None ≡ Some (g.P.Peripheral.state some.0) =
     c.in-None.ensures.taken ∙ standing_is list place (device_of g.P.Peripheral slot) at ∙ ap (option_map g.P.Peripheral.state) some.1 in
