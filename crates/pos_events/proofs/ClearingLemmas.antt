@@ -12,7 +12,7 @@ use Rattle.pos_events.specs.declared.others.Other.{Other}
 use Rattle.pos_events.specs.declared.told.Told.{Told}
 use Rattle.pos_events.specs.declared.told.Told.TheVariants as told
 use Rattle.pos_events.specs.QueueParts.{waiting_in, told_event, weave, events_in, list_of, tolds, is_error, without_errors}
-use Rattle.pos_events.proofs.DeliveringLemmas.{IsWaiting, all_wait}
+use Rattle.pos_events.proofs.DeliveringLemmas.{IsWaiting, all_wait, regroup}
 
 -- the test of an event that stays when input is deleted, and when output is
 abbrev is_told : Enqueued → Bool
@@ -71,12 +71,6 @@ all_stay (event ∷ events) k = rw (All-head IsKept event events k, all_stay eve
 
 error_goes : (event : Told) → is_error event ≡ is_output_error (told_event event)
 error_goes event = grind arith
-
--- the waiting events before an event and those before them, as one part
-regroup : (waiting : List Enqueued) (others : List Other) (count before : ℕ) (event : Enqueued)
-    → take count waiting ++ (take before (drop count waiting) ++ event ∷ weave (drop before (drop count waiting)) others)
-    ≡ take (count + before) waiting ++ event ∷ weave (drop (count + before) waiting) others
-regroup waiting others count before event = rw (take-add count before waiting, ← drop-drop before count waiting, append_assoc)
 
 -- the list without errors of output, when so many waiting events stand before the others besides
 errors_woven : (waiting : List Enqueued) (others : List Other) (count : ℕ) → All IsKept waiting

@@ -1,5 +1,5 @@
 -- Which event of a queue's list may be delivered, and what is left.
-use Rattle.std.proofs.Common.{zero, suc, ◌≡◌, ℕ, ◌-◌, ◌<◌, Bool, true, false, List, [], ◌∷◌, ◌++◌, Option, Some, None, IsSome, option_map, length, map, take}
+use Rattle.std.proofs.Common.{zero, suc, ◌≡◌, ℕ, ◌+◌, ◌-◌, ◌≢◌, ◌<◌, Bool, true, false, List, [], ◌∷◌, ◌++◌, Option, Some, None, IsSome, option_map, length, map, take}
 use Rattle.std.proofs.Common.{drop, All, refl, sym, ap, ◌∙◌, arith, append_assoc}
 use Rattle.std.proofs.lemmas.List.{append-nil, take-append-drop, drop-drop}
 use Rattle.std.proofs.lemmas.List.Elements.{All-nil, All-cons, All-take, All-append, All-head, All-tail}
@@ -57,14 +57,17 @@ left_with_input_data : (events : List Enqueued) → left_by false (with_input_da
 left_with_input_data [] = refl
 left_with_input_data (event ∷ events) = grind (arith, left_with_input_data events)
 
+-- the waiting events before an event and those before them, as one part
+pub regroup : (waiting : List Enqueued) (others : List Other) (count before : ℕ) (event : Enqueued)
+    → take count waiting ++ (take before (drop count waiting) ++ event ∷ weave (drop before (drop count waiting)) others)
+    ≡ take (count + before) waiting ++ event ∷ weave (drop (count + before) waiting) others
+regroup waiting others count before event = rw (take-add count before waiting, ← drop-drop before count waiting, append_assoc)
+
 -- what stood before an event that is gone stands before the next
-pub weave_lead : (waiting : List Enqueued) (others : List Other) (count : ℕ)
+weave_lead : (waiting : List Enqueued) (others : List Other) (count : ℕ)
     → take count waiting ++ weave (drop count waiting) others ≡ weave waiting (lead count others)
 weave_lead waiting [] count = take-append-drop count waiting
-weave_lead waiting (other ∷ others) count =
-    rw (take-add count other.before waiting, ← drop-drop other.before count waiting)
-    (sym (append_assoc (take count waiting) (take other.before (drop count waiting))
-    (told_event other.event ∷ weave (drop other.before (drop count waiting)) others)))
+weave_lead waiting (other ∷ others) count = regroup waiting others count other.before (told_event other.event)
 
 -- the first event that doesn't wait
 deliverable_woven : (waiting : List Enqueued) (others : List Other) → All IsWaiting waiting
@@ -85,14 +88,13 @@ pub deliverable_told : (input_data in_error : Bool) (scans : List Scan) (others 
     → (split false (events_in input_data (waiting_in scans in_error) others)).deliverable ≡ option_map told_event (first_told others)
 deliverable_told false in_error scans others = deliverable_woven (waiting_in scans in_error) others (all_wait scans in_error)
 deliverable_told true in_error scans others =
-    deliverable_with_input_data (weave (waiting_in scans in_error) others) ∙ deliverable_woven (waiting_in scans in_error) others (all_wait scans in_error)
+    rw deliverable_with_input_data (deliverable_woven (waiting_in scans in_error) others (all_wait scans in_error))
 
 pub left_by_told : (input_data in_error : Bool) (scans : List Scan) (others : List Other)
     → left_by false (events_in input_data (waiting_in scans in_error) others) ≡ events_in input_data (waiting_in scans in_error) (without_first others)
 left_by_told false in_error scans others = left_woven (waiting_in scans in_error) others (all_wait scans in_error)
 left_by_told true in_error scans others =
-    left_with_input_data (weave (waiting_in scans in_error) others)
-    ∙ ap with_input_data (left_woven (waiting_in scans in_error) others (all_wait scans in_error))
+    rw (left_with_input_data, left_woven (waiting_in scans in_error) others (all_wait scans in_error))
 
 -- no reply to an event that doesn't wait changes the events
 told_stays : (events : List Enqueued) (answer : ErrorReply) (list : EventList) → after_reply (split false events).deliverable answer list ≡ list
@@ -109,21 +111,32 @@ first_waits event waiting (other ∷ others) behind some =
     let rest : drop other.before (event ∷ waiting) ≡ drop (other.before - 1) waiting = ap (λ n. drop n (event ∷ waiting)) next in
     rw (first, rest)
 
+-- what the kind of the first waiting event tells of the parts
+pub is_input_data : (input_data no_scans : Bool) → first_waiting input_data no_scans ≡ waiting.InputData → input_data ≡ true
+is_input_data input_data no_scans e = grind arith
+
+pub is_scan : (input_data no_scans : Bool) → first_waiting input_data no_scans ≡ waiting.Data → (input_data ≡ false) × (no_scans ≡ false)
+is_scan input_data no_scans e = grind arith
+
+waiting_first : (scan : Scan) (scans : List Scan) (in_error : Bool) → waiting_in (scan ∷ scans) in_error ≡ Data scan ∷ waiting_in scans in_error
+waiting_first scan scans in_error = grind arith
+
 -- EL_INPUT_DATA is the first
-pub first_is_input_data : (input_data in_error : Bool) (scans : List Scan) (others : List Other) (behind : ℕ)
-    → Fits input_data in_error scans others behind → input_data ≡ true → 0 < before_first others behind
+pub first_is_input_data : (input_data in_error no_scans : Bool) (scans : List Scan) (others : List Other) (behind count : ℕ)
+    → Fits input_data in_error scans others behind → first_waiting input_data no_scans ≡ waiting.InputData → count ≡ before_first others behind → count ≢ 0
     → events_in input_data (waiting_in scans in_error) others ≡ input_error locus.InputData ∷ events_in false (waiting_in scans in_error) others
-first_is_input_data input_data in_error [] others behind fits e some = let held = fits.held e in absurd (omega arith)
-first_is_input_data input_data false (scan ∷ scans) others behind fits e some = rw (e, first_waits (Data scan) (map Data scans) others behind some)
-first_is_input_data input_data true (scan ∷ scans) others behind fits e some =
-    rw (e, first_waits (Data scan) (waiting_in scans true) others behind some)
+first_is_input_data input_data in_error no_scans [] others behind count fits kind is some =
+    let held = fits.held (is_input_data input_data no_scans kind) in absurd (omega arith)
+first_is_input_data input_data in_error no_scans (scan ∷ scans) others behind count fits kind is some =
+    rw (is_input_data input_data no_scans kind, waiting_first,
+        first_waits (Data scan) (waiting_in scans in_error) others behind (omega arith))
 
 -- a DataEvent is the first
-pub first_is_data : (input_data in_error : Bool) (scan : Scan) (scans rest : List Scan) (others : List Other) (behind : ℕ) → input_data ≡ false
-    → scans ≡ scan ∷ rest → 0 < before_first others behind
+pub first_is_data : (input_data in_error : Bool) (scan : Scan) (scans rest : List Scan) (others : List Other) (behind count : ℕ) → input_data ≡ false
+    → scans ≡ scan ∷ rest → count ≡ before_first others behind → count ≢ 0
     → events_in input_data (waiting_in scans in_error) others ≡ Data scan ∷ weave (waiting_in rest in_error) (one_less others)
-first_is_data input_data false scan scans rest others behind e s some = rw (e, s) (first_waits (Data scan) (map Data rest) others behind some)
-first_is_data input_data true scan scans rest others behind e s some = rw (e, s) (first_waits (Data scan) (waiting_in rest true) others behind some)
+first_is_data input_data in_error scan scans rest others behind count e s is some =
+    rw (e, s, waiting_first) (first_waits (Data scan) (waiting_in rest in_error) others behind (omega arith))
 
 -- what is left of a list when its first event has been delivered
 abbrev pub after_first : ErrorReply → EventList → EventList
@@ -136,13 +149,6 @@ kept_after_input_data answer list rest e r = rw (e, r)
 pub cleared_after_input_data : (answer : ErrorReply) (list : EventList) (rest : List Enqueued) → list.events ≡ input_error locus.InputData ∷ rest
     → clears_input locus.InputData answer ≡ true → after_first answer list ≡ input_cleared list
 cleared_after_input_data answer list rest e r = rw (e, r)
-
-pub left_after_data : (answer : ErrorReply) (list : EventList) (scan : Scan) (rest : List Enqueued) → list.events ≡ Data scan ∷ rest
-    → after_first answer list ≡ record list { events = rest }
-left_after_data answer list scan rest e = rw e
-
-pub first_goes : (events : List Enqueued) (event : Enqueued) (rest : List Enqueued) → events ≡ event ∷ rest → (split true events).deliverable ≡ Some event
-first_goes events event rest e = rw e
 
 -- while data events aren't enabled, an event that doesn't wait is delivered, and no reply changes the others
 pub delivered_told : (data_enabled frozen : Bool) (answer : ErrorReply) (list : EventList) → frozen ≡ false → data_enabled ≡ false
@@ -160,16 +166,8 @@ pub data_event : (popped : Option Scan) (list : EventList) (scan : Scan) (rest :
     → ◌≡◌ {A = Option Delivery} (Some (record { event = event.Data; scan = popped })) (option_map delivery_of (split true list.events).deliverable)
 data_event popped list scan rest p e = rw (p, e)
 
-pub data_rest : (answer : ErrorReply) (input_data in_error : Bool) (scan : Scan) (scans rest : List Scan) (others after : List Other) (behind : ℕ)
-    (list : EventList) → list ≡ list_of input_data in_error scans others → input_data ≡ false → scans ≡ scan ∷ rest → after ≡ one_less others
-    → 0 < before_first others behind → list_of input_data in_error rest after ≡ after_first answer list
-data_rest answer input_data in_error scan scans rest others after behind list l d s a some =
-    rw (l, a, d) (sym (left_after_data answer (list_of false in_error scans others) scan (weave (waiting_in rest in_error) (one_less others))
-    (first_is_data false in_error scan scans rest others behind refl s some)))
-
--- what the kind of the first waiting event tells of the parts
-pub is_input_data : (input_data no_scans : Bool) → first_waiting input_data no_scans ≡ waiting.InputData → input_data ≡ true
-is_input_data input_data no_scans e = grind arith
-
-pub is_scan : (input_data no_scans : Bool) → first_waiting input_data no_scans ≡ waiting.Data → (input_data ≡ false) × (no_scans ≡ false)
-is_scan input_data no_scans e = grind arith
+pub data_rest : (answer : ErrorReply) (input_data in_error : Bool) (scan : Scan) (scans rest : List Scan) (others after : List Other)
+    (behind count : ℕ) (list : EventList) → list ≡ list_of input_data in_error scans others → input_data ≡ false → scans ≡ scan ∷ rest
+    → after ≡ one_less others → count ≡ before_first others behind → count ≢ 0 → list_of input_data in_error rest after ≡ after_first answer list
+data_rest answer input_data in_error scan scans rest others after behind count list l d s a is some =
+    rw (l, a, d, first_is_data false in_error scan scans rest others behind count refl s is some)
