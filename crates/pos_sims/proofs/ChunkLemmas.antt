@@ -1,5 +1,5 @@
 -- Laying character by character makes what the chunks of whole segments make.
-use Rattle.std.proofs.Common.{◌≡◌, ◌++◌, ◌∷◌, inl, inr, ℕ, suc, zero, ◌-◌, ◌<◌, ◌≤◌, List, [], take, drop, length, sym, ◌∙◌, refl, arith, append_assoc, length-drop}
+use Rattle.std.proofs.Common.{◌≡◌, ◌++◌, ◌∷◌, inl, inr, ℕ, suc, zero, ◌-◌, ◌<◌, ◌≤◌, List, [], drop, length, sym, ◌∙◌, refl, arith, append_assoc, length-drop}
 use Rattle.std.proofs.lemmas.Bool.{cases_lt, cases_order, le-leb, lt-leb}
 use Rattle.std.proofs.lemmas.Bool.Decides.{nat_tests}
 use Rattle.std.proofs.lemmas.List.{length-map, take_at, drop_at, take-append-le, drop-append-le, length_push, map_push}
@@ -40,8 +40,13 @@ more_ends : (most chars : ℕ) (segment : List SegmentCharacter) (s : SegmentCha
     → in_chunks (suc most) chars (segment ++ s ∷ []) ≡ put chars s.alignment s.character (in_chunks most chars segment)
 more_ends most chars segment s some e =
     let count : length (characters_of segment) ≡ chars = length-map segment (λ x. x.character) ∙ e in
-    rw (fitting most chars segment (omega arith), passing most chars (segment ++ s ∷ []) (omega (arith, length_push segment s)),
-        drop_at segment (s ∷ []) chars e, take_at segment (s ∷ []) chars e, fitting most chars (s ∷ []) (omega arith)) (grind (arith, nat_tests))
+    rw (
+      fitting most chars segment (omega arith),
+      passing most chars (segment ++ s ∷ []) (omega (arith, length_push segment s)),
+      drop_at segment (s ∷ []) chars e,
+      take_at segment (s ∷ []) chars e,
+      fitting most chars (s ∷ []) (omega arith),
+    ) (grind (arith, nat_tests))
 
 -- one more character behind a segment
 pub chunked_more : (most chars : ℕ) (segment : List SegmentCharacter) (s : SegmentCharacter) → 0 < chars → length segment ≤ most
@@ -53,9 +58,14 @@ chunked_more (suc most) chars segment s some le = elim (cases_order (length segm
   | inr (inr gt) ↦
       let rest = drop chars segment in
       let left : length rest ≡ length segment - chars = length-drop chars segment in
-      rw (passing (suc most) chars (segment ++ s ∷ []) (omega (arith, length_push segment s)), passing most chars segment gt,
-          drop-append-le chars segment (s ∷ []) (omega arith), take-append-le chars segment (s ∷ []) (omega arith), first_pushed rest s (omega arith),
-          chunked_more most chars rest s some (omega arith))
+      rw (
+        passing (suc most) chars (segment ++ s ∷ []) (omega (arith, length_push segment s)),
+        passing most chars segment gt,
+        drop-append-le chars segment (s ∷ []) (omega arith),
+        take-append-le chars segment (s ∷ []) (omega arith),
+        first_pushed rest s (omega arith),
+        chunked_more most chars rest s some (omega arith),
+      )
       (sym (put_behind chars (overflowed chars segment ∷ []) s.alignment s.character (in_chunks most chars rest)))
 ]
 

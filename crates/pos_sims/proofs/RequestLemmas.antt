@@ -1,5 +1,5 @@
 -- A run over the pieces makes what the definition by segments says.
-use Rattle.std.proofs.Common.{◌≡◌, ◌++◌, ◌∷◌, ℕ, suc, ◌+◌, ◌-◌, ◌<◌, ◌≤◌, List, [], true, replicate, length, ap, sym, ◌∙◌, refl, arith, append_assoc}
+use Rattle.std.proofs.Common.{◌≡◌, ◌++◌, ◌∷◌, ℕ, suc, ◌+◌, ◌-◌, ◌<◌, ◌≤◌, List, [], replicate, length, ap, sym, ◌∙◌, refl, arith, append_assoc}
 use Rattle.std.proofs.lemmas.List.{append-nil, length-map, length_push}
 use Rattle.std.proofs.lemmas.List.Sums.{fold-append}
 use Rattle.pos_service.specs.declared.receipt_text.PrintedCharacter.{PrintedCharacter}

@@ -3,7 +3,7 @@ use Rattle.std.proofs.Common.{◌≡◌, ◌⊎◌, inl, inr, ℕ, ◌+◌, ◌-
 use Rattle.std.specs.Prelude.{nat_lt, nat_le, if◌then◌else◌}
 use Rattle.std.proofs.lemmas.Bool.{cases_lt}
 use Rattle.std.proofs.lemmas.Bool.Decides.{nat_tests}
-use Rattle.std.proofs.lemmas.List.{ext_get_or, get_or-append_right, get_or-drop, get_or-replicate, get_or-take, get_or_append_left, get_or_past, length-append}
+use Rattle.std.proofs.lemmas.List.{ext_get_or, get_or-append_right, get_or-drop, get_or-replicate, get_or-take, get_or_append_left, length-append}
 use Rattle.std.proofs.lemmas.List.{length-drop, length-replicate, length-take}
 use Rattle.std.proofs.Math.Nat.{mul-le-mul_right}
 use Rattle.pos_service.specs.declared.display_text.Attribute.{Attribute}
@@ -30,8 +30,17 @@ blanked_at : (s w k : ℕ) (cells : List DisplayCell) → s + w ≤ length cells
     → get_or (blanked s w cells) k blank ≡ (if nat_le s k && nat_lt k (s + w) then blank else get_or cells k blank)
 blanked_at s w k cells le =
     grind (
-      arith, nat_tests, get_or_append_left, get_or-append_right, get_or-drop, get_or-take, get_or-replicate, length-drop, length-take, length-append,
-      length-replicate
+      arith,
+      nat_tests,
+      get_or_append_left,
+      get_or-append_right,
+      get_or-drop,
+      get_or-take,
+      get_or-replicate,
+      length-drop,
+      length-take,
+      length-append,
+      length-replicate,
     )
 
 blanked_count : (s w : ℕ) (cells : List DisplayCell) → s + w ≤ length cells → length (blanked s w cells) ≡ length cells
@@ -159,8 +168,10 @@ run_turned rows columns first row column start place attribute run cells e count
     let now = with_run_at place attribute run cells in
     let same = run_count place attribute run cells fits in
     let old_count = turned_count start cells in
-    let new_count = turned_count start now in
-    (fits, ext_get_or blank _ _ (new_count ∙ same ∙ omega (arith, run_count (row * columns + column) attribute run (turned start cells) (omega arith))) (λ k h.
-      let new = turned_at start k now in
-      let old = turned_at start k cells in
-      grind (arith, nat_tests, run_at)))
+    let new_count = turned_count start now in (
+      fits,
+      ext_get_or blank _ _ (new_count ∙ same ∙ omega (arith, run_count (row * columns + column) attribute run (turned start cells) (omega arith))) (λ k h.
+          let new = turned_at start k now in
+          let old = turned_at start k cells in
+          grind (arith, nat_tests, run_at)),
+    )

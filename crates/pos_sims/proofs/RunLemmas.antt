@@ -28,7 +28,17 @@ pub run_at : (at : ℕ) (attribute : Attribute) (run : List ℕ) (cells : List D
     ≡ (if nat_le at k && nat_lt k (at + length run) then cell_with attribute (get_or run (k - at) 0) else get_or cells k blank)
 run_at at attribute run cells k le =
     grind (
-      arith, nat_tests, get_or_append_left, get_or-append_right, get_or-drop, get_or-take, get_or-map, length-drop, length-take, length-append, length-map
+      arith,
+      nat_tests,
+      get_or_append_left,
+      get_or-append_right,
+      get_or-drop,
+      get_or-take,
+      get_or-map,
+      length-drop,
+      length-take,
+      length-append,
+      length-map,
     )
 
 -- a character more behind a run
@@ -42,11 +52,11 @@ run_more at attribute run cells n le lt =
     let is = run_count at attribute (take (n + 1) run) cells (omega arith) in
     let b = cell_with attribute (get_or run n 0) in
     ext_get_or blank _ _ (length-set old (at + n) b ∙ was ∙ sym is) (λ k h.
-      rw (run_at at attribute (take (n + 1) run) cells k (omega arith)) (elim (cases_eq k (at + n)) [
-        | inl e ↦ get_or-set_at old (at + n) k b blank e (omega arith) ∙ grind (arith, nat_tests, get_or-take)
-        | inr e ↦ get_or-set_other old (at + n) k b blank e ∙ run_at at attribute (take n run) cells k (omega arith)
-            ∙ grind (arith, nat_tests, get_or-take)
-      ]))
+    rw (run_at at attribute (take (n + 1) run) cells k (omega arith)) (elim (cases_eq k (at + n)) [
+      | inl e ↦ get_or-set_at old (at + n) k b blank e (omega arith) ∙ grind (arith, nat_tests, get_or-take)
+      | inr e ↦ get_or-set_other old (at + n) k b blank e ∙ run_at at attribute (take n run) cells k (omega arith)
+          ∙ grind (arith, nat_tests, get_or-take)
+    ]))
 
 -- a character before a run
 run_first : (at : ℕ) (attribute : Attribute) (b : ℕ) (run : List ℕ) (cells : List DisplayCell) → at + length (b ∷ run) ≤ length cells
@@ -57,10 +67,10 @@ run_first at attribute b run cells le =
     let was = run_count (at + 1) attribute run (set cells at first) (omega arith) in
     let is = run_count at attribute (b ∷ run) cells (omega arith) in
     ext_get_or blank _ _ (was ∙ same ∙ sym is) (λ k h.
-      run_at (at + 1) attribute run (set cells at first) k (omega arith) ∙ rw (run_at at attribute (b ∷ run) cells k (omega arith)) (elim (cases_eq k at) [
-        | inl e ↦ rw (get_or-set_at cells at k first blank e (omega arith)) (grind (arith, nat_tests))
-        | inr e ↦ rw (get_or-set_other cells at k first blank e) (grind (arith, nat_tests))
-      ]))
+    run_at (at + 1) attribute run (set cells at first) k (omega arith) ∙ rw (run_at at attribute (b ∷ run) cells k (omega arith)) (elim (cases_eq k at) [
+      | inl e ↦ rw (get_or-set_at cells at k first blank e (omega arith)) (grind (arith, nat_tests))
+      | inr e ↦ rw (get_or-set_other cells at k first blank e) (grind (arith, nat_tests))
+    ]))
 
 -- a row has no room for a character only where it is full
 pub row_full : (b column columns : ℕ) → b ≢ 10 → b ≢ 13 → column ≤ columns → (column < columns → is_character b ≡ false) → column ≡ columns
@@ -87,7 +97,11 @@ run_here manner old (b ∷ run) cells strip place within all room h =
     let next : place.row * manner.columns + (place.column + 1) ≡ at + 1 = omega arith in
     let column : place.column + 1 + length run ≡ place.column + suc (length run) = omega arith in
     let one = placed_here manner old cells strip place b within (omega arith) (grind (arith, nat_tests)) (grind (arith, nat_tests)) h in
-    rw (← run_first at manner.attribute b run cells (omega (arith, within.count, within.row)),
-        with_text_append manner.columns [] (b ∷ []) run strip within.some, ← column, ← next)
+    rw (
+      ← run_first at manner.attribute b run cells (omega (arith, within.count, within.row)),
+      with_text_append manner.columns [] (b ∷ []) run strip within.some,
+      ← column,
+      ← next,
+    )
     (run_here manner old run (set cells at first) (with_text manner.columns [] (b ∷ []) strip) (place_at place.row (place.column + 1))
     (record { count = length-set cells at first ∙ within.count; some = within.some; row = within.row; column = omega arith }) parts.1 (omega arith) one)

@@ -1,11 +1,11 @@
 -- Items by marks, and what is added at the end.
-use Rattle.std.proofs.Common.{◌≡◌, ◌++◌, ◌∷◌, ℕ, ◌+◌, ◌≤◌, List, [], take, drop, length, ◌∙◌, refl, arith, append_assoc, length-drop}
+use Rattle.std.proofs.Common.{◌≡◌, ◌++◌, ◌∷◌, ℕ, ◌+◌, ◌≤◌, List, [], drop, length, ◌∙◌, refl, arith, append_assoc, length-drop}
 use Rattle.std.proofs.lemmas.List.{take-append-le, drop-append-le, drop-drop}
 use Rattle.pos_service.specs.declared.receipt_text.PrintedCharacter.{PrintedCharacter}
 use Rattle.pos_service.specs.declared.receipt_text.Mark.{Mark}
 use Rattle.pos_service.specs.declared.receipt_text.Mark.TheVariants as mark
 use Rattle.pos_service.specs.declared.receipt_text.Piece.{Piece}
-use Rattle.pos_service.specs.Receipts.{Line, CutAt, after_items, characters_in, items_from, lines_needed, plain}
+use Rattle.pos_service.specs.Receipts.{after_items, characters_in, items_from, lines_needed, plain}
 use Rattle.pos_sims.specs.declared.tape.Tape.{Tape}
 use Rattle.pos_sims.specs.Tapes.{Adds, Extends, Work, printed_on, request_on, steps}
 use Rattle.pos_sims.proofs.RequestLemmas.{request_run}
@@ -15,8 +15,11 @@ pub items_of_more : (marks : List Mark) (characters more : List PrintedCharacter
     → items_from marks (characters ++ more) ≡ items_from marks characters
 items_of_more [] characters more le = refl
 items_of_more (mark.Line a n ∷ marks) characters more le =
-    rw (take-append-le n characters more (omega arith), drop-append-le n characters more (omega arith),
-        items_of_more marks (drop n characters) more (omega (arith, length-drop n characters)))
+    rw (
+      take-append-le n characters more (omega arith),
+      drop-append-le n characters more (omega arith),
+      items_of_more marks (drop n characters) more (omega (arith, length-drop n characters)),
+    )
 items_of_more (mark.Cut n ∷ marks) characters more le = rw (items_of_more marks characters more le)
 
 -- marks behind marks

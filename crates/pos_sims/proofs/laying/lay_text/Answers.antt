@@ -1,4 +1,4 @@
-use Rattle.std.proofs.Common.{arith, refl, take}
+use Rattle.std.proofs.Common.{arith, take}
 use Rattle.std.proofs.lemmas.List.{length-drop, take_rest}
 use Rattle.pos_service.specs.Displays.{text_from}
 use Rattle.pos_sims.proofs.RunLemmas.{text_further}

@@ -13,7 +13,7 @@ returns-in-Ok-clause-ok c =
 pub returns-in-Ok-clause-used : goal.returns-in-Ok-clause-used
 returns-in-Ok-clause-used c = (
   (asked c.args.self.now c.begin.new.self.chars (work_of c.begin.new.self) (work_of c.lay_asked.new.self)
-  (pieces_asked c.args.asked.now) c.begin.ensures.chars c.begin.ensures.work c.in-Ok.ensures.ok).1,
+      (pieces_asked c.args.asked.now) c.begin.ensures.chars c.begin.ensures.work c.in-Ok.ensures.ok).1,
   omega (arith, c.lay_asked.new.self.sparing, c.lay_asked.ensures.adds.limit, c.begin.ensures.limit),
 )
 

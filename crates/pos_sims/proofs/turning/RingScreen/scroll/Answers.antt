@@ -1,4 +1,4 @@
-use Rattle.std.proofs.Common.{◌≡◌, ◌∙◌, ◌*◌, length, ap, arith}
+use Rattle.std.proofs.Common.{◌≡◌, ◌∙◌, ◌*◌, length, arith}
 use Rattle.std.proofs.lemmas.List.{with_items_is}
 use Rattle.pos_service.specs.declared.display_text.Direction.TheVariants as direction
 use Rattle.pos_sims.specs.declared.ring.Ring.{Ring}
