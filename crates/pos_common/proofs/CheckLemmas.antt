@@ -37,17 +37,6 @@ pub sets_by_rest : (rows rest : List Row) (tells : Bool) (outcome : Result Answe
 sets_by_rest rows rest tells (Ok result) old new control is sets = decided_by_rest rows rest result _ _ is sets
 sets_by_rest rows rest tells (Err want) old new control is sets = (sets.0, is ∙ sets.1, sets.2)
 
--- the check refuses
-pub check_refuses : (number : ℕ) (holder : Option ℕ) (control : Control) (needs asked : Needs) (code : Code) (rest : List Row) (Same Done : Type 0)
-    → needs ≡ asked → Checks number holder control needs (Err code) → Same → Decided (table number holder control asked rest) (answer.Refused code 0) Same Done
-check_refuses number holder control needs asked code rest Same Done is checks same =
-    refused (table number holder control asked rest) (answer.Refused code 0) Same Done (rw is at (checks rest)) same
-
--- it refuses nothing
-pub check_lets : (number : ℕ) (holder : Option ℕ) (control : Control) (needs asked : Needs) (rest : List Row) → needs ≡ asked
-    → Checks number holder control needs (Ok tt) → first_refusal (table number holder control asked rest) ≡ first_refusal rest
-check_lets number holder control needs asked rest is checks = rw is at (checks rest)
-
 lets_there : (closed is_there : Bool) (rows : List Row) → first_refusal (when closed code.Closed ∷ when (not is_there) code.Illegal ∷ rows) ≡ None
     → is_there ≡ true
 lets_there true is_there rows none = absurd cc

@@ -31,7 +31,7 @@ copies_same scan place cs copies i d lt no' are = record {
 counted_next : (place : ℕ) (cs : List Control) (i : ℕ) (d : Control) → i < length cs
     → count_by (listens place) (drop i cs) ≡ count_by (listens place) (get_or cs i d ∷ []) + count_by (listens place) (drop (i + 1) cs)
 counted_next place cs i d lt =
-    ap (count_by (listens place)) (drop_more cs i d lt) ∙ sum_by-append (λ c. cond (listens place c) 1 0) (get_or cs i d ∷ []) (drop (i + 1) cs)
+    rw (drop_more cs i d lt) (sum_by-append (λ c. cond (listens place c) 1 0) (get_or cs i d ∷ []) (drop (i + 1) cs))
 
 -- copies for the controls from a place on are copies for the one there
 pub copies_next : (scan : Scan) (place : ℕ) (cs : List Control) (copies : List Scan) (i : ℕ) (d : Control) → i < length cs
@@ -55,8 +55,7 @@ pub copies_at : (scan : Scan) (place : ℕ) (hs : List KeptControl) (copies : Li
     → AreCopies scan place (drop i (controls_of hs)) copies → AreCopies scan place ((get_or hs i d).control ∷ []) copies
 copies_at scan place hs copies i d lt are =
     let within : i < length (controls_of hs) = omega (arith, length-map hs (λ (h : KeptControl). h.control)) in
-    subst (λ (c : Control). AreCopies scan place (c ∷ []) copies) (sym (control_at hs i d d.control lt))
-    (copies_next scan place (controls_of hs) copies i d.control within are)
+    rw (control_at hs i d d.control lt) (copies_next scan place (controls_of hs) copies i d.control within are)
 
 -- those that it leaves are copies for the held controls behind it, once it has changed
 pub copies_behind : (scan : Scan) (place : ℕ) (hs : List KeptControl) (copies left : List Scan) (i : ℕ) (d g : KeptControl) → i < length hs
@@ -64,8 +63,5 @@ pub copies_behind : (scan : Scan) (place : ℕ) (hs : List KeptControl) (copies 
     → AreCopies scan place (drop i (controls_of hs)) copies → AreCopies scan place (drop (i + 1) (controls_of (set hs i g))) left
 copies_behind scan place hs copies left i d g lt few all are =
     let within : i < length (controls_of hs) = omega (arith, length-map hs (λ (h : KeptControl). h.control)) in
-    let few_here = subst (λ (c : Control). length copies ≤ length left + count_by (listens place) (c ∷ [])) (control_at hs i d d.control lt) few in
-    let behind : drop (i + 1) (controls_of (set hs i g)) ≡ drop (i + 1) (controls_of hs) =
-    ap (drop (i + 1)) (map-set (λ (h : KeptControl). h.control) hs i g) ∙ drop-set-lt (i + 1) (controls_of hs) i g.control (omega arith) in
-    subst (λ (cs : List Control). AreCopies scan place cs left) (sym behind)
-    (copies_left scan place (controls_of hs) copies left i d.control within few_here all are)
+    rw (map-set (λ (h : KeptControl). h.control) hs i g, drop-set-lt (i + 1) (controls_of hs) i g.control (omega arith))
+    (copies_left scan place (controls_of hs) copies left i d.control within (rw (control_at hs i d d.control lt) at few) all are)

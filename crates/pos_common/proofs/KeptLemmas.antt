@@ -42,7 +42,3 @@ same_rest hs old i g r = drop-set-lt (i + 1) hs i g (omega arith) ∙ sym (drop-
 pub front_after_set : (P : KeptControl → Type 0) (hs : List KeptControl) (i : ℕ) (g : KeptControl) → i < length hs → P g → All P (take i hs)
     → All P (take (i + 1) (set hs i g))
 front_after_set P hs i g lt p a = subst (All P) (sym (take_more_set hs i g lt)) (All-push P (take i hs) g a p)
-
--- all controls are mapped
-pub mapped_all : (f : Control → Control) (xs ys : List Control) (i : ℕ) → length xs ≤ i → ys ≡ map f (take i xs) ++ drop i xs → ys ≡ map f xs
-mapped_all f xs ys i le m = m ∙ rw (take_all i xs le, drop_all i xs le, append-nil) refl

@@ -2,14 +2,8 @@ use Rattle.std.proofs.Common.{◌<◌, ◌≡◌, length, arith, ◌∙◌}
 use Rattle.std.proofs.lemmas.List.{length-map}
 use Rattle.pos_service.specs.Controls.{failed, if_listening}
 use Rattle.pos_common.specs.KeptControls.{HasRoom, controls_of, fault_events}
-use Rattle.pos_common.proofs.KeptLemmas.{mapped_more, first_of_rest, rest_after_set}
+use Rattle.pos_common.proofs.KeptLemmas.{mapped_more, rest_after_set}
 use Rattle.pos_common.proofs.controls.fail_all.Goals as goal
-
-pub fail_input-requires : goal.fail_input-requires
-fail_input-requires c =
-    let hs = c.loop-control.controls in
-    let lt : c.loop-control.control-index < length hs = omega arith in
-    first_of_rest (HasRoom c.args.place fault_events) hs _ _ lt c.loop-control.invariant.room
 
 pub loop-control-preserved : goal.loop-control-preserved
 loop-control-preserved c =

@@ -8,15 +8,6 @@ use Rattle.pos_common.proofs.KeptLemmas.{mapped_more, first_of_rest, rest_after_
 use Rattle.pos_common.proofs.RoomLemmas.{room_left}
 use Rattle.pos_common.proofs.controls.hear_all.Goals as goal
 
-pub loop-control-init : goal.loop-control-init
-loop-control-init c = record { heard = refl; room = c.requires; left = λ count all. (λ i d lt. absurd (omega (arith, lt)), all) }
-
-pub hear-requires : goal.hear-requires
-hear-requires c =
-    let hs = c.loop-control.controls in
-    let lt : c.loop-control.control-index < length hs = omega arith in
-    first_of_rest (HasRoom c.args.place sign_events) hs _ _ lt c.loop-control.invariant.room
-
 pub loop-control-preserved : goal.loop-control-preserved
 loop-control-preserved c =
     let hs = c.loop-control.controls in

@@ -2,12 +2,9 @@ use Rattle.std.proofs.Common.{◌<◌, ◌≤◌, ◌≡◌, length, arith, ◌�
 use Rattle.std.proofs.lemmas.List.{length-map}
 use Rattle.pos_service.specs.Controls.{read, if_listening}
 use Rattle.pos_common.specs.KeptControls.{HasRoom, controls_of, scan_events}
-use Rattle.pos_common.proofs.KeptLemmas.{mapped_more, mapped_all, first_of_rest, rest_after_set}
+use Rattle.pos_common.proofs.KeptLemmas.{mapped_more, first_of_rest, rest_after_set}
 use Rattle.pos_common.proofs.CopyLemmas.{copies_at, copies_behind}
 use Rattle.pos_common.proofs.controls.read_all.Goals as goal
-
-pub loop-control-init : goal.loop-control-init
-loop-control-init c = record { room = c.requires; read = λ scan are. (refl, are) }
 
 pub read_copy-requires : goal.read_copy-requires
 read_copy-requires c =
@@ -30,9 +27,3 @@ loop-control-preserved c =
             copies_behind scan place hs _ _ _ c.control-item.result _ lt done.most done.each so_far.1,
           );
     }
-
-pub returns : goal.returns
-returns c = λ scan are.
-    let hs = c.loop-control.controls in
-    let long : length (controls_of c.args.controls.now) ≤ c.loop-control.control-index = omega (arith, length-map c.args.controls.now (λ h. h.control)) in
-    mapped_all (if_listening c.args.place (read scan)) _ _ _ long (c.loop-control.invariant.read scan are).0
