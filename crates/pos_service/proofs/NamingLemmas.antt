@@ -1,5 +1,5 @@
 -- Among names of some lengths a word of such a length is found as among all.
-use Rattle.std.proofs.Common.{◌≡◌, ◌∙◌, ◌∷◌, ℕ, List, [], Bool, true, false, inl, inr, length, true≢false, ap, sym, refl}
+use Rattle.std.proofs.Common.{◌≡◌, ◌∙◌, ◌∷◌, ℕ, List, [], Bool, true, inl, inr, length, true≢false, ap, sym, refl}
 use Rattle.std.specs.Prelude.{filter}
 use Rattle.std.proofs.lemmas.Bool.{cases_Bool}
 use Rattle.pos_service.specs.declared.property.Property.{Property}

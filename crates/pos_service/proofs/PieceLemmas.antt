@@ -1,9 +1,8 @@
 -- Pieces of bytes from the front on.
-use Rattle.std.proofs.Common.{◌≡◌, ◌++◌, ◌∷◌, ℕ, suc, zero, ◌+◌, ◌<◌, List, [], Bool, true, take, drop, get_or, length, replicate, ap, sym, ◌∙◌, refl, arith}
+use Rattle.std.proofs.Common.{◌≡◌, ◌++◌, ◌∷◌, ℕ, suc, zero, ◌+◌, ◌<◌, List, [], Bool, true, take, drop, get_or, length, replicate, refl, arith}
 use Rattle.std.specs.List.{list_all, prefix_len}
 use Rattle.std.proofs.lemmas.List.{drop_more}
 use Rattle.pos_service.specs.Receipts.{starts_with, is_upper, is_inner, is_in_range, sequence_pieces, pieces, pieces_past}
-use Rattle.pos_service.specs.declared.receipt_text.Piece.{Piece}
 use Rattle.pos_service.specs.declared.receipt_text.Piece.TheVariants as piece
 
 -- the bytes that belong to what began before them are passed over

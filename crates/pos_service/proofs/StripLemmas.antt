@@ -72,8 +72,12 @@ pub with_text_append : (columns : ℕ) (run xs ys : List ℕ) (strip : Strip) �
 with_text_append columns run [] ys strip some = rw (append-nil run) at (text_behind columns run [] ys strip some)
 with_text_append columns run (b ∷ xs) ys strip some =
     let old = with_run columns run strip in
-    grind (arith, with_text_append columns [] xs ys (fed old) some, with_text_append columns [] xs ys (returned old) some,
-        with_text_append columns (run ++ b ∷ []) xs ys strip some)
+    grind (
+      arith,
+      with_text_append columns [] xs ys (fed old) some,
+      with_text_append columns [] xs ys (returned old) some,
+      with_text_append columns (run ++ b ∷ []) xs ys strip some,
+    )
 
 -- one character as a text
 pub character_text : (columns b : ℕ) (strip : Strip) → b ≢ 10 → b ≢ 13 → with_text columns [] (b ∷ []) strip ≡ with_run columns (b ∷ []) strip
