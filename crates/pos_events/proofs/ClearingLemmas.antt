@@ -1,16 +1,14 @@
 -- What a deletion does to the list of a queue.
-use Rattle.std.proofs.Common.{◌≡◌, inl, inr, ℕ, ◌+◌, Bool, true, false, not, List, [], ◌∷◌, ◌++◌, take, drop, All, refl, arith, append_assoc}
+use Rattle.std.proofs.Common.{◌≡◌, inl, inr, ℕ, ◌+◌, Bool, true, false, not, List, [], ◌∷◌, ◌++◌, take, drop, All, refl, arith}
 use Rattle.std.specs.List.{filter}
 use Rattle.std.proofs.lemmas.Bool.{cases_Bool}
-use Rattle.std.proofs.Math.Seq.{take-nil, drop-nil, take-add}
-use Rattle.std.proofs.lemmas.List.{take-append-drop, drop-drop}
+use Rattle.std.proofs.Math.Seq.{take-nil, drop-nil}
+use Rattle.std.proofs.lemmas.List.{take-append-drop}
 use Rattle.std.proofs.lemmas.List.Elements.{filter-append, All-head, All-tail, All-take, All-drop, All-weaker}
 use Rattle.pos_service.specs.declared.scan.Scan.{Scan}
-use Rattle.pos_service.specs.declared.event.Locus.TheVariants as locus
-use Rattle.pos_service.specs.Events.{Enqueued, Status, Data, Error, Complete, is_waiting, is_output_error, with_input_data, input_cleared, output_cleared}
+use Rattle.pos_service.specs.Events.{Enqueued, is_waiting, is_output_error, with_input_data, input_cleared, output_cleared}
 use Rattle.pos_events.specs.declared.others.Other.{Other}
 use Rattle.pos_events.specs.declared.told.Told.{Told}
-use Rattle.pos_events.specs.declared.told.Told.TheVariants as told
 use Rattle.pos_events.specs.QueueParts.{waiting_in, told_event, weave, events_in, list_of, tolds, is_error, without_errors}
 use Rattle.pos_events.proofs.DeliveringLemmas.{IsWaiting, all_wait, regroup}
 
@@ -83,8 +81,13 @@ errors_woven waiting (other ∷ others) count k =
     let kept = errors_woven (drop n waiting) others 0 (All-drop IsKept n waiting k) in
     let front = all_stay (take n waiting) (All-take IsKept n waiting k) in
     rw (regroup waiting others count other.before (told_event other.event)) (elim (cases_Bool (is_error other.event)) [
-      | inl e ↦ rw (e, filter-append is_kept (take n waiting) (told_event other.event ∷ rest), ← error_goes other.event, e,
-          ← filter-append is_kept (take n waiting) rest) deleted
+      | inl e ↦ rw (
+        e,
+        filter-append is_kept (take n waiting) (told_event other.event ∷ rest),
+        ← error_goes other.event,
+        e,
+        ← filter-append is_kept (take n waiting) rest,
+      ) deleted
       | inr e ↦ rw (e, filter-append is_kept (take n waiting) (told_event other.event ∷ rest), ← error_goes other.event, e, front, kept)
     ])
 

@@ -1,6 +1,6 @@
 -- Which event of a queue's list may be delivered, and what is left.
-use Rattle.std.proofs.Common.{zero, suc, ◌≡◌, ℕ, ◌+◌, ◌-◌, ◌≢◌, ◌<◌, Bool, true, false, List, [], ◌∷◌, ◌++◌, Option, Some, None, IsSome, option_map, length, map, take}
-use Rattle.std.proofs.Common.{drop, All, refl, sym, ap, ◌∙◌, arith, append_assoc}
+use Rattle.std.proofs.Common.{suc, ◌≡◌, ℕ, ◌+◌, ◌-◌, ◌≢◌, ◌<◌, Bool, true, false, List, [], ◌∷◌, ◌++◌, Option, Some, None, IsSome, option_map, map, take}
+use Rattle.std.proofs.Common.{drop, All, refl, ap, arith, append_assoc}
 use Rattle.std.proofs.lemmas.List.{append-nil, take-append-drop, drop-drop}
 use Rattle.std.proofs.lemmas.List.Elements.{All-nil, All-cons, All-take, All-append, All-head, All-tail}
 use Rattle.std.specs.Option.{option_to_list}
@@ -8,7 +8,7 @@ use Rattle.std.proofs.Math.Seq.{take-add}
 use Rattle.pos_service.specs.declared.scan.Scan.{Scan}
 use Rattle.pos_service.specs.declared.event.Locus.TheVariants as locus
 use Rattle.pos_service.specs.declared.event.ErrorReply.{ErrorReply}
-use Rattle.pos_service.specs.Events.{EventList, Enqueued, Status, Data, Error, Complete, input_error, is_waiting, with_input_data, split, left_by, after_reply}
+use Rattle.pos_service.specs.Events.{EventList, Enqueued, Data, input_error, is_waiting, with_input_data, split, left_by, after_reply}
 use Rattle.pos_service.specs.Events.{clears_input, input_cleared, delivered}
 use Rattle.pos_service.specs.declared.event.Event.TheVariants as event
 use Rattle.pos_events.specs.declared.delivery.Delivery.{Delivery}
@@ -17,7 +17,6 @@ use Rattle.pos_events.specs.declared.queue.delivering.Waiting.TheVariants as wai
 use Rattle.pos_events.specs.Waiting.{first_waiting}
 use Rattle.pos_events.specs.declared.others.Other.{Other}
 use Rattle.pos_events.specs.declared.told.Told.{Told}
-use Rattle.pos_events.specs.declared.told.Told.TheVariants as told
 use Rattle.pos_events.specs.QueueParts.{waiting_in, told_event, weave, events_in, before_first, lead, one_less, first_told, without_first, list_of, Fits}
 
 -- it waits
@@ -128,8 +127,11 @@ pub first_is_input_data : (input_data in_error no_scans : Bool) (scans : List Sc
 first_is_input_data input_data in_error no_scans [] others behind count fits kind is some =
     let held = fits.held (is_input_data input_data no_scans kind) in absurd (omega arith)
 first_is_input_data input_data in_error no_scans (scan ∷ scans) others behind count fits kind is some =
-    rw (is_input_data input_data no_scans kind, waiting_first,
-        first_waits (Data scan) (waiting_in scans in_error) others behind (omega arith))
+    rw (
+      is_input_data input_data no_scans kind,
+      waiting_first,
+      first_waits (Data scan) (waiting_in scans in_error) others behind (omega arith),
+    )
 
 -- a DataEvent is the first
 pub first_is_data : (input_data in_error : Bool) (scan : Scan) (scans rest : List Scan) (others : List Other) (behind count : ℕ) → input_data ≡ false

@@ -1,15 +1,14 @@
 -- What one more event does to the list of a queue.
-use Rattle.std.proofs.Common.{◌≡◌, ℕ, ◌+◌, ◌≤◌, Bool, true, false, not, ◌==◌, List, [], ◌∷◌, ◌++◌, length, map, drop, refl, sym, ap, ◌∙◌, arith, append_assoc}
+use Rattle.std.proofs.Common.{◌≡◌, ℕ, ◌+◌, ◌≤◌, Bool, true, false, not, ◌==◌, List, [], ◌∷◌, ◌++◌, length, map, drop, refl, arith, append_assoc}
 use Rattle.std.proofs.Common.{length-drop}
 use Rattle.std.proofs.Math.Seq.{take-nil, drop-nil}
 use Rattle.std.proofs.lemmas.Bool.Decides.{nat_tests}
 use Rattle.std.proofs.lemmas.List.{take_all, drop_all, take-append-le, drop-append-le, length-map, map-append}
 use Rattle.pos_service.specs.declared.scan.Scan.{Scan}
 use Rattle.pos_service.specs.declared.event.Locus.TheVariants as locus
-use Rattle.pos_service.specs.Events.{Enqueued, Status, Data, Error, Complete, input_error, is_data, with_input_data, scanned, input_failed}
+use Rattle.pos_service.specs.Events.{Enqueued, Data, input_error, is_data, with_input_data, scanned, input_failed}
 use Rattle.pos_events.specs.declared.others.Other.{Other}
 use Rattle.pos_events.specs.declared.told.Told.{Told}
-use Rattle.pos_events.specs.declared.told.Told.TheVariants as told
 use Rattle.pos_events.specs.QueueParts.{told_event, weave, events_in, all_before, list_of, Fits}
 
 -- one more of the others adds what stands before it

@@ -4,10 +4,9 @@ use Rattle.std.specs.List.{count_by}
 use Rattle.std.proofs.lemmas.List.Sums.{sum_by-append, sum_by-take-drop}
 use Rattle.pos_service.specs.declared.scan.Scan.{Scan}
 use Rattle.pos_service.specs.declared.event.Locus.TheVariants as locus
-use Rattle.pos_service.specs.Events.{Enqueued, Status, Data, Error, Complete, input_error, is_data, with_input_data}
+use Rattle.pos_service.specs.Events.{Enqueued, Data, input_error, is_data, with_input_data}
 use Rattle.pos_events.specs.declared.others.Other.{Other}
 use Rattle.pos_events.specs.declared.told.Told.{Told}
-use Rattle.pos_events.specs.declared.told.Told.TheVariants as told
 use Rattle.pos_events.specs.QueueParts.{waiting_in, told_event, weave, events_in}
 
 -- what an event counts

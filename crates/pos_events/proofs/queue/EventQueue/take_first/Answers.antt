@@ -9,8 +9,11 @@ use Rattle.pos_events.proofs.queue.EventQueue.take_first.Goals as goal
 pub returns-then-clears_input-clause-event : goal.returns-then-clears_input-clause-event
 returns-then-clears_input-clause-event c =
     let i = c.self.inside in
-    rw (← c.self.view_is, first_is_input_data i.input_data i.in_error _ i.scans.items i.others.events.items i.others.behind c.before_first.result
-        c.self.invariant (sym c.first_waiting.ensures ∙ c.in-InputData.is) c.before_first.ensures c.if-before_first-eq0.false)
+    rw (
+      ← c.self.view_is,
+      first_is_input_data i.input_data i.in_error _ i.scans.items i.others.events.items i.others.behind c.before_first.result
+          c.self.invariant (sym c.first_waiting.ensures ∙ c.in-InputData.is) c.before_first.ensures c.if-before_first-eq0.false,
+    )
     (ap Some c.input_error.ensures)
 
 pub returns-then-clears_input-clause-rest : goal.returns-then-clears_input-clause-rest
@@ -25,8 +28,11 @@ returns-then-clears_input-clause-rest c =
 pub returns-in-InputData-clause-event : goal.returns-in-InputData-clause-event
 returns-in-InputData-clause-event c =
     let i = c.self.inside in
-    rw (← c.self.view_is, first_is_input_data i.input_data i.in_error _ i.scans.items i.others.events.items i.others.behind c.before_first.result
-        c.self.invariant (sym c.first_waiting.ensures ∙ c.in-InputData.is) c.before_first.ensures c.if-before_first-eq0.false)
+    rw (
+      ← c.self.view_is,
+      first_is_input_data i.input_data i.in_error _ i.scans.items i.others.events.items i.others.behind c.before_first.result
+          c.self.invariant (sym c.first_waiting.ensures ∙ c.in-InputData.is) c.before_first.ensures c.if-before_first-eq0.false,
+    )
     (ap Some c.input_error-in-InputData.ensures)
 
 pub returns-in-InputData-clause-rest : goal.returns-in-InputData-clause-rest
