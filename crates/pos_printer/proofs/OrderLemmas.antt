@@ -20,11 +20,7 @@ heard_at place s t controls =
 -- they have heard of signs that are those of the printer
 pub heard_of : (place : ℕ) (s t : PeripheralState) (a b : Signs) (old mid new : List Control) → a ≡ signs_of s.kind s.plant
     → b ≡ signs_of t.kind t.plant → mid ≡ old → new ≡ all_listening place (heard_signs a b) mid → new ≡ heard_at place s t old
-heard_of place s t a b old mid new is_a is_b same h =
-    h
-    ∙ ap (λ (m : List Control). all_listening place (heard_signs a b) m) same
-    ∙ ap (λ (u : Signs). all_listening place (heard_signs u b) old) is_a
-    ∙ ap (λ (u : Signs). all_listening place (heard_signs (signs_of s.kind s.plant) u) old) is_b
+heard_of place s t a b old mid new is_a is_b same h = rw (h, same, is_a, is_b)
 
 -- nothing has changed at a printer that does nothing
 same_hardware : (s t : PeripheralState) (old : List Control) → t.kind ≡ s.kind → t.plant ≡ s.plant → t.failures ≡ s.failures
@@ -40,44 +36,24 @@ ordered_done given place s t old new asked heard = record {
   controls = heard;
 }
 
--- its cover is open
-ordered_covered : (given : Order) (place : ℕ) (s t : PeripheralState) (old : List Control) → Asked s given (Ok reply.CoverOpen) t
-    → Ordered given place reply.CoverOpen old (hardware_of s) old (hardware_of t)
-ordered_covered given place s t old asked = record {
+-- it has not done it: its cover is open, its paper doesn't suffice, its line has failed, or it is off
+pub ordered_undone : (said : Reply) → (said ≡ reply.Done → ⊥) → (given : Order) (place : ℕ) (s t : PeripheralState) (old : List Control)
+    → Asked s given (Ok said) t → Ordered given place said old (hardware_of s) old (hardware_of t)
+ordered_undone reply.Done undone given place s t old asked = absurd (undone refl)
+ordered_undone reply.CoverOpen undone given place s t old asked = record {
   plant = asked.answer.0;
   same = same_hardware s t old asked.kind (same_covered given s.plant t.plant asked.answer.0) asked.answer.1;
 }
-
--- its paper doesn't suffice
-ordered_ended : (given : Order) (place : ℕ) (s t : PeripheralState) (old : List Control) → Asked s given (Ok reply.PaperEnd) t
-    → Ordered given place reply.PaperEnd old (hardware_of s) old (hardware_of t)
-ordered_ended given place s t old asked = record {
+ordered_undone reply.PaperEnd undone given place s t old asked = record {
   plant = asked.answer.0;
   same = same_hardware s t old asked.kind (same_ended given s.plant t.plant asked.answer.0) asked.answer.1;
 }
-
--- its line has failed
-ordered_failed : (given : Order) (place : ℕ) (s t : PeripheralState) (old : List Control) → Asked s given (Ok reply.LineFault) t
-    → Ordered given place reply.LineFault old (hardware_of s) old (hardware_of t)
-ordered_failed given place s t old asked = record {
+ordered_undone reply.LineFault undone given place s t old asked = record {
   failures = asked.answer.1;
   hardware = rw (asked.kind, asked.answer.0) refl;
   controls = refl;
 }
-
--- it is off
-ordered_off : (given : Order) (place : ℕ) (s t : PeripheralState) (old : List Control) → Asked s given (Ok reply.Offline) t
-    → Ordered given place reply.Offline old (hardware_of s) old (hardware_of t)
-ordered_off given place s t old asked = record {
+ordered_undone reply.Offline undone given place s t old asked = record {
   plant = asked.answer.0;
   same = same_hardware s t old asked.kind asked.answer.0.1 asked.answer.1;
 }
-
--- it has not done it
-pub ordered_undone : (said : Reply) → (said ≡ reply.Done → ⊥) → (given : Order) (place : ℕ) (s t : PeripheralState) (old : List Control)
-    → Asked s given (Ok said) t → Ordered given place said old (hardware_of s) old (hardware_of t)
-ordered_undone reply.Done undone given place s t old asked = absurd (undone refl)
-ordered_undone reply.CoverOpen undone given place s t old asked = ordered_covered given place s t old asked
-ordered_undone reply.PaperEnd undone given place s t old asked = ordered_ended given place s t old asked
-ordered_undone reply.LineFault undone given place s t old asked = ordered_failed given place s t old asked
-ordered_undone reply.Offline undone given place s t old asked = ordered_off given place s t old asked

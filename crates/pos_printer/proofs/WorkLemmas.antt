@@ -90,23 +90,21 @@ first_found place holder cs h = by_control (slice_get cs holder) refl h
 -- it is the request that the machine works on
 pub first_is : (place holder : ℕ) (request : ℕ × Order) (cs : List Control) → IsFirst place holder request cs
     → option_and_then (first_request place) (slice_get cs holder) ≡ Some request
-first_is place holder request cs f = ap (option_and_then (first_request place)) f.there ∙ f.first
+first_is place holder request cs f = rw f.there f.first
 
 first_of : (b : Bool) (o : Option (ℕ × Order)) (request : ℕ × Order) → cond b o None ≡ Some request → (o ≡ Some request) × (b ≡ true)
 first_of true o request is = (is, refl)
 first_of false o request is = absurd cc
 
 same_first : (b : Bool) (place : ℕ) (u v : Signs) (x : Control) → first_request place (cond b (heard_signs u v x) x) ≡ first_request place x
-same_first true place u v x = refl
-same_first false place u v x = refl
+same_first b place u v x = grind arith
 
 -- it still is once the controls have heard
 pub first_heard : (place holder : ℕ) (request : ℕ × Order) (u v : Signs) (old new : List Control) → IsFirst place holder request old
     → new ≡ all_listening place (heard_signs u v) old → IsFirst place holder request new
 first_heard place holder request u v old new f is = record {
   control = if_listening place (heard_signs u v) f.control;
-  there = ap (λ (cs : List Control). slice_get cs holder) is ∙ slice_get-map (if_listening place (heard_signs u v)) old holder
-      ∙ ap (option_map (if_listening place (heard_signs u v))) f.there;
+  there = rw (is, slice_get-map (if_listening place (heard_signs u v)) old holder, f.there);
   first = same_first (listens place f.control) place u v f.control ∙ f.first;
 }
 
