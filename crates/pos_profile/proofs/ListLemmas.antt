@@ -1,5 +1,5 @@
 -- Reading a list of a profile, entry by entry.
-use Rattle.std.proofs.Common.{◌≡◌, ◌∙◌, ◌<◌, ◌≤◌, ◌+◌, ◌^◌, ℕ, List, [], ◌∷◌, ◌++◌, Bool, true, false, not, ◌||◌, Option, Some, None, option_map, cond, map}
+use Rattle.std.proofs.Common.{◌≡◌, ◌∙◌, ◌<◌, ◌≤◌, ◌+◌, ◌^◌, ℕ, List, [], ◌∷◌, ◌++◌, Bool, true, false, not, ◌||◌, Option, Some, None, cond, map}
 use Rattle.std.proofs.Common.{length, take, get_or, slice_get, bytes_eq, refl, sym, ap, arith, inl, inr, Bor}
 use Rattle.std.specs.List.{list_any}
 use Rattle.std.proofs.lemmas.Bool.{and_parts, cases_lt, false≢true}
@@ -79,8 +79,12 @@ module _ (role : Role) (values : List Data) (place : ℕ) (value : Data) (at : s
     taken =
         let found = map (entry_of role) values in
         let here : slice_get found place ≡ Some (Some entry) = entry_at (Some entry) is in
-        rw (map-append (λ e. Some e) read (entry ∷ []), so_far, take_more found place None (slice_get_within found place (Some entry) here),
-            get_or_from_slice_get found place (Some entry) None here)
+        rw (
+          map-append (λ e. Some e) read (entry ∷ []),
+          so_far,
+          take_more found place None (slice_get_within found place (Some entry) here),
+          get_or_from_slice_get found place (Some entry) None here,
+        )
 
 -- all entries were read
 pub all_read : (role : Role) (values : List Data) (read : List Entry) (place : ℕ) → length values ≤ place

@@ -1,7 +1,7 @@
 -- The devices of a registry, where the peripheral of one changes.
 use Rattle.std.proofs.Common.{◌≡◌, ◌∙◌, ◌<◌, ◌≤◌, ◌+◌, ℕ, zero, suc, List, [], ◌∷◌, ◌++◌, true, false, Option, Some, None, map, length, take, drop, get_or, set}
-use Rattle.std.proofs.Common.{slice_get, refl, sym, ap, subst, arith}
-use Rattle.std.specs.Prelude.{IfSome, is_some, option_and_then}
+use Rattle.std.proofs.Common.{slice_get, refl, sym, ap, arith}
+use Rattle.std.specs.Prelude.{IfSome, is_some}
 use Rattle.std.specs.List.{All, AllByRecursion, cons_option}
 use Rattle.std.specs.Option.{option_map}
 use Rattle.std.proofs.lemmas.Bool.{false≢true}
@@ -18,7 +18,7 @@ use Rattle.pos_profile.specs.declared.registry.Registry.{Registry}
 use Rattle.pos_profile.specs.declared.role.Role.TheVariants as role
 use Rattle.pos_profile.specs.declared.slot.Slot.{Slot}
 use Rattle.pos_profile.specs.Kinds.{kind_of}
-use Rattle.pos_profile.specs.Places.{IsIndexOf, found_in, place_of}
+use Rattle.pos_profile.specs.Places.{IsIndexOf, place_of}
 use Rattle.pos_profile.specs.Soundness.{IsSoundEntry}
 use Rattle.pos_profile.specs.Registries.{Device, HasKindInRange, IsNamed, IsRegistrySound, IsServed, MayServe, device_of, devices, devices_of, names_of, parked}
 use Rattle.pos_profile.specs.Registries.{planned_for, planned_of, standing_at, vacant, vacant_devices, with_peripheral}

@@ -1,11 +1,8 @@
-use Rattle.std.proofs.Common.{◌≡◌, ◌∙◌, List, true, false, Some, Err, map, slice_get, sym, ap, subst, arith}
+use Rattle.std.proofs.Common.{◌≡◌, ◌∙◌, true, false, Some, map, slice_get, sym, arith}
 use Rattle.std.proofs.lemmas.List.{length-map}
 use Rattle.toml.specs.View.{view}
 use Rattle.pos_profile.specs.declared.entry.Entry.{Entry}
-use Rattle.pos_profile.specs.declared.mistake.Reason.{Reason}
-use Rattle.pos_profile.specs.declared.reading.EntryFault.{EntryFault}
 use Rattle.pos_profile.specs.Entries.{entry_of}
-use Rattle.pos_profile.specs.Mistakes.{IsFlawedList, IsFlawedValue, ReadsValue}
 use Rattle.pos_profile.specs.Profiles.{is_refused, is_refused_after}
 use Rattle.pos_profile.proofs.ListLemmas.{all_read, flawed_at, refused_at, second_at, taken, value_at}
 use Rattle.pos_profile.proofs.listing.read_entries.Goals as goal

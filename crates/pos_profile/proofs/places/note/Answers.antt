@@ -3,7 +3,7 @@ use Rattle.std.specs.Prelude.{bytes_eq, is_some}
 use Rattle.std.specs.Map.{lookup}
 use Rattle.indexmap.proofs.CallerLemmas.{insert_entry-new}
 use Rattle.pos_profile.specs.Places.{first_of, looked_up, where_same}
-use Rattle.pos_profile.proofs.PlaceLemmas.{already, lookup_more}
+use Rattle.pos_profile.proofs.PlaceLemmas.{lookup_more}
 use Rattle.pos_profile.proofs.RegistryLemmas.{none_of}
 use Rattle.pos_profile.proofs.places.note.Goals as goal
 

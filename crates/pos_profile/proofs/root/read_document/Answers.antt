@@ -1,11 +1,8 @@
-use Rattle.std.proofs.Common.{◌≡◌, Err, subst, sym, arith}
+use Rattle.std.proofs.Common.{◌≡◌, arith}
 use Rattle.toml.specs.View.{table_view}
-use Rattle.pos_profile.specs.declared.listing.ListFault.{ListFault}
-use Rattle.pos_profile.specs.declared.root.DocumentFault.{DocumentFault}
 use Rattle.pos_profile.specs.declared.root.DocumentFault.TheVariants.{Mistaken}
 use Rattle.pos_profile.specs.declared.role.Role.TheVariants.{Device, Spare}
-use Rattle.pos_profile.specs.Mistakes.{IsFlawedList, ReadsDocument, ReadsList, mistake_at}
-use Rattle.pos_profile.specs.Tables.{key_of, values_at}
+use Rattle.pos_profile.specs.Mistakes.{mistake_at}
 use Rattle.pos_profile.proofs.DocumentLemmas.{device_mistaken, document_read, listed_at, spare_mistaken}
 use Rattle.pos_profile.proofs.root.read_document.Goals as goal
 
