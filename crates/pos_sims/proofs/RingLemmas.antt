@@ -3,7 +3,7 @@ use Rattle.std.proofs.Common.{◌≡◌, ◌⊎◌, inl, inr, ℕ, ◌+◌, ◌-
 use Rattle.std.specs.Prelude.{nat_lt, nat_le, if◌then◌else◌}
 use Rattle.std.proofs.lemmas.Bool.{cases_lt}
 use Rattle.std.proofs.lemmas.Bool.Decides.{nat_tests}
-use Rattle.std.proofs.lemmas.List.{ext_get_or, get_or-append_right, get_or-drop, get_or-replicate, get_or-take, get_or_append_left, length-append}
+use Rattle.std.proofs.lemmas.List.{ext_get_or, get_or-replicate, length-append}
 use Rattle.std.proofs.lemmas.List.{length-drop, length-replicate, length-take}
 use Rattle.std.proofs.Math.Nat.{mul-le-mul_right}
 use Rattle.pos_service.specs.declared.display_text.Attribute.{Attribute}
@@ -12,7 +12,7 @@ use Rattle.pos_service.specs.declared.display_text.Direction.TheVariants as dire
 use Rattle.pos_service.specs.Displays.{Scrolls, blank, cell_at}
 use Rattle.pos_sims.specs.Rings.{IsAbove, IsBelow, StandsAt, blanked, turned}
 use Rattle.pos_sims.specs.Windows.{MovesToEnd, MovesToFront, ShiftsToFront, ShiftsToEnd, display_of, with_run_at}
-use Rattle.pos_sims.proofs.RunLemmas.{run_at, run_count}
+use Rattle.pos_sims.proofs.RunLemmas.{parts, run_at, run_count}
 use Rattle.pos_sims.proofs.ScrollLemmas.{moved_cell}
 use Rattle.pos_sims.proofs.WindowLemmas.{in_rows}
 
@@ -24,24 +24,12 @@ turned_count s cells = omega (arith, length-append (drop s cells) (take s cells)
 turned_at : (s k : ℕ) (cells : List DisplayCell) → s ≤ length cells → k < length cells
     → ((s + k < length cells) × (get_or (turned s cells) k blank ≡ get_or cells (s + k) blank))
     ⊎ ((length cells ≤ s + k) × (get_or (turned s cells) k blank ≡ get_or cells (s + k - length cells) blank))
-turned_at s k cells le lt = grind (arith, get_or_append_left, get_or-append_right, get_or-drop, get_or-take, length-drop)
+turned_at s k cells le lt = grind (arith, parts)
 
 blanked_at : (s w k : ℕ) (cells : List DisplayCell) → s + w ≤ length cells
     → get_or (blanked s w cells) k blank ≡ (if nat_le s k && nat_lt k (s + w) then blank else get_or cells k blank)
 blanked_at s w k cells le =
-    grind (
-      arith,
-      nat_tests,
-      get_or_append_left,
-      get_or-append_right,
-      get_or-drop,
-      get_or-take,
-      get_or-replicate,
-      length-drop,
-      length-take,
-      length-append,
-      length-replicate,
-    )
+    grind (arith, nat_tests, parts, get_or-replicate, length-replicate)
 
 blanked_count : (s w : ℕ) (cells : List DisplayCell) → s + w ≤ length cells → length (blanked s w cells) ≡ length cells
 blanked_count s w cells le = grind (arith, length-append, length-take, length-drop, length-replicate)

@@ -17,6 +17,9 @@ use Rattle.pos_sims.specs.declared.laying.Manner.{Manner}
 use Rattle.pos_sims.specs.Windows.{Follows, IsWithin, is_character, with_run_at}
 use Rattle.pos_sims.proofs.WindowLemmas.{in_rows, placed_here}
 
+-- an element, and the length, of a list that is made of parts
+pub ruleset parts = (get_or_append_left, get_or-append_right, get_or-drop, get_or-take, length-drop, length-take, length-append)
+
 -- as many cells
 pub run_count : (at : ℕ) (attribute : Attribute) (run : List ℕ) (cells : List DisplayCell) → at + length run ≤ length cells
     → length (with_run_at at attribute run cells) ≡ length cells
@@ -27,19 +30,7 @@ pub run_at : (at : ℕ) (attribute : Attribute) (run : List ℕ) (cells : List D
     → get_or (with_run_at at attribute run cells) k blank
     ≡ (if nat_le at k && nat_lt k (at + length run) then cell_with attribute (get_or run (k - at) 0) else get_or cells k blank)
 run_at at attribute run cells k le =
-    grind (
-      arith,
-      nat_tests,
-      get_or_append_left,
-      get_or-append_right,
-      get_or-drop,
-      get_or-take,
-      get_or-map,
-      length-drop,
-      length-take,
-      length-append,
-      length-map,
-    )
+    grind (arith, nat_tests, parts, get_or-map, length-map)
 
 -- a character more behind a run
 pub run_more : (at : ℕ) (attribute : Attribute) (run : List ℕ) (cells : List DisplayCell) (n : ℕ) → at + length run ≤ length cells → n < length run
