@@ -1,6 +1,6 @@
 -- What a change of one control does to the machine's controls.
-use Rattle.std.proofs.Common.{◌≡◌, ℕ, ◌+◌, ◌<◌, ◌≤◌, List, get_or, set, map, take, drop, ◌++◌, sym, ap, ◌∙◌, All, length, arith, subst, refl, append-nil}
-use Rattle.std.proofs.lemmas.List.{map-set, set-get_or, get_or-map, drop_more, drop-drop, drop-set-lt, take_more_set, take_all, drop_all}
+use Rattle.std.proofs.Common.{◌≡◌, ℕ, ◌+◌, ◌<◌, List, get_or, set, map, take, drop, ◌++◌, sym, ap, ◌∙◌, All, length, arith, subst}
+use Rattle.std.proofs.lemmas.List.{map-set, set-get_or, get_or-map, drop_more, drop-drop, drop-set-lt, take_more_set}
 use Rattle.std.proofs.lemmas.List.Edits.{map_over_more}
 use Rattle.std.proofs.lemmas.List.Elements.{All-head, All-tail, All-push}
 use Rattle.pos_service.specs.Controls.{Control}

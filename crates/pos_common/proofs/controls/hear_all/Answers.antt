@@ -1,4 +1,4 @@
-use Rattle.std.proofs.Common.{◌<◌, ◌≤◌, ◌≡◌, All, length, arith, subst, ◌∙◌, refl}
+use Rattle.std.proofs.Common.{◌<◌, ◌≤◌, ◌≡◌, All, length, arith, subst, ◌∙◌}
 use Rattle.std.proofs.lemmas.List.{length-map, take_all}
 use Rattle.std.specs.Prelude.{◌+◌}
 use Rattle.pos_service.specs.Controls.{if_listening}

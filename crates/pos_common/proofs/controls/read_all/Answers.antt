@@ -1,4 +1,4 @@
-use Rattle.std.proofs.Common.{◌<◌, ◌≤◌, ◌≡◌, length, arith, ◌∙◌, refl}
+use Rattle.std.proofs.Common.{◌<◌, ◌≡◌, length, arith, ◌∙◌}
 use Rattle.std.proofs.lemmas.List.{length-map}
 use Rattle.pos_service.specs.Controls.{read, if_listening}
 use Rattle.pos_common.specs.KeptControls.{HasRoom, controls_of, scan_events}
