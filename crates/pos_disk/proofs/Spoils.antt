@@ -57,7 +57,7 @@ pub splice-part : (old : List ℕ) (at n : ℕ) → at + n ≤ length old → sp
 splice-part old at n fits =
     let long = length-part at n old fits in
     ext_get_or 0 _ old (length-splice old (part at n old) at (omega (arith, long))) (λ i _.
-    grind (arith, long, in_range at n i, spliced_within 0 old (part at n old) at i, splice_elsewhere old (part at n old) at i, get_or-part at n old (i - at)))
+    grind (arith, long, in_range at n i, spliced_within 0 old (part at n old) at i, splice_elsewhere old (part at n old) at i, get_or-part at n old (i - at) i))
 
 -- before the first place nothing is loosened
 pub loosens_none : (disk : DiskState) (at : ℕ) → Loosens disk disk at 0
