@@ -3,8 +3,8 @@ use Rattle.std.specs.Result.{is_ok}
 use Rattle.std.proofs.lemmas.List.{map-append}
 use Rattle.pos_disk.specs.State.{part}
 use Rattle.pos_log.specs.Records.{BeginsWith}
-use Rattle.pos_log.proofs.Holding.{open_byte}
-use Rattle.pos_log.proofs.Parsing.{begins_more, none_held}
+use Rattle.pos_log.proofs.Holding.{open_byte, begins_more}
+use Rattle.pos_log.proofs.Parsing.{none_held}
 use Rattle.pos_log.proofs.reading.read_records.Goals as goal
 
 pub returns-in_default-clause-damaged : goal.returns-in_default-clause-damaged
