@@ -1,7 +1,7 @@
 -- What each change of the images leaves.
 use Rattle.std.proofs.Common.{◌≡◌, inl, inr, ℕ, ◌+◌, ◌-◌, ◌≤◌, ◌<◌, ◌^◌, List, [], ◌∷◌, length, get_or, ap, ◌∙◌, arith, true, false, nat_eq, Some}
 use Rattle.std.proofs.lemmas.Bool.{cases_Bool}
-use Rattle.pos_disk.specs.State.{DiskState, MayLeave, LeavesOnly, splice}
+use Rattle.pos_disk.specs.State.{LeavesOnly, splice}
 use Rattle.pos_disk.proofs.Moments.{weaker, rest_leaves}
 use Rattle.pos_disk.proofs.Bytes.{spliced_within}
 use Rattle.pos_disk.proofs.Within.{spliced_same}

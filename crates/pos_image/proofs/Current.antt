@@ -1,20 +1,20 @@
 -- The current image, and what changes of the other slots leave of it.
-use Rattle.std.proofs.Common.{◌≡◌, ◌⊎◌, inl, inr, ℕ, ◌+◌, ◌≤◌, ◌<◌, List, length, get_or, refl, sym, ap, ◌∙◌, arith, true, false}
+use Rattle.std.proofs.Common.{◌≡◌, inl, inr, ℕ, ◌+◌, ◌≤◌, ◌<◌, List, length, get_or, refl, sym, ap, ◌∙◌, arith, true, false}
 use Rattle.std.specs.Int.{w32, w64, from_be_bytes}
 use Rattle.std.proofs.lemmas.Bool.{le-ltb, le-leb}
 use Rattle.std.proofs.lemmas.Bool.Decides.{nat_tests}
 use Rattle.pos_disk.specs.State.{InRange, part}
 use Rattle.pos_disk.proofs.Within.{wider, kept_part}
 use Rattle.pos_disk.specs.Within.{SameBut}
-use Rattle.pos_image.specs.Images.{Prepared, IsBeside, HasPrepared}
-use Rattle.pos_image.specs.Layout.{start, other, first_of, layout_of, slot_size, longest, log_place}
+use Rattle.pos_image.specs.Images.{Prepared, HasPrepared}
+use Rattle.pos_image.specs.Layout.{start, other, first_of, layout_of, longest, log_place}
 use Rattle.pos_image.specs.Layout.{layout_on, is_open, sequence_at, length_at, body_at}
 use Rattle.pos_image.specs.DiskCalls.{Stages}
 use Rattle.pos_image.specs.Slots.{IsCurrent, IsPrepared, IsFound}
-use Rattle.pos_image.specs.Standing.{OneImage, ShowsImage, image_on, image_in, current_on, greater_of, is_tied, is_marked}
+use Rattle.pos_image.specs.Standing.{ShowsImage, image_on, image_in, current_on, is_tied, is_marked}
 use Rattle.pos_image.specs.declared.layout.Layout.TheVariants.{Layout1, Layout2}
 use Rattle.pos_image.specs.declared.slot.Slot.{Slot}
-use Rattle.pos_image.specs.declared.slot.Slot.TheVariants.{First, Second, Third, Fourth}
+use Rattle.pos_image.specs.declared.slot.Slot.TheVariants.{Third, Fourth}
 use Rattle.pos_image.proofs.Places.{IsApart, places, other_other, same_layout, same_or_apart, beside_apart}
 
 -- a gate outside the range is as it was

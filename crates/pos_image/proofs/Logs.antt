@@ -1,7 +1,7 @@
 -- The log span of the current slot.
 use Rattle.std.proofs.Common.{◌≡◌, ℕ, ◌+◌, List, get_or, refl, sym, ap, ◌∙◌, arith}
 use Rattle.pos_disk.proofs.Bytes.{get_or-part}
-use Rattle.pos_image.specs.Layout.{start, layout_of, slot_size, log_place, log_size}
+use Rattle.pos_image.specs.Layout.{start, layout_of, log_place, log_size}
 use Rattle.pos_image.specs.Slots.{IsCurrent}
 use Rattle.pos_image.specs.Standing.{log_of, log_in, HasImage, HasNewImage}
 use Rattle.pos_image.specs.DiskCalls.{Stages}

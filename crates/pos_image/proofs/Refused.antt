@@ -1,10 +1,10 @@
 -- The bytes on which no image is found.
-use Rattle.std.proofs.Common.{◌≡◌, inl, inr, ℕ, ◌<◌, ◌≤◌, List, length, refl, sym, ◌∙◌, arith, true, false, nat_eq}
+use Rattle.std.proofs.Common.{◌≡◌, ℕ, ◌<◌, ◌≤◌, List, length, sym, ◌∙◌, arith, true, false, nat_eq}
 use Rattle.std.proofs.lemmas.Bool.{le-ltb, lt-leb, lt-ltb}
 use Rattle.std.proofs.lemmas.Bool.Decides.{nat_tests}
 use Rattle.pos_image.specs.Layout.{start, other, first_of, layout_of, layout_on, longest, is_open, sequence_at, length_at}
-use Rattle.pos_image.specs.Slots.{HasHead, HasHeads}
-use Rattle.pos_image.specs.Standing.{NoImage, DamagedImage, image_on, is_tied}
+use Rattle.pos_image.specs.Slots.{HasHeads}
+use Rattle.pos_image.specs.Standing.{NoImage, DamagedImage, image_on}
 use Rattle.pos_image.specs.declared.layout.Layout.{Layout}
 use Rattle.pos_image.specs.declared.reading.Head.{Head}
 use Rattle.pos_image.specs.declared.slot.Slot.{Slot}

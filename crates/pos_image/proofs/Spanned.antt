@@ -1,8 +1,8 @@
 -- What the calls of a log leave of the images, and of the log span.
-use Rattle.std.proofs.Common.{◌≡◌, ◌↔◌, inl, inr, ⊎_elim, ℕ, ◌+◌, ◌-◌, ◌≤◌, ◌<◌, ◌^◌, List, length, get_or, sym, ap, ◌∙◌, refl, arith, nat_le, Option}
+use Rattle.std.proofs.Common.{◌≡◌, ◌↔◌, inl, inr, ⊎_elim, ℕ, ◌+◌, ◌-◌, ◌≤◌, ◌<◌, ◌^◌, List, length, get_or, sym, ap, ◌∙◌, refl, arith, Option}
 use Rattle.std.proofs.Common.{Some, None, Result, Ok, Err, OnOk}
 use Rattle.std.specs.Prelude.{⊤, MatchOption}
-use Rattle.std.proofs.lemmas.Bool.{cases_lt, cases_Bool, le-ltb}
+use Rattle.std.proofs.lemmas.Bool.{cases_lt, le-ltb}
 use Rattle.std.proofs.lemmas.List.{ext_get_or, get_or_past}
 use Rattle.pos_disk.specs.State.{DiskState, InRange, MayLeave, LeavesOnly, Writes, Syncs, Watches, splice, part}
 use Rattle.pos_disk.specs.Within.{SameBut, IsWithin}
@@ -11,11 +11,11 @@ use Rattle.pos_disk.specs.declared.device.DiskFault.{DiskFault}
 use Rattle.pos_disk.proofs.Bytes.{in_range, length-splice, spliced_within, splice_elsewhere, length-part, get_or-part, part-part}
 use Rattle.pos_disk.proofs.Moments.{started, goes_on, weaker}
 use Rattle.pos_disk.proofs.Within.{within_here, leaves_within, within_write}
-use Rattle.pos_image.specs.Images.{View, Prepared, IsSound, IsReady, HasPrepared}
-use Rattle.pos_image.specs.Layout.{start, first_of, layout_of, layout_on, slot_size, longest, log_place, log_size, length_at}
+use Rattle.pos_image.specs.Images.{View, Prepared, IsReady, HasPrepared}
+use Rattle.pos_image.specs.Layout.{start, layout_of, slot_size, log_place, log_size}
 use Rattle.pos_image.specs.Slots.{IsCurrent}
 use Rattle.pos_image.specs.Spans.{span_of, KeepsImage, IsHeld, IsWritable, WritesSpan}
-use Rattle.pos_image.specs.Standing.{NoImage, DamagedImage, OneImage, ShowsImage, image_on, log_of, current_on, is_marked, is_tied}
+use Rattle.pos_image.specs.Standing.{ShowsImage, image_on, log_of, current_on}
 use Rattle.pos_image.specs.declared.layout.Layout.{Layout}
 use Rattle.pos_image.specs.declared.slot.Slot.{Slot}
 use Rattle.pos_image.proofs.Changes.{ready}

@@ -1,6 +1,6 @@
 -- What the steps of a change leave.
 use Rattle.std.proofs.Common.{◌≡◌, inl, inr, ℕ, ◌+◌, ◌-◌, ◌≤◌, ◌<◌, ◌^◌, List, [], ◌∷◌, ◌++◌, length, ap, ◌∙◌, arith, Result}
-use Rattle.std.proofs.Common.{Ok, Err, true, false, OnOk}
+use Rattle.std.proofs.Common.{Ok, Err, false, OnOk}
 use Rattle.std.proofs.lemmas.Bool.{cases_Bool}
 use Rattle.std.specs.Prelude.{if◌then◌else◌}
 use Rattle.pos_disk.specs.State.{DiskState, IsAtRest, MayLeave, LeavesOnly, Writes, Syncs, splice, part}

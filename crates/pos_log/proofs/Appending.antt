@@ -1,7 +1,6 @@
 -- What an append did, by what its two steps did.
-use Rattle.std.proofs.Common.{◌≡◌, inl, inr, ⊎_elim, ℕ, ◌+◌, ◌-◌, ◌≤◌, ◌<◌, ◌^◌, List, [], ◌∷◌, ◌++◌, length, get_or, refl, sym, ap, ◌∙◌, arith, rules, Ok, Err}
-use Rattle.std.proofs.Common.{nat_eq}
-use Rattle.pos_disk.specs.State.{DiskState, LeavesOnly, Rises, HasNotFailed, splice, part}
+use Rattle.std.proofs.Common.{◌≡◌, inl, inr, ⊎_elim, ℕ, ◌+◌, ◌-◌, ◌≤◌, ◌<◌, ◌^◌, List, [], ◌∷◌, ◌++◌, length, refl, sym, ap, ◌∙◌, arith, rules, Ok, Err}
+use Rattle.pos_disk.specs.State.{DiskState, LeavesOnly, Rises, HasNotFailed, part}
 use Rattle.pos_disk.specs.Keeps.{KeepsDisk}
 use Rattle.pos_disk.specs.Within.{SameBut}
 use Rattle.pos_disk.specs.declared.device.Disk.{Ghosts}
@@ -9,7 +8,7 @@ use Rattle.pos_disk.proofs.Bytes.{part-splice}
 use Rattle.pos_disk.proofs.Moments.{weaker, followed_by}
 use Rattle.pos_disk.proofs.Within.{wider, spliced_same}
 use Rattle.pos_image.specs.Images.{View, IsReady, CountsFaults}
-use Rattle.pos_image.specs.Layout.{layout_of, slot_size, log_place, log_size, is_open}
+use Rattle.pos_image.specs.Layout.{layout_of, slot_size, log_place}
 use Rattle.pos_image.specs.Standing.{log_of}
 use Rattle.pos_image.proofs.Changes.{opened_gate}
 use Rattle.pos_image.proofs.Places.{places}

@@ -1,13 +1,10 @@
 -- The records that a span begins with, as they are read.
 use Rattle.std.proofs.Common.{◌≡◌, ℕ, ◌+◌, ◌<◌, List, [], ◌∷◌, ◌++◌, length, get_or, take, drop, refl, sym, ap, ◌∙◌, arith, false, nat_eq, length-append}
 use Rattle.std.proofs.Common.{length-drop}
-use Rattle.std.specs.Int.{w32, to_be_bytes}
 use Rattle.std.specs.List.{AllByRecursion}
-use Rattle.std.proofs.Math.Seq.{take-add}
 use Rattle.std.proofs.lemmas.List.{take-append-drop, get_or-drop, drop-drop, take_at, append-nil}
 use Rattle.pos_disk.specs.State.{part}
-use Rattle.pos_disk.proofs.Bytes.{length-part}
-use Rattle.pos_log.specs.Records.{record_spelling, spelling, IsShort, HasLength, BeginsWith, HoldsRecords, HoldsSome}
+use Rattle.pos_log.specs.Records.{record_spelling, spelling, IsShort, HasLength, BeginsWith, HoldsSome}
 use Rattle.pos_log.proofs.Unique.{shut_differs, others_follow, span_split}
 
 -- nothing has been read yet

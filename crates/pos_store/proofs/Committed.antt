@@ -1,5 +1,5 @@
 -- What an append or a renewal of the log means for the files.
-use Rattle.std.proofs.Common.{◌≡◌, ◌≢◌, true, false, cond, ◌+◌, ◌≤◌, length, inl, inr, ⊎_elim, ℕ, List, [], ◌∷◌, Ok, Err, refl, sym, ap, subst, ◌∙◌, arith}
+use Rattle.std.proofs.Common.{◌≡◌, ◌≢◌, true, false, cond, ◌+◌, ◌≤◌, length, inl, inr, ⊎_elim, ℕ, List, [], ◌∷◌, Ok, Err, refl, sym, ap, ◌∙◌, arith}
 use Rattle.pos_dir.specs.Changes.{outcome_of_all, IsGroup}
 use Rattle.pos_dir.specs.Files.{IsDirectory}
 use Rattle.pos_dir.specs.Spelling.{spelling, group_spelling, body_limit}
@@ -19,7 +19,7 @@ use Rattle.pos_store.proofs.FilesOnDisk.{shows_now, still_holds, holds_more, hol
 use Rattle.pos_store.specs.Commits.{Commits, IsExhausted, IsLast, left_by, fits_behind, sequence_after, tail_after}
 use Rattle.pos_store.specs.Layouts.{limits_of}
 use Rattle.pos_store.specs.StoreViews.{Ready, view_of}
-use Rattle.pos_store.specs.Standing.{Stands, LeavesOneOf, HoldsFiles, IsStep, StandsForEither, StandsForOneOf}
+use Rattle.pos_store.specs.Standing.{Stands, HoldsFiles, IsStep, StandsForEither, StandsForOneOf}
 use Rattle.pos_store.specs.declared.fault.StoreFault.TheVariants as fault
 use Rattle.pos_store.specs.declared.disk_or_log.DiskOrLog.TheVariants as which
 

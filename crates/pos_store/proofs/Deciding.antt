@@ -1,5 +1,5 @@
 -- Bytes always stand for something: what it is is found by reading them.
-use Rattle.std.proofs.Common.{◌≡◌, ◌⊎◌, inl, inr, ⊎_elim, ℕ, ◌+◌, ◌<◌, Bool, true, false, cond, List, [], ◌∷◌, ◌++◌, length, drop, refl, sym, ap, subst, ◌∙◌}
+use Rattle.std.proofs.Common.{◌≡◌, ◌⊎◌, inl, inr, ⊎_elim, ℕ, ◌+◌, Bool, cond, List, [], ◌∷◌, ◌++◌, length, drop, refl, sym, ap, subst, ◌∙◌}
 use Rattle.std.proofs.Common.{arith, Option, Some, None, Result, Ok, Err}
 use Rattle.std.specs.List.{AllByRecursion}
 use Rattle.std.proofs.lemmas.List.{take_at, drop_at}
@@ -17,7 +17,6 @@ use Rattle.pos_image.proofs.Places.{log_some}
 use Rattle.pos_image.proofs.Spanned.{image_length}
 use Rattle.pos_image.specs.Layout.{body_at, sequence_at, log_place, log_size, start, layout_of}
 use Rattle.pos_image.specs.declared.layout.Layout.{Layout}
-use Rattle.pos_image.specs.declared.layout.Layout.TheVariants.{Layout1, Layout2}
 use Rattle.pos_image.specs.Standing as image
 use Rattle.pos_log.proofs.Deciding.{records_or_none}
 use Rattle.pos_log.specs.Records as log

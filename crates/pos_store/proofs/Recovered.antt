@@ -1,5 +1,5 @@
 -- What a recovery of a store that is off did, by what it found and that it only looked at the disk.
-use Rattle.std.proofs.Common.{◌≡◌, ◌⊎◌, inl, inr, ⊎_elim, ℕ, List, Result, Ok, Err, OnOk, IsErr, IsErrOf, refl, sym, ap, ◌∙◌, arith, rules}
+use Rattle.std.proofs.Common.{◌≡◌, ◌⊎◌, ⊎_elim, ℕ, List, Result, Ok, Err, OnOk, IsErr, IsErrOf, refl, sym, ◌∙◌, arith, rules}
 use Rattle.pos_dir.specs.Calls.{IsBody, Decodes}
 use Rattle.pos_dir.specs.declared.fault.DirectoryFault.{DirectoryFault}
 use Rattle.pos_dir.specs.declared.fault.DirectoryFault.TheVariants as directory

@@ -1,10 +1,9 @@
 -- The records behind the current image.
-use Rattle.std.proofs.Common.{◌≡◌, ◌≤◌, ◌+◌, ℕ, List, length, drop, ap, ◌∙◌, subst, arith, length-take}
-use Rattle.pos_image.specs.Layout.{longest, layout_of, length_at, body_at, start}
+use Rattle.std.proofs.Common.{◌≡◌, ◌≤◌, ◌+◌, ℕ, List, length, drop, ap, ◌∙◌, arith, length-take}
+use Rattle.pos_image.specs.Layout.{length_at, body_at, start}
 use Rattle.pos_image.proofs.Places.{places}
 use Rattle.pos_image.specs.Slots.{IsCurrent}
 use Rattle.pos_image.specs.declared.slot.Slot.{Slot}
-use Rattle.pos_image.specs.declared.slot.Slot.TheVariants.{First, Second, Third, Fourth}
 use Rattle.pos_image.specs.declared.layout.Layout.{Layout}
 use Rattle.pos_log.specs.Records.{HoldsRecords, tail_of}
 use Rattle.pos_log.proofs.Unique.{one_log}

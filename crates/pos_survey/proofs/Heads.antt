@@ -1,5 +1,5 @@
 -- Why the image that the bytes hold is damaged.
-use Rattle.std.proofs.Common.{◌≡◌, ◌<◌, ℕ, List, Bool, true, false, cond, nat_le, arith}
+use Rattle.std.proofs.Common.{◌≡◌, ◌<◌, ℕ, List, Bool, false, cond, arith}
 use Rattle.std.proofs.lemmas.Bool.{leb-false}
 use Rattle.pos_image.specs.Layout.{longest, start, first_of, layout_of, layout_on, length_at}
 use Rattle.pos_image.specs.Standing.{NoImage, DamagedImage, OneImage, image_on, is_tied, current_on}

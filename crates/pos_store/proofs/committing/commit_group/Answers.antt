@@ -1,19 +1,13 @@
-use Rattle.std.proofs.Common.{◌≡◌, ◌+◌, ⊎_elim, ℕ, List, Ok, Err, IsErrOf, refl, sym, ap, subst, ◌∙◌, arith, rules}
+use Rattle.std.proofs.Common.{◌≡◌, ◌+◌, ⊎_elim, Ok, Err, IsErrOf, refl, sym, ap, ◌∙◌, arith, rules}
 use Rattle.pos_disk.proofs.Moments.{weaker}
 use Rattle.pos_dir.specs.Changes.{outcome_of_all}
-use Rattle.pos_dir.specs.Spelling.{group_spelling}
-use Rattle.pos_dir.specs.declared.limits.Limits.{Limits}
 use Rattle.pos_image.specs.Layout.{layout_of}
 use Rattle.pos_image.specs.declared.fault.ImageFault.{ImageFault}
 use Rattle.pos_image.specs.declared.fault.ImageFault.TheVariants as image
-use Rattle.pos_image.specs.declared.layout.Layout.{Layout}
 use Rattle.std.proofs.lemmas.Bool.{leb-true}
-use Rattle.pos_log.specs.Logs.{Appends, IsLogReady}
 use Rattle.pos_log.specs.declared.fault.LogFault.TheVariants as log
-use Rattle.pos_store.specs.Commits.{IsApplicable, IsDraft}
 use Rattle.pos_store.specs.Layouts.{limits_of}
-use Rattle.pos_store.specs.StoreViews.{HasItsFiles, view_of}
-use Rattle.pos_store.specs.Standing.{HoldsFiles}
+use Rattle.pos_store.specs.StoreViews.{HasItsFiles}
 use Rattle.pos_store.specs.declared.disk_or_log.DiskOrLog.TheVariants as which
 use Rattle.pos_store.specs.declared.draft.Draft.TheVariants as draft
 use Rattle.pos_store.proofs.Committed.{IsGiven, same_layout, fits_not, stays, rises, short, appending_stands, renewing_stands, failed_commits, appended_holds}

@@ -1,13 +1,10 @@
-use Rattle.std.proofs.Common.{◌≡◌, ⊎_elim, Err, refl, sym, ap, subst, ◌∙◌, rules}
+use Rattle.std.proofs.Common.{◌≡◌, ⊎_elim, refl, sym, ap, ◌∙◌, rules}
 use Rattle.pos_dir.specs.Files.{IsDirectory}
 use Rattle.pos_dir.specs.Spelling.{spelling}
-use Rattle.pos_dir.specs.declared.limits.Limits.{Limits}
 use Rattle.pos_image.specs.Layout.{layout_of}
-use Rattle.pos_image.specs.declared.fault.ImageFault.{ImageFault}
 use Rattle.pos_image.specs.declared.layout.Layout.TheVariants.{Layout1, Layout2}
-use Rattle.pos_log.specs.Logs.{IsLogReady, Renews}
+use Rattle.pos_log.specs.Logs.{IsLogReady}
 use Rattle.pos_store.specs.Layouts.{limits_of}
-use Rattle.pos_store.specs.StoreViews.{HasItsFiles}
 use Rattle.pos_store.specs.Standing.{HoldsFiles}
 use Rattle.pos_store.specs.declared.fault.StoreFault.TheVariants as fault
 use Rattle.pos_store.proofs.Migrated.{refused_migrates, moved_holds, moved_migrates, failed_migrates}

@@ -13,7 +13,7 @@ use Rattle.pos_image.specs.declared.layout.Layout.{Layout}
 use Rattle.pos_image.specs.Standing as image
 use Rattle.pos_image.specs.declared.fault.ImageFault.TheVariants as images
 use Rattle.pos_log.specs.declared.fault.LogFault.TheVariants as logs
-use Rattle.pos_log.specs.Records.{HoldsRecords, HoldsSome}
+use Rattle.pos_log.specs.Records.{HoldsRecords}
 use Rattle.pos_store.specs.Layouts.{limits_of}
 use Rattle.pos_store.specs.Standing.{HoldsFiles, Applies}
 use Rattle.pos_store.specs.Recoveries.{DiskStandsFor, EndsAt}
@@ -110,7 +110,8 @@ module _ (g : Over) (c : After-apply_texts g) where
   watches h = watches_on _ _ _ (c.in-Ok.ensures.any_moment h) (c.in-Ok-open.ensures.any_moment (c.in-Ok.ensures.keeps.honest.0 h))
 
   not_failed : g.D.Disk.honest c.in-Off.disk → HasNotFailed (g.D.Disk.state c.in-Off.disk) (g.D.Disk.state c.in-Ok-open.log.images.disk)
-  not_failed h = never_failed _ _ _ logs.Device (c.in-Ok-open.ensures.counts (c.in-Ok.ensures.keeps.honest.0 h)) ∙ never_failed _ _ _ images.Device (c.in-Ok.ensures.counts h)
+  not_failed h = never_failed _ _ _ logs.Device (c.in-Ok-open.ensures.counts (c.in-Ok.ensures.keeps.honest.0 h))
+      ∙ never_failed _ _ _ images.Device (c.in-Ok.ensures.counts h)
 
   keeps : KeepsDisk g.D.Disk c.in-Off.disk c.in-Ok-open.log.images.disk
   keeps = both_keep g.D.Disk _ _ _ c.in-Ok.ensures.keeps c.in-Ok-open.ensures.keeps

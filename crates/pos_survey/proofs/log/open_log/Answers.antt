@@ -1,10 +1,8 @@
-use Rattle.std.proofs.Common.{◌≡◌, ℕ, List, map, Vec, Global, ap, sym, ◌∙◌, subst}
+use Rattle.std.proofs.Common.{◌≡◌, ℕ, map, Vec, Global, ap, sym, ◌∙◌, subst}
 use Rattle.pos_image.proofs.Logs.{log_here}
 use Rattle.pos_image.specs.Layout.{layout_of}
 use Rattle.pos_image.specs.Standing.{log_in, log_of}
-use Rattle.pos_image.specs.declared.slot.Slot.{Slot}
-use Rattle.pos_log.specs.Records.{HoldsRecords, HoldsSome}
-use Rattle.pos_survey.specs.Damages.{HasLongIn}
+use Rattle.pos_log.specs.Records.{HoldsSome}
 use Rattle.pos_survey.proofs.Behind.{one_tail}
 use Rattle.pos_survey.proofs.log.open_log.Goals as goal
 

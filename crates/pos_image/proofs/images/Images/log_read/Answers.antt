@@ -1,7 +1,6 @@
 use Rattle.std.proofs.Common.{◌+◌, ℕ, length, ap, ◌∙◌, arith}
 use Rattle.pos_disk.specs.State.{Watches, part}
 use Rattle.pos_disk.proofs.Moments.{watches_read}
-use Rattle.pos_image.specs.Images.{View}
 use Rattle.pos_image.proofs.Spanned.{span_part, writable, looked_held}
 use Rattle.pos_image.proofs.images.Images.log_read.Given.{Over}
 use Rattle.pos_image.proofs.images.Images.log_read.Goals.{After-read}

@@ -1,5 +1,5 @@
-use Rattle.std.proofs.Common.{◌≡◌, ◌+◌, ℕ, List, length, arith, rules}
-use Rattle.pos_disk.specs.State.{DiskState, MayLeave, LeavesOnly, Writes, splice}
+use Rattle.std.proofs.Common.{◌+◌, ℕ, List, length, arith, rules}
+use Rattle.pos_disk.specs.State.{DiskState, MayLeave, LeavesOnly, Writes}
 use Rattle.pos_image.specs.Found.{prepared_image}
 use Rattle.pos_image.specs.Images.{View, images_of}
 use Rattle.pos_image.specs.Layout.{start, layout_of}

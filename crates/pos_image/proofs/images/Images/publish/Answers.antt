@@ -1,4 +1,4 @@
-use Rattle.std.proofs.Common.{◌≡◌, ◌+◌, [], ◌∷◌, Some, sym, ◌∙◌, ap, arith, true}
+use Rattle.std.proofs.Common.{◌≡◌, [], ◌∷◌, Some, sym, ◌∙◌, ap, arith, true}
 use Rattle.pos_disk.specs.State.{LeavesOnly, splice}
 use Rattle.pos_disk.specs.Within.{SameBut}
 use Rattle.pos_image.specs.Layout.{start, is_open}

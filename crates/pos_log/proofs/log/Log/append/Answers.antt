@@ -1,4 +1,4 @@
-use Rattle.std.proofs.Common.{◌≡◌, ℕ, ◌+◌, ◌-◌, ◌≤◌, [], ◌∷◌, length, take, ap, ◌∙◌, arith, rules}
+use Rattle.std.proofs.Common.{◌≡◌, ◌+◌, ◌-◌, ◌≤◌, [], ◌∷◌, length, take, ap, ◌∙◌, arith, rules}
 use Rattle.std.proofs.lemmas.Bool.{leb-true}
 use Rattle.pos_image.specs.Images.{View}
 use Rattle.pos_image.specs.Layout.{layout_of, log_place, slot_size}

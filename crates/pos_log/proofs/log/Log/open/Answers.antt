@@ -1,11 +1,9 @@
-use Rattle.std.proofs.Common.{◌≡◌, inl, inr, ⊎_elim, ◌+◌, ◌-◌, ℕ, length, refl, sym, ap, subst, ◌∙◌, arith, rules}
-use Rattle.pos_disk.specs.State.{part}
+use Rattle.std.proofs.Common.{◌≡◌, inl, inr, ⊎_elim, ◌-◌, refl, ap, arith, rules}
 use Rattle.pos_image.specs.Images.{View}
 use Rattle.pos_image.specs.Layout.{layout_of, log_place, log_size}
 use Rattle.pos_image.specs.Standing.{log_of}
 use Rattle.pos_image.proofs.Places.{places}
 use Rattle.pos_image.proofs.Spanned.{ready_writable, span_length}
-use Rattle.pos_log.specs.Records.{HoldsRecords, HoldsSome}
 use Rattle.pos_log.proofs.Appending.{never_failed}
 use Rattle.pos_log.proofs.Parsing.{whole_read}
 use Rattle.pos_log.proofs.log.Log.open.Given.{Over}
