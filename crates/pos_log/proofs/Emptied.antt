@@ -10,7 +10,7 @@ use Rattle.pos_image.specs.declared.fault.ImageFault.{ImageFault}
 use Rattle.pos_image.specs.declared.layout.Layout.{Layout}
 use Rattle.pos_image.proofs.Places.{log_some}
 use Rattle.pos_image.proofs.Spanned.{image_length}
-use Rattle.pos_log.specs.Logs.{HasNoRecords, HasOldOrNew, Renews, log_over}
+use Rattle.pos_log.specs.Logs.{HasNoRecords, HasOldOrNew, IsLogReady, Renews, log_over}
 use Rattle.pos_log.specs.Renewing.{Replaces}
 
 -- a new image has no records
@@ -34,22 +34,13 @@ module _ {D : Type 0} (bound : Ghosts D) (old : View D) (tail : ℕ) (it : Prepa
   renewed first first_is is =
       let layout_is = ap (λ (i : Prepared). layout_of i.slot) is.published in
       let empty = λ (honest : bound.honest old.disk). no_records (layout_of it.slot) it.body it.sequence _ (is.log honest) in
-      record {
-        ready = record { images = is.ready; records = λ honest. ([], (empty (is.keeps.honest.1 honest)).log, omega (arith, first_is)) };
-        layout_is = layout_is;
-        body_is = ap (λ (i : Prepared). i.body) is.published;
-        sequence_is = ap (λ (i : Prepared). i.sequence) is.published;
-        tail_is = first_is ∙ ap log_place layout_is;
-        image = empty;
-        any_moment = λ honest. renewing _ _ old _ it (is.any_moment honest);
-        too_large = is.too_large;
-        exhausted = is.exhausted;
-        unchanged = λ err. absurd cc;
-        same_layout = λ err. absurd cc;
-        device = λ honest e. absurd cc;
-        counts = is.counts;
-        keeps = is.keeps;
-      }
+      let ready : IsLogReady bound (log_over now first) =
+      record { images = is.ready; records = λ honest. ([], (empty (is.keeps.honest.1 honest)).log, omega (arith, first_is)) } in
+      let body_is = ap (λ (i : Prepared). i.body) is.published in
+      let sequence_is = ap (λ (i : Prepared). i.sequence) is.published in
+      let tail_is = first_is ∙ ap log_place layout_is in
+      let any_moment = λ (honest : bound.honest old.disk). renewing _ _ old _ it (is.any_moment honest) in
+      search (rules, is, ready, layout_is, body_is, sequence_is, tail_is, empty, any_moment)
 
   -- or wasn't
   pub not_renewed : (fault : ImageFault) → Replaces bound old it (Err fault) now
