@@ -1,5 +1,5 @@
 -- What a recovery of a store that is off did, by what it found and that it only looked at the disk.
-use Rattle.std.proofs.Common.{◌≡◌, ◌⊎◌, ⊎_elim, ℕ, List, Result, Ok, Err, OnOk, IsErr, IsErrOf, refl, sym, ◌∙◌, arith, rules}
+use Rattle.std.proofs.Common.{◌≡◌, ◌⊎◌, inr, ⊎_elim, ℕ, List, Result, Ok, Err, OnOk, IsErr, IsErrOf, refl, sym, ◌∙◌, arith, rules}
 use Rattle.pos_dir.specs.Calls.{IsBody, Decodes}
 use Rattle.pos_dir.specs.declared.fault.DirectoryFault.{DirectoryFault}
 use Rattle.pos_dir.specs.declared.fault.DirectoryFault.TheVariants as directory
@@ -55,6 +55,20 @@ off_recovers bound disk layout result new finds kept watches now ends device cou
   counts = counts;
   keeps = keeps;
 }
+
+-- a recovery that was refused for another cause than a fault of the disk
+pub refused_recovers : {D : Type 0} (bound : Ghosts D) (disk end : D) (layout : Layout) (cause : StoreFault)
+    → (IsErrOf {T = Unit {0}} (Err cause) fault.Device → ⊥) → FindsStanding (DiskStandsFor bound disk) (Err cause) layout Off
+    → (bound.honest disk → Watches (bound.state disk) (bound.state end)) → (bound.honest disk → HasNotFailed (bound.state disk) (bound.state end))
+    → KeepsDisk bound disk end
+    → Recovers bound (record { disk = disk; layout = layout; state = Off; tail = 0 }) (Err cause) (record {
+      disk = end;
+      layout = layout;
+      state = Off;
+      tail = 0;
+    })
+refused_recovers bound disk end layout cause none finds watches same keeps =
+    off_recovers bound disk layout (Err cause) _ finds (λ err. refl) watches (λ h. tt) (λ h. tt) (λ h is. absurd (none is)) (λ h. inr (same h)) keeps
 
 -- what is found where the images weren't opened
 pub told_finds : (P : Standing → Type 0) (layout : Layout) (cause : ImageFault) (told : StoreFault) → Tells cause told

@@ -18,9 +18,9 @@ use Rattle.pos_store.specs.Layouts.{limits_of}
 use Rattle.pos_store.specs.Standing.{HoldsFiles, Applies}
 use Rattle.pos_store.specs.Recoveries.{DiskStandsFor, EndsAt}
 use Rattle.pos_store.proofs.FilesOnDisk.{leaves_files}
-use Rattle.pos_store.proofs.Recovered.{off_recovers, told_finds, told_device, told_counts, told_log_finds, told_log_device, told_log_counts, told_text_finds}
-use Rattle.pos_store.proofs.Recovered.{never_failed, both_keep, later, not_device, damaged_stands, no_body_stands, no_log_stands}
-use Rattle.pos_store.proofs.Recovered.{no_groups_stand, malformed_none}
+use Rattle.pos_store.proofs.Recovered.{off_recovers, refused_recovers, told_finds, told_device, told_counts, told_log_finds, told_log_device}
+use Rattle.pos_store.proofs.Recovered.{told_log_counts, told_text_finds, never_failed, both_keep, later, not_device, damaged_stands, no_body_stands}
+use Rattle.pos_store.proofs.Recovered.{no_log_stands, no_groups_stand, malformed_none}
 use Rattle.pos_store.proofs.recovering.recover_files.Given.{Over}
 use Rattle.pos_store.proofs.recovering.recover_files.Goals.{After-apply_texts}
 use Rattle.pos_store.proofs.recovering.recover_files.Goals as goal
@@ -42,33 +42,19 @@ returns-in-Err-clause-recovers g c =
 pub returns-in-Err-Malformed-clause-recovers : goal.returns-in-Err-Malformed-clause-recovers
 returns-in-Err-Malformed-clause-recovers g c =
     let opened = c.in-Ok.ensures in
-    rw (c.in-Off.is, c.into_disk.ensures) (off_recovers g.D.Disk c.in-Off.disk c.in-Off.layout _ _ (
+    rw (c.in-Off.is, c.into_disk.ensures) (refused_recovers g.D.Disk c.in-Off.disk _ c.in-Off.layout _ (λ is. absurd cc) (
       λ h. no_body_stands _ (layout_of c.in-Ok.images.slot) c.in-Ok.images.body c.in-Ok.images.sequence (opened.found h)
           (λ spelled. malformed_none (limits_of (layout_of c.in-Ok.images.slot)) c.body.result.now _ c.in-Err-Malformed.field-0-is
           (subst (λ (l : Limits). Decodes l c.body.result.now (Err c.in-Err-Malformed.field-0)) (c.limits_of-limits.ensures ∙ ap limits_of c.layout.ensures)
           c.in-Err-Malformed.ensures) (subst (IsBody (limits_of (layout_of c.in-Ok.images.slot))) (sym c.body.ensures) spelled)),
       refl,
-    )
-    (λ err. refl)
-    opened.any_moment
-    (λ h. tt)
-    (λ h. tt)
-    (λ h is. absurd cc)
-    (λ h. inr (never_failed _ _ _ images.Device (opened.counts h)))
-    opened.keeps)
+    ) opened.any_moment (λ h. never_failed _ _ _ images.Device (opened.counts h)) opened.keeps)
 
 pub returns-in-Err-decode-clause-recovers : goal.returns-in-Err-decode-clause-recovers
 returns-in-Err-decode-clause-recovers g c =
     let opened = c.in-Ok.ensures in
-    rw (c.in-Off.is, c.into_disk-in-Err-decode.ensures) (off_recovers g.D.Disk c.in-Off.disk c.in-Off.layout _ _
-    refl
-    (λ err. refl)
-    opened.any_moment
-    (λ h. tt)
-    (λ h. tt)
-    (λ h is. absurd cc)
-    (λ h. inr (never_failed _ _ _ images.Device (opened.counts h)))
-    opened.keeps)
+    rw (c.in-Off.is, c.into_disk-in-Err-decode.ensures) (refused_recovers g.D.Disk c.in-Off.disk _ c.in-Off.layout _ (λ is. absurd cc) refl
+    opened.any_moment (λ h. never_failed _ _ _ images.Device (opened.counts h)) opened.keeps)
 
 pub returns-in-Err-open-clause-recovers : goal.returns-in-Err-open-clause-recovers
 returns-in-Err-open-clause-recovers g c =
@@ -173,16 +159,10 @@ pub returns-in-Err-apply_texts-clause-recovers : goal.returns-in-Err-apply_texts
 returns-in-Err-apply_texts-clause-recovers g c =
     let here = (goal.at.returns-in-Err-apply_texts-clause-recovers g c).After-apply_texts in
     let faults = c.in-Err-apply_texts.ensures.faults in
-    rw (c.in-Off.is, c.into_disk-in-Err-apply_texts.ensures, c.into_images.ensures) (off_recovers g.D.Disk c.in-Off.disk c.in-Off.layout _ _
+    rw (c.in-Off.is, c.into_disk-in-Err-apply_texts.ensures, c.into_images.ensures)
+    (refused_recovers g.D.Disk c.in-Off.disk _ c.in-Off.layout _ (not_device c.in-Err-apply_texts.fault faults)
     (told_text_finds (DiskStandsFor g.D.Disk c.in-Off.disk) c.in-Off.layout c.in-Err-apply_texts.fault faults
     (λ is h. no_groups_stand _ (layout g here) c.in-Ok.images.body c.in-Ok.images.sequence c.in-Ok-decode.directory.files _
     (c.in-Ok.ensures.found h) (sound g here) (spelled g here) (records g here h)
-    (λ last applies. c.in-Err-apply_texts.ensures.damaged is last
-    (rw (limits g here, c.deref.ensures.value) applies))))
-    (λ err. refl)
-    (watches g here)
-    (λ h. tt)
-    (λ h. tt)
-    (λ h is. absurd (not_device c.in-Err-apply_texts.fault faults is))
-    (λ h. inr (not_failed g here h))
-    (keeps g here))
+    (λ last applies. c.in-Err-apply_texts.ensures.damaged is last (rw (limits g here, c.deref.ensures.value) applies))))
+    (watches g here) (not_failed g here) (keeps g here))
