@@ -39,8 +39,8 @@ pub length-part : (at n : ℕ) (bytes : List ℕ) → at + n ≤ length bytes �
 length-part at n bytes fits = grind (arith, common_steps)
 
 -- and the bytes from its place on
-pub get_or-part : (at n : ℕ) (bytes : List ℕ) (i : ℕ) → i < n → get_or (part at n bytes) i 0 ≡ get_or bytes (at + i) 0
-get_or-part at n bytes i inside = grind (arith, common_steps)
+pub get_or-part : (at n : ℕ) (bytes : List ℕ) (i place : ℕ) → place ≡ at + i → i < n → get_or (part at n bytes) i 0 ≡ get_or bytes place 0
+get_or-part at n bytes i place is inside = grind (arith, common_steps)
 
 -- two lists that agree in a range have the same part there
 pub same_part : (xs ys : List ℕ) (at n : ℕ) → at + n ≤ length xs → length xs ≡ length ys → ((i : ℕ) → InRange at n i → get_or xs i 0 ≡ get_or ys i 0)
@@ -48,7 +48,8 @@ pub same_part : (xs ys : List ℕ) (at n : ℕ) → at + n ≤ length xs → len
 same_part xs ys at n fits long agree = grind (arith, common_steps, elements, agree)
 
 -- a part of a part
-pub part-part : (at n from m : ℕ) (bytes : List ℕ) → from + m ≤ n → at + n ≤ length bytes → part from m (part at n bytes) ≡ part (at + from) m bytes
-part-part at n from m bytes within fits =
+pub part-part : (at n from m place : ℕ) (bytes : List ℕ) → place ≡ at + from → from + m ≤ n → at + n ≤ length bytes
+    → part place m bytes ≡ part from m (part at n bytes)
+part-part at n from m place bytes is within fits =
     let rest : n ≡ from + (n - from) = omega arith in
-    rw rest (rw (drop-take from (n - from) (drop at bytes)) (grind (arith, common_steps)))
+    rw (is, rest) (rw (drop-take from (n - from) (drop at bytes)) (grind (arith, common_steps)))

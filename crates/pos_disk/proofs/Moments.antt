@@ -1,5 +1,5 @@
 -- How a run of disk calls goes on.
-use Rattle.std.proofs.Common.{◌≡◌, inl, inr, ⊎_elim, ℕ, List, length, get_or, refl, ◌∙◌, ap, arith, Result}
+use Rattle.std.proofs.Common.{◌≡◌, inl, inr, ⊎_elim, ℕ, List, length, get_or, ◌∙◌, ap, arith, Result}
 use Rattle.std.proofs.lemmas.List.{ext_get_or}
 use Rattle.pos_disk.specs.State.{DiskState, IsAtRest, MayLeave, Elapses, Reads, Syncs, LeavesOnly, Watches}
 use Rattle.pos_disk.specs.declared.device.DiskFault.{DiskFault}
@@ -65,10 +65,6 @@ module _ {T : Type 0} (old new : DiskState) (only : (c : List ℕ) → old.left_
   -- and a sync
   pub watches_sync : Syncs old new result → Watches old new
   watches_sync syncs = watches syncs.reading syncs.loose syncs.time
-
--- no call
-pub watches_none : (disk : DiskState) → ((c : List ℕ) → disk.left_since disk.moment c → MayLeave disk c) → Watches disk disk
-watches_none disk only = record { reading = refl; loose = λ i l. l; any_moment = started disk (MayLeave disk) only }
 
 -- one look after another
 pub watches_on : (old mid new : DiskState) → Watches old mid → Watches mid new → Watches old new

@@ -1,11 +1,10 @@
 -- Several calls that may leave any bytes within one range, which is loose afterwards.
-use Rattle.std.proofs.Common.{◌≡◌, inl, ⊎_elim, ℕ, ◌+◌, ◌-◌, ◌≤◌, ◌/◌, List, length, take, get_or, refl, sym, ◌∙◌, ap, arith, Result, Ok, Err, OnOk}
+use Rattle.std.proofs.Common.{◌≡◌, inl, ⊎_elim, ℕ, ◌+◌, ◌-◌, ◌≤◌, ◌/◌, List, length, take, get_or, sym, ◌∙◌, ap, arith, Result, Ok, Err, OnOk}
 use Rattle.std.proofs.lemmas.Bool.{cases_lt}
 use Rattle.std.proofs.lemmas.List.{length-take-le, ext_get_or}
 use Rattle.pos_disk.specs.State.{DiskState, MayLeave, Rises, HasCause, Reads, Writes, splice, part}
 use Rattle.pos_disk.specs.Fuse.{Spoils, Loosens, PutsHalf}
 use Rattle.pos_disk.specs.declared.device.DiskFault.{DiskFault}
-use Rattle.pos_disk.proofs.Moments.{elapses_none}
 use Rattle.pos_disk.proofs.Bytes.{in_range, length-splice, spliced_within, splice_elsewhere, length-part, get_or-part}
 
 -- a read spoils nothing
@@ -57,21 +56,7 @@ pub splice-part : (old : List ℕ) (at n : ℕ) → at + n ≤ length old → sp
 splice-part old at n fits =
     let long = length-part at n old fits in
     ext_get_or 0 _ old (length-splice old (part at n old) at (omega (arith, long))) (λ i _.
-    grind (arith, long, in_range at n i, spliced_within 0 old (part at n old) at i, splice_elsewhere old (part at n old) at i, get_or-part at n old (i - at)))
-
--- before the first place nothing is loosened
-pub loosens_none : (disk : DiskState) (at : ℕ) → Loosens disk disk at 0
-loosens_none disk at = record {
-  spoils = record {
-    same_length = refl;
-    elsewhere = λ i outside. refl;
-    loose = λ i is. inl is;
-    reached = λ i either. ⊎_elim (λ was. was) (λ inside. absurd (omega arith)) either;
-    time = elapses_none disk;
-  };
-  later = omega arith;
-  kept = λ no_failure. refl;
-}
+    grind (arith, long, in_range at n i, spliced_within 0 old (part at n old) at i, splice_elsewhere old (part at n old) at i, get_or-part at n old (i - at) i))
 
 -- one place more, read and written
 module _ {T : Type 0} (old mid read new : DiskState) (at n : ℕ) (out : List ℕ) (first second : Result T DiskFault) where

@@ -1,6 +1,7 @@
 -- A run of writes that stay within one range.
 use Rattle.std.proofs.Common.{◌≡◌, ⊎_elim, ℕ, ◌+◌, ◌≤◌, List, length, refl, ◌∙◌, arith, Result}
-use Rattle.pos_disk.specs.State.{DiskState, InRange, IsAtRest, MayLeave, Elapses, LeavesOnly, Reads, Writes, Syncs}
+use Rattle.pos_disk.specs.State.{DiskState, InRange, MayLeave, Elapses, LeavesOnly, Writes, Syncs, splice, part}
+use Rattle.pos_disk.proofs.Bytes.{length-splice, splice_elsewhere, same_part}
 use Rattle.pos_disk.proofs.Moments.{goes_on}
 use Rattle.pos_disk.specs.declared.device.DiskFault.{DiskFault}
 use Rattle.pos_disk.specs.Within.{SameBut, IsWithin}
@@ -9,48 +10,50 @@ use Rattle.pos_disk.specs.Within.{SameBut, IsWithin}
 pub unchanged : (bytes : List ℕ) (at n : ℕ) → SameBut at n bytes bytes
 unchanged bytes at n = record { same_length = refl; elsewhere = λ i outside. refl }
 
--- a run begins where only places within the range are loose, as none at rest
-pub within_here : (disk : DiskState) (at n : ℕ) → ((i : ℕ) → disk.loose i → InRange at n i) → IsWithin disk.reading at n disk
-within_here disk at n loose = record { same = unchanged disk.reading at n; loose = loose }
+-- bytes that differ within a range differ within a wider one
+pub wider : {was bytes : List ℕ} {at n place m : ℕ} → place ≤ at → at + n ≤ place + m → SameBut at n was bytes → SameBut place m was bytes
+wider low high same = record { same_length = same.same_length; elsewhere = λ i outside. same.elsewhere i (λ hit. outside (omega arith)) }
 
--- none is loose at rest
-pub within_start : (disk : DiskState) (at n : ℕ) → IsAtRest disk → IsWithin disk.reading at n disk
-within_start disk at n rest = within_here disk at n (λ i loose. absurd (rest i loose))
-
--- a crash then leaves bytes that differ within the range only
-pub leaves_within : (was : List ℕ) (at n : ℕ) (disk : DiskState) → IsWithin was at n disk → (c : List ℕ) → MayLeave disk c → SameBut at n was c
-leaves_within was at n disk within c may = record {
-  same_length = may.same_length ∙ within.same.same_length;
-  elsewhere = λ i outside. may.settled i (λ loose. outside (within.loose i loose)) ∙ within.same.elsewhere i outside;
+-- one change after another
+pub same_on : {was mid bytes : List ℕ} {at n : ℕ} → SameBut at n was mid → SameBut at n mid bytes → SameBut at n was bytes
+same_on first second = record {
+  same_length = second.same_length ∙ first.same_length;
+  elsewhere = λ i outside. second.elsewhere i outside ∙ first.elsewhere i outside;
 }
 
+-- bytes put over others leave the rest
+pub spliced_same : (old bytes : List ℕ) (at : ℕ) → at + length bytes ≤ length old → SameBut at (length bytes) old (splice old at bytes)
+spliced_same old bytes at fits =
+    record { same_length = length-splice old bytes at fits; elsewhere = λ i outside. splice_elsewhere old bytes at i fits outside }
+
+-- a part outside the range is as it was
+pub kept_part : {was bytes : List ℕ} {at n : ℕ} → SameBut at n was bytes → (place m : ℕ) → place + m ≤ length was
+    → ((i : ℕ) → InRange place m i → ¬ (InRange at n i)) → part place m bytes ≡ part place m was
+kept_part {was = was} {bytes = bytes} same place m fits outside =
+    same_part bytes was place m (omega arith) same.same_length (λ i inside. same.elsewhere i (outside i inside))
+
+-- a run begins where only places within the range are loose, as none at rest
+pub within_here : {disk : DiskState} {at n : ℕ} → ((i : ℕ) → disk.loose i → InRange at n i) → IsWithin disk.reading at n disk
+within_here loose = record { same = unchanged _ _ _; loose = loose }
+
+-- a crash then leaves bytes that differ within the range only
+pub leaves_within : {was : List ℕ} {at n : ℕ} {disk : DiskState} → IsWithin was at n disk → (c : List ℕ) → MayLeave disk c → SameBut at n was c
+leaves_within within c may =
+    same_on within.same (record { same_length = may.same_length; elsewhere = λ i outside. may.settled i (λ loose. outside (within.loose i loose)) })
+
 -- one call more of such a run
-pub within_goes_on : (was : List ℕ) (at n : ℕ) (old mid new : DiskState) → LeavesOnly old mid (SameBut at n was) → Elapses mid new
+pub within_goes_on : {was : List ℕ} {at n : ℕ} {old mid new : DiskState} → LeavesOnly old mid (SameBut at n was) → Elapses mid new
     → IsWithin was at n new → LeavesOnly old new (SameBut at n was)
-within_goes_on was at n old mid new so_far time within = goes_on old mid new (SameBut at n was) so_far time (leaves_within was at n new within)
+within_goes_on {old = old} {mid = mid} {new = new} so_far time within = goes_on old mid new _ so_far time (leaves_within within)
 
-module _ {T : Type 0} (was : List ℕ) (at n : ℕ) (old new : DiskState) (result : Result T DiskFault) where
+module _ {T : Type 0} {was : List ℕ} {at n : ℕ} {old new : DiskState} (result : Result T DiskFault) (within : IsWithin was at n old) where
   -- a write within the range stays there
-  pub within_write : (place : ℕ) (bytes : List ℕ) → at ≤ place → place + length bytes ≤ at + n → IsWithin was at n old
-      → Writes old new place bytes result → IsWithin was at n new
-  within_write place bytes low high within writes =
-      let wider : (i : ℕ) → InRange place (length bytes) i → InRange at n i = λ i inside. (omega (arith, inside.0), omega (arith, inside.1)) in
-      record {
-        same = record {
-          same_length = writes.same_length ∙ within.same.same_length;
-          elsewhere = λ i outside. writes.elsewhere i (λ inside. outside (wider i inside)) ∙ within.same.elsewhere i outside;
-        };
-        loose = λ i loose. ⊎_elim (within.loose i) (wider i) (writes.loose i loose);
-      }
+  pub within_write : {place : ℕ} {bytes : List ℕ} → at ≤ place → place + length bytes ≤ at + n → Writes old new place bytes result → IsWithin was at n new
+  within_write low high writes = record {
+    same = same_on within.same (wider low high (record { same_length = writes.same_length; elsewhere = writes.elsewhere }));
+    loose = λ i loose. ⊎_elim (within.loose i) (λ inside. omega arith) (writes.loose i loose);
+  }
 
-  -- a call that leaves what a read gives and loosens nothing does too
-  within_looked : new.reading ≡ old.reading → ((i : ℕ) → new.loose i → old.loose i) → IsWithin was at n old → IsWithin was at n new
-  within_looked same loose within = rw same (search (loose, within.loose, within.same))
-
-  -- a sync does too
-  pub within_sync : IsWithin was at n old → Syncs old new result → IsWithin was at n new
-  within_sync within syncs = within_looked syncs.reading syncs.loose within
-
-  -- and a read
-  pub within_read : (place : ℕ) (out : List ℕ) → IsWithin was at n old → Reads old new place out result → IsWithin was at n new
-  within_read place out within reads = within_looked reads.reading reads.loose within
+  -- and a sync, which leaves what a read gives and loosens nothing
+  pub within_sync : Syncs old new result → IsWithin was at n new
+  within_sync syncs = rw syncs.reading (search (syncs.loose, within.loose, within.same))

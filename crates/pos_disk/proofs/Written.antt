@@ -88,9 +88,9 @@ saved_at_once stamps stamp bytes at n old stamps_fit bytes_fit old_fit none =
     let fits : at + length new ≤ length old = omega (arith, long) in
     record {
       same_length = length-splice old new at fits;
-      saved = λ i inside isnt. grind (arith, long, spliced_within 0 old new at i fits, get_or-part at n bytes (i - at));
+      saved = λ i inside isnt. grind (arith, long, spliced_within 0 old new at i fits, get_or-part at n bytes (i - at) i);
       kept = λ i inside is.
-          let here : get_or (part at n stamps) (i - at) 0 ≡ stamp = grind (arith, get_or-part at n stamps (i - at)) in
+          let here : get_or (part at n stamps) (i - at) 0 ≡ stamp = grind (arith, get_or-part at n stamps (i - at) i) in
           let bears : (get_or (part at n stamps) (i - at) 0 == stamp) ≡ true = grind (arith, nat_tests, here) in
           let found = list_any_at (λ s. s == stamp) (part at n stamps) (i - at) 0 (omega (arith, length-part at n stamps stamps_fit)) bears in
           absurd (cc (none, found));

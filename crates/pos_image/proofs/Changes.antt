@@ -1,9 +1,10 @@
 -- What each change of the images leaves.
-use Rattle.std.proofs.Common.{◌≡◌, inl, inr, ℕ, ◌+◌, ◌-◌, ◌≤◌, ◌<◌, ◌^◌, List, [], ◌∷◌, length, get_or, sym, ap, subst, ◌∙◌, arith, true, false, Some}
+use Rattle.std.proofs.Common.{◌≡◌, inl, inr, ℕ, ◌+◌, ◌-◌, ◌≤◌, ◌<◌, ◌^◌, List, [], ◌∷◌, length, get_or, ap, ◌∙◌, arith, true, false, nat_eq, Some}
 use Rattle.std.proofs.lemmas.Bool.{cases_Bool}
-use Rattle.pos_disk.specs.State.{DiskState, MayLeave, LeavesOnly, splice}
+use Rattle.pos_disk.specs.State.{LeavesOnly, splice}
 use Rattle.pos_disk.proofs.Moments.{weaker, rest_leaves}
-use Rattle.pos_disk.proofs.Bytes.{length-splice, splice_elsewhere, spliced_within}
+use Rattle.pos_disk.proofs.Bytes.{spliced_within}
+use Rattle.pos_disk.proofs.Within.{spliced_same}
 use Rattle.pos_disk.specs.declared.device.Disk.{Ghosts}
 use Rattle.pos_disk.specs.Within.{SameBut}
 use Rattle.pos_image.specs.Layout.{start, layout_of, longest, log_place, is_open, length_at}
@@ -15,22 +16,15 @@ use Rattle.pos_image.specs.declared.slot.Slot.{Slot}
 use Rattle.pos_image.proofs.Current.{published, shut_stages, published_log}
 use Rattle.pos_image.proofs.Logs.{image_here, kept_image, new_image}
 use Rattle.pos_image.proofs.Places.{beside_apart}
-use Rattle.pos_image.proofs.Staged.{gate_open}
 
--- at rest a crash leaves the current image and its log
-pub sound_leaves : {D : Type 0} (state : DiskState) (images : View D) → IsSound state images → (c : List ℕ) → MayLeave state c
-    → HasImage (layout_of images.slot) images.body images.sequence (log_of state.reading) c
-sound_leaves state images sound c may =
-    rw (rest_leaves state c sound.at_rest may) (image_here images.slot state.reading images.body images.sequence sound.current)
-
--- sound images are ready
+-- sound images are ready: at rest a crash leaves the current image and its log
 pub ready : {D : Type 0} (bound : Ghosts D) (images : View D) → 327680 ≤ bound.size images.disk → images.sequence < 2 ^ 64
     → (bound.honest images.disk → IsSound (bound.state images.disk) images) → IsReady bound images
 ready bound images large counted sound = record {
   large = large;
   counted = counted;
   sound = sound;
-  leaves = λ honest. sound_leaves (bound.state images.disk) images (sound honest);
+  leaves = λ honest c may. rw (rest_leaves (bound.state images.disk) c (sound honest).at_rest may) (image_here (sound honest).current);
 }
 
 -- at any moment while an image is put beside the current one
@@ -38,9 +32,7 @@ pub beside_leaves : {D : Type 0} (bound : Ghosts D) (old : View D) (disk : D) (i
     → IsReady bound old → LeavesOnly (bound.state old.disk) (bound.state disk) (Stages it.slot (bound.state old.disk).reading)
     → LeavesOnly (bound.state old.disk) (bound.state disk) (HasImage (layout_of old.slot) old.body old.sequence (log_of (bound.state old.disk).reading))
 beside_leaves bound old disk it beside was is_ready moments =
-    weaker (bound.state old.disk) (bound.state disk) _ _ (λ c stages.
-    kept_image old.slot it.slot (beside_apart old.slot old.sequence it beside) (bound.state old.disk).reading c old.body old.sequence
-    (is_ready.sound was).current stages) moments
+    weaker _ _ _ _ (λ c stages. kept_image (beside_apart old.slot old.sequence it beside) (is_ready.sound was).current stages) moments
 
 -- the image that was put into a slot
 pub placed : (bytes body : List ℕ) (slot : Slot) (sequence : ℕ) → length body ≤ longest (layout_of slot) → is_open bytes (start slot) ≡ false
@@ -52,64 +44,38 @@ placed bytes body slot sequence short shut no_log fields =
 -- a gate that was written
 pub written_gate : (old new : List ℕ) (at byte : ℕ) → at + 1 ≤ length old → new ≡ splice old at (byte ∷ []) → (SameBut at 1 old new) × (get_or new at 0 ≡ byte)
 written_gate old new at byte fits written =
+    let here : at - at ≡ 0 = omega arith in
     rw written (
-      record { same_length = length-splice old (byte ∷ []) at fits; elsewhere = λ i outside. splice_elsewhere old (byte ∷ []) at i fits outside },
-      let here : at - at ≡ 0 = omega arith in
-          spliced_within 0 old (byte ∷ []) at at fits (omega arith, omega arith) ∙ ap (λ (k : ℕ). get_or (byte ∷ []) k 0) here,
+      spliced_same old (byte ∷ []) at fits,
+      spliced_within 0 old (byte ∷ []) at at fits (omega arith) ∙ ap (λ (k : ℕ). get_or (byte ∷ []) k 0) here,
     )
 
 -- and opened
 pub opened_gate : (old new : List ℕ) (at : ℕ) → at + 1 ≤ length old → new ≡ splice old at (165 ∷ []) → (SameBut at 1 old new) × (is_open new at ≡ true)
-opened_gate old new at fits written =
-    let is = written_gate old new at 165 fits written in
-    (is.0, gate_open new at is.1)
+opened_gate old new at fits written = let is = written_gate old new at 165 fits written in (is.0, ap (λ (b : ℕ). nat_eq b 165) is.1)
 
--- the image that is prepared
-pub prepared_is : {D : Type 0} (state : DiskState) (images : View D) (it : Prepared) → images.prepared ≡ Some it → IsSound state images
-    → HasPrepared state.reading images.slot images.sequence it
-prepared_is state images it is sound =
-    rw is at sound.prepared
-
-module _ {D : Type 0} (bound : Ghosts D) (old : View D) (disk : D) (it : Prepared) (is_next : old.prepared ≡ Some it) (was : bound.honest old.disk)
+module _ {D : Type 0} (bound : Ghosts D) (old : View D) (it : Prepared) (is_next : old.prepared ≡ Some it) (was : bound.honest old.disk)
     (is_ready : IsReady bound old) where
   prepared_there : HasPrepared (bound.state old.disk).reading old.slot old.sequence it
-  prepared_there = prepared_is (bound.state old.disk) old it is_next (is_ready.sound was)
+  prepared_there = rw is_next at (is_ready.sound was).prepared
 
   -- bytes whose gate of it was opened hold it as the current image
-  opened_current : (c : List ℕ) → SameBut (start it.slot) 1 (bound.state old.disk).reading c → is_open c (start it.slot) ≡ true
+  pub opened_current : (c : List ℕ) → SameBut (start it.slot) 1 (bound.state old.disk).reading c → is_open c (start it.slot) ≡ true
       → IsCurrent c it.slot it.body it.sequence
-  opened_current c same opened =
-      published old.slot it (bound.state old.disk).reading c old.body old.sequence (is_ready.sound was).current prepared_there.there prepared_there.beside
-      same opened
+  opened_current c same opened = published (is_ready.sound was).current prepared_there same opened
 
   -- with no log
-  opened_new : (c : List ℕ) → SameBut (start it.slot) 1 (bound.state old.disk).reading c → is_open c (start it.slot) ≡ true
+  pub opened_new : (c : List ℕ) → SameBut (start it.slot) 1 (bound.state old.disk).reading c → is_open c (start it.slot) ≡ true
       → HasNewImage (layout_of it.slot) it.body it.sequence c
-  opened_new c same opened =
-      new_image it.slot c it.body it.sequence (opened_current c same opened)
-      (published_log it.slot (bound.state old.disk).reading c it.body it.sequence prepared_there.there same)
+  opened_new c same opened = new_image (opened_current c same opened) (published_log prepared_there.there same)
 
   -- at any moment while the gate of the prepared image is opened
-  pub publish_leaves : (at : ℕ) → at ≡ start it.slot
+  pub publish_leaves : (disk : D) (at : ℕ) → at ≡ start it.slot
       → LeavesOnly (bound.state old.disk) (bound.state disk) (SameBut at 1 (bound.state old.disk).reading)
       → LeavesOnly (bound.state old.disk) (bound.state disk) (HasEither old (log_of (bound.state old.disk).reading) (next_of old))
-  publish_leaves at at_is moments =
+  publish_leaves disk at at_is moments =
       let next_is : next_of old ≡ it = ap (prepared_or (image_of old.slot old.body old.sequence)) is_next in
-      subst (λ (next : Prepared). LeavesOnly (bound.state old.disk) (bound.state disk)
-      (HasEither old (log_of (bound.state old.disk).reading) next)) (sym next_is)
-      (weaker (bound.state old.disk) (bound.state disk) _ _ (λ c same. elim (cases_Bool (is_open c (start it.slot))) [
+      rw next_is (weaker _ _ _ _ (λ c same. elim (cases_Bool (is_open c (start it.slot))) [
         | inl opened ↦ inr (opened_new c same opened)
-        | inr shut ↦ inl (kept_image old.slot it.slot (beside_apart old.slot old.sequence it prepared_there.beside) (bound.state old.disk).reading c
-            old.body old.sequence (is_ready.sound was).current (shut_stages it.slot (bound.state old.disk).reading c same shut))
-      ])
-      (subst (λ (place : ℕ). LeavesOnly (bound.state old.disk) (bound.state disk) (SameBut place 1 (bound.state old.disk).reading)) at_is moments))
-
-  module _ (opened : SameBut (start it.slot) 1 (bound.state old.disk).reading (bound.state disk).reading)
-      (gate : is_open (bound.state disk).reading (start it.slot) ≡ true) where
-    -- and once it is open
-    pub publish_current : IsCurrent (bound.state disk).reading it.slot it.body it.sequence
-    publish_current = opened_current (bound.state disk).reading opened gate
-
-    -- and is there with no log
-    pub publish_new : HasNewImage (layout_of it.slot) it.body it.sequence (bound.state disk).reading
-    publish_new = opened_new (bound.state disk).reading opened gate
+        | inr shut ↦ inl (kept_image (beside_apart old.slot old.sequence it prepared_there.beside) (is_ready.sound was).current (shut_stages same shut))
+      ]) (rw at_is at moments))

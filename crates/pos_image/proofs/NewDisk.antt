@@ -1,5 +1,5 @@
 -- What formatting leaves.
-use Rattle.std.proofs.Common.{◌≡◌, ℕ, ◌≤◌, List, [], ◌∷◌, length, get_or, sym, ap, ◌∙◌, arith, true, false, nat_eq}
+use Rattle.std.proofs.Common.{◌≡◌, ℕ, ◌≤◌, List, [], ◌∷◌, length, get_or, ap, ◌∙◌, arith, true, false, nat_eq}
 use Rattle.std.proofs.lemmas.Bool.{cases_lt}
 use Rattle.pos_disk.specs.State.{part, splice}
 use Rattle.pos_disk.proofs.Bytes.{part-part, part-splice}
@@ -10,17 +10,13 @@ use Rattle.pos_image.specs.Slots.{IsCurrent, HasFields}
 use Rattle.pos_image.specs.Standing.{IsNewDisk}
 use Rattle.pos_image.specs.declared.slot.Slot.TheVariants.{First}
 use Rattle.pos_image.proofs.Changes.{opened_gate}
-use Rattle.pos_image.proofs.Current.{first_here, kept_sequence, kept_length, kept_body}
+use Rattle.pos_image.proofs.Current.{HasBody, first_here, kept_body}
 use Rattle.pos_image.proofs.Fields.{fields}
 use Rattle.pos_image.proofs.Logs.{new_image}
 
 -- a gate stays 0 while 0 is written to another one, or to itself
 pub stays_closed : (old new : List ℕ) (at place : ℕ) → SameBut at 1 old new → get_or new at 0 ≡ 0 → get_or old place 0 ≡ 0 → get_or new place 0 ≡ 0
 stays_closed old new at place same shut was = grind (arith, same.elsewhere place, cases_lt place at, cases_lt at place)
-
--- a gate that holds 0 is closed
-pub shut_gate : (bytes : List ℕ) (at : ℕ) → get_or bytes at 0 ≡ 0 → is_open bytes at ≡ false
-shut_gate bytes at is = ap (λ (byte : ℕ). nat_eq byte 165) is
 
 module _ (closed mid new : List ℕ) (large : 327680 ≤ length closed) (gates : HasClosedGates closed)
     (image : mid ≡ splice closed 1 (0 ∷ 0 ∷ 0 ∷ 0 ∷ 0 ∷ 0 ∷ 0 ∷ 1 ∷ 0 ∷ 0 ∷ 0 ∷ 2 ∷ 0 ∷ 0 ∷ [])) (same : SameBut 1 14 closed mid)
@@ -31,19 +27,16 @@ module _ (closed mid new : List ℕ) (large : 327680 ≤ length closed) (gates :
   opened : (SameBut 0 1 mid new) × (is_open new 0 ≡ true)
   opened = opened_gate mid new 0 (omega (arith, long)) gate
 
-  written : part 1 14 mid ≡ 0 ∷ 0 ∷ 0 ∷ 0 ∷ 0 ∷ 0 ∷ 0 ∷ 1 ∷ 0 ∷ 0 ∷ 0 ∷ 2 ∷ 0 ∷ 0 ∷ []
-  written = ap (part 1 14) image ∙ part-splice closed (0 ∷ 0 ∷ 0 ∷ 0 ∷ 0 ∷ 0 ∷ 0 ∷ 1 ∷ 0 ∷ 0 ∷ 0 ∷ 2 ∷ 0 ∷ 0 ∷ []) 1 (omega (arith, large))
-
   holds : HasFields mid 0 1 no_files
   holds =
+      let text : List ℕ = 0 ∷ 0 ∷ 0 ∷ 0 ∷ 0 ∷ 0 ∷ 0 ∷ 1 ∷ 0 ∷ 0 ∷ 0 ∷ 2 ∷ 0 ∷ 0 ∷ [] in
+      let written : part 1 14 mid ≡ text = rw image (part-splice closed text 1 (omega (arith, large))) in
       fields mid no_files 0 1 (omega (arith, long)) (omega arith) (omega arith)
-      (sym (part-part 1 14 0 12 mid (omega (arith, long)) (omega arith)) ∙ ap (part 0 12) written)
-      (sym (part-part 1 14 12 2 mid (omega (arith, long)) (omega arith)) ∙ ap (part 12 2) written)
+      (part-part 1 14 0 12 1 mid (omega arith) (omega arith) (omega (arith, long)) ∙ ap (part 0 12) written)
+      (part-part 1 14 12 2 13 mid (omega arith) (omega arith) (omega (arith, long)) ∙ ap (part 12 2) written)
 
   stays : (i : ℕ) → 15 ≤ i → get_or closed i 0 ≡ 0 → get_or new i 0 ≡ 0
-  stays i far was =
-      opened.0.elsewhere i (λ hit. absurd (omega (arith, far, hit.1)))
-      ∙ same.elsewhere i (λ hit. absurd (omega (arith, far, hit.1))) ∙ was
+  stays i far was = opened.0.elsewhere i (omega arith) ∙ same.elsewhere i (omega arith) ∙ was
 
   -- the closed gates stay so
   still_closed : HasClosedGates new
@@ -58,19 +51,19 @@ module _ (closed mid new : List ℕ) (large : 327680 ≤ length closed) (gates :
   -- the first slot has the body of no files and sequence 1
   first_current : IsCurrent new First no_files 1
   first_current =
-      let small = holds.length_is in
+      let shut : (i : ℕ) → get_or new i 0 ≡ 0 → is_open new i ≡ false = λ i is. ap (λ (byte : ℕ). nat_eq byte 165) is in
+      let was : HasBody mid First no_files 1 = record { sequence_is = holds.sequence_is; fits = omega (arith, holds.length_is); body_is = holds.body_is } in
+      let has = kept_body opened.0 long (omega arith) was in
       record {
         whole = omega (arith, opened.0.same_length, long);
-        layout_is = first_here new (shut_gate new 65536 still_closed.third) (shut_gate new 196608 still_closed.fourth);
+        layout_is = first_here new (shut 65536 still_closed.third) (shut 196608 still_closed.fourth);
         gate = opened.1;
-        sequence_is = kept_sequence mid new 0 1 opened.0 0 (omega (arith, long)) (λ i inside hit. absurd (omega (arith, inside.0, hit.1))) ∙ holds.sequence_is;
-        fits = let kept = kept_length mid new 0 1 opened.0 0 (omega (arith, long)) (λ i inside hit. absurd (omega (arith, inside.0, hit.1))) in omega
-            (arith, kept, small);
-        body_is = kept_body mid new 0 1 opened.0 0 16371 (omega (arith, long)) (omega (arith, small))
-            (λ i inside hit. absurd (omega (arith, inside.0, hit.1))) ∙ holds.body_is;
-        greater = λ is. absurd (cc (is, shut_gate new 32768 still_closed.second));
+        sequence_is = has.sequence_is;
+        fits = has.fits;
+        body_is = has.body_is;
+        greater = λ is. absurd (cc (is, shut 32768 still_closed.second));
       }
 
   -- it is the current image, and there is no log
   pub new_disk : IsNewDisk new
-  new_disk = record { image = new_image First new no_files 1 first_current still_closed.first_log; gates = still_closed }
+  new_disk = record { image = new_image first_current still_closed.first_log; gates = still_closed }

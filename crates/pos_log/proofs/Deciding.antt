@@ -9,8 +9,8 @@ use Rattle.std.proofs.lemmas.Nat.{from_be_bytes-to_be_bytes_4}
 use Rattle.std.proofs.lemmas.Slice.Eq.{bytes_eq-Decides}
 use Rattle.pos_disk.specs.State.{part}
 use Rattle.pos_log.specs.Records.{HasLength, BeginsWith, HoldsSome}
-use Rattle.pos_log.proofs.Holding.{open_byte}
-use Rattle.pos_log.proofs.Parsing.{begins, begins_more, all_read, none_held}
+use Rattle.pos_log.proofs.Holding.{open_byte, begins_more, all_read}
+use Rattle.pos_log.proofs.Parsing.{begins, none_held}
 
 -- the length at a place is the one that its bytes spell, if any is
 the_length : (span : List ℕ) (at n : ℕ) → HasLength span at n → n ≡ from_be_bytes w32 (part (at + 1) 4 span)

@@ -1,5 +1,5 @@
 -- What a new image in the place of the old one did to the log.
-use Rattle.std.proofs.Common.{◌≡◌, ⊎_elim, inl, inr, ℕ, List, [], ap, ◌∙◌, refl, arith, nat_eq, Ok, Err}
+use Rattle.std.proofs.Common.{◌≡◌, ⊎_elim, inl, inr, ℕ, List, [], ap, ◌∙◌, refl, arith, nat_eq, rules, Ok, Err}
 use Rattle.pos_disk.specs.State.{DiskState, LeavesOnly}
 use Rattle.pos_disk.proofs.Moments.{weaker}
 use Rattle.pos_disk.specs.declared.device.Disk.{Ghosts}
@@ -8,9 +8,9 @@ use Rattle.pos_image.specs.Layout.{layout_of, log_place}
 use Rattle.pos_image.specs.Standing.{HasNewImage}
 use Rattle.pos_image.specs.declared.fault.ImageFault.{ImageFault}
 use Rattle.pos_image.specs.declared.layout.Layout.{Layout}
-use Rattle.pos_image.proofs.Places.{places}
+use Rattle.pos_image.proofs.Places.{log_some}
 use Rattle.pos_image.proofs.Spanned.{image_length}
-use Rattle.pos_log.specs.Logs.{HasNoRecords, HasOldOrNew, Renews, log_over}
+use Rattle.pos_log.specs.Logs.{HasNoRecords, HasOldOrNew, IsLogReady, Renews, log_over}
 use Rattle.pos_log.specs.Renewing.{Replaces}
 
 -- a new image has no records
@@ -18,11 +18,8 @@ pub no_records : (layout : Layout) (body : List ℕ) (sequence : ℕ) (bytes : L
     → HasNoRecords layout body sequence bytes
 no_records layout body sequence bytes new =
     let long = image_length layout body sequence bytes new.image in
-    let some = (places layout).some in
-    record {
-      image = new.image;
-      log = record { short = tt; front = refl; inside = omega (arith, long, some); behind = ap (λ (b : ℕ). nat_eq b 165) new.log };
-    }
+    let some = log_some layout in
+    record { image = new.image; log = record { short = tt; front = refl; inside = omega arith; behind = ap (λ (b : ℕ). nat_eq b 165) new.log } }
 
 -- the old image with its log, or the new one with none
 pub renewing : {D : Type 0} (old new : DiskState) (images : View D) (span : List ℕ) (it : Prepared) → LeavesOnly old new (HasEither images span it)
@@ -36,46 +33,18 @@ module _ {D : Type 0} (bound : Ghosts D) (old : View D) (tail : ℕ) (it : Prepa
       → Renews bound (log_over old tail) (layout_of it.slot) it.body it.sequence (Ok tt) (log_over now first)
   renewed first first_is is =
       let layout_is = ap (λ (i : Prepared). layout_of i.slot) is.published in
-      record {
-        ready = record {
-          images = is.ready;
-          records = λ honest. (
-            [],
-            (no_records (layout_of it.slot) it.body it.sequence _ (is.log (is.keeps.honest.1 honest))).log,
-            omega (arith, first_is),
-          );
-        };
-        layout_is = layout_is;
-        body_is = ap (λ (i : Prepared). i.body) is.published;
-        sequence_is = ap (λ (i : Prepared). i.sequence) is.published;
-        tail_is = first_is ∙ ap log_place layout_is;
-        image = λ honest. no_records (layout_of it.slot) it.body it.sequence _ (is.log honest);
-        any_moment = λ honest. renewing _ _ old _ it (is.any_moment honest);
-        too_large = is.too_large;
-        exhausted = is.exhausted;
-        unchanged = λ err. absurd cc;
-        same_layout = λ err. absurd cc;
-        device = λ honest e. absurd cc;
-        counts = is.counts;
-        keeps = is.keeps;
-      }
+      let empty = λ (honest : bound.honest old.disk). no_records (layout_of it.slot) it.body it.sequence _ (is.log honest) in
+      let ready : IsLogReady bound (log_over now first) =
+      record { images = is.ready; records = λ honest. ([], (empty (is.keeps.honest.1 honest)).log, omega (arith, first_is)) } in
+      let body_is = ap (λ (i : Prepared). i.body) is.published in
+      let sequence_is = ap (λ (i : Prepared). i.sequence) is.published in
+      let tail_is = first_is ∙ ap log_place layout_is in
+      let any_moment = λ (honest : bound.honest old.disk). renewing _ _ old _ it (is.any_moment honest) in
+      search (rules, is, ready, layout_is, body_is, sequence_is, tail_is, empty, any_moment)
 
   -- or wasn't
   pub not_renewed : (fault : ImageFault) → Replaces bound old it (Err fault) now
       → Renews bound (log_over old tail) (layout_of it.slot) it.body it.sequence (Err fault) (log_over now tail)
-  not_renewed fault is = record {
-    ready = tt;
-    layout_is = tt;
-    body_is = tt;
-    sequence_is = tt;
-    tail_is = tt;
-    image = λ honest. tt;
-    any_moment = λ honest. renewing _ _ old _ it (is.any_moment honest);
-    too_large = is.too_large;
-    exhausted = is.exhausted;
-    unchanged = λ err. ⊎_elim (λ device. inl device) (λ same. inr (ap (λ (im : View D). log_over im tail) same)) (is.unchanged err);
-    same_layout = λ err. ap layout_of (is.same_slot err);
-    device = is.device;
-    counts = is.counts;
-    keeps = is.keeps;
-  }
+  not_renewed fault is =
+      let any_moment = λ (honest : bound.honest old.disk). renewing _ _ old _ it (is.any_moment honest) in
+      search (rules, is, any_moment)

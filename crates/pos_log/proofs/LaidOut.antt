@@ -1,7 +1,6 @@
 -- What stands behind the gate of a record, as it is laid out.
-use Rattle.std.proofs.Common.{◌≡◌, ℕ, ◌+◌, ◌<◌, ◌≤◌, List, [], ◌∷◌, ◌++◌, length, take, drop, true, false, sym, ap, ◌∙◌, arith, append_assoc, length-append}
-use Rattle.std.specs.Prelude.{slice_set, nat_le}
-use Rattle.std.proofs.lemmas.Bool.Decides.{nat_tests}
+use Rattle.std.proofs.Common.{◌≡◌, ℕ, ◌+◌, ◌<◌, List, [], ◌∷◌, ◌++◌, length, take, drop, sym, ap, ◌∙◌, arith, append_assoc, length-append}
+use Rattle.std.specs.Prelude.{slice_set}
 use Rattle.std.specs.Int.{w32, to_be_bytes}
 use Rattle.std.proofs.lemmas.List.{take_at}
 use Rattle.pos_log.specs.Records.{text_behind_gate}
@@ -23,10 +22,3 @@ laid_out head body (first ∷ behind) group head_is body_is some =
 -- a slice that is put back whole
 pub put_back : (len : ℕ) (new items : List ℕ) → len ≡ length items → length new ≡ length items → take len (new ++ drop (length new) items) ≡ new
 put_back len new items len_is same = let long : length new ≡ len = omega (arith, len_is, same) in take_at new (drop (length new) items) len long
-
--- what a test of numbers says
-pub at_most : (a b : ℕ) → nat_le a b ≡ true → a ≤ b
-at_most a b is = grind (arith, nat_tests)
-
-pub more_than : (a b : ℕ) → nat_le a b ≡ false → b < a
-more_than a b is = grind (arith, nat_tests)

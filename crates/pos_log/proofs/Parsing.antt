@@ -1,49 +1,15 @@
 -- The records that a span begins with, as they are read.
 use Rattle.std.proofs.Common.{◌≡◌, ℕ, ◌+◌, ◌<◌, List, [], ◌∷◌, ◌++◌, length, get_or, take, drop, refl, sym, ap, ◌∙◌, arith, false, nat_eq, length-append}
 use Rattle.std.proofs.Common.{length-drop}
-use Rattle.std.specs.Int.{w32, to_be_bytes}
 use Rattle.std.specs.List.{AllByRecursion}
-use Rattle.std.proofs.Math.Seq.{take-add}
 use Rattle.std.proofs.lemmas.List.{take-append-drop, get_or-drop, drop-drop, take_at, append-nil}
 use Rattle.pos_disk.specs.State.{part}
-use Rattle.pos_disk.proofs.Bytes.{length-part}
-use Rattle.pos_log.specs.Records.{record_spelling, spelling, IsShort, HasLength, BeginsWith, HoldsRecords, HoldsSome}
-use Rattle.pos_log.proofs.Holding.{record_here, spelling_more, spelling_length, all_more}
+use Rattle.pos_log.specs.Records.{record_spelling, spelling, IsShort, HasLength, BeginsWith, HoldsSome}
 use Rattle.pos_log.proofs.Unique.{shut_differs, others_follow, span_split}
 
 -- nothing has been read yet
 pub begins : (span : List ℕ) → 0 < length span → BeginsWith [] 0 span
 begins span some = record { short = tt; end_is = refl; front = refl; inside = some }
-
--- one record more
-pub begins_more : (groups : List (List ℕ)) (at n : ℕ) (span group : List ℕ) → BeginsWith groups at span → get_or span at 0 ≡ 165
-    → HasLength span at n → group ≡ part (at + 5) n span → BeginsWith (groups ++ group ∷ []) (at + (5 + n)) span
-begins_more groups at n span group begins gate has is =
-    let fits = has.fits in
-    let few = has.few in
-    let long : length group ≡ n = ap length is ∙ length-part (at + 5) n span (omega arith) in
-    let size = spelling_length groups group in
-    let end_is = begins.end_is in
-    let here = record_here at span group gate (has.length_is ∙ ap (to_be_bytes w32) (sym long)) (ap (λ (k : ℕ). part (at + 5) k span) long ∙ sym is)
-    (omega (arith, long)) in
-    let total : at + (5 + n) ≡ at + (1 + (4 + length group)) = omega (arith, long) in
-    record {
-      short = all_more groups group begins.short (omega (arith, long));
-      end_is = omega (arith, size, end_is, long);
-      front = ap (λ (k : ℕ). take k span) total ∙ take-add at (1 + (4 + length group)) span
-          ∙ ap (λ (l : List ℕ). l ++ part at (1 + (4 + length group)) span) begins.front
-          ∙ ap (λ (l : List ℕ). spelling groups ++ l) here ∙ sym (spelling_more groups group);
-      inside = omega arith;
-    }
-
--- what is read up to a closed gate is all that is there
-pub all_read : (groups : List (List ℕ)) (at : ℕ) (span : List ℕ) → BeginsWith groups at span → nat_eq (get_or span at 0) 165 ≡ false → HoldsRecords groups span
-all_read groups at span begins shut = record {
-  short = begins.short;
-  front = ap (λ (k : ℕ). take k span) (sym begins.end_is) ∙ begins.front;
-  inside = let inside = begins.inside in let end_is = begins.end_is in omega arith;
-  behind = ap (λ (k : ℕ). nat_eq (get_or span k 0) 165) (sym begins.end_is) ∙ shut;
-}
 
 refused : (others : List (List ℕ)) (at : ℕ) (span : List ℕ) (gate : ℕ) (behind : List ℕ) → at < length span → AllByRecursion IsShort others
     → drop at span ≡ spelling others ++ gate ∷ behind → nat_eq gate 165 ≡ false → get_or span at 0 ≡ 165
@@ -59,7 +25,7 @@ refused (group ∷ others) at span gate behind inside short is shut byte none =
     none (length group) record {
       few = short.0;
       length_is = ap (take 4) (sym (drop-drop 1 at span)) ∙ ap (λ (l : List ℕ). take 4 (drop 1 l)) is;
-      fits = omega (arith, whole, left, two, one);
+      fits = omega arith;
     }
 
 -- where no record fits behind an open gate, the span holds no records

@@ -1,5 +1,5 @@
 -- What an append or a renewal of the log means for the files.
-use Rattle.std.proofs.Common.{◌≡◌, ◌≢◌, true, false, cond, ◌+◌, ◌≤◌, length, inl, inr, ⊎_elim, ℕ, List, [], ◌∷◌, Ok, Err, refl, sym, ap, subst, ◌∙◌, arith}
+use Rattle.std.proofs.Common.{◌≡◌, ◌≢◌, true, false, cond, ◌+◌, ◌≤◌, length, inl, inr, ⊎_elim, ℕ, List, [], ◌∷◌, Ok, Err, refl, sym, ap, ◌∙◌, arith}
 use Rattle.pos_dir.specs.Changes.{outcome_of_all, IsGroup}
 use Rattle.pos_dir.specs.Files.{IsDirectory}
 use Rattle.pos_dir.specs.Spelling.{spelling, group_spelling, body_limit}
@@ -19,7 +19,7 @@ use Rattle.pos_store.proofs.FilesOnDisk.{shows_now, still_holds, holds_more, hol
 use Rattle.pos_store.specs.Commits.{Commits, IsExhausted, IsLast, left_by, fits_behind, sequence_after, tail_after}
 use Rattle.pos_store.specs.Layouts.{limits_of}
 use Rattle.pos_store.specs.StoreViews.{Ready, view_of}
-use Rattle.pos_store.specs.Standing.{Stands, LeavesOneOf, HoldsFiles, IsStep, StandsForEither, StandsForOneOf}
+use Rattle.pos_store.specs.Standing.{Stands, HoldsFiles, IsStep, StandsForEither, StandsForOneOf}
 use Rattle.pos_store.specs.declared.fault.StoreFault.TheVariants as fault
 use Rattle.pos_store.specs.declared.disk_or_log.DiskOrLog.TheVariants as which
 
@@ -45,7 +45,7 @@ pub fits_not : (layout : Layout) (tail : ℕ) (changes : List Change) (sequence 
     → IsExhausted layout tail changes sequence → ⊥
 fits_not layout tail changes sequence fits exhausted = absurd (let over = exhausted.0 in cc)
 
-module _ {D : Type 0} (bound : Ghosts D) (log : LogView D) (files after : List File) (changes : List Change)
+module _ {D : Type 0} {bound : Ghosts D} {log : LogView D} {files after : List File} {changes : List Change}
     (given : IsGiven bound log files after changes) where
   -- the layout of the disk before it
   abbrev layout : Layout
@@ -80,10 +80,8 @@ module _ {D : Type 0} (bound : Ghosts D) (log : LogView D) (files after : List F
   appending_stands honest c keeps =
       let holds = given.holds honest in
       ⊎_elim
-      (λ old. inl (inl (still_holds layout files log.images.sequence (bound.state log.images.disk).reading log.images.body c holds (shows honest)
-      keeps.image old)))
-      (λ more. inr (inl (holds_more layout files log.images.sequence (bound.state log.images.disk).reading log.images.body c holds (shows honest) after
-      (group_spelling changes) step keeps.image more)))
+      (λ old. inl (inl (still_holds holds (shows honest) c keeps.image old)))
+      (λ more. inr (inl (holds_more holds (shows honest) c step keeps.image more)))
       (keeps.log holds.texts holds.log)
 
   -- the old image with its records, or the new one with none
@@ -135,9 +133,8 @@ module _ {D : Type 0} (bound : Ghosts D) (log : LogView D) (files after : List F
       layout = kept;
       unchanged = λ err. absurd cc;
       crash = λ h. record {
-        any_moment = subst (λ (n : ℕ). LeavesOnly (bound.state log.images.disk) (bound.state new.images.disk) (Around n)) (sym same) (any_moment h);
-        now = subst (λ (l : Layout). LeavesOneOf (Stands l after new.images.sequence ∷ []) (bound.state new.images.disk)) kept
-            (leaves_files bound new.images after ready holds (keeps.honest.0 h));
+        any_moment = rw same (any_moment h);
+        now = rw kept at (leaves_files bound new.images after ready holds (keeps.honest.0 h));
       };
       device = λ h is. absurd cc;
       counts = λ h. inr (counts h);
@@ -158,8 +155,7 @@ module _ {D : Type 0} (bound : Ghosts D) (log : LogView D) (files after : List F
           let holds = given.holds was in
           let body_is = ap (λ (l : LogView D). l.images.body) appends.appended in
           rw (kept, same_sequence)
-          (holds_more layout files log.images.sequence (bound.state log.images.disk).reading log.images.body (bound.state new.images.disk).reading holds
-          (shows was) after (group_spelling changes) step
+          (holds_more holds (shows was) (bound.state new.images.disk).reading step
           (shows_now bound new.images appends.ready.images honest ∙ (λ i. image.OneImage (kept i) (body_is i) (same_sequence i)))
           (appends.records was holds.texts holds.log))
 

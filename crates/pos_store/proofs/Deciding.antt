@@ -1,5 +1,5 @@
 -- Bytes always stand for something: what it is is found by reading them.
-use Rattle.std.proofs.Common.{◌≡◌, ◌⊎◌, inl, inr, ⊎_elim, ℕ, ◌+◌, ◌<◌, Bool, true, false, cond, List, [], ◌∷◌, ◌++◌, length, drop, refl, sym, ap, subst, ◌∙◌}
+use Rattle.std.proofs.Common.{◌≡◌, ◌⊎◌, inl, inr, ⊎_elim, ℕ, ◌+◌, Bool, cond, List, [], ◌∷◌, ◌++◌, length, drop, refl, sym, ap, subst, ◌∙◌}
 use Rattle.std.proofs.Common.{arith, Option, Some, None, Result, Ok, Err}
 use Rattle.std.specs.List.{AllByRecursion}
 use Rattle.std.proofs.lemmas.List.{take_at, drop_at}
@@ -13,10 +13,10 @@ use Rattle.pos_dir.specs.declared.change.Change.{Change}
 use Rattle.pos_dir.specs.declared.fault.DirectoryFault.{DirectoryFault}
 use Rattle.pos_dir.specs.declared.file.File.{File}
 use Rattle.pos_dir.specs.declared.limits.Limits.{Limits}
+use Rattle.pos_image.proofs.Places.{log_some}
 use Rattle.pos_image.proofs.Spanned.{image_length}
 use Rattle.pos_image.specs.Layout.{body_at, sequence_at, log_place, log_size, start, layout_of}
 use Rattle.pos_image.specs.declared.layout.Layout.{Layout}
-use Rattle.pos_image.specs.declared.layout.Layout.TheVariants.{Layout1, Layout2}
 use Rattle.pos_image.specs.Standing as image
 use Rattle.pos_log.proofs.Deciding.{records_or_none}
 use Rattle.pos_log.specs.Records as log
@@ -30,10 +30,7 @@ use Rattle.pos_store.specs.Standing.{Standing, Unformatted, Damaged, Stands, Sta
 shown : (none damaged fits : Bool) (by layout : Layout) (there body : List ℕ) (number sequence : ℕ)
     → cond none image.NoImage (cond damaged image.DamagedImage
     (cond fits (image.OneImage by there number) image.DamagedImage)) ≡ image.OneImage layout body sequence → there ≡ body
-shown true damaged fits by layout there body number sequence is = absurd cc
-shown false true fits by layout there body number sequence is = absurd cc
-shown false false false by layout there body number sequence is = absurd cc
-shown false false true by layout there body number sequence is = cc
+shown none damaged fits by layout there body number sequence is = grind arith
 
 body_bytes : (bytes : List ℕ) (layout : Layout) (body : List ℕ) (sequence : ℕ) → IsBytes bytes → image.image_on bytes ≡ image.OneImage layout body sequence
     → IsBytes body
@@ -50,11 +47,6 @@ log_bytes bytes each =
     let slot = image.current_on bytes in
     let at = start slot + log_place (layout_of slot) in
     IsBytes-take (log_size (layout_of slot)) (drop at bytes) (IsBytes-drop at bytes each)
-
--- a log has room for a gate
-log_room : (layout : Layout) → 0 < log_size layout
-log_room Layout1 = omega arith
-log_room Layout2 = omega arith
 
 spelled_bytes : (groups : List (List ℕ)) → IsBytes (log.spelling groups) → AllByRecursion IsBytes groups
 spelled_bytes [] each = tt
@@ -101,7 +93,7 @@ texts_or_none limits (text ∷ texts) files each =
     (λ step. ⊎_elim
     (λ more. inl (more.0, (step.0, step.1, more.1)))
     (λ none. inr (λ last applies. none last
-    (subst (λ (next : List File). Applies limits next texts last) (one_step limits files text applies.0 step.0 applies.1 step.1) applies.2)))
+    (rw (one_step limits files text applies.0 step.0 applies.1 step.1) at applies.2)))
     (texts_or_none limits texts step.0 each.1))
     (λ none. inr (λ last applies. none applies.0 applies.1))
     (step_or_none limits files text each.0 (group_at text) refl)
@@ -128,7 +120,7 @@ module _ (bytes : List ℕ) (each : IsBytes bytes) (layout : Layout) where
       (λ none. (Damaged, no_groups_stand bytes layout body sequence base held.0 is takes.0 takes.1 held.1 none))
       (texts_or_none (limits_of layout) held.0 base (text_bytes held.0 (image.log_of bytes) (log_bytes bytes each) held.1)))
       (λ none. (Damaged, no_log_stands bytes layout body sequence is none))
-      (records_or_none (image.log_of bytes) (let long = image_length layout body sequence bytes is in let some = log_room layout in omega (arith, long, some)))
+      (records_or_none (image.log_of bytes) (let long = image_length layout body sequence bytes is in let some = log_some layout in omega (arith, long, some)))
 
   with_body : (body : List ℕ) (sequence : ℕ) → image.image_on bytes ≡ image.OneImage layout body sequence → (read : Option (List File))
       → directory_at (limits_of layout) body ≡ read → (standing : Standing) × StandsFor standing bytes

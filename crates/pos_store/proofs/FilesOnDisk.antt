@@ -1,5 +1,5 @@
 -- What files the bytes of a disk hold, after a call that kept its image or its records.
-use Rattle.std.proofs.Common.{◌≡◌, ℕ, List, [], ◌∷◌, ◌++◌, ◌⊎◌, inl, inr, ⊎_elim, refl, sym, ap, subst, ◌∙◌, arith}
+use Rattle.std.proofs.Common.{◌≡◌, ℕ, List, [], ◌∷◌, ◌++◌, ◌⊎◌, inl, inr, ⊎_elim, refl, sym, ap, ◌∙◌, arith}
 use Rattle.pos_dir.specs.Files.{IsDirectory}
 use Rattle.pos_dir.specs.Spelling.{spelling}
 use Rattle.pos_dir.specs.declared.file.File.{File}
@@ -19,26 +19,22 @@ use Rattle.pos_store.specs.StoreViews.{StoreView, Ready}
 use Rattle.pos_store.specs.Standing.{Stands, HoldsFiles, IsStep, Applies, StandsFor, LeavesOneOf}
 
 -- the texts lead one step further
-applies_more : (limits : Limits) (texts : List (List ℕ)) (files last : List File) (text : List ℕ) (next : List File) → Applies limits files texts last
+pub applies_more : (limits : Limits) (texts : List (List ℕ)) (files last : List File) (text : List ℕ) (next : List File) → Applies limits files texts last
     → IsStep limits last text next → Applies limits files (texts ++ text ∷ []) next
-applies_more limits [] files last text next applies step = (next, subst (λ (from : List File). IsStep limits from text next) (sym applies) step, refl)
+applies_more limits [] files last text next applies step = (next, rw applies step, refl)
 applies_more limits (first ∷ texts) files last text next applies step =
     (applies.0, applies.1, applies_more limits texts applies.0 last text next applies.2 step)
-
-same_body : (layout : Layout) (body other : List ℕ) (sequence : ℕ) → image.OneImage layout body sequence ≡ image.OneImage layout other sequence → body ≡ other
-same_body layout body other sequence same = cc
 
 -- what the disk of images that are ready shows
 pub shows_now : {D : Type 0} (bound : Ghosts D) (images : View D) → IsReady bound images → bound.honest images.disk
     → image.ShowsImage (layout_of images.slot) images.body images.sequence (bound.state images.disk).reading
 shows_now bound images ready honest = (ready.leaves honest (bound.state images.disk).reading (record { same_length = refl; settled = λ i tight. refl })).image
 
-module _ (layout : Layout) (files : List File) (sequence : ℕ) (bytes body c : List ℕ) (holds : HoldsFiles layout files sequence bytes)
-    (shows : image.ShowsImage layout body sequence bytes) where
+module _ {layout : Layout} {files : List File} {sequence : ℕ} {bytes body : List ℕ} (holds : HoldsFiles layout files sequence bytes)
+    (shows : image.ShowsImage layout body sequence bytes) (c : List ℕ) where
   -- bytes that show the same image show the base
   base_shown : image.ShowsImage layout body sequence c → image.ShowsImage layout (spelling holds.base) sequence c
-  base_shown here = here ∙ ap (λ (b : List ℕ). image.OneImage layout b sequence)
-      (sym (same_body layout (spelling holds.base) body sequence (sym holds.shows ∙ shows)))
+  base_shown here = here ∙ sym shows ∙ holds.shows
 
   -- and with the same records they hold the same files
   pub still_holds : image.ShowsImage layout body sequence c → HoldsRecords holds.texts (image.log_of c) → HoldsFiles layout files sequence c
@@ -52,12 +48,12 @@ module _ (layout : Layout) (files : List File) (sequence : ℕ) (bytes body c : 
   }
 
   pub has_image_holds : image.HasImage layout body sequence (image.log_of bytes) c → HoldsFiles layout files sequence c
-  has_image_holds has = still_holds has.image (subst (HoldsRecords holds.texts) (sym has.log) holds.log)
+  has_image_holds has = still_holds has.image (rw has.log holds.log)
 
   -- with the record of one group more, the files after it
-  pub holds_more : (after : List File) (text : List ℕ) → IsStep (limits_of layout) files text after → image.ShowsImage layout body sequence c
+  pub holds_more : {after : List File} {text : List ℕ} → IsStep (limits_of layout) files text after → image.ShowsImage layout body sequence c
       → HoldsRecords (holds.texts ++ text ∷ []) (image.log_of c) → HoldsFiles layout after sequence c
-  holds_more after text step here log = record {
+  holds_more {after = after} {text = text} step here log = record {
     base = holds.base;
     texts = holds.texts ++ text ∷ [];
     directory = holds.directory;
@@ -85,7 +81,7 @@ pub old_or_new_holds : {D : Type 0} (images : View D) (files after : List File) 
     → HoldsFiles (layout_of images.slot) files images.sequence c ⊎ HoldsFiles layout after sequence c
 old_or_new_holds images files after bytes layout body sequence c holds shows sound spelled either =
     ⊎_elim
-    (λ old. inl (has_image_holds (layout_of images.slot) files images.sequence bytes images.body c holds shows old))
+    (λ old. inl (has_image_holds holds shows c old))
     (λ new. inr (holds_new layout after sequence body c sound spelled new))
     either
 
@@ -99,8 +95,7 @@ pub leaves_files : {D : Type 0} (bound : Ghosts D) (images : View D) (files : Li
     → (bound.honest images.disk → HoldsFiles (layout_of images.slot) files images.sequence (bound.state images.disk).reading)
     → bound.honest images.disk → LeavesOneOf (Stands (layout_of images.slot) files images.sequence ∷ []) (bound.state images.disk)
 leaves_files bound images files ready holds honest c may =
-    inl (has_image_holds (layout_of images.slot) files images.sequence (bound.state images.disk).reading images.body c (holds honest)
-    (shows_now bound images ready honest) (ready.leaves honest c may))
+    inl (has_image_holds (holds honest) (shows_now bound images ready honest) c (ready.leaves honest c may))
 
 -- a disk that was formatted stands for no files by layout 1, with sequence 1
 pub new_standing : (bytes : List ℕ) → image.HasNewImage Layout1 no_files 1 bytes → StandsFor (Stands Layout1 [] 1) bytes

@@ -1,5 +1,5 @@
 -- What a recovery of a store that is off did, by what it found and that it only looked at the disk.
-use Rattle.std.proofs.Common.{◌≡◌, ◌⊎◌, inl, inr, ⊎_elim, ℕ, List, Result, Ok, Err, OnOk, IsErr, IsErrOf, refl, sym, ap, ◌∙◌, subst, arith}
+use Rattle.std.proofs.Common.{◌≡◌, ◌⊎◌, inr, ⊎_elim, ℕ, List, Result, Ok, Err, OnOk, IsErr, IsErrOf, refl, sym, ◌∙◌, arith, rules}
 use Rattle.pos_dir.specs.Calls.{IsBody, Decodes}
 use Rattle.pos_dir.specs.declared.fault.DirectoryFault.{DirectoryFault}
 use Rattle.pos_dir.specs.declared.fault.DirectoryFault.TheVariants as directory
@@ -56,11 +56,19 @@ off_recovers bound disk layout result new finds kept watches now ends device cou
   keeps = keeps;
 }
 
--- images aren't exhausted where they are opened
-never_exhausted : (images.Exhausted ≡ images.TooSmall) ⊎
-    ((images.Exhausted ≡ images.Unformatted) ⊎
-    ((images.Exhausted ≡ images.Damaged) ⊎ ((images.Exhausted ≡ images.Device) ⊎ (images.Exhausted ≡ images.NoMemory)))) → ⊥
-never_exhausted known = ⊎_elim (λ e. cc) (⊎_elim (λ e. cc) (⊎_elim (λ e. cc) (⊎_elim (λ e. cc) (λ e. cc)))) known
+-- a recovery that was refused for another cause than a fault of the disk
+pub refused_recovers : {D : Type 0} (bound : Ghosts D) (disk end : D) (layout : Layout) (cause : StoreFault)
+    → (IsErrOf {T = Unit {0}} (Err cause) fault.Device → ⊥) → FindsStanding (DiskStandsFor bound disk) (Err cause) layout Off
+    → (bound.honest disk → Watches (bound.state disk) (bound.state end)) → (bound.honest disk → HasNotFailed (bound.state disk) (bound.state end))
+    → KeepsDisk bound disk end
+    → Recovers bound (record { disk = disk; layout = layout; state = Off; tail = 0 }) (Err cause) (record {
+      disk = end;
+      layout = layout;
+      state = Off;
+      tail = 0;
+    })
+refused_recovers bound disk end layout cause none finds watches same keeps =
+    off_recovers bound disk layout (Err cause) _ finds (λ err. refl) watches (λ h. tt) (λ h. tt) (λ h is. absurd (none is)) (λ h. inr (same h)) keeps
 
 -- what is found where the images weren't opened
 pub told_finds : (P : Standing → Type 0) (layout : Layout) (cause : ImageFault) (told : StoreFault) → Tells cause told
@@ -68,30 +76,13 @@ pub told_finds : (P : Standing → Type 0) (layout : Layout) (cause : ImageFault
     → (cause ≡ images.Damaged → P Damaged)
     → (cause ≡ images.TooSmall) ⊎ ((cause ≡ images.Unformatted) ⊎ ((cause ≡ images.Damaged) ⊎ ((cause ≡ images.Device) ⊎ (cause ≡ images.NoMemory))))
     → FindsStanding P (Err told) layout Off
-told_finds P layout images.Unformatted told tells unformatted damaged known = rw tells (unformatted (inl refl), refl)
-told_finds P layout images.AlreadyFormatted told tells unformatted damaged known = absurd tells
-told_finds P layout images.Damaged told tells unformatted damaged known = rw tells (damaged refl, refl)
-told_finds P layout images.TooLarge told tells unformatted damaged known = absurd tells
-told_finds P layout images.Exhausted told tells unformatted damaged known = absurd (never_exhausted known)
-told_finds P layout images.Device told tells unformatted damaged known = rw tells refl
-told_finds P layout images.NoMemory told tells unformatted damaged known = rw tells refl
-told_finds P layout images.TooSmall told tells unformatted damaged known = rw tells (unformatted (inr refl), refl)
+told_finds P layout cause told tells unformatted damaged known = grind arith
 
 -- the disk's fault is told alone
 pub told_device : (cause : ImageFault) (told : StoreFault) → Tells cause told → IsErrOf {T = Unit {0}} (Err told) fault.Device → cause ≡ images.Device
-told_device images.Unformatted told tells is = cc
-told_device images.AlreadyFormatted told tells is = absurd tells
-told_device images.Damaged told tells is = cc
-told_device images.TooLarge told tells is = absurd tells
-told_device images.Exhausted told tells is = cc
-told_device images.Device told tells is = refl
-told_device images.NoMemory told tells is = cc
-told_device images.TooSmall told tells is = cc
+told_device cause told tells is = grind arith
 
--- neither is the other
-damaged_differs : image.DamagedImage ≡ image.NoImage → ⊥
-damaged_differs same = cc
-
+-- a damaged image is no other
 damaged_alone : {layout : Layout} {body : List ℕ} {sequence : ℕ} → image.DamagedImage ≡ image.OneImage layout body sequence → ⊥
 damaged_alone same = cc
 
@@ -105,14 +96,12 @@ one_body layout by body other sequence after same = (cc, cc)
 -- and it is told wherever it is answered
 pub told_counts : {T : Type 0} (before now : ℕ) (cause : ImageFault) (told : StoreFault) → Tells cause told
     → IsErrOf {T = T} (Err cause) images.Device ⊎ (now ≡ before) → IsErrOf {T = Unit {0}} (Err told) fault.Device ⊎ (now ≡ before)
-told_counts before now cause told tells counts =
-    ⊎_elim (λ is. inl (ap (λ (f : StoreFault). Err f) (subst (λ (f : ImageFault). Tells f told) (let e : cause ≡ images.Device = cc in e) tells)))
-    (λ same. inr same) counts
+told_counts before now cause told tells counts = grind arith
 
 -- a damaged image is damage
 pub damaged_stands : (bytes : List ℕ) → image_on bytes ≡ image.DamagedImage → StandsFor Damaged bytes
 damaged_stands bytes same = (
-  (λ none. damaged_differs (sym same ∙ none)),
+  (λ none. let other = sym same ∙ none in cc other),
   (λ layout files sequence holds. damaged_alone (sym same ∙ holds.shows)),
 )
 
@@ -123,7 +112,7 @@ no_body_stands bytes layout body sequence same none = (
   (λ empty. one_differs (sym same ∙ empty)),
   (λ by files after holds.
       let shown = one_body layout by body (spelling holds.base) sequence after (sym same ∙ holds.shows) in
-      none (holds.base, subst (λ (l : Layout). IsDirectory (limits_of l) holds.base) shown.0 holds.directory, shown.1)),
+      none (holds.base, rw shown.0 at holds.directory, shown.1)),
 )
 
 -- one behind which no records stand
@@ -142,47 +131,33 @@ no_groups_stand bytes layout body sequence base texts same sound spelled held no
   (λ empty. one_differs (sym same ∙ empty)),
   (λ by files after holds.
       let shown = one_body layout by body (spelling holds.base) sequence after (sym same ∙ holds.shows) in
-      let is_base = one_spelling (limits_of layout) holds.base base (writable layout)
-      (subst (λ (l : Layout). IsDirectory (limits_of l) holds.base) shown.0 holds.directory) sound (sym shown.1 ∙ spelled) in
+      let is_base = one_spelling (limits_of layout) holds.base base (writable layout) (rw shown.0 at holds.directory) sound (sym shown.1 ∙ spelled) in
       let is_texts = one_log holds.texts texts (image.log_of bytes) holds.log held in
-      none files (subst (λ (ts : List (List ℕ)). Applies (limits_of layout) base ts files) is_texts
-      (subst (λ (b : List File). Applies (limits_of layout) b holds.texts files) is_base
-      (subst (λ (l : Layout). Applies (limits_of l) holds.base holds.texts files) shown.0 holds.applies)))),
+      none files (rw (shown.0, is_base, is_texts) at holds.applies)),
 )
 
 -- malformed bytes spell no directory
 pub malformed_none : (limits : Limits) (bytes : List ℕ) (cause : DirectoryFault) → cause ≡ directory.Malformed → Decodes limits bytes (Err cause)
     → ¬ (IsBody limits bytes)
-malformed_none limits bytes cause same decodes = subst (λ (f : DirectoryFault). Decodes limits bytes (Err f)) same decodes
+malformed_none limits bytes cause same decodes = rw same at decodes
 
 -- what is found where the log wasn't opened
 pub told_log_finds : (P : Standing → Type 0) (layout : Layout) (cause : LogFault) (told : StoreFault) → TellsLog cause told → (cause ≡ logs.Damaged → P Damaged)
     → FindsStanding P (Err told) layout Off
-told_log_finds P layout logs.Full told tells damaged = absurd tells
-told_log_finds P layout logs.Damaged told tells damaged = rw tells (damaged refl, refl)
-told_log_finds P layout logs.Device told tells damaged = rw tells refl
-told_log_finds P layout logs.NoMemory told tells damaged = rw tells refl
+told_log_finds P layout cause told tells damaged = grind arith
 
 -- the disk's fault is told alone
 pub told_log_device : (cause : LogFault) (told : StoreFault) → TellsLog cause told → IsErrOf {T = Unit {0}} (Err told) fault.Device → cause ≡ logs.Device
-told_log_device logs.Full told tells is = absurd tells
-told_log_device logs.Damaged told tells is = cc
-told_log_device logs.Device told tells is = refl
-told_log_device logs.NoMemory told tells is = cc
+told_log_device cause told tells is = grind arith
 
 -- and it is told wherever it is answered
 pub told_log_counts : {T : Type 0} (before now : ℕ) (cause : LogFault) (told : StoreFault) → TellsLog cause told
     → IsErrOf {T = T} (Err cause) logs.Device ⊎ (now ≡ before) → IsErrOf {T = Unit {0}} (Err told) fault.Device ⊎ (now ≡ before)
-told_log_counts before now cause told tells counts =
-    ⊎_elim (λ is. inl (ap (λ (f : StoreFault). Err f) (subst (λ (f : LogFault). TellsLog f told) (let e : cause ≡ logs.Device = cc in e) tells)))
-    (λ same. inr same) counts
+told_log_counts before now cause told tells counts = grind arith
 
--- calls that answered no fault of the disk left its count
-pub never_failed : {T : Type 0} (before now : ℕ) (made : T) → IsErrOf {E = ImageFault} (Ok made) images.Device ⊎ (now ≡ before) → now ≡ before
-never_failed before now made counts = ⊎_elim (λ is. absurd cc) (λ same. same) counts
-
-pub never_failed_log : {T : Type 0} (before now : ℕ) (made : T) → IsErrOf {E = LogFault} (Ok made) logs.Device ⊎ (now ≡ before) → now ≡ before
-never_failed_log before now made counts = ⊎_elim (λ is. absurd cc) (λ same. same) counts
+-- a call that answered no fault of the disk left its count
+pub never_failed : {T E : Type 0} (before now : ℕ) (made : T) (device : E) → IsErrOf (Ok made) device ⊎ (now ≡ before) → now ≡ before
+never_failed before now made device counts = ⊎_elim (λ is. absurd cc) (λ same. same) counts
 
 -- what is found where the records weren't applied
 pub told_text_finds : (P : Standing → Type 0) (layout : Layout) (cause : StoreFault) → (cause ≡ fault.Damaged) ⊎ (cause ≡ fault.NoMemory)
@@ -191,11 +166,7 @@ told_text_finds P layout cause known damaged = ⊎_elim (λ is. rw is (damaged i
 
 -- two runs of calls keep the disk
 pub both_keep : {D : Type 0} (bound : Ghosts D) (old mid new : D) → KeepsDisk bound old mid → KeepsDisk bound mid new → KeepsDisk bound old new
-both_keep bound old mid new first second = record {
-  size = second.size ∙ first.size;
-  honest = ((λ h. second.honest.0 (first.honest.0 h)), (λ h. first.honest.1 (second.honest.1 h)));
-  later = λ h. let one = first.later h in let two = second.later (first.honest.0 h) in omega (arith, one, two);
-}
+both_keep bound old mid new first second = search (rules, first, second)
 
 -- failures that rose in a later call rose since an earlier one
 pub later : {D : Type 0} (bound : Ghosts D) (old mid new : D) → KeepsDisk bound old mid → KeepsDisk bound mid new → bound.honest old

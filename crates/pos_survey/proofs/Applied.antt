@@ -1,5 +1,5 @@
 -- The groups of records, applied one after another.
-use Rattle.std.proofs.Common.{◌≡◌, ◌+◌, ◌<◌, ◌≤◌, ℕ, List, [], ◌∷◌, ◌++◌, length, get_or, take, drop, map, refl, sym, ap, ◌∙◌, subst, arith, take-append-drop}
+use Rattle.std.proofs.Common.{◌≡◌, ◌+◌, ◌<◌, ◌≤◌, ℕ, List, ◌∷◌, ◌++◌, length, get_or, take, drop, map, sym, ap, ◌∙◌, arith, take-append-drop}
 use Rattle.std.proofs.Common.{length-append}
 use Rattle.std.proofs.lemmas.Grind.{flat_map-append}
 use Rattle.std.proofs.lemmas.List.{map-append}
@@ -7,17 +7,10 @@ use Rattle.pos_dir.specs.declared.file.File.{File}
 use Rattle.pos_dir.specs.declared.limits.Limits.{Limits}
 use Rattle.pos_log.specs.Records.{record_spelling, spelling}
 use Rattle.pos_store.proofs.Stepped.{front_drop}
-use Rattle.pos_store.specs.Standing.{Applies, IsStep}
+use Rattle.pos_store.specs.Standing.{Applies}
 use Rattle.pos_survey.specs.Damages.{IsRefused, StopsFor}
 use Rattle.pos_survey.specs.declared.fault.SurveyFault.{SurveyFault}
 use Rattle.pos_survey.specs.declared.fault.SurveyFault.TheVariants as fault
-
--- one group more
-pub applied_more : (limits : Limits) (base : List File) (before : List (List ℕ)) (text : List ℕ) (files next : List File)
-    → Applies limits base before files → IsStep limits files text next → Applies limits base (before ++ text ∷ []) next
-applied_more limits base [] text files next applies step = (next, subst (λ (f : List File). IsStep limits f text next) (sym applies) step, refl)
-applied_more limits base (one ∷ before) text files next applies step =
-    (applies.0, applies.1, applied_more limits applies.0 before text files next applies.2 step)
 
 -- what stands before an item, the item, and what stands behind it
 pub in_three : {X : Type 0} (f : X → List ℕ) (xs : List X) (i : ℕ) (x : X) → i < length xs → x ≡ get_or xs i x
@@ -32,7 +25,7 @@ ends_within texts before behind text is =
     let whole = ap length (ap spelling is ∙ flat_map-append record_spelling before (text ∷ behind)) in
     let two = length-append (spelling before) (record_spelling text ++ spelling behind) in
     let one = length-append (record_spelling text) (spelling behind) in
-    omega (arith, whole, two, one)
+    omega arith
 
 -- the first text that isn't applied
 pub stops : (limits : Limits) (base files : List File) (texts before behind : List (List ℕ)) (text : List ℕ) (first at : ℕ) (cause : SurveyFault)

@@ -1,36 +1,26 @@
 -- The records behind the current image.
-use Rattle.std.proofs.Common.{◌≡◌, ◌≤◌, ◌+◌, ℕ, List, length, drop, ap, ◌∙◌, subst, arith, length-take}
-use Rattle.pos_image.specs.Layout.{longest, layout_of, length_at, body_at, start}
+use Rattle.std.proofs.Common.{◌≡◌, ◌≤◌, ◌+◌, ℕ, List, length, drop, ap, ◌∙◌, arith, length-take}
+use Rattle.pos_image.specs.Layout.{length_at, body_at, start}
+use Rattle.pos_image.proofs.Places.{places}
 use Rattle.pos_image.specs.Slots.{IsCurrent}
 use Rattle.pos_image.specs.declared.slot.Slot.{Slot}
-use Rattle.pos_image.specs.declared.slot.Slot.TheVariants.{First, Second, Third, Fourth}
 use Rattle.pos_image.specs.declared.layout.Layout.{Layout}
 use Rattle.pos_log.specs.Records.{HoldsRecords, tail_of}
 use Rattle.pos_log.proofs.Unique.{one_log}
 
--- the body of a current image isn't long
-most : (slot : Slot) → longest (layout_of slot) ≤ 81907
-most First = omega arith
-most Second = omega arith
-most Third = omega arith
-most Fourth = omega arith
-
 pub start_short : (slot : Slot) → start slot ≤ 196608
-start_short First = omega arith
-start_short Second = omega arith
-start_short Third = omega arith
-start_short Fourth = omega arith
+start_short slot = grind arith
 
+-- the body of a current image isn't long
 pub body_short : (slot : Slot) (bytes body : List ℕ) (sequence : ℕ) → IsCurrent bytes slot body sequence → length body ≤ 81907
 unfolding body_at
 body_short slot bytes body sequence current =
     let long = length-take (length_at bytes (start slot)) (drop (start slot + 13) bytes) in
     let same = ap length current.body_is in
-    let fits = current.fits in
-    omega (arith, long, same, fits, most slot)
+    omega (arith, long, same, current.fits, (places slot).few)
 
 -- the records of one span end at one place
 pub one_tail : (layout by : Layout) (groups texts : List (List ℕ)) (now span : List ℕ) (tail : ℕ) → HoldsRecords groups now → now ≡ span
     → HoldsRecords texts span → tail ≡ tail_of by groups → by ≡ layout → tail ≡ tail_of layout texts
 one_tail layout by groups texts now span tail holds same also is layout_is =
-    is ∙ ap (λ (l : Layout). tail_of l groups) layout_is ∙ ap (tail_of layout) (one_log groups texts span (subst (HoldsRecords groups) same holds) also)
+    is ∙ rw (layout_is, one_log groups texts span (rw same at holds) also)

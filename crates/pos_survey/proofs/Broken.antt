@@ -1,5 +1,5 @@
 -- Where the bytes break a rule, they stand for damage.
-use Rattle.std.proofs.Common.{◌≡◌, ℕ, List, [], ◌∷◌, ◌++◌, refl, sym, ◌∙◌, subst, arith}
+use Rattle.std.proofs.Common.{◌≡◌, ℕ, List, [], ◌∷◌, ◌++◌, refl, sym, ◌∙◌, arith}
 use Rattle.pos_dir.proofs.Groups.{one_group_spelling}
 use Rattle.pos_dir.specs.Files.{IsDirectory}
 use Rattle.pos_dir.specs.Spelling.{spelling}
@@ -31,7 +31,7 @@ no_files bytes body slot sequence fault.NoMemory current none = tt
 no_files bytes body slot sequence fault.TooSmall current none = absurd none
 no_files bytes body slot sequence fault.Unformatted current none = absurd none
 no_files bytes body slot sequence (fault.Damaged at (rule.NoFiles flaw)) current none = (
-  no_body_stands bytes (layout_of slot) body sequence (image_here slot bytes body sequence current).image none.0,
+  no_body_stands bytes (layout_of slot) body sequence (image_here current).image none.0,
   record {
     slot = slot;
     body = body;
@@ -72,25 +72,19 @@ pub none_applied : (limits : Limits) (base : List File) (texts : List (List ℕ)
     → (last : List File) → Applies limits base texts last → ⊥
 none_applied limits base texts first at broken stops last applies =
     let on = goes_on limits base stops.before stops.text stops.behind last
-    (subst (λ (ts : List (List ℕ)). Applies limits base ts last) stops.texts_are applies) in
+    (rw stops.texts_are at applies) in
     let same = one_end limits stops.before base on.0 stops.files on.1 stops.applies in
     no_step limits stops.files stops.text broken stops.flaw on.2.0
-    (subst (λ (f : List File). IsStep limits f stops.text on.2.0) same on.2.1)
+    (rw same at on.2.1)
 
 -- the rules of a record are none of those of an image
 bad_rule : (bytes : List ℕ) (at : ℕ) (broken : Rule) → HasBadRecord bytes at broken → IsDamage bytes at broken
-bad_rule bytes at rule.SameSequence bad = absurd bad.stops.flaw
-bad_rule bytes at rule.LongBody bad = absurd bad.stops.flaw
-bad_rule bytes at (rule.NoFiles why) bad = absurd bad.stops.flaw
-bad_rule bytes at rule.LongRecord bad = absurd bad.stops.flaw
-bad_rule bytes at rule.NoGroup bad = bad
-bad_rule bytes at rule.EmptyGroup bad = bad
-bad_rule bytes at (rule.NotApplicable cause) bad = bad
+bad_rule bytes at broken bad = let flaw = bad.stops.flaw in grind arith
 
 module _ (bytes body : List ℕ) (slot : Slot) (base : List File) (sequence : ℕ) (current : IsCurrent bytes slot body sequence)
     (sound : IsDirectory (limits_of (layout_of slot)) base) (spelled : body ≡ spelling base) where
   has_base : HasBase bytes slot base sequence
-  has_base = record { current = subst (λ (b : List ℕ). IsCurrent bytes slot b sequence) spelled current; directory = sound }
+  has_base = record { current = rw spelled at current; directory = sound }
 
   -- a record that doesn't fit
   pub long_record : (cause : SurveyFault) → HasLongIn (log_of bytes) slot cause → Breaks bytes cause
@@ -100,7 +94,7 @@ module _ (bytes body : List ℕ) (slot : Slot) (base : List File) (sequence : �
   long_record (fault.Damaged at broken) long =
       let breaks = long.1.2 in
       rw long.0 (
-        no_log_stands bytes (layout_of slot) body sequence (image_here slot bytes body sequence current).image
+        no_log_stands bytes (layout_of slot) body sequence (image_here current).image
             (λ some. none_held breaks.groups long.1.0 (log_of bytes) breaks.begins (open_byte _ breaks.gate) breaks.long some),
         record { slot = slot; base = base; sequence = sequence; image = has_base; within = long.1.0; place_is = long.1.1; long = breaks },
       )
@@ -112,7 +106,7 @@ module _ (bytes body : List ℕ) (slot : Slot) (base : List File) (sequence : �
   bad_record texts held fault.TooSmall stops = absurd stops
   bad_record texts held fault.Unformatted stops = absurd stops
   bad_record texts held (fault.Damaged at broken) stops = (
-    no_groups_stand bytes (layout_of slot) body sequence base texts (image_here slot bytes body sequence current).image sound spelled held
+    no_groups_stand bytes (layout_of slot) body sequence base texts (image_here current).image sound spelled held
         (none_applied (limits_of (layout_of slot)) base texts (log_begins slot) at broken stops),
     bad_rule bytes at broken (record { slot = slot; base = base; sequence = sequence; image = has_base; texts = texts; held = held; stops = stops }),
   )

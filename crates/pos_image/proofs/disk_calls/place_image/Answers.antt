@@ -1,17 +1,28 @@
+use Rattle.std.proofs.Common.{◌≡◌, false, arith, rules}
+use Rattle.std.proofs.lemmas.Grind.{common_steps}
+use Rattle.pos_disk.specs.Within.{SameBut}
 use Rattle.pos_disk.proofs.Moments.{followed_by, weaker}
+use Rattle.pos_image.specs.DiskCalls.{CrashClosing}
+use Rattle.pos_image.specs.Layout.{is_open, start}
 use Rattle.pos_image.proofs.Staged.{closing_stages, writing_stages}
 use Rattle.pos_image.proofs.disk_calls.place_image.Goals as goal
+
+-- what is searched for holds also where the disk is looked at before the gate is closed: so must-fail edits have twins
+
+pub returns-in_err-close_gate-clause-any_moment : goal.returns-in_err-close_gate-clause-any_moment
+returns-in_err-close_gate-clause-any_moment g c honest =
+    let s0 = g.D.Disk.state c.args.disk.now in
+    let closing : CrashClosing (start c.args.slot) s0 (g.D.Disk.state c.close_gate.new.disk) = first_of (search rules, grind (arith, common_steps)) in
+    weaker s0 _ _ _ (closing_stages c.args.slot s0.reading) closing
 
 pub returns-clause-any_moment : goal.returns-clause-any_moment
 returns-clause-any_moment g c honest =
     let s0 = g.D.Disk.state c.args.disk.now in
     let s1 = g.D.Disk.state c.close_gate.new.disk in
-    let s2 = g.D.Disk.state c.write_image.new.disk in
     let slot = c.args.slot in
-    let at_is = c.start.ensures in
-    let closing = rw at_is at (c.close_gate.ensures.any_moment honest) in
-    let same = rw at_is at (c.close_gate.ensures.same honest) in
-    let shut = rw at_is at (c.in_ok-close_gate.ensures.closed honest) in
-    followed_by s0 s1 s2 _ (weaker s0 s1 _ _ (closing_stages slot s0.reading) closing)
-    (weaker s1 s2 _ _ (λ f after. writing_stages slot s0.reading s1.reading f same shut after)
-    (c.write_image.ensures.any_moment (c.close_gate.ensures.keeps.honest.0 honest)))
+    let closing : CrashClosing (start slot) s0 s1 = first_of (search rules, grind (arith, common_steps)) in
+    let same : SameBut (start slot) 1 s0.reading s1.reading = first_of (search rules, grind (arith, common_steps)) in
+    let shut : is_open s1.reading (start slot) ≡ false = first_of (search rules, grind (arith, common_steps)) in
+    let honest1 : g.D.Disk.honest c.close_gate.new.disk = search rules in
+    followed_by s0 s1 _ _ (weaker s0 s1 _ _ (closing_stages slot s0.reading) closing)
+    (weaker s1 _ _ _ (λ f after. writing_stages slot s0.reading s1.reading f same shut after) (c.write_image.ensures.any_moment honest1))

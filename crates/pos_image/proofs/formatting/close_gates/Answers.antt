@@ -1,4 +1,4 @@
-use Rattle.std.proofs.Common.{◌≡◌, ◌≤◌, ◌<◌, ◌+◌, ℕ, List, inl, inr, sym, subst, length, get_or, arith, rules}
+use Rattle.std.proofs.Common.{◌≡◌, ◌≤◌, ◌<◌, ◌+◌, ℕ, inl, inr, length, get_or, arith, rules}
 use Rattle.std.proofs.lemmas.Bool.{cases_lt}
 use Rattle.std.proofs.lemmas.List.Elements.{All-get_or}
 use Rattle.pos_disk.specs.Within.{SameBut}
@@ -29,8 +29,7 @@ loop-at-preserved g c = record {
       elim (cases_lt k c.loop-at.at-index) [
         | inl earlier ↦ stays_closed s1.reading s2.reading at (get_or GATES k 0) same shut (c.loop-at.invariant.closed honest k earlier)
         | inr not_earlier ↦
-            let here : k ≡ c.loop-at.at-index = omega (arith, less, not_earlier) in
-            subst (λ (j : ℕ). get_or s2.reading (get_or GATES j 0) 0 ≡ 0) (sym here) shut
+            let here : k ≡ c.loop-at.at-index = omega (arith, less, not_earlier) in rw here shut
       ];
   rest = search rules;
   counts = search rules;
@@ -40,5 +39,4 @@ pub returns-clause-closed : goal.returns-clause-closed
 returns-clause-closed g c honest =
     let now = c.loop-at.invariant.honest.0 honest in
     where_ok c.sync.result _ (λ k less.
-    subst (λ (b : List ℕ). get_or b (get_or GATES k 0) 0 ≡ 0) (sym (c.sync.ensures.syncs now).reading)
-    (c.loop-at.invariant.closed honest k (omega (arith, less, c.loop-at-test.false))))
+    rw (c.sync.ensures.syncs now).reading (c.loop-at.invariant.closed honest k (omega (arith, less, c.loop-at-test.false))))

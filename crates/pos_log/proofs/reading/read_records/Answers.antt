@@ -1,10 +1,9 @@
-use Rattle.std.proofs.Common.{◌≡◌, ◌+◌, ◌-◌, ℕ, List, [], ◌∷◌, ◌++◌, map, cond, Bool, true, not, Vec, Global, sym, ap, ◌∙◌, subst, arith, rules}
+use Rattle.std.proofs.Common.{◌≡◌, ◌+◌, ◌-◌, ℕ, [], ◌∷◌, ◌++◌, map, cond, Bool, true, not, Vec, Global, ap, ◌∙◌, arith, rules}
 use Rattle.std.specs.Result.{is_ok}
 use Rattle.std.proofs.lemmas.List.{map-append}
 use Rattle.pos_disk.specs.State.{part}
-use Rattle.pos_log.specs.Records.{BeginsWith}
-use Rattle.pos_log.proofs.Holding.{open_byte}
-use Rattle.pos_log.proofs.Parsing.{begins_more, none_held}
+use Rattle.pos_log.proofs.Holding.{open_byte, begins_more}
+use Rattle.pos_log.proofs.Parsing.{none_held}
 use Rattle.pos_log.proofs.reading.read_records.Goals as goal
 
 pub returns-in_default-clause-damaged : goal.returns-in_default-clause-damaged
@@ -20,7 +19,7 @@ loop-alloc-preserved c =
     let groups : map (λ (v : Vec ℕ Global). v.items) c.push.new.self.items ≡ map (λ (v : Vec ℕ Global). v.items) old ++ one.items ∷ [] =
     ap (map (λ (v : Vec ℕ Global). v.items)) items ∙ map-append (λ (v : Vec ℕ Global). v.items) old (one ∷ []) in
     let size : c.loop-alloc.at + 5 + c.in-Some.length - (c.loop-alloc.at + 5) ≡ c.in-Some.length = omega arith in
-    subst (λ (gs : List (List ℕ)). BeginsWith gs (c.loop-alloc.at + (5 + c.in-Some.length)) c.args.span.now) (sym groups)
+    rw groups
     (begins_more (map (λ (v : Vec ℕ Global). v.items) old) c.loop-alloc.at c.in-Some.length c.args.span.now one.items c.loop-alloc.invariant
     (open_byte _ (search rules)) c.in-Some.ensures
     (c.in_ok-group.ensures.items ∙ ap (λ (k : ℕ). part (c.loop-alloc.at + 5) k c.args.span.now) size))

@@ -1,13 +1,10 @@
-use Rattle.std.proofs.Common.{◌≡◌, ⊎_elim, Err, refl, sym, ap, subst, ◌∙◌, rules}
+use Rattle.std.proofs.Common.{◌≡◌, ⊎_elim, refl, sym, ap, ◌∙◌, rules}
 use Rattle.pos_dir.specs.Files.{IsDirectory}
 use Rattle.pos_dir.specs.Spelling.{spelling}
-use Rattle.pos_dir.specs.declared.limits.Limits.{Limits}
 use Rattle.pos_image.specs.Layout.{layout_of}
-use Rattle.pos_image.specs.declared.fault.ImageFault.{ImageFault}
 use Rattle.pos_image.specs.declared.layout.Layout.TheVariants.{Layout1, Layout2}
-use Rattle.pos_log.specs.Logs.{IsLogReady, Renews}
+use Rattle.pos_log.specs.Logs.{IsLogReady}
 use Rattle.pos_store.specs.Layouts.{limits_of}
-use Rattle.pos_store.specs.StoreViews.{HasItsFiles}
 use Rattle.pos_store.specs.Standing.{HoldsFiles}
 use Rattle.pos_store.specs.declared.fault.StoreFault.TheVariants as fault
 use Rattle.pos_store.proofs.Migrated.{refused_migrates, moved_holds, moved_migrates, failed_migrates}
@@ -17,37 +14,37 @@ use Rattle.pos_store.proofs.migrating.migrate_files.Goals as goal
 
 pub returns-then-eq-clause-migrates : goal.returns-then-eq-clause-migrates
 returns-then-eq-clause-migrates g c =
-    let sound = subst (HasItsFiles g.D.Disk) c.in-Ready.is c.requires.sound in
+    let sound = rw c.in-Ready.is at c.requires.sound in
     let second : layout_of c.in-Ready.log.images.slot ≡ Layout2 = search rules in
     rw c.in-Ready.is (refused_migrates g.D.Disk c.in-Ready.log c.in-Ready.directory.files sound.0 sound.1 fault.AlreadyLayout2
     (rw second (refl, refl)) (λ is. absurd cc) (λ h f left. g.met.D.Disk.only_now c.in-Ready.log.images.disk f h left))
 
 pub returns-in_default-clause-migrates : goal.returns-in_default-clause-migrates
 returns-in_default-clause-migrates g c =
-    let sound = subst (HasItsFiles g.D.Disk) c.in-Ready.is c.requires.sound in
+    let sound = rw c.in-Ready.is at c.requires.sound in
     let first : layout_of c.in-Ready.log.images.slot ≡ Layout1 = search rules in
     rw c.in-Ready.is (refused_migrates g.D.Disk c.in-Ready.log c.in-Ready.directory.files sound.0 sound.1 fault.NoMemory
     (rw first refl) (λ is. absurd cc) (λ h f left. g.met.D.Disk.only_now c.in-Ready.log.images.disk f h left))
 
 module _ (g : Over) (c : After-migrate g) where
   ready : IsLogReady g.D.Disk c.in-Ready.log
-  ready = (subst (HasItsFiles g.D.Disk) c.in-Ready.is c.requires.sound).0
+  ready = let sound = rw c.in-Ready.is at c.requires.sound in sound.0
 
   holds : g.D.Disk.honest c.in-Ready.log.images.disk
       → HoldsFiles (layout_of c.in-Ready.log.images.slot) c.in-Ready.directory.files c.in-Ready.log.images.sequence
       (g.D.Disk.state c.in-Ready.log.images.disk).reading
-  holds = (subst (HasItsFiles g.D.Disk) c.in-Ready.is c.requires.sound).1
+  holds = let sound = rw c.in-Ready.is at c.requires.sound in sound.1
 
   first : layout_of c.in-Ready.log.images.slot ≡ Layout1
   first = search rules
 
   -- the limits before it
   limits : c.in-Ready.directory.limits ≡ limits_of Layout1
-  limits = (subst (HasItsFiles g.D.Disk) c.in-Ready.is c.requires.sound).2 ∙ ap limits_of first
+  limits = let sound = rw c.in-Ready.is at c.requires.sound in sound.2 ∙ ap limits_of first
 
   wide : IsDirectory (limits_of Layout2) c.in-Ready.directory.files
   wide = c.wider_directory.ensures (limits_of Layout1) (limits_of Layout2) c.in-Ready.directory.files (search rules)
-      (subst (λ (l : Limits). IsDirectory l c.in-Ready.directory.files) limits c.encode.ensures.directory)
+      (rw limits at c.encode.ensures.directory)
 
   spelled : c.in-Ok.body.items ≡ spelling c.in-Ready.directory.files
   spelled = c.in-Ok.ensures.spelling
@@ -73,8 +70,7 @@ returns-in-Ok-migrate-clause-migrates g c =
 pub returns-in-Device-clause-migrates : goal.returns-in-Device-clause-migrates
 returns-in-Device-clause-migrates g c =
     let here = (goal.at.returns-in-Device-clause-migrates g c).After-migrate in
-    let renews = subst (λ (f : ImageFault). Renews g.D.Disk c.in-Ready.log Layout2 c.in-Ok.body.items 1 (Err f) c.migrate.new.self) c.in-Device.is
-    c.in-Err.ensures.migrates in
+    let renews = rw c.in-Device.is at c.in-Err.ensures.migrates in
     rw (c.in-Ready.is, c.turn_off.ensures)
     (failed_migrates g.D.Disk c.in-Ready.log c.in-Ready.directory.files (ready g here) (holds g here) c.in-Ok.body.items (first g here) (wide g here)
     (spelled g here) c.migrate.new.self renews
@@ -83,7 +79,7 @@ returns-in-Device-clause-migrates g c =
 pub returns-in-NoMemory : goal.returns-in-NoMemory
 returns-in-NoMemory g c =
     let here = (goal.at.returns-in-NoMemory g c).After-migrate in
-    let sound = subst (HasItsFiles g.D.Disk) c.in-Ready.is c.requires.sound in
+    let sound = rw c.in-Ready.is at c.requires.sound in
     let renews = c.in-Err.ensures.migrates in
     let same : c.migrate.new.self ≡ c.in-Ready.log =
     ⊎_elim (λ device. absurd (let is = c.in-NoMemory.is in cc)) (λ same. same) (renews.unchanged refl) in

@@ -11,14 +11,16 @@ use Rattle.pos_image.specs.Images.{View}
 use Rattle.pos_image.specs.Layout.{layout_of}
 use Rattle.pos_image.specs.declared.layout.Layout.{Layout}
 use Rattle.pos_image.specs.Standing as image
-use Rattle.pos_log.specs.Records.{HoldsRecords, HoldsSome}
+use Rattle.pos_image.specs.declared.fault.ImageFault.TheVariants as images
+use Rattle.pos_log.specs.declared.fault.LogFault.TheVariants as logs
+use Rattle.pos_log.specs.Records.{HoldsRecords}
 use Rattle.pos_store.specs.Layouts.{limits_of}
 use Rattle.pos_store.specs.Standing.{HoldsFiles, Applies}
 use Rattle.pos_store.specs.Recoveries.{DiskStandsFor, EndsAt}
 use Rattle.pos_store.proofs.FilesOnDisk.{leaves_files}
-use Rattle.pos_store.proofs.Recovered.{off_recovers, told_finds, told_device, told_counts, told_log_finds, told_log_device, told_log_counts, told_text_finds}
-use Rattle.pos_store.proofs.Recovered.{never_failed, never_failed_log, both_keep, later, not_device, damaged_stands, no_body_stands, no_log_stands}
-use Rattle.pos_store.proofs.Recovered.{no_groups_stand, malformed_none}
+use Rattle.pos_store.proofs.Recovered.{off_recovers, refused_recovers, told_finds, told_device, told_counts, told_log_finds, told_log_device}
+use Rattle.pos_store.proofs.Recovered.{told_log_counts, told_text_finds, never_failed, both_keep, later, not_device, damaged_stands, no_body_stands}
+use Rattle.pos_store.proofs.Recovered.{no_log_stands, no_groups_stand, malformed_none}
 use Rattle.pos_store.proofs.recovering.recover_files.Given.{Over}
 use Rattle.pos_store.proofs.recovering.recover_files.Goals.{After-apply_texts}
 use Rattle.pos_store.proofs.recovering.recover_files.Goals as goal
@@ -40,33 +42,19 @@ returns-in-Err-clause-recovers g c =
 pub returns-in-Err-Malformed-clause-recovers : goal.returns-in-Err-Malformed-clause-recovers
 returns-in-Err-Malformed-clause-recovers g c =
     let opened = c.in-Ok.ensures in
-    rw (c.in-Off.is, c.into_disk.ensures) (off_recovers g.D.Disk c.in-Off.disk c.in-Off.layout _ _ (
+    rw (c.in-Off.is, c.into_disk.ensures) (refused_recovers g.D.Disk c.in-Off.disk _ c.in-Off.layout _ (λ is. absurd cc) (
       λ h. no_body_stands _ (layout_of c.in-Ok.images.slot) c.in-Ok.images.body c.in-Ok.images.sequence (opened.found h)
           (λ spelled. malformed_none (limits_of (layout_of c.in-Ok.images.slot)) c.body.result.now _ c.in-Err-Malformed.field-0-is
           (subst (λ (l : Limits). Decodes l c.body.result.now (Err c.in-Err-Malformed.field-0)) (c.limits_of-limits.ensures ∙ ap limits_of c.layout.ensures)
           c.in-Err-Malformed.ensures) (subst (IsBody (limits_of (layout_of c.in-Ok.images.slot))) (sym c.body.ensures) spelled)),
       refl,
-    )
-    (λ err. refl)
-    opened.any_moment
-    (λ h. tt)
-    (λ h. tt)
-    (λ h is. absurd cc)
-    (λ h. inr (never_failed _ _ _ (opened.counts h)))
-    opened.keeps)
+    ) opened.any_moment (λ h. never_failed _ _ _ images.Device (opened.counts h)) opened.keeps)
 
 pub returns-in-Err-decode-clause-recovers : goal.returns-in-Err-decode-clause-recovers
 returns-in-Err-decode-clause-recovers g c =
     let opened = c.in-Ok.ensures in
-    rw (c.in-Off.is, c.into_disk-in-Err-decode.ensures) (off_recovers g.D.Disk c.in-Off.disk c.in-Off.layout _ _
-    refl
-    (λ err. refl)
-    opened.any_moment
-    (λ h. tt)
-    (λ h. tt)
-    (λ h is. absurd cc)
-    (λ h. inr (never_failed _ _ _ (opened.counts h)))
-    opened.keeps)
+    rw (c.in-Off.is, c.into_disk-in-Err-decode.ensures) (refused_recovers g.D.Disk c.in-Off.disk _ c.in-Off.layout _ (λ is. absurd cc) refl
+    opened.any_moment (λ h. never_failed _ _ _ images.Device (opened.counts h)) opened.keeps)
 
 pub returns-in-Err-open-clause-recovers : goal.returns-in-Err-open-clause-recovers
 returns-in-Err-open-clause-recovers g c =
@@ -75,14 +63,14 @@ returns-in-Err-open-clause-recovers g c =
     rw (c.in-Off.is, c.into_disk-in-Err-open.ensures) (off_recovers g.D.Disk c.in-Off.disk c.in-Off.layout _ _
     (told_log_finds (DiskStandsFor g.D.Disk c.in-Off.disk) c.in-Off.layout c.in-Err-open.fault c.tell_log.result c.tell_log.ensures
     (λ is h. no_log_stands _ (layout_of c.in-Ok.images.slot) c.in-Ok.images.body c.in-Ok.images.sequence (opened.found h)
-    (subst (λ (b : List ℕ). ¬ (HoldsSome (image.log_of b))) (opened.any_moment h).reading (logged.damaged (opened.keeps.honest.0 h) is))))
+    (rw (opened.any_moment h).reading at (logged.damaged (opened.keeps.honest.0 h) is))))
     (λ err. refl)
     (λ h. watches_on _ _ _ (opened.any_moment h) (logged.any_moment (opened.keeps.honest.0 h)))
     (λ h. tt)
     (λ h. tt)
     (λ h is. later g.D.Disk _ _ _ opened.keeps logged.keeps h
     (logged.device (opened.keeps.honest.0 h) (told_log_device c.in-Err-open.fault c.tell_log.result c.tell_log.ensures is)))
-    (λ h. ⊎_elim (λ is. inl is) (λ same. inr (same ∙ never_failed _ _ _ (opened.counts h)))
+    (λ h. ⊎_elim (λ is. inl is) (λ same. inr (same ∙ never_failed _ _ _ images.Device (opened.counts h)))
     (told_log_counts _ _ c.in-Err-open.fault c.tell_log.result c.tell_log.ensures (logged.counts (opened.keeps.honest.0 h))))
     (both_keep g.D.Disk _ _ _ opened.keeps logged.keeps))
 
@@ -95,22 +83,21 @@ module _ (g : Over) (c : After-apply_texts g) where
   limits = c.in-Ok-decode.ensures.0 ∙ c.limits_of-limits.ensures ∙ ap limits_of c.layout.ensures
 
   sound : IsDirectory (limits_of layout) c.in-Ok-decode.directory.files
-  sound = subst (λ (l : Limits). IsDirectory l c.in-Ok-decode.directory.files) (c.limits_of-limits.ensures ∙ ap limits_of c.layout.ensures)
-      c.in-Ok-decode.ensures.1
+  sound = rw (c.limits_of-limits.ensures, c.layout.ensures) at c.in-Ok-decode.ensures.1
 
   spelled : c.in-Ok.images.body ≡ spelling c.in-Ok-decode.directory.files
   spelled = sym c.body.ensures ∙ c.in-Ok-decode.ensures.2
 
   records : g.D.Disk.honest c.in-Off.disk
       → HoldsRecords (map (λ (t : Vec ℕ Global). t.items) c.in-Ok-open.texts.items) (image.log_of (g.D.Disk.state c.in-Off.disk).reading)
-  records h = subst (λ (b : List ℕ). HoldsRecords (map (λ (t : Vec ℕ Global). t.items) c.in-Ok-open.texts.items) (image.log_of b))
-      (c.in-Ok.ensures.any_moment h).reading (c.in-Ok-open.ensures.records (c.in-Ok.ensures.keeps.honest.0 h))
+  records h = rw (c.in-Ok.ensures.any_moment h).reading at (c.in-Ok-open.ensures.records (c.in-Ok.ensures.keeps.honest.0 h))
 
   watches : g.D.Disk.honest c.in-Off.disk → Watches (g.D.Disk.state c.in-Off.disk) (g.D.Disk.state c.in-Ok-open.log.images.disk)
   watches h = watches_on _ _ _ (c.in-Ok.ensures.any_moment h) (c.in-Ok-open.ensures.any_moment (c.in-Ok.ensures.keeps.honest.0 h))
 
   not_failed : g.D.Disk.honest c.in-Off.disk → HasNotFailed (g.D.Disk.state c.in-Off.disk) (g.D.Disk.state c.in-Ok-open.log.images.disk)
-  not_failed h = never_failed_log _ _ _ (c.in-Ok-open.ensures.counts (c.in-Ok.ensures.keeps.honest.0 h)) ∙ never_failed _ _ _ (c.in-Ok.ensures.counts h)
+  not_failed h = never_failed _ _ _ logs.Device (c.in-Ok-open.ensures.counts (c.in-Ok.ensures.keeps.honest.0 h))
+      ∙ never_failed _ _ _ images.Device (c.in-Ok.ensures.counts h)
 
   keeps : KeepsDisk g.D.Disk c.in-Off.disk c.in-Ok-open.log.images.disk
   keeps = both_keep g.D.Disk _ _ _ c.in-Ok.ensures.keeps c.in-Ok-open.ensures.keeps
@@ -132,9 +119,7 @@ module _ (g : Over) (c : After-apply_texts g) where
     directory = sound;
     shows = c.in-Ok.ensures.found h ∙ ap (λ (b : List ℕ). image.OneImage layout b c.in-Ok.images.sequence) spelled;
     log = records h;
-    applies = subst (λ (l : Limits). Applies l c.in-Ok-decode.directory.files (map (λ (t : Vec ℕ Global). t.items) c.in-Ok-open.texts.items) files) limits
-        (subst (λ (ts : List (Vec ℕ Global)). Applies c.in-Ok-decode.directory.limits c.in-Ok-decode.directory.files
-        (map (λ (t : Vec ℕ Global). t.items) ts) files) c.deref.ensures.value applies);
+    applies = rw (limits, c.deref.ensures.value) at applies;
   }
 
   found_now : (files : List File) → Applies c.in-Ok-decode.directory.limits c.in-Ok-decode.directory.files
@@ -143,11 +128,10 @@ module _ (g : Over) (c : After-apply_texts g) where
       → HoldsFiles (layout_of c.in-Ok-open.log.images.slot) files c.in-Ok-open.log.images.sequence (g.D.Disk.state c.in-Ok-open.log.images.disk).reading
   found_now files applies h =
       let was = keeps.honest.1 h in
-      subst (HoldsFiles (layout_of c.in-Ok-open.log.images.slot) files c.in-Ok-open.log.images.sequence) (sym (watches was).reading) (found files applies was)
+      rw (watches was).reading (found files applies was)
 
   ends : g.D.Disk.honest c.in-Off.disk → EndsAt (layout_of c.in-Ok-open.log.images.slot) c.in-Ok-open.log.tail (g.D.Disk.state c.in-Off.disk).reading
-  ends h = subst (EndsAt (layout_of c.in-Ok-open.log.images.slot) c.in-Ok-open.log.tail) (watches h).reading
-      (c.in-Ok-open.ensures.ready.records (keeps.honest.0 h))
+  ends h = rw (watches h).reading at (c.in-Ok-open.ensures.ready.records (keeps.honest.0 h))
 
 pub returns-in-Ok-apply_texts-clause-sound : goal.returns-in-Ok-apply_texts-clause-sound
 returns-in-Ok-apply_texts-clause-sound g c =
@@ -175,18 +159,10 @@ pub returns-in-Err-apply_texts-clause-recovers : goal.returns-in-Err-apply_texts
 returns-in-Err-apply_texts-clause-recovers g c =
     let here = (goal.at.returns-in-Err-apply_texts-clause-recovers g c).After-apply_texts in
     let faults = c.in-Err-apply_texts.ensures.faults in
-    rw (c.in-Off.is, c.into_disk-in-Err-apply_texts.ensures, c.into_images.ensures) (off_recovers g.D.Disk c.in-Off.disk c.in-Off.layout _ _
+    rw (c.in-Off.is, c.into_disk-in-Err-apply_texts.ensures, c.into_images.ensures)
+    (refused_recovers g.D.Disk c.in-Off.disk _ c.in-Off.layout _ (not_device c.in-Err-apply_texts.fault faults)
     (told_text_finds (DiskStandsFor g.D.Disk c.in-Off.disk) c.in-Off.layout c.in-Err-apply_texts.fault faults
     (λ is h. no_groups_stand _ (layout g here) c.in-Ok.images.body c.in-Ok.images.sequence c.in-Ok-decode.directory.files _
     (c.in-Ok.ensures.found h) (sound g here) (spelled g here) (records g here h)
-    (λ last applies. c.in-Err-apply_texts.ensures.damaged is last
-    (subst (λ (l : Limits). Applies l c.in-Ok-decode.directory.files (map (λ (t : Vec ℕ Global). t.items) c.deref.result.now) last) (sym (limits g here))
-    (subst (λ (ts : List (Vec ℕ Global)). Applies (limits_of (layout g here)) c.in-Ok-decode.directory.files (map (λ (t : Vec ℕ Global). t.items) ts) last)
-    (sym c.deref.ensures.value) applies)))))
-    (λ err. refl)
-    (watches g here)
-    (λ h. tt)
-    (λ h. tt)
-    (λ h is. absurd (not_device c.in-Err-apply_texts.fault faults is))
-    (λ h. inr (not_failed g here h))
-    (keeps g here))
+    (λ last applies. c.in-Err-apply_texts.ensures.damaged is last (rw (limits g here, c.deref.ensures.value) applies))))
+    (watches g here) (not_failed g here) (keeps g here))

@@ -1,10 +1,8 @@
-use Rattle.std.proofs.Common.{◌≡◌, ℕ, List, map, Vec, Global, ap, sym, ◌∙◌, subst}
+use Rattle.std.proofs.Common.{◌≡◌, ℕ, map, Vec, Global, ap, sym, ◌∙◌, subst}
 use Rattle.pos_image.proofs.Logs.{log_here}
 use Rattle.pos_image.specs.Layout.{layout_of}
 use Rattle.pos_image.specs.Standing.{log_in, log_of}
-use Rattle.pos_image.specs.declared.slot.Slot.{Slot}
-use Rattle.pos_log.specs.Records.{HoldsRecords, HoldsSome}
-use Rattle.pos_survey.specs.Damages.{HasLongIn}
+use Rattle.pos_log.specs.Records.{HoldsSome}
 use Rattle.pos_survey.proofs.Behind.{one_tail}
 use Rattle.pos_survey.proofs.log.open_log.Goals as goal
 
@@ -16,17 +14,13 @@ returns-in-Ok-clause-tail c =
     let slot_is : layout_of c.in-Ok.log.images.slot ≡ layout_of c.args.images.slot = ap (λ im. layout_of im.slot) opened.same in
     one_tail (layout_of c.args.images.slot) (layout_of c.in-Ok.log.images.slot) held.0 texts _ (log_of c.args.bytes.now) c.in-Ok.log.tail held.1
     (ap log_of ((opened.any_moment tt).reading ∙ c.requires.bytes))
-    (subst (λ (b : List ℕ). HoldsRecords texts (log_of b)) c.requires.bytes (opened.records tt)) held.2 slot_is
+    (rw c.requires.bytes at (opened.records tt)) held.2 slot_is
 
 pub tell_damage-requires-clause-damaged : goal.tell_damage-requires-clause-damaged
 tell_damage-requires-clause-damaged c some =
     c.in-Err.ensures.damaged tt c.in-Damaged.is
-    (subst HoldsSome (ap (log_in c.args.bytes.now) c.slot-slot.ensures
-    ∙ sym (log_here c.args.images.slot c.args.bytes.now c.args.images.body c.args.images.sequence c.requires.current)
-    ∙ ap log_of (sym c.requires.bytes)) some)
+    (subst HoldsSome (ap (log_in c.args.bytes.now) c.slot-slot.ensures ∙ sym (log_here c.requires.current) ∙ ap log_of (sym c.requires.bytes)) some)
 
 pub returns-in-Damaged-clause-broken : goal.returns-in-Damaged-clause-broken
 returns-in-Damaged-clause-broken c =
-    let here = log_here c.args.images.slot c.args.bytes.now c.args.images.body c.args.images.sequence c.requires.current in
-    subst (λ (s : List ℕ). HasLongIn s c.args.images.slot c.tell_damage.result) (sym here)
-    (subst (λ (s : Slot). HasLongIn (log_in c.args.bytes.now s) s c.tell_damage.result) c.slot-slot.ensures c.tell_damage.ensures)
+    rw (log_here c.requires.current) (rw c.slot-slot.ensures at c.tell_damage.ensures)

@@ -1,11 +1,9 @@
-use Rattle.std.proofs.Common.{◌≡◌, ◌+◌, ℕ, List, [], ◌∷◌, ◌++◌, map, take, drop, get_or, length, Vec, Global, sym, ap, ◌∙◌, subst, arith}
+use Rattle.std.proofs.Common.{◌≡◌, ◌+◌, ℕ, List, [], ◌∷◌, ◌++◌, map, take, drop, get_or, length, Vec, Global, sym, ap, ◌∙◌, arith}
 use Rattle.std.proofs.lemmas.List.{map_more}
-use Rattle.pos_dir.specs.declared.limits.Limits.{Limits}
 use Rattle.pos_log.proofs.Holding.{spelling_length}
 use Rattle.pos_log.specs.Records.{spelling}
-use Rattle.pos_store.specs.Standing.{Applies, IsStep}
-use Rattle.pos_survey.specs.Damages.{IsRefused}
-use Rattle.pos_survey.proofs.Applied.{applied_more, in_three, ends_within, stops}
+use Rattle.pos_store.proofs.FilesOnDisk.{applies_more}
+use Rattle.pos_survey.proofs.Applied.{in_three, ends_within, stops}
 use Rattle.pos_survey.proofs.records.apply_texts.Goals as goal
 
 pub returns-in-Err-clause-broken : goal.returns-in-Err-clause-broken
@@ -17,9 +15,7 @@ returns-in-Err-clause-broken c =
     stops c.args.directory.now.limits c.args.directory.now.files c.loop-text.directory.files (map text_of texts) (map text_of (take i texts))
     (map text_of (drop (i + 1) texts)) item.items c.args.first c.loop-text.at c.in-Err.fault
     (in_three text_of texts i item c.loop-text-test.true c.text-item.is) c.loop-text.invariant.place c.loop-text.invariant.applied
-    (subst (λ (l : Limits). IsRefused l c.loop-text.directory.files item.items c.loop-text.at c.in-Err.fault) c.loop-text.invariant.limits
-    (subst (λ (t : List ℕ). IsRefused c.loop-text.directory.limits c.loop-text.directory.files t c.loop-text.at c.in-Err.fault) c.deref.ensures.value
-    c.in-Err.ensures.broken))
+    (rw (c.loop-text.invariant.limits, c.deref.ensures.value) at c.in-Err.ensures.broken)
 
 pub overflow_add-at-in-Ok : goal.overflow_add-at-in-Ok
 overflow_add-at-in-Ok c =
@@ -44,14 +40,11 @@ loop-text-preserved c =
     map_more text_of texts i item c.loop-text-test.true ∙ ap (λ (t : List ℕ). before ++ t ∷ []) (sym here) in
     let size = ap (λ (ts : List (List ℕ)). length (spelling ts)) more ∙ spelling_length before item.items in
     let place = c.loop-text.invariant.place in
-    let step : IsStep limits c.loop-text.directory.files item.items c.apply_text.new.directory.files =
-    subst (λ (l : Limits). IsStep l c.loop-text.directory.files item.items c.apply_text.new.directory.files) c.loop-text.invariant.limits
-    (subst (λ (t : List ℕ). IsStep c.loop-text.directory.limits c.loop-text.directory.files t c.apply_text.new.directory.files) c.deref.ensures.value
-    c.in-Ok.ensures.ok) in
+    let step = rw (c.loop-text.invariant.limits, c.deref.ensures.value) at c.in-Ok.ensures.ok in
     record {
       limits = c.apply_text.ensures.limits ∙ c.loop-text.invariant.limits;
-      applied = subst (λ (ts : List (List ℕ)). Applies limits c.args.directory.now.files ts c.apply_text.new.directory.files) (sym more)
-          (applied_more limits c.args.directory.now.files before item.items c.loop-text.directory.files c.apply_text.new.directory.files
+      applied = rw more
+          (applies_more limits before c.args.directory.now.files c.loop-text.directory.files item.items c.apply_text.new.directory.files
           c.loop-text.invariant.applied step);
       place = omega (arith, size, place, c.len.ensures);
     }

@@ -1,10 +1,6 @@
-use Rattle.std.proofs.Common.{◌+◌, ℕ, length, sym, ap, subst, ◌∙◌, arith}
+use Rattle.std.proofs.Common.{◌+◌, ℕ, length, ap, ◌∙◌, arith}
 use Rattle.pos_disk.specs.State.{Watches, part}
 use Rattle.pos_disk.proofs.Moments.{watches_read}
-use Rattle.pos_image.specs.Found.{prepared_image}
-use Rattle.pos_image.specs.Images.{View, images_of}
-use Rattle.pos_image.specs.Layout.{layout_of}
-use Rattle.pos_image.specs.Spans.{IsInSpan, IsWritable}
 use Rattle.pos_image.proofs.Spanned.{span_part, writable, looked_held}
 use Rattle.pos_image.proofs.images.Images.log_read.Given.{Over}
 use Rattle.pos_image.proofs.images.Images.log_read.Goals.{After-read}
@@ -24,22 +20,18 @@ returns-clause-any_moment g c = watches g (goal.at.returns-clause-any_moment g c
 
 pub returns-clause-bytes : goal.returns-clause-bytes
 returns-clause-bytes g c =
-    let inside = subst (λ (v : View g.row.D.Denot). IsInSpan (layout_of v.slot) c.args.at (length c.args.out.now)) (sym c.self.view_is) c.requires.inside in
+    let inside = rw (← c.self.view_is) at c.requires.inside in
+    let was = rw (← c.self.view_is) at c.requires.writable in
     rw (← c.self.view_is) (λ honest.
-    let d = c.self.inside in
-    let s0 = g.D.Disk.state d.disk in
-    let was = subst (IsWritable g.D.Disk) (sym c.self.view_is) c.requires.writable in
-    (c.in_ok-read.ensures.reads honest).bytes ∙ ap (λ (k : ℕ). part (k + c.args.at) (length c.read.new.out) s0.reading) c.start.ensures
-    ∙ span_part d.current.slot s0.reading d.current.body.items d.current.sequence (was.held honest).current c.args.at
-    (length c.read.new.out) inside.from (omega (arith, inside.to, c.read.auto.out)))
+    (c.in_ok-read.ensures.reads honest).bytes
+    ∙ ap (λ (k : ℕ). part (k + c.args.at) (length c.read.new.out) (g.D.Disk.state c.self.inside.disk).reading) c.start.ensures
+    ∙ span_part (was.held honest).current c.args.at (length c.read.new.out) inside.from (omega (arith, inside.to, c.read.auto.out)))
 
 pub returns-clause-writable : goal.returns-clause-writable
 returns-clause-writable g c =
-    let d = c.self.inside in
-    let images : View g.row.D.Denot = images_of d.disk d.current.slot d.current.body.items d.current.sequence (prepared_image d.prepared) in
-    let was = subst (IsWritable g.D.Disk) (sym c.self.view_is) c.requires.writable in
+    let was = rw (← c.self.view_is) at c.requires.writable in
     writable g.D.Disk _ (omega (arith, was.large, c.read.ensures.size)) was.counted (λ honest.
     let honest0 = c.read.ensures.honest.1 honest in
     let reads = c.read.ensures.reads honest0 in
-    let held = looked_held images (g.D.Disk.state d.disk) (g.D.Disk.state c.read.new.self) (was.held honest0) reads.reading reads.loose in
+    let held = looked_held _ (g.D.Disk.state c.self.inside.disk) (g.D.Disk.state c.read.new.self) (was.held honest0) reads.reading reads.loose in
     record { loose = held.loose; current = held.current; prepared = held.prepared })

@@ -1,5 +1,5 @@
-use Rattle.std.proofs.Common.{◌≡◌, ◌+◌, ℕ, List, length, sym, subst, arith, rules}
-use Rattle.pos_disk.specs.State.{DiskState, MayLeave, LeavesOnly, Writes, splice}
+use Rattle.std.proofs.Common.{◌+◌, ℕ, List, length, arith, rules}
+use Rattle.pos_disk.specs.State.{DiskState, MayLeave, LeavesOnly, Writes}
 use Rattle.pos_image.specs.Found.{prepared_image}
 use Rattle.pos_image.specs.Images.{View, images_of}
 use Rattle.pos_image.specs.Layout.{start, layout_of}
@@ -22,25 +22,24 @@ module _ (g : Over) (c : After-write g) where
   s1 = g.D.Disk.state c.write.new.self
 
   is_writable : IsWritable g.D.Disk images
-  is_writable = subst (IsWritable g.D.Disk) (sym c.self.view_is) c.requires.writable
+  is_writable = rw c.self.view_is c.requires.writable
 
   inside : IsInSpan (layout_of c.self.inside.current.slot) c.args.at (length c.args.bytes.now)
-  inside = subst (λ (v : View g.row.D.Denot). IsInSpan (layout_of v.slot) c.args.at (length c.args.bytes.now)) (sym c.self.view_is) c.requires.inside
+  inside = rw (← c.self.view_is) at c.requires.inside
 
   only : g.D.Disk.honest c.self.inside.disk → (f : List ℕ) → s0.left_since s0.moment f → MayLeave s0 f
   only honest f left = g.met.D.Disk.only_now c.self.inside.disk f honest left
 
   -- the write began at its place in the slot
   wrote : g.D.Disk.honest c.self.inside.disk → Writes s0 s1 (start c.self.inside.current.slot + c.args.at) c.args.bytes.now c.write.result
-  wrote honest = subst (λ (k : ℕ). Writes s0 s1 (k + c.args.at) c.args.bytes.now c.write.result) c.start.ensures (c.write.ensures.writes honest)
+  wrote honest = rw c.start.ensures at (c.write.ensures.writes honest)
 
   -- a crash at any moment, whatever the write answers
   moments : g.D.Disk.honest c.args.self.now.disk
       → LeavesOnly (g.D.Disk.state c.args.self.now.disk) (g.D.Disk.state c.write.new.self)
       (KeepsImage c.args.self.now (span_of c.args.self.now (g.D.Disk.state c.write.new.self)))
   moments = rw (← c.self.view_is) (λ honest.
-      write_moments images (g.D.Disk.state c.self.inside.disk) (g.D.Disk.state c.write.new.self) c.write.result (is_writable.held honest)
-      (only honest) c.args.at c.args.bytes.now inside.from inside.to (wrote honest))
+      write_moments images s0 s1 c.write.result (is_writable.held honest) (only honest) c.args.at c.args.bytes.now inside.from inside.to (wrote honest))
 
 pub returns-in_err-write-clause-any_moment : goal.returns-in_err-write-clause-any_moment
 returns-in_err-write-clause-any_moment g c = moments g (goal.at.returns-in_err-write-clause-any_moment g c).After-write
@@ -57,10 +56,9 @@ returns-in_err-write-clause-span g c = rw (← c.self.view_is) (λ honest.
 pub returns-clause-span : goal.returns-clause-span
 returns-clause-span g c = rw (← c.self.view_is) (λ honest.
     let here = (goal.at.returns-clause-span g c).After-write in
-    let placed = λ (k : ℕ). (s1 g here).reading ≡ splice (s0 g here).reading (k + c.args.at) c.args.bytes.now in
     writes_span (images g here) (s0 g here) (s1 g here) c.write.result ((is_writable g here).held honest)
     (only g here honest) c.args.at c.args.bytes.now (inside g here).from (inside g here).to (wrote g here honest) _
-    (subst placed c.start.ensures (c.in_ok-write.ensures.writes honest).written))
+    (rw c.start.ensures at (c.in_ok-write.ensures.writes honest).written))
 
 pub returns-clause-writable : goal.returns-clause-writable
 returns-clause-writable g c =

@@ -1,25 +1,17 @@
-use Rattle.std.proofs.Common.{List, ℕ, sym, subst, refl, arith}
-use Rattle.pos_image.specs.Slots.{IsCurrent}
+use Rattle.std.proofs.Common.{refl, arith}
 use Rattle.pos_image.proofs.Changes.{ready}
 use Rattle.pos_image.proofs.Current.{current_stands}
 use Rattle.pos_image.proofs.Refused.{short_stands}
 use Rattle.pos_image.proofs.images.Images.open.Goals as goal
 
 pub returns-in-Ok-clause-found : goal.returns-in-Ok-clause-found
-returns-in-Ok-clause-found g c honest =
-    current_stands c.in-Ok.current.slot (g.D.Disk.state c.args.disk).reading c.in-Ok.current.body.items c.in-Ok.current.sequence
-    (c.in-Ok.ensures.found honest)
+returns-in-Ok-clause-found g c honest = current_stands (c.in-Ok.ensures.found honest)
 
 pub returns-in-Ok-clause-ready : goal.returns-in-Ok-clause-ready
 returns-in-Ok-clause-ready g c = (
   ready g.D.Disk _ (omega (arith, c.find.ensures.keeps.size)) (omega arith) (λ honest.
       let was = c.find.ensures.keeps.honest.1 honest in
-      record {
-        at_rest = c.in-Ok.ensures.at_rest was;
-        current = subst (λ (b : List ℕ). IsCurrent b c.in-Ok.current.slot c.in-Ok.current.body.items c.in-Ok.current.sequence)
-            (sym (c.find.ensures.watches was).reading) (c.in-Ok.ensures.found was);
-        prepared = tt;
-      }),
+      record { at_rest = c.in-Ok.ensures.at_rest was; current = rw (c.find.ensures.watches was).reading (c.in-Ok.ensures.found was); prepared = tt }),
   refl,
 )
 

@@ -1,12 +1,12 @@
-use Rattle.std.proofs.Common.{◌≡◌, ℕ, [], ◌∷◌, Some, sym, ◌∙◌, ap, subst, arith, true}
+use Rattle.std.proofs.Common.{◌≡◌, [], ◌∷◌, Some, sym, ◌∙◌, ap, arith, true}
 use Rattle.pos_disk.specs.State.{LeavesOnly, splice}
 use Rattle.pos_disk.specs.Within.{SameBut}
-use Rattle.pos_image.specs.Layout.{start, is_open, layout_of}
+use Rattle.pos_image.specs.Layout.{start, is_open}
 use Rattle.pos_image.specs.Found.{prepared_image}
 use Rattle.pos_image.specs.Images.{Prepared, IsReady, HasEither, image_of, images_of, next_of}
 use Rattle.pos_image.specs.Standing.{log_of}
-use Rattle.pos_image.proofs.Changes.{ready, opened_gate, publish_leaves, publish_current, publish_new}
-use Rattle.pos_image.proofs.Places.{places, slot_end}
+use Rattle.pos_image.proofs.Changes.{ready, opened_gate, publish_leaves, opened_current, opened_new}
+use Rattle.pos_image.proofs.Places.{places}
 use Rattle.pos_image.proofs.images.Images.publish.Given.{Over}
 use Rattle.pos_image.proofs.images.Images.publish.Goals.{After-write_through}
 use Rattle.pos_image.proofs.images.Images.publish.Goals as goal
@@ -14,7 +14,7 @@ use Rattle.pos_image.proofs.images.Images.publish.Goals as goal
 module _ (g : Over) (c : After-write_through g) where
   is_ready : IsReady g.D.Disk (images_of c.self.inside.disk c.self.inside.current.slot c.self.inside.current.body.items c.self.inside.current.sequence
       (prepared_image c.self.inside.prepared))
-  is_ready = subst (IsReady g.D.Disk) (sym c.self.view_is) c.requires.ready
+  is_ready = rw c.self.view_is c.requires.ready
 
   abbrev it : Prepared
   it = image_of c.in-Some.next.slot c.in-Some.next.body.items c.in-Some.next.sequence
@@ -26,24 +26,17 @@ module _ (g : Over) (c : After-write_through g) where
   moments : g.D.Disk.honest c.args.self.now.disk → LeavesOnly (g.D.Disk.state c.args.self.now.disk) (g.D.Disk.state c.write_through.new.disk)
       (HasEither c.args.self.now (log_of (g.D.Disk.state c.args.self.now.disk).reading) (next_of c.args.self.now))
   moments = rw (← c.self.view_is) (λ honest.
-      publish_leaves g.D.Disk _ c.write_through.new.disk it next_is honest is_ready c.start.result c.start.ensures
+      publish_leaves g.D.Disk _ it next_is honest is_ready c.write_through.new.disk c.start.result c.start.ensures
       (c.write_through.ensures.any_moment honest))
 
   -- a write that succeeded opened the gate alone
   opened : g.D.Disk.honest c.self.inside.disk
       → (g.D.Disk.state c.write_through.new.disk).reading ≡ splice (g.D.Disk.state c.self.inside.disk).reading c.start.result (165 ∷ [])
-      → SameBut (start c.in-Some.next.slot) 1 (g.D.Disk.state c.self.inside.disk).reading (g.D.Disk.state c.write_through.new.disk).reading
-      × (is_open (g.D.Disk.state c.write_through.new.disk).reading (start c.in-Some.next.slot) ≡ true)
+      → SameBut (start it.slot) 1 (g.D.Disk.state c.self.inside.disk).reading (g.D.Disk.state c.write_through.new.disk).reading
+      × (is_open (g.D.Disk.state c.write_through.new.disk).reading (start it.slot) ≡ true)
   opened honest written =
-      let whole = g.met.D.Disk.whole c.self.inside.disk honest in
-      let end = slot_end c.in-Some.next.slot in
-      let log = (places (layout_of c.in-Some.next.slot)).log in
-      let log_end = (places (layout_of c.in-Some.next.slot)).end in
-      let large = is_ready.large in
-      opened_gate (g.D.Disk.state c.self.inside.disk).reading (g.D.Disk.state c.write_through.new.disk).reading (start c.in-Some.next.slot)
-      (omega (arith, whole, end, log, log_end, large))
-      (subst (λ (at : ℕ). (g.D.Disk.state c.write_through.new.disk).reading ≡ splice (g.D.Disk.state c.self.inside.disk).reading at
-      (165 ∷ [])) c.start.ensures written)
+      let here = places c.in-Some.next.slot in
+      opened_gate _ _ (start c.in-Some.next.slot) (omega (arith, g.met.D.Disk.whole c.self.inside.disk honest, is_ready.large)) (rw c.start.ensures at written)
 
 pub returns-in_err-write_through-clause-any_moment : goal.returns-in_err-write_through-clause-any_moment
 returns-in_err-write_through-clause-any_moment g c = moments g (goal.at.returns-in_err-write_through-clause-any_moment g c).After-write_through
@@ -54,13 +47,12 @@ returns-clause-any_moment g c = moments g (goal.at.returns-clause-any_moment g c
 pub returns-clause-ready : goal.returns-clause-ready
 returns-clause-ready g c =
     let here = (goal.at.returns-clause-ready g c).After-write_through in
-    let large = (is_ready g here).large in
-    ready g.D.Disk _ (omega (arith, large, c.write_through.ensures.keeps.size)) (omega arith) (λ honest.
+    ready g.D.Disk _ (omega (arith, (is_ready g here).large, c.write_through.ensures.keeps.size)) (omega arith) (λ honest.
     let was = c.write_through.ensures.keeps.honest.1 honest in
     let gate = opened g here was (c.in_ok-write_through.ensures.written was) in
     record {
       at_rest = c.in_ok-write_through.ensures.at_rest was;
-      current = publish_current g.D.Disk _ c.write_through.new.disk (it g here) (next_is g here) was (is_ready g here) gate.0 gate.1;
+      current = opened_current g.D.Disk _ (it g here) (next_is g here) was (is_ready g here) _ gate.0 gate.1;
       prepared = rw c.take.ensures.after tt;
     })
 
@@ -68,4 +60,4 @@ pub returns-clause-log : goal.returns-clause-log
 returns-clause-log g c = rw (← c.self.view_is) (λ was.
     let here = (goal.at.returns-clause-log g c).After-write_through in
     let gate = opened g here was (c.in_ok-write_through.ensures.written was) in
-    publish_new g.D.Disk _ c.write_through.new.disk (it g here) (next_is g here) was (is_ready g here) gate.0 gate.1)
+    opened_new g.D.Disk _ (it g here) (next_is g here) was (is_ready g here) _ gate.0 gate.1)

@@ -1,9 +1,8 @@
-use Rattle.std.proofs.Common.{◌≡◌, sym, subst, arith, rules, List, ℕ, Some}
+use Rattle.std.proofs.Common.{◌≡◌, arith, rules, Some}
 use Rattle.pos_disk.specs.State.{LeavesOnly}
-use Rattle.pos_image.specs.Layout.{start, layout_of}
+use Rattle.pos_image.specs.Layout.{layout_of}
 use Rattle.pos_image.specs.Found.{prepared_image}
-use Rattle.pos_image.specs.Images.{View, Prepared, IsReady, IsBeside, image_of, images_of}
-use Rattle.pos_image.specs.Slots.{HasFields}
+use Rattle.pos_image.specs.Images.{Prepared, IsReady, IsBeside, image_of, images_of}
 use Rattle.pos_image.specs.Standing.{HasImage, log_of}
 use Rattle.pos_image.proofs.Changes.{ready, beside_leaves, placed}
 use Rattle.pos_image.proofs.Current.{stage_current}
@@ -16,13 +15,13 @@ use Rattle.pos_image.proofs.images.Images.put_beside.Goals as goal
 module _ (g : Over) (c : After-place_image g) where
   is_ready : IsReady g.D.Disk (images_of c.self.inside.disk c.self.inside.current.slot c.self.inside.current.body.items c.self.inside.current.sequence
       (prepared_image c.self.inside.prepared))
-  is_ready = subst (IsReady g.D.Disk) (sym c.self.view_is) c.requires.ready
+  is_ready = rw c.self.view_is c.requires.ready
 
   abbrev it : Prepared
   it = image_of c.args.image.slot c.args.image.body.items c.args.image.sequence
 
   beside : IsBeside c.self.inside.current.slot c.self.inside.current.sequence it
-  beside = subst (λ (v : View g.row.D.Denot). IsBeside v.slot v.sequence it) (sym c.self.view_is) c.requires.beside
+  beside = rw (← c.self.view_is) at c.requires.beside
 
   -- a crash at any moment, whatever the disk answers
   moments : g.D.Disk.honest c.args.self.now.disk → LeavesOnly (g.D.Disk.state c.args.self.now.disk) (g.D.Disk.state c.place_image.new.disk)
@@ -39,24 +38,21 @@ pub returns-clause-prepares : goal.returns-clause-prepares
 returns-clause-prepares g c =
     let here = (goal.at.returns-clause-prepares g c).After-place_image in
     let d = c.self.inside in
-    let s0 = g.D.Disk.state d.disk in
     let s1 = g.D.Disk.state c.place_image.new.disk in
     let was_ready = is_ready g here in
     let ok = c.in_ok-place_image.ensures in
     let apart = beside_apart d.current.slot d.current.sequence (it g here) (beside g here) in
     let any_moment = moments g here in
-    let log : g.D.Disk.honest c.args.self.now.disk → log_of s1.reading ≡ log_of (g.D.Disk.state c.args.self.now.disk).reading = rw (← c.self.view_is) (λ honest.
-    (kept_image d.current.slot c.args.image.slot apart s0.reading s1.reading d.current.body.items d.current.sequence (was_ready.sound honest).current
-    (ok.same honest)).log) in
+    let log : g.D.Disk.honest c.args.self.now.disk → log_of s1.reading ≡ log_of (g.D.Disk.state c.args.self.now.disk).reading =
+    rw (← c.self.view_is) (λ honest. (kept_image apart (was_ready.sound honest).current (ok.same honest)).log) in
     let is_ready_now = ready g.D.Disk
     (images_of c.place_image.new.disk d.current.slot d.current.body.items d.current.sequence (Some (it g here)))
     (omega (arith, was_ready.large, c.place_image.ensures.keeps.size)) was_ready.counted (λ honest.
     let was = c.place_image.ensures.keeps.honest.1 honest in
-    let fields = subst (λ (b : List ℕ). HasFields s1.reading (start c.args.image.slot) c.args.image.sequence b) c.deref.ensures.value (ok.written was) in
+    let fields = rw c.deref.ensures.value at (ok.written was) in
     record {
       at_rest = ok.at_rest was;
-      current = stage_current d.current.slot c.args.image.slot apart s0.reading s1.reading d.current.body.items d.current.sequence
-          (was_ready.sound was).current (ok.same was);
+      current = stage_current apart (was_ready.sound was).current (ok.same was);
       prepared = record {
         there = placed s1.reading c.args.image.body.items c.args.image.slot c.args.image.sequence c.requires.short (ok.closed was) (ok.no_log was) fields;
         beside = beside g here;

@@ -1,54 +1,47 @@
-use Rattle.std.proofs.Common.{◌≡◌, ℕ, ◌+◌, ◌-◌, ◌≤◌, [], ◌∷◌, length, take, sym, ap, subst, ◌∙◌, arith, rules}
+use Rattle.std.proofs.Common.{◌≡◌, ◌+◌, ◌-◌, ◌≤◌, [], ◌∷◌, length, take, ap, ◌∙◌, arith, rules}
+use Rattle.std.proofs.lemmas.Bool.{leb-true}
 use Rattle.pos_image.specs.Images.{View}
 use Rattle.pos_image.specs.Layout.{layout_of, log_place, slot_size}
 use Rattle.pos_log.specs.Records.{end_of, text_behind_gate}
-use Rattle.pos_log.specs.Writing.{PutsBytes}
-use Rattle.pos_log.specs.Logs.{LogView, log_over, IsLogReady}
-use Rattle.pos_log.proofs.Appending.{WritesThrough, failed_put, failed_open, appended, over_disk, never_failed}
-use Rattle.pos_log.proofs.LaidOut.{at_most}
+use Rattle.pos_log.specs.Logs.{log_over, IsLogReady}
+use Rattle.pos_log.proofs.Appending.{WritesThrough, failed_put, failed_open, appended, never_failed}
 use Rattle.pos_log.proofs.log.Log.append.Given.{Over}
 use Rattle.pos_log.proofs.log.Log.append.Goals.{After-write_through, After-write_through-2}
 use Rattle.pos_log.proofs.log.Log.append.Goals as goal
 
 module _ (g : Over) (c : After-write_through g) where
   is_ready : IsLogReady g.D.Disk (log_over c.self.inside.images c.self.inside.tail)
-  is_ready = subst (IsLogReady g.D.Disk) (sym c.self.view_is) c.requires
+  is_ready = rw c.self.view_is c.requires
 
   fits : c.self.inside.tail + 6 + length c.args.group.now ≤ slot_size (layout_of c.self.inside.images.slot)
-  fits = subst (λ (l : LogView g.row.D.Denot). end_of l.tail (length c.args.group.now) ≤ slot_size (layout_of l.images.slot)) (sym c.self.view_is)
-      (at_most _ _ (search rules))
-
-  text_is : take (5 + length c.args.group.now) c.deref.result.now ≡ text_behind_gate c.args.group.now
-  text_is = ap (take (5 + length c.args.group.now)) c.deref.ensures.value ∙ c.lay_out_record.ensures.text
-
-  puts : WritesThrough g.D.Disk c.self.inside.images c.self.inside.images.disk (c.self.inside.tail + 1 - log_place (layout_of c.self.inside.images.slot))
-      (take (5 + length c.args.group.now) c.deref.result.now) c.write_through.new.images.disk
-  puts = record { moments = c.write_through.ensures.any_moment; keeps = c.write_through.ensures.keeps }
+  fits =
+      let here : end_of c.args.self.now.tail (length c.args.group.now) ≤ slot_size (layout_of c.args.self.now.images.slot) = leb-true _ _ (search rules) in
+      rw (← c.self.view_is) at here
 
   at_is : c.self.inside.tail + 1 - log_place (layout_of c.self.inside.images.slot) ≡ c.self.inside.tail - log_place (layout_of c.self.inside.images.slot) + 1
   at_is = omega (arith, c.self.invariant.0)
+
+  text_is : take (5 + length c.args.group.now) c.deref.result.now ≡ text_behind_gate c.args.group.now
+  text_is = rw c.deref.ensures.value c.lay_out_record.ensures.text
+
+  puts : WritesThrough g.D.Disk c.self.inside.images c.self.inside.images.disk (c.self.inside.tail - log_place (layout_of c.self.inside.images.slot) + 1)
+      (text_behind_gate c.args.group.now) c.write_through.new.images.disk
+  puts = rw (← at_is, ← text_is) record { moments = c.write_through.ensures.any_moment; keeps = c.write_through.ensures.keeps }
 
 pub returns-in_default-clause-appends : goal.returns-in_default-clause-appends
 returns-in_default-clause-appends g c =
     let here = (goal.at.returns-in_default-clause-appends g c).After-write_through in
     rw (← c.self.view_is)
-    (failed_put g.D.Disk c.self.inside.images c.self.inside.tail c.args.group.now (is_ready g here) c.self.invariant.0 (fits g here) _
-    (at_is g here) _ (text_is g here) _ (puts g here)
+    (failed_put g.D.Disk c.self.inside.images c.self.inside.tail c.args.group.now (is_ready g here) c.self.invariant.0 (fits g here) _ (puts g here)
     c.write_through.new.images c.write_through.ensures.same (λ honest. c.in_default.ensures.device honest (search rules)))
 
 module _ (g : Over) (c : After-write_through-2 g) where
-  -- the first write leaves the layout, and so the places of the log
-  place_is : c.self.inside.tail - log_place (layout_of c.write_through.new.images.slot) ≡ c.self.inside.tail - log_place (layout_of c.self.inside.images.slot)
-  place_is = ap (λ (im : View g.row.D.Denot). c.self.inside.tail - log_place (layout_of im.slot)) c.write_through.ensures.same
-
   opens : WritesThrough g.D.Disk c.self.inside.images c.write_through.new.images.disk
       (c.self.inside.tail - log_place (layout_of c.self.inside.images.slot)) (165 ∷ []) c.write_through-2.new.images.disk
-  opens = subst (λ (k : ℕ). WritesThrough g.D.Disk c.self.inside.images c.write_through.new.images.disk k (165 ∷ []) c.write_through-2.new.images.disk)
-      place_is
-      (over_disk g.D.Disk c.self.inside.images c.write_through.new.images c.write_through.new.images.disk c.write_through.ensures.same
-      c.write_through.new.images.disk (c.self.inside.tail - log_place (layout_of c.write_through.new.images.slot)) (165 ∷ [])
-      c.write_through-2.new.images.disk
-      (record { moments = c.write_through-2.ensures.any_moment; keeps = c.write_through-2.ensures.keeps }))
+  opens = record {
+    moments = rw c.write_through.ensures.same at c.write_through-2.ensures.any_moment;
+    keeps = rw c.write_through.ensures.same at c.write_through-2.ensures.keeps;
+  }
 
   same : c.write_through-2.new.images ≡ record c.self.inside.images { disk = c.write_through-2.new.images.disk }
   same = c.write_through-2.ensures.same ∙ ap (λ (im : View g.row.D.Denot). record im { disk = c.write_through-2.new.images.disk }) c.write_through.ensures.same
@@ -59,9 +52,8 @@ returns-in_default-write_through-clause-appends g c =
     let here = at.After-write_through in
     let also = at.After-write_through-2 in
     rw (← c.self.view_is)
-    (failed_open g.D.Disk c.self.inside.images c.self.inside.tail c.args.group.now (is_ready g here) c.self.invariant.0 (fits g here) _
-    (at_is g here) _ (text_is g here) _ (puts g here)
-    c.in-Ok.ensures.written _ (opens g also) c.write_through-2.new.images (same g also)
+    (failed_open g.D.Disk c.self.inside.images c.self.inside.tail c.args.group.now (is_ready g here) c.self.invariant.0 (fits g here) _ (puts g here)
+    (rw (at_is g here, text_is g here) at c.in-Ok.ensures.written) _ (opens g also) c.write_through-2.new.images (same g also)
     (λ honest. c.in_default-write_through.ensures.device honest (search rules)))
 
 pub returns-clause-appends : goal.returns-clause-appends
@@ -70,12 +62,9 @@ returns-clause-appends g c =
     let here = at.After-write_through in
     let also = at.After-write_through-2 in
     rw (← c.self.view_is)
-    (appended g.D.Disk c.self.inside.images c.self.inside.tail c.args.group.now (is_ready g here) c.self.invariant.0 (fits g here) _ (at_is g here) _
-    (text_is g here) _ (puts g here)
-    c.in-Ok.ensures.written _ (opens g also)
-    (subst (λ (k : ℕ). g.D.Disk.honest c.write_through.new.images.disk
-    → PutsBytes k (165 ∷ []) (g.D.Disk.state c.write_through.new.images.disk) (g.D.Disk.state c.write_through-2.new.images.disk))
-    (place_is g also) c.in-Ok-write_through.ensures.written)
+    (appended g.D.Disk c.self.inside.images c.self.inside.tail c.args.group.now (is_ready g here) c.self.invariant.0 (fits g here) _ (puts g here)
+    (rw (at_is g here, text_is g here) at c.in-Ok.ensures.written) _ (opens g also)
+    (rw c.write_through.ensures.same at c.in-Ok-write_through.ensures.written)
     c.write_through-2.new.images _ (same g also) (omega arith) c.in-Ok-write_through.ensures.ready
     (λ honest. never_failed (g.D.Disk.state c.self.inside.images.disk) (g.D.Disk.state c.write_through.new.images.disk) _ (c.in-Ok.ensures.counts honest))
     (λ honest. never_failed (g.D.Disk.state c.write_through.new.images.disk) (g.D.Disk.state c.write_through-2.new.images.disk) _

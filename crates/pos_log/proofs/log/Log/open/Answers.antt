@@ -1,14 +1,11 @@
-use Rattle.std.proofs.Common.{◌≡◌, inl, inr, ⊎_elim, ◌+◌, ◌-◌, ℕ, length, refl, sym, ap, subst, ◌∙◌, arith, rules}
-use Rattle.pos_disk.specs.State.{part}
+use Rattle.std.proofs.Common.{◌≡◌, inl, inr, ⊎_elim, ◌-◌, refl, ap, arith, rules}
 use Rattle.pos_image.specs.Images.{View}
 use Rattle.pos_image.specs.Layout.{layout_of, log_place, log_size}
 use Rattle.pos_image.specs.Standing.{log_of}
 use Rattle.pos_image.proofs.Places.{places}
-use Rattle.pos_image.proofs.Spanned.{ready_writable}
-use Rattle.pos_log.specs.Records.{HoldsRecords, HoldsSome}
+use Rattle.pos_image.proofs.Spanned.{ready_writable, span_length}
 use Rattle.pos_log.proofs.Appending.{never_failed}
 use Rattle.pos_log.proofs.Parsing.{whole_read}
-use Rattle.pos_log.proofs.Spanning.{ready_length}
 use Rattle.pos_log.proofs.log.Log.open.Given.{Over}
 use Rattle.pos_log.proofs.log.Log.open.Goals.{After-read_records}
 use Rattle.pos_log.proofs.log.Log.open.Goals as goal
@@ -20,18 +17,17 @@ module _ (g : Over) (c : After-read_records g) where
   length_is : c.in-Ok.buffer.len ≡ log_size (layout_of c.args.images.slot)
   length_is =
       let to = ap (λ s. s.1) c.log_span-first.ensures in
-      let end = (places (layout_of c.args.images.slot)).end in
-      omega (arith, c.in-Ok.ensures.len, from_is, to, end)
+      let here = places c.args.images.slot in
+      omega (arith, c.in-Ok.ensures.len, from_is)
 
   -- what was read is the span
   read_is : g.D.Disk.honest c.args.images.disk → c.deref.result.now ≡ log_of (g.D.Disk.state c.args.images.disk).reading
   read_is honest =
-      let long = ready_length g.D.Disk c.args.images c.requires honest in
       let span = log_of (g.D.Disk.state c.args.images.disk).reading in
       let at : c.log_span-first.result.0 - log_place (layout_of c.args.images.slot) ≡ 0 = omega (arith, from_is) in
       whole_read c.deref.result.now c.log_read.new.out c.in-Ok.buffer.items span c.in-Ok.buffer.len (log_size (layout_of c.args.images.slot)) length_is
-      (omega (arith, c.log_read.auto.out, c.as_mut_slice.ensures.len, length_is)) long c.deref.ensures.value
-      (c.in-Ok-log_read.ensures.bytes honest ∙ ap (λ (k : ℕ). part k (length c.log_read.new.out) span) at)
+      (omega (arith, c.log_read.auto.out, c.as_mut_slice.ensures.len, length_is)) (span_length (c.requires.sound honest).current) c.deref.ensures.value
+      (rw at at (c.in-Ok-log_read.ensures.bytes honest))
 
 pub log_read-requires-clause-writable : goal.log_read-requires-clause-writable
 log_read-requires-clause-writable g c = ready_writable g.D.Disk c.args.images c.requires
@@ -48,12 +44,12 @@ returns-in-Err-clause-faults g c = ⊎_elim (λ damaged. inl damaged) (λ memory
 pub returns-in-Err-clause-damaged : goal.returns-in-Err-clause-damaged
 returns-in-Err-clause-damaged g c honest is some =
     let here = (goal.at.returns-in-Err-clause-damaged g c).After-read_records in
-    c.in-Err.ensures.damaged is (subst HoldsSome (sym (read_is g here honest)) some)
+    c.in-Err.ensures.damaged is (rw (read_is g here honest) some)
 
 pub returns-in-Ok-read_records-clause-records : goal.returns-in-Ok-read_records-clause-records
 returns-in-Ok-read_records-clause-records g c honest =
     let here = (goal.at.returns-in-Ok-read_records-clause-records g c).After-read_records in
-    subst (HoldsRecords _) (read_is g here honest) c.in-Ok-read_records.ensures.held
+    rw (read_is g here honest) at c.in-Ok-read_records.ensures.held
 
 pub returns-in-Ok-read_records-clause-ready : goal.returns-in-Ok-read_records-clause-ready
 returns-in-Ok-read_records-clause-ready g c =
@@ -62,13 +58,10 @@ returns-in-Ok-read_records-clause-ready g c =
       images = c.in-Ok-log_read.ensures.ready c.requires;
       records = λ honest.
           let was = c.log_read.ensures.keeps.honest.1 honest in
-          let end = c.in-Ok-read_records.ensures.end in
-          let place = ap (λ (im : View g.row.D.Denot). log_place (layout_of im.slot)) (sym c.log_read.ensures.same) in (
-            _,
-            subst (HoldsRecords _) (read_is g here was
-                ∙ ap log_of (sym (c.log_read.ensures.any_moment was).reading)) c.in-Ok-read_records.ensures.held,
-            (λ i. (from_is g here ∙ place) i + end i),
-          );
+          let place = ap (λ (im : View g.row.D.Denot). log_place (layout_of im.slot)) c.log_read.ensures.same in
+          let from = from_is g here in
+          let held = rw (read_is g here was, ← (c.log_read.ensures.any_moment was).reading) at c.in-Ok-read_records.ensures.held in
+          (_, held, omega (arith, place, from, c.in-Ok-read_records.ensures.end));
     }
 
 pub returns-in_default-log_read-clause-counts : goal.returns-in_default-log_read-clause-counts

@@ -1,14 +1,12 @@
-use Rattle.std.proofs.Common.{ℕ, List, map, Vec, Global, ap, ◌∙◌, subst, arith}
+use Rattle.std.proofs.Common.{ℕ, List, map, Vec, Global, ap, ◌∙◌, arith}
 use Rattle.std.proofs.lemmas.List.{length-map}
 use Rattle.std.proofs.lemmas.Result.{err_from_is_err_and}
-use Rattle.pos_dir.specs.declared.limits.Limits.{Limits}
 use Rattle.pos_image.specs.Layout.{layout_of}
 use Rattle.pos_image.specs.Standing.{OneImage}
 use Rattle.pos_image.specs.declared.slot.Slot.{Slot}
 use Rattle.pos_image.proofs.Logs.{image_here}
 use Rattle.pos_log.specs.Logs.{room_of}
-use Rattle.pos_store.specs.Standing.{Applies}
-use Rattle.pos_survey.specs.Damages.{StopsFor, log_begins}
+use Rattle.pos_survey.specs.Damages.{log_begins}
 use Rattle.pos_survey.proofs.Broken.{no_files, long_record, bad_record}
 use Rattle.pos_survey.proofs.survey.Survey.of.Goals as goal
 
@@ -42,10 +40,7 @@ returns-in_err-apply_texts-clause-broken c =
     rw (p.1, p.2)
     (bad_record c.args.bytes.now images.body images.slot base images.sequence c.in_ok-images.ensures.current read.directory read.spelled texts
     c.in_ok-log.ensures.records fault
-    (subst (λ (l : Limits). StopsFor l base texts first fault) read.limits
-    (subst (λ (at : ℕ). StopsFor c.in_ok-directory.directory.limits base texts at fault) found
-    (subst (λ (ts : List (Vec ℕ Global)). StopsFor c.in_ok-directory.directory.limits base (map (λ (t : Vec ℕ Global). t.items) ts) c.log_begins.result fault)
-    c.deref.ensures.value c.in_err-apply_texts.ensures.broken))))
+    (rw (read.limits, found, c.deref.ensures.value) at c.in_err-apply_texts.ensures.broken))
 
 pub returns-clause-told : goal.returns-clause-told
 returns-clause-told c =
@@ -63,12 +58,10 @@ returns-clause-told c =
         base = base;
         texts = texts;
         directory = read.directory;
-        shows = (image_here images.slot bytes images.body images.sequence c.in_ok-images.ensures.current).image
+        shows = (image_here c.in_ok-images.ensures.current).image
             ∙ ap (λ (b : List ℕ). OneImage layout b images.sequence) read.spelled;
         log = log.records;
-        applies = subst (λ (l : Limits). Applies l base texts files) read.limits
-            (subst (λ (ts : List (Vec ℕ Global)). Applies c.in_ok-directory.directory.limits base (map (λ (t : Vec ℕ Global). t.items) ts) files)
-            c.deref.ensures.value c.in_ok-apply_texts.ensures.ok);
+        applies = rw (read.limits, c.deref.ensures.value) at c.in_ok-apply_texts.ensures.ok;
       };
       limits = c.apply_texts.ensures.limits ∙ read.limits;
       body = images.body;
