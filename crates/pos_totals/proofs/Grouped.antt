@@ -18,11 +18,12 @@ use Rattle.pos_dir.specs.declared.file.File.{File as PlainFile}
 use Rattle.pos_dir.specs.declared.limits.Limits.{Limits}
 use Rattle.pos_image.specs.declared.layout.Layout.{Layout}
 use Rattle.pos_service.specs.declared.answer.Answer.{Answer}
-use Rattle.pos_totals.specs.HardTotals.{File, Change, Create, Delete, Rename, Write, SetAll, totals_limits}
-use Rattle.pos_totals.specs.TotalsFiles.{is_name, is_range, is_range_of, is_named, is_called, has_file, has_room, free_data, size_in_sum, with_each}
-use Rattle.pos_totals.specs.TotalsFiles.{overwritten}
+use Rattle.pos_totals.specs.HardTotals.{File, Change, Create, Delete, Rename, Edit, totals_limits}
+use Rattle.pos_totals.specs.TotalsFiles.{is_name, is_named, is_called, has_file, has_room, free_data, size_in_sum, with_each}
+use Rattle.pos_totals.specs.Edits.{FileEdit, fits, edited}
+use Rattle.pos_totals.proofs.Edited.{makes_edit}
 use Rattle.pos_service.specs.Numbers.{is_natural, is_up_to}
-use Rattle.pos_totals.specs.TotalsChanges.{change_rows, files_after}
+use Rattle.pos_totals.specs.TotalsChanges.{change_rows, files_after, fits_file}
 use Rattle.pos_service.specs.Refusals.{first_refusal}
 use Rattle.pos_store.specs.Layouts.{limits_of}
 use Rattle.pos_totals.proofs.Places.{OnlyOne, found_at, one_changed, one_gone}
@@ -182,51 +183,26 @@ made_rename layout files control spent handle name next distinct unrefused =
     ∙ cond-false (has_name (plain files) name) _ _ (plain_name files name ∙ free.0)
     ∙ ap (λ (fs : List PlainFile). Ok fs) (set_plain files handle found.0 (λ f. record f { name = name }) distinct found.1)
 
--- a range of a file's bytes is of a file that is there
-pub ranged : (found : Option File) (offset count : ℤ) → is_range_of found offset count ≡ true
-    → (f : File) × (found ≡ Some f) × (is_range (length f.bytes) offset count ≡ true)
-ranged None offset count fits = absurd cc
-ranged (Some f) offset count fits = (f, refl, fits)
+-- an edit that fits is of a file that is there
+pub fitting : (found : Option File) (edit : FileEdit) → fits_file found edit ≡ true → (f : File) × (found ≡ Some f) × (fits (length f.bytes) edit ≡ true)
+fitting None edit fit = absurd cc
+fitting (Some f) edit fit = (f, refl, fit)
 
-pub range_end : (size : ℕ) (offset : ℤ) (count : ℕ) → is_range size offset (pos count) ≡ true → nat_le (nat_abs offset + count) size ≡ true
-range_end size (pos offset) count fits = fits
-range_end size (negsuc n) count fits = absurd cc
-
-pub made_write : (layout : Layout) (files : List File) (handle offset : ℤ) (bytes : List ℕ) (next : ℕ) → AreDistinct (handles_of files)
-    → is_range_of (find (is_called handle) files) offset (pos (length bytes)) ≡ true → Makes layout files (Write handle offset bytes) next
-made_write layout files handle offset bytes next distinct fits =
-    let found = ranged (find (is_called handle) files) offset (pos (length bytes)) fits in
+pub made_edit : (layout : Layout) (files : List File) (handle : ℤ) (edit : FileEdit) (next : ℕ) → AreDistinct (handles_of files)
+    → fits_file (find (is_called handle) files) edit ≡ true → Makes layout files (Edit handle edit) next
+made_edit layout files handle edit next distinct fit =
+    let found = fitting (find (is_called handle) files) edit fit in
     let index = index_of (is_called handle) files in
-    at_index files index found.0
-    (λ f. cond (nat_le (nat_abs offset + length bytes) (length f.bytes))
-    (Ok (slice_set (plain files) index (record f { bytes = splice f.bytes (nat_abs offset) bytes }))) (Err fault.Range))
-    (found_at (is_called handle) files found.0 found.1)
-    ∙ cond-true (nat_le (nat_abs offset + length bytes) (length found.0.bytes)) _ _ (range_end (length found.0.bytes) offset (length bytes) found.2)
-    ∙ ap (λ (fs : List PlainFile). Ok fs)
-    (set_plain files handle found.0 (λ f. record f { bytes = overwritten f.bytes (nat_abs offset) bytes }) distinct found.1)
+    makes_edit (limits_of layout) (plain files) index edit (plain_file found.0)
+    (slice_get-map plain_file files index ∙ ap (option_map plain_file) (found_at (is_called handle) files found.0 found.1)) found.2
+    ∙ ap (λ (fs : List PlainFile). Ok fs) (set_plain files handle found.0 (λ f. record f { bytes = edited edit f.bytes }) distinct found.1)
 
-pub made_set_all : (layout : Layout) (files : List File) (handle n : ℤ) (next : ℕ) → AreDistinct (handles_of files) → has_file (is_called handle) files ≡ true
-    → Makes layout files (SetAll handle n) next
-made_set_all layout files handle n next distinct there =
-    let found = some_file (find (is_called handle) files) there in
-    let index = index_of (is_called handle) files in
-    at_index files index found.0 (λ f. Ok (slice_set (plain files) index (record f { bytes = replicate (length f.bytes) (nat_abs n) })))
-    (found_at (is_called handle) files found.0 found.1)
-    ∙ ap (λ (fs : List PlainFile). Ok fs) (set_plain files handle found.0 (λ f. record f { bytes = replicate (length f.bytes) (nat_abs n) }) distinct found.1)
-
--- the range of a Write that nothing refuses, and the file and the value of a SetAll
-pub range_fits : (layout : Layout) (files : List File) (control : ℕ) (spent : Option ℕ) (handle offset : ℤ) (bytes : List ℕ)
-    → first_refusal (change_rows (totals_limits layout) files control spent (Write handle offset bytes)) ≡ None
-    → is_range_of (find (is_called handle) files) offset (pos (length bytes)) ≡ true
-range_fits layout files control spent handle offset bytes unrefused =
-    not-false _ (not_refused (not (is_range_of (find (is_called handle) files) offset (pos (length bytes)))) _ _ unrefused).0
-
-pub value_fits : (layout : Layout) (files : List File) (control : ℕ) (spent : Option ℕ) (handle n : ℤ)
-    → first_refusal (change_rows (totals_limits layout) files control spent (SetAll handle n)) ≡ None
-    → (has_file (is_called handle) files ≡ true) × (is_up_to 255 n ≡ true)
-value_fits layout files control spent handle n unrefused =
-    and_parts (has_file (is_called handle) files) (is_up_to 255 n)
-    (not-false (has_file (is_called handle) files && is_up_to 255 n) (not_refused (not (has_file (is_called handle) files && is_up_to 255 n)) _ _ unrefused).0)
+-- the file of an edit that nothing refuses
+pub edit_fits : (layout : Layout) (files : List File) (control : ℕ) (spent : Option ℕ) (handle : ℤ) (edit : FileEdit)
+    → first_refusal (change_rows (totals_limits layout) files control spent (Edit handle edit)) ≡ None
+    → fits_file (find (is_called handle) files) edit ≡ true
+edit_fits layout files control spent handle edit unrefused =
+    not-false _ (not_refused (not (fits_file (find (is_called handle) files) edit)) _ _ unrefused).0
 
 -- Where nothing refuses a change, it makes of the plain files those after it.
 pub makes : (layout : Layout) (files : List File) (control : ℕ) (spent : Option ℕ) (change : Change) (next : ℕ) → IsDirectory (limits_of layout) (plain files)
@@ -234,10 +210,8 @@ pub makes : (layout : Layout) (files : List File) (control : ℕ) (spent : Optio
 makes layout files control spent (Create name size) next sound distinct unrefused = made_create layout files control spent name size next sound.size unrefused
 makes layout files control spent (Delete name) next sound distinct unrefused = made_delete layout files control spent name next sound.distinct unrefused
 makes layout files control spent (Rename handle name) next sound distinct unrefused = made_rename layout files control spent handle name next distinct unrefused
-makes layout files control spent (Write handle offset bytes) next sound distinct unrefused =
-    made_write layout files handle offset bytes next distinct (range_fits layout files control spent handle offset bytes unrefused)
-makes layout files control spent (SetAll handle n) next sound distinct unrefused =
-    made_set_all layout files handle n next distinct (value_fits layout files control spent handle n unrefused).0
+makes layout files control spent (Edit handle edit) next sound distinct unrefused =
+    made_edit layout files handle edit next distinct (edit_fits layout files control spent handle edit unrefused)
 
 -- so does its group
 pub makes_group : (layout : Layout) (files : List File) (control : ℕ) (spent : Option ℕ) (change : Change) (next : ℕ)

@@ -7,8 +7,10 @@ use Rattle.std.proofs.lemmas.List.{map-append, length-map}
 use Rattle.std.proofs.Math.Seq.{take-nil, drop-nil}
 use Rattle.pos_dir.specs.Files.{are_distinct}
 use Rattle.pos_image.specs.declared.layout.Layout.{Layout}
-use Rattle.pos_totals.specs.HardTotals.{File, Change, Create, Delete, Rename, Write, SetAll, totals_limits}
-use Rattle.pos_totals.specs.TotalsFiles.{is_named, is_called, with_each, overwritten}
+use Rattle.pos_totals.specs.HardTotals.{File, Change, Create, Delete, Rename, Edit, totals_limits}
+use Rattle.pos_totals.specs.TotalsFiles.{is_named, is_called, with_each}
+use Rattle.pos_totals.specs.Edits.{edited}
+use Rattle.pos_totals.proofs.Edited.{keeps_handles}
 use Rattle.pos_totals.specs.TotalsChanges.{change_rows, files_after, next_after, given_by}
 use Rattle.pos_service.specs.Refusals.{first_refusal}
 use Rattle.pos_totals.proofs.Grouped.{deleted, only_named, map-remove}
@@ -43,17 +45,16 @@ given_is layout files control spent (Delete name) next distinct unrefused =
     ∙ ap tags_of (sym (one_gone (is_named name) files found.0 (only_named files name distinct) found.1))
 given_is layout files control spent (Rename handle name) next distinct unrefused =
     sym (same_tags (is_called handle) (λ file. record file { name = name }) files (λ file. refl))
-given_is layout files control spent (Write handle offset bytes) next distinct unrefused =
-    sym (same_tags (is_called handle) (λ file. record file { bytes = overwritten file.bytes (nat_abs offset) bytes }) files (λ file. refl))
-given_is layout files control spent (SetAll handle n) next distinct unrefused =
-    sym (same_tags (is_called handle) (λ file. record file { bytes = replicate (length file.bytes) (nat_abs n) }) files (λ file. refl))
+given_is layout files control spent (Edit handle edit) next distinct unrefused =
+    (keeps_handles (index_of (is_called handle) files) edit).given (tags_of files) next
+    ∙ sym (same_tags (is_called handle) (λ file. record file { bytes = edited edit file.bytes }) files (λ file. refl))
 
 pub next_is : (files : List File) (change : Change) (next : ℕ) → following next (file_change files change) ≡ next_after next change
-next_is files (Create name size) next = refl
+next_is files (Edit handle edit) next = (keeps_handles (index_of (is_called handle) files) edit).next next
 next_is files other next = refl
 
 pub value_is : (files : List File) (change : Change) (next : ℕ) → value_after next (file_change files change) ≡ given_by next change
-value_is files (Create name size) next = refl
+value_is files (Edit handle edit) next = (keeps_handles (index_of (is_called handle) files) edit).value next
 value_is files other next = refl
 
 -- ---- facts of all handles
@@ -97,7 +98,9 @@ distinct_after files (Create name size) tags next distinct below =
 distinct_after files (Delete name) tags next distinct below =
     subst AreDistinct (sym (numbers_without tags (index_of (is_named name) files)))
     (distinct_without (numbers_of tags) (index_of (is_named name) files) distinct)
-distinct_after files other tags next distinct below = distinct
+distinct_after files (Rename handle name) tags next distinct below = distinct
+distinct_after files (Edit handle edit) tags next distinct below =
+    subst (λ (ts : List Tag). AreDistinct (numbers_of ts)) (sym ((keeps_handles (index_of (is_called handle) files) edit).given tags next)) distinct
 
 below_after : (files : List File) (change : Change) (tags : List Tag) (next : ℕ) → AllByRecursion (λ handle. handle < next) (numbers_of tags)
     → AllByRecursion (λ handle. handle < following next (file_change files change)) (numbers_of (given_after tags next (file_change files change)))
@@ -108,7 +111,10 @@ below_after files (Create name size) tags next below =
 below_after files (Delete name) tags next below =
     subst (AllByRecursion (λ handle. handle < next)) (sym (numbers_without tags (index_of (is_named name) files)))
     (all_without (λ handle. handle < next) (numbers_of tags) (index_of (is_named name) files) below)
-below_after files other tags next below = below
+below_after files (Rename handle name) tags next below = below
+below_after files (Edit handle edit) tags next below =
+    let keeps = keeps_handles (index_of (is_called handle) files) edit in
+    rw (keeps.given tags next, keeps.next next) below
 
 -- The tags after a change are tags of the files after it.
 pub are_after : (layout : Layout) (files : List File) (control : ℕ) (spent : Option ℕ) (change : Change) (next : ℕ) → are_distinct (plain files) ≡ true

@@ -3,14 +3,11 @@ use Rattle.std.proofs.Common.{◌≡◌, ◌∙◌, ℕ, ◌+◌, ◌≤◌, ℤ
 use Rattle.std.proofs.Common.{None, refl, sym, ap, subst, arith}
 use Rattle.std.specs.Prelude.{is_none, nat_eq}
 use Rattle.std.specs.List.{find, filter, list_any, AllByRecursion}
-use Rattle.std.proofs.lemmas.Bool.{leb-true}
-use Rattle.std.proofs.lemmas.List.{length-append, length-take, length-drop}
 use Rattle.std.proofs.lemmas.Option.{same_Some}
-use Rattle.pos_dir.specs.declared.change.Change.TheVariants as file
-use Rattle.pos_totals.specs.HardTotals.{File, Change, Write, SetAll}
-use Rattle.pos_totals.specs.TotalsFiles.{is_called, is_range, with_each, overwritten}
+use Rattle.pos_totals.specs.HardTotals.{File, Change, Edit}
+use Rattle.pos_totals.specs.TotalsFiles.{is_called, with_each}
+use Rattle.pos_totals.specs.Edits.{fits}
 use Rattle.pos_totals.specs.TotalsCommits.{is_of_none}
-use Rattle.pos_totals.proofs.Grouped.{range_end}
 use Rattle.pos_totals.proofs.Places.{OnlyOne}
 use Rattle.pos_totals.specs.Buffers.{IsBuffered}
 use Rattle.pos_totals.specs.Groups.{index_of, group_of}
@@ -58,42 +55,35 @@ same_none (pos h) (x ∷ xs) (y ∷ ys) same =
     by false false alike rest = rest
 same_none (negsuc n) (x ∷ xs) (y ∷ ys) same = same_none (negsuc n) xs ys (same_others x y xs ys same)
 
--- whether a range fits each file with a handle
-same_fit : (handle offset : ℤ) (count : ℕ) (xs ys : List File) → outlines xs ≡ outlines ys
-    → AllByRecursion (λ file. is_called handle file ≡ true → is_range (length file.bytes) offset (pos count) ≡ true) xs
-    → AllByRecursion (λ file. is_called handle file ≡ true → is_range (length file.bytes) offset (pos count) ≡ true) ys
-same_fit handle offset count [] [] same all = tt
-same_fit handle offset count [] (y ∷ ys) same all = absurd cc
-same_fit handle offset count (x ∷ xs) [] same all = absurd cc
-same_fit (pos h) offset count (x ∷ xs) (y ∷ ys) same all = (
-  subst (λ (p : ℕ × ℕ). nat_eq p.0 h ≡ true → is_range p.1 offset (pos count) ≡ true) (same_first x y xs ys same) all.0,
-  same_fit (pos h) offset count xs ys (same_others x y xs ys same) all.1,
+-- what holds of the size of each file with a handle
+same_sizes : (P : ℕ → Type 0) (handle : ℤ) (xs ys : List File) → outlines xs ≡ outlines ys
+    → AllByRecursion (λ file. is_called handle file ≡ true → P (length file.bytes)) xs
+    → AllByRecursion (λ file. is_called handle file ≡ true → P (length file.bytes)) ys
+same_sizes P handle [] [] same all = tt
+same_sizes P handle [] (y ∷ ys) same all = absurd cc
+same_sizes P handle (x ∷ xs) [] same all = absurd cc
+same_sizes P (pos h) (x ∷ xs) (y ∷ ys) same all = (
+  subst (λ (p : ℕ × ℕ). nat_eq p.0 h ≡ true → P p.1) (same_first x y xs ys same) all.0,
+  same_sizes P (pos h) xs ys (same_others x y xs ys same) all.1,
 )
-same_fit (negsuc n) offset count (x ∷ xs) (y ∷ ys) same all = (λ called. absurd cc, same_fit (negsuc n) offset count xs ys (same_others x y xs ys same) all.1)
+same_sizes P (negsuc n) (x ∷ xs) (y ∷ ys) same all = (λ called. absurd cc, same_sizes P (negsuc n) xs ys (same_others x y xs ys same) all.1)
 
 -- what is buffered for files may be buffered for files that are like them
 pub same_buffered : (xs ys : List File) (next : ℕ) (change : Change) → outlines xs ≡ outlines ys → IsBuffered xs next change → IsBuffered ys next change
-same_buffered xs ys next (Write handle offset bytes) same buffered = (buffered.0, same_fit handle offset (length bytes) xs ys same buffered.1)
-same_buffered xs ys next (SetAll handle n) same buffered = buffered
+same_buffered xs ys next (Edit handle edit) same buffered = (buffered.0, same_sizes (λ size. fits size edit ≡ true) handle xs ys same buffered.1, buffered.2)
 same_buffered xs ys next other same buffered = absurd buffered
 
 -- its group is the same, and it is of files that are gone in both alike
 pub same_group : (xs ys : List File) (next : ℕ) (changes : List Change) → outlines xs ≡ outlines ys → AllByRecursion (IsBuffered xs next) changes
     → group_of xs changes ≡ group_of ys changes
 same_group xs ys next [] same all = refl
-same_group xs ys next (Write handle offset bytes ∷ changes) same all =
-    ap (λ i. file.Write i (nat_abs offset) bytes ∷ group_of xs changes) (same_index handle xs ys same)
-    ∙ ap (λ g. file.Write (index_of (is_called handle) ys) (nat_abs offset) bytes ∷ g) (same_group xs ys next changes same all.1)
-same_group xs ys next (SetAll handle n ∷ changes) same all =
-    ap (λ i. file.SetAll i (nat_abs n) ∷ group_of xs changes) (same_index handle xs ys same)
-    ∙ ap (λ g. file.SetAll (index_of (is_called handle) ys) (nat_abs n) ∷ g) (same_group xs ys next changes same all.1)
+same_group xs ys next (Edit handle edit ∷ changes) same all = cc (same_index handle xs ys same, same_group xs ys next changes same all.1)
 same_group xs ys next (other ∷ changes) same all = absurd all.0
 
 pub same_gone : (xs ys : List File) (next : ℕ) (changes : List Change) → outlines xs ≡ outlines ys → AllByRecursion (IsBuffered xs next) changes
     → list_any (is_of_none xs) changes ≡ list_any (is_of_none ys) changes
 same_gone xs ys next [] same all = refl
-same_gone xs ys next (Write handle offset bytes ∷ changes) same all = cc (same_none handle xs ys same, same_gone xs ys next changes same all.1)
-same_gone xs ys next (SetAll handle n ∷ changes) same all = cc (same_none handle xs ys same, same_gone xs ys next changes same all.1)
+same_gone xs ys next (Edit handle edit ∷ changes) same all = cc (same_none handle xs ys same, same_gone xs ys next changes same all.1)
 same_gone xs ys next (other ∷ changes) same all = absurd all.0
 
 -- files that are alike have the same handles
@@ -124,26 +114,6 @@ outlines_kept test change (first ∷ files) keeps = by (test first) refl (outlin
 pub all_files : (P : File → Type 0) (files : List File) → ((file : File) → P file) → AllByRecursion P files
 all_files P [] each = tt
 all_files P (first ∷ files) each = (each first, all_files P files each)
-
--- the bytes that are overwritten stay as many
-length_kept : (old bytes : List ℕ) (offset : ℕ) → offset + length bytes ≤ length old → length (overwritten old offset bytes) ≡ length old
-length_kept old bytes offset fits =
-    let rest = drop (offset + length bytes) old in
-    let same : length (take offset old ++ bytes ++ rest) ≡ length old =
-    omega (
-      arith,
-      length-append (take offset old ++ bytes) rest,
-      length-append (take offset old) bytes,
-      length-take offset old,
-      length-drop (offset + length bytes) old,
-    ) in
-    same
-
--- a write that fits keeps the size
-pub write_keeps : (file : File) (offset : ℤ) (bytes : List ℕ) → is_range (length file.bytes) offset (pos (length bytes)) ≡ true
-    → outline (record file { bytes = overwritten file.bytes (nat_abs offset) bytes }) ≡ outline file
-write_keeps file offset bytes fits =
-    ap (λ n. (file.handle, n)) (length_kept file.bytes bytes (nat_abs offset) (leb-true _ _ (range_end (length file.bytes) offset (length bytes) fits)))
 
 -- ---- the one file that a test finds
 
