@@ -64,11 +64,7 @@ pub passed : (state : State) (holdings : Holdings) (control : ℕ) (change : Cha
     → ChecksAt (totals_of state holdings) control change (Ok made)
     → first_refusal (refusals_of_change (totals_of state holdings) control change) ≡ None
 passed StoreOff holdings control change made checks = absurd checks.1
-passed (StoreReady files sequence) holdings control change made checks =
-    ap (λ b. cond b (Some (answer.Refused code.Claimed 0))
-    (first_refusal (change_rows (totals_limits holdings.layout) (with_tags holdings.handles.given files) control
-    (spent_by (totals_of (StoreReady files sequence) holdings) control) change))) checks.0
-    ∙ checks.1.unrefused
+passed (StoreReady files sequence) holdings control change made checks = rw checks.0 checks.1.unrefused
 
 -- outside a transaction nothing is buffered
 pub outside : (transaction : Option (List Change)) → is_some transaction ≡ false → transaction ≡ None
@@ -79,35 +75,24 @@ outside (Some buffer) none = absurd cc
 grouped : (totals : Totals) (control : ℕ) (change : Change) (is_buffered : Bool)
     → first_refusal (refusals_of_change totals control change) ≡ None → is_some (transaction_at totals.transactions control) ≡ is_buffered
     → group_by_change totals control change ≡ cond (not is_buffered) (change ∷ []) []
-grouped totals control change is_buffered unrefused is =
-    ap (λ (o : Option Answer). cond (is_none o && not (is_some (transaction_at totals.transactions control))) (change ∷ []) []) unrefused
-    ∙ ap (λ b. cond (not b) (change ∷ []) []) is
+grouped totals control change is_buffered unrefused is = rw (unrefused, is) refl
 
 no_group : (totals : Totals) (control : ℕ) (change : Change) (refusal : Answer)
     → first_refusal (refusals_of_change totals control change) ≡ Some refusal → group_by_change totals control change ≡ []
-no_group totals control change refusal refused =
-    ap (λ (o : Option Answer). cond (is_none o && not (is_some (transaction_at totals.transactions control))) (change ∷ []) []) refused
+no_group totals control change refusal refused = rw refused refl
 
 -- what a change does outside a transaction
 pub does_outside : (DiskFailed : Type 0) (old : Totals) (control : ℕ) (change : Change) (result : Answer) (new : Totals)
     → transaction_at old.transactions control ≡ None
     → Decided (number_rows old change) result (new ≡ old)
     (RunsOut old result new ⊎ Done DiskFailed old (change ∷ []) (given_by old.next change) result new) → DoesChange DiskFailed old control change result new
-does_outside DiskFailed old control change result new none does =
-    subst (λ (t : Option (List Change)). MatchOption t
-    (Decided (number_rows old change) result (new ≡ old) (RunsOut old result new ⊎ Done DiskFailed old (change ∷ []) (given_by old.next change) result new))
-    (λ buffer. (result ≡ answer.Done value.Empty) × (new ≡ with_transaction old control (Some (buffer ++ change ∷ []))))) (sym none) does
+does_outside DiskFailed old control change result new none does = rw none does
 
 -- and what it does inside one
 does_inside : (DiskFailed : Type 0) (old : Totals) (control : ℕ) (change : Change) (buffer : List Change)
     → transaction_at old.transactions control ≡ Some buffer
     → DoesChange DiskFailed old control change (answer.Done value.Empty) (with_transaction old control (Some (buffer ++ change ∷ [])))
-does_inside DiskFailed old control change buffer some =
-    let result : Answer = answer.Done value.Empty in
-    let new = with_transaction old control (Some (buffer ++ change ∷ [])) in
-    subst (λ (t : Option (List Change)). MatchOption t
-    (Decided (number_rows old change) result (new ≡ old) (RunsOut old result new ⊎ Done DiskFailed old (change ∷ []) (given_by old.next change) result new))
-    (λ buffer. (result ≡ answer.Done value.Empty) × (new ≡ with_transaction old control (Some (buffer ++ change ∷ []))))) (sym some) (refl, refl)
+does_inside DiskFailed old control change buffer some = rw some (refl, refl)
 
 -- ---- where nothing changes
 

@@ -4,6 +4,7 @@ use Rattle.std.proofs.Common.{refl, sym, ap, subst, arith}
 use Rattle.std.specs.Prelude.{nat_eq, slice_set}
 use Rattle.std.specs.List.{find, list_any, AllByRecursion}
 use Rattle.std.proofs.lemmas.List.{length-map}
+use Rattle.std.proofs.lemmas.Bool.Decides.{nat_tests}
 use Rattle.pos_dir.specs.declared.file.File.{File as PlainFile}
 use Rattle.pos_image.specs.declared.layout.Layout.{Layout}
 use Rattle.pos_service.specs.declared.answer.Answer.TheVariants as answer
@@ -35,25 +36,13 @@ claimed_files : (handle : ℕ) (claim : Option ℕ) (tags : List Tag) (files : L
     → with_tags (map (tag_claimed handle claim) tags) files ≡ with_each (is_called (pos handle)) (claimed claim) (with_tags tags files)
 claimed_files handle claim [] files = refl
 claimed_files handle claim (tag ∷ tags) [] = refl
-claimed_files handle claim (tag ∷ tags) (file ∷ files) = by (nat_eq tag.handle handle) (claimed_files handle claim tags files)
-  where
-    by : (b : Bool) → with_tags (map (tag_claimed handle claim) tags) files ≡ with_each (is_called (pos handle)) (claimed claim) (with_tags tags files)
-        → ◌≡◌ {A = List File} (called (cond b (record tag { claim = claim }) tag) file ∷ with_tags (map (tag_claimed handle claim) tags) files)
-        (cond b (claimed claim (called tag file)) (called tag file) ∷ with_each (is_called (pos handle)) (claimed claim) (with_tags tags files))
-    by true rest = ap (λ fs. claimed claim (called tag file) ∷ fs) rest
-    by false rest = ap (λ fs. called tag file ∷ fs) rest
+claimed_files handle claim (tag ∷ tags) (file ∷ files) = grind (arith, nat_tests, claimed_files handle claim tags files)
 
 released_files : (control : ℕ) (tags : List Tag) (files : List PlainFile)
     → with_tags (map (tag_released control) tags) files ≡ with_each (is_own_claim control) (claimed None) (with_tags tags files)
 released_files control [] files = refl
 released_files control (tag ∷ tags) [] = refl
-released_files control (tag ∷ tags) (file ∷ files) = by (is_own control tag.claim) (released_files control tags files)
-  where
-    by : (b : Bool) → with_tags (map (tag_released control) tags) files ≡ with_each (is_own_claim control) (claimed None) (with_tags tags files)
-        → ◌≡◌ {A = List File} (called (cond b (record tag { claim = None }) tag) file ∷ with_tags (map (tag_released control) tags) files)
-        (cond b (claimed None (called tag file)) (called tag file) ∷ with_each (is_own_claim control) (claimed None) (with_tags tags files))
-    by true rest = ap (λ fs. claimed None (called tag file) ∷ fs) rest
-    by false rest = ap (λ fs. called tag file ∷ fs) rest
+released_files control (tag ∷ tags) (file ∷ files) = grind (arith, nat_tests, released_files control tags files)
 
 claimed_mode : (handle : ℕ) (claim : Option ℕ) (tags : List Tag) (state : State)
     → mode_of (map (tag_claimed handle claim) tags) state ≡ with_files (with_each (is_called (pos handle)) (claimed claim)) (mode_of tags state)
@@ -69,32 +58,18 @@ released_mode control tags (StoreReady files sequence) = ap (λ fs. Ready fs seq
 
 claimed_numbers : (handle : ℕ) (claim : Option ℕ) (tags : List Tag) → numbers_of (map (tag_claimed handle claim) tags) ≡ numbers_of tags
 claimed_numbers handle claim [] = refl
-claimed_numbers handle claim (tag ∷ tags) = by (nat_eq tag.handle handle) (claimed_numbers handle claim tags)
-  where
-    by : (b : Bool) → numbers_of (map (tag_claimed handle claim) tags) ≡ numbers_of tags
-        → ◌≡◌ {A = List ℕ} ((cond b (record tag { claim = claim }) tag).handle ∷ numbers_of (map (tag_claimed handle claim) tags))
-        (tag.handle ∷ numbers_of tags)
-    by true rest = ap (λ ns. tag.handle ∷ ns) rest
-    by false rest = ap (λ ns. tag.handle ∷ ns) rest
+claimed_numbers handle claim (tag ∷ tags) = grind (arith, nat_tests, claimed_numbers handle claim tags)
 
 pub released_numbers : (control : ℕ) (tags : List Tag) → numbers_of (map (tag_released control) tags) ≡ numbers_of tags
 released_numbers control [] = refl
-released_numbers control (tag ∷ tags) = by (is_own control tag.claim) (released_numbers control tags)
-  where
-    by : (b : Bool) → numbers_of (map (tag_released control) tags) ≡ numbers_of tags
-        → ◌≡◌ {A = List ℕ} ((cond b (record tag { claim = None }) tag).handle ∷ numbers_of (map (tag_released control) tags)) (tag.handle ∷ numbers_of tags)
-    by true rest = ap (λ ns. tag.handle ∷ ns) rest
-    by false rest = ap (λ ns. tag.handle ∷ ns) rest
+released_numbers control (tag ∷ tags) = grind (arith, nat_tests, released_numbers control tags)
 
 same_outlines : (xs ys : List Tag) (files : List PlainFile) → numbers_of xs ≡ numbers_of ys → outlines (with_tags xs files) ≡ outlines (with_tags ys files)
 same_outlines [] [] files same = refl
 same_outlines [] (y ∷ ys) files same = absurd cc
 same_outlines (x ∷ xs) [] files same = absurd cc
 same_outlines (x ∷ xs) (y ∷ ys) [] same = refl
-same_outlines (x ∷ xs) (y ∷ ys) (file ∷ files) same =
-    let first : x.handle ≡ y.handle = cc in
-    let others : numbers_of xs ≡ numbers_of ys = cc in
-    ap (λ n. (n, length file.bytes) ∷ outlines (with_tags xs files)) first ∙ ap (λ os. (y.handle, length file.bytes) ∷ os) (same_outlines xs ys files others)
+same_outlines (x ∷ xs) (y ∷ ys) (file ∷ files) same = let others : numbers_of xs ≡ numbers_of ys = cc in cc (same_outlines xs ys files others)
 
 -- tags of the same handles are as sound
 pub sound_retagged : {layout : Layout} (state : State) (holdings : Holdings) (tags : List Tag) → numbers_of tags ≡ numbers_of holdings.handles.given

@@ -56,23 +56,19 @@ gathers files (first ∷ others) group some made = record { first = first; other
 -- nothing refuses the commit
 pub unrefused : (files : List File) (control : ℕ) (changes : List Change) → list_any (is_of_none files) changes ≡ false
     → list_any (is_of_foreign files control) changes ≡ false → first_refusal (commit_rows files control (Some changes)) ≡ None
-unrefused files control changes there own =
-    ap (λ b. cond b (Some (answer.Refused code.NoExist 0))
-    (cond (list_any (is_of_foreign files control) changes) (Some (answer.Refused code.Claimed 0)) None)) there
-    ∙ ap (λ b. cond b (Some (answer.Refused code.Claimed 0)) None) own
+unrefused files control changes there own = rw (there, own) refl
 
 -- ---- the table of a commit
 
 -- the group of a commit that is refused
 no_group : (totals : Totals) (control : ℕ) (refusal : Answer) → first_refusal (refusals_of_commit totals control) ≡ Some refusal
     → group_by_commit totals control ≡ []
-no_group totals control refusal refused = ap (λ (o : Option Answer). cond (is_none o) (changes_in (transaction_of totals control)) []) refused
+no_group totals control refusal refused = rw refused refl
 
 -- and of one that is let through
 whole_group : (totals : Totals) (control : ℕ) (buffer : List Change) → first_refusal (refusals_of_commit totals control) ≡ None
     → transaction_at totals.transactions control ≡ Some buffer → group_by_commit totals control ≡ buffer
-whole_group totals control buffer passes some =
-    ap (λ (o : Option Answer). cond (is_none o) (changes_in (transaction_of totals control)) []) passes ∙ ap changes_in some
+whole_group totals control buffer passes some = rw (passes, some) refl
 
 -- the files of what is let through are there
 all_there : (files : List PlainFile) (sequence : ℕ) (holdings : Holdings) (control : ℕ) (buffer : List Change)

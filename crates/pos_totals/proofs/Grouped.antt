@@ -9,6 +9,7 @@ use Rattle.std.proofs.lemmas.List.{map-set, map-append, take-map, drop-map, leng
 use Rattle.std.proofs.lemmas.List.Sums.{sum_by-cons}
 use Rattle.std.proofs.lemmas.Option.{slice_get-map}
 use Rattle.std.proofs.lemmas.Slice.Eq.{bytes_eq-Decides}
+use Rattle.std.proofs.lemmas.Bool.Decides.{nat_tests}
 use Rattle.pos_dir.specs.Changes.{splice, with_file, outcome, outcome_of_all, and_then}
 use Rattle.pos_dir.specs.Files.{IsDirectory, has_name, are_distinct, total_size}
 use Rattle.pos_dir.specs.declared.change.Change.{Change as FileChange}
@@ -34,25 +35,18 @@ use Rattle.pos_totals.specs.Views.{plain, plain_file, handles_of, AreDistinct}
 
 -- a row that doesn't refuse, and the rows behind it
 pub not_refused : (applies : Bool) (answer : Answer) (rest : Option Answer) → cond applies (Some answer) rest ≡ None → (applies ≡ false) × (rest ≡ None)
-not_refused true answer rest none = absurd cc
-not_refused false answer rest none = (refl, none)
+not_refused applies answer rest none = grind (arith, nat_tests)
 
 -- neither of two conditions of a row holds
 pub neither : (x y : Bool) → (x || y) ≡ false → (x ≡ false) × (y ≡ false)
-neither true y none = absurd cc
-neither false y none = (refl, none)
+neither x y none = grind (arith, nat_tests)
 
 -- ---- names and handles
 
 -- the directory's test for a name
 pub plain_name : (files : List File) (name : List ℕ) → has_name (plain files) name ≡ has_file (is_named name) files
 plain_name [] name = refl
-plain_name (first ∷ files) name = by (bytes_eq first.name name) (plain_name files name)
-  where
-    by : (b : Bool) → has_name (plain files) name ≡ has_file (is_named name) files
-        → (b || has_name (plain files) name) ≡ is_some (cond b (Some first) (find (is_named name) files))
-    by true rest = refl
-    by false rest = rest
+plain_name (first ∷ files) name = grind (arith, nat_tests, plain_name files name)
 
 pub no_file : (found : Option File) → is_some found ≡ false → found ≡ None
 no_file None none = refl
@@ -102,12 +96,12 @@ map-remove f xs i =
 
 one_change : (limits : Limits) (files after : List PlainFile) (change : FileChange) → outcome limits files change ≡ Ok after
     → outcome_of_all limits files (change ∷ []) ≡ Ok after
-one_change limits files after change made = ap (λ r. and_then r (λ next. Ok next)) made
+one_change limits files after change made = rw made refl
 
 -- the directory's change of a file at an index
 at_index : (files : List File) (i : ℕ) (f : File) (change : PlainFile → Result (List PlainFile) DirectoryFault) → slice_get files i ≡ Some f
     → with_file (slice_get (plain files) i) change ≡ change (plain_file f)
-at_index files i f change at = ap (λ o. with_file o change) (slice_get-map plain_file files i ∙ ap (option_map plain_file) at)
+at_index files i f change at = rw (slice_get-map plain_file files i, at) refl
 
 pub plain_size : (files : List File) → total_size (plain files) ≡ size_in_sum files
 plain_size [] = refl
@@ -129,20 +123,16 @@ made_create : (layout : Layout) (files : List File) (control : ℕ) (spent : Opt
     → total_size (plain files) ≤ (limits_of layout).bytes
     → first_refusal (change_rows (totals_limits layout) files control spent (Create name size)) ≡ None → Makes layout files (Create name size) next
 made_create layout files control spent name size next small unrefused =
-    let good = not_refused (is_some spent || not (is_name name && is_natural size)) _ _ unrefused in
-    let free = not_refused (has_file (is_named name) files) _ _ good.1 in
-    let room = not_refused (not (has_room (totals_limits layout) files size)) _ _ free.1 in
-    let parts = and_parts (is_up_to (free_data (totals_limits layout) files) size) (nat_lt (length files) (limits_of layout).files)
-    (not-false (has_room (totals_limits layout) files size) room.0) in
-    let few : nat_lt (length (plain files)) (limits_of layout).files ≡ true = ap (λ n. nat_lt n (limits_of layout).files) (length-map files plain_file) ∙
-    parts.1 in
-    let fits : nat_le (total_size (plain files) + nat_abs size) (limits_of layout).bytes ≡ true =
-    le-leb _ _ (omega (arith, small, plain_size files, up_to (free_data (totals_limits layout) files) size parts.0)) in
     let new : PlainFile = record { name = name; bytes = replicate (nat_abs size) 0 } in
-    cond-false (has_name (plain files) name) _ _ (plain_name files name ∙ free.0)
-    ∙ cond-true (nat_lt (length (plain files)) (limits_of layout).files && nat_le (total_size (plain files) + nat_abs size) (limits_of layout).bytes) _ _
-    (and_from _ _ few fits)
-    ∙ ap (λ (fs : List PlainFile). Ok fs)
+    let made : outcome (limits_of layout) (plain files) (file_change files (Create name size)) ≡ Ok (plain files ++ new ∷ []) = grind (
+      arith,
+      nat_tests,
+      plain_name files name,
+      plain_size files,
+      length-map files plain_file,
+      up_to (free_data (totals_limits layout) files) size,
+    ) in
+    made ∙ ap (λ (fs : List PlainFile). Ok fs)
     (sym (map-append plain_file files (record { handle = next; name = name; bytes = replicate (nat_abs size) 0; claim = None } ∷ [])))
 
 -- the file of a delete that nothing refuses

@@ -5,6 +5,7 @@ use Rattle.std.specs.Prelude.{remove}
 use Rattle.std.specs.List.{AllByRecursion}
 use Rattle.std.proofs.lemmas.List.{map-append, length-map}
 use Rattle.std.proofs.Math.Seq.{take-nil, drop-nil}
+use Rattle.std.proofs.lemmas.Bool.Decides.{nat_tests}
 use Rattle.pos_dir.specs.Files.{are_distinct}
 use Rattle.pos_image.specs.declared.layout.Layout.{Layout}
 use Rattle.pos_totals.specs.HardTotals.{File, Change, Create, Delete, Rename, Edit, totals_limits}
@@ -27,12 +28,7 @@ use Rattle.pos_totals.specs.declared.handles.Tag.{Tag}
 pub same_tags : (test : File → Bool) (change : File → File) (files : List File) → ((file : File) → tag_of (change file) ≡ tag_of file)
     → tags_of (with_each test change files) ≡ tags_of files
 same_tags test change [] keeps = refl
-same_tags test change (first ∷ files) keeps = by (test first) (same_tags test change files keeps)
-  where
-    by : (b : Bool) → tags_of (with_each test change files) ≡ tags_of files
-        → ◌≡◌ {A = List Tag} (tag_of (cond b (change first) first) ∷ tags_of (with_each test change files)) (tag_of first ∷ tags_of files)
-    by true rest = ap (λ t. t ∷ tags_of (with_each test change files)) (keeps first) ∙ ap (λ ts. tag_of first ∷ ts) rest
-    by false rest = ap (λ ts. tag_of first ∷ ts) rest
+same_tags test change (first ∷ files) keeps = grind (arith, nat_tests, keeps first, same_tags test change files keeps)
 
 pub given_is : (layout : Layout) (files : List File) (control : ℕ) (spent : Option ℕ) (change : Change) (next : ℕ) → are_distinct (plain files) ≡ true
     → first_refusal (change_rows (totals_limits layout) files control spent change) ≡ None

@@ -4,6 +4,7 @@ use Rattle.std.proofs.Common.{None, refl, sym, ap, subst, arith}
 use Rattle.std.specs.Prelude.{is_none, nat_eq}
 use Rattle.std.specs.List.{find, filter, list_any, AllByRecursion}
 use Rattle.std.proofs.lemmas.Option.{same_Some}
+use Rattle.std.proofs.lemmas.Bool.Decides.{nat_tests}
 use Rattle.pos_totals.specs.HardTotals.{File, Change, Edit}
 use Rattle.pos_totals.specs.TotalsFiles.{is_called, with_each}
 use Rattle.pos_totals.specs.Edits.{fits}
@@ -34,25 +35,15 @@ same_index handle [] [] same = refl
 same_index handle [] (y ∷ ys) same = absurd cc
 same_index handle (x ∷ xs) [] same = absurd cc
 same_index (pos h) (x ∷ xs) (y ∷ ys) same =
-    ap (λ (p : ℕ × ℕ). cond (not (nat_eq p.0 h)) (1 + index_of (is_called (pos h)) xs) 0) (same_first x y xs ys same)
-    ∙ ap (λ n. cond (not (nat_eq y.handle h)) (1 + n) 0) (same_index (pos h) xs ys (same_others x y xs ys same))
-same_index (negsuc n) (x ∷ xs) (y ∷ ys) same = ap (λ n. 1 + n) (same_index (negsuc n) xs ys (same_others x y xs ys same))
+    cc (ap (λ (p : ℕ × ℕ). p.0) (same_first x y xs ys same), same_index (pos h) xs ys (same_others x y xs ys same))
+same_index (negsuc n) (x ∷ xs) (y ∷ ys) same = cc (same_index (negsuc n) xs ys (same_others x y xs ys same))
 
 -- whether there is a file with a handle
 same_none : (handle : ℤ) (xs ys : List File) → outlines xs ≡ outlines ys → is_none (find (is_called handle) xs) ≡ is_none (find (is_called handle) ys)
 same_none handle [] [] same = refl
 same_none handle [] (y ∷ ys) same = absurd cc
 same_none handle (x ∷ xs) [] same = absurd cc
-same_none (pos h) (x ∷ xs) (y ∷ ys) same =
-    by (nat_eq x.handle h) (nat_eq y.handle h) (ap (λ (p : ℕ × ℕ). nat_eq p.0 h) (same_first x y xs ys same))
-    (same_none (pos h) xs ys (same_others x y xs ys same))
-  where
-    by : (a b : Bool) → a ≡ b → is_none (find (is_called (pos h)) xs) ≡ is_none (find (is_called (pos h)) ys)
-        → is_none (cond a (Some x) (find (is_called (pos h)) xs)) ≡ is_none (cond b (Some y) (find (is_called (pos h)) ys))
-    by true true alike rest = refl
-    by true false alike rest = absurd cc
-    by false true alike rest = absurd cc
-    by false false alike rest = rest
+same_none (pos h) (x ∷ xs) (y ∷ ys) same = grind (arith, nat_tests, same_none (pos h) xs ys (same_others x y xs ys same))
 same_none (negsuc n) (x ∷ xs) (y ∷ ys) same = same_none (negsuc n) xs ys (same_others x y xs ys same)
 
 -- what holds of the size of each file with a handle
@@ -92,7 +83,7 @@ same_numbers [] [] same = refl
 same_numbers [] (y ∷ ys) same = absurd cc
 same_numbers (x ∷ xs) [] same = absurd cc
 same_numbers (x ∷ xs) (y ∷ ys) same =
-    ap (λ (p : ℕ × ℕ). p.0 ∷ handles_of xs) (same_first x y xs ys same) ∙ ap (λ hs. y.handle ∷ hs) (same_numbers xs ys (same_others x y xs ys same))
+    cc (ap (λ (p : ℕ × ℕ). p.0) (same_first x y xs ys same), same_numbers xs ys (same_others x y xs ys same))
 
 pub same_distinct : (xs ys : List File) → outlines xs ≡ outlines ys → AreDistinct (handles_of xs) → AreDistinct (handles_of ys)
 same_distinct xs ys same distinct = subst AreDistinct (same_numbers xs ys same) distinct
@@ -103,12 +94,7 @@ same_distinct xs ys same distinct = subst AreDistinct (same_numbers xs ys same) 
 pub outlines_kept : (test : File → Bool) (change : File → File) (files : List File)
     → AllByRecursion (λ file. test file ≡ true → outline (change file) ≡ outline file) files → outlines (with_each test change files) ≡ outlines files
 outlines_kept test change [] keeps = refl
-outlines_kept test change (first ∷ files) keeps = by (test first) refl (outlines_kept test change files keeps.1)
-  where
-    by : (b : Bool) → test first ≡ b → outlines (with_each test change files) ≡ outlines files
-        → ◌≡◌ {A = List (ℕ × ℕ)} (outline (cond b (change first) first) ∷ outlines (with_each test change files)) (outline first ∷ outlines files)
-    by true is rest = ap (λ o. o ∷ outlines (with_each test change files)) (keeps.0 is) ∙ ap (λ os. outline first ∷ os) rest
-    by false is rest = ap (λ os. outline first ∷ os) rest
+outlines_kept test change (first ∷ files) keeps = grind (arith, nat_tests, keeps.0, outlines_kept test change files keeps.1)
 
 -- what holds of all files holds of all
 pub all_files : (P : File → Type 0) (files : List File) → ((file : File) → P file) → AllByRecursion P files

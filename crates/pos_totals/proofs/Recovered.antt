@@ -55,22 +55,10 @@ told_finds : (P : Standing → Type 0) (holdings : Holdings) (why : StoreFault) 
 told_finds P holdings cause.Off result layout state finds tells = absurd finds
 told_finds P holdings cause.Exhausted result layout state finds tells = absurd finds
 told_finds P holdings cause.AlreadyLayout2 result layout state finds tells = absurd finds
-told_finds P holdings cause.Unformatted result layout state finds tells =
-    let is : fault.Unformatted ≡ result = cc in
-    subst (λ (f : RecoveryFault). FindsFiles P (totals_of StoreOff holdings) (Err f) (totals_of state holdings)) is
-    (finds.0, ap (λ (s : State). totals_of s holdings) finds.1)
-told_finds P holdings cause.Damaged result layout state finds tells =
-    let is : fault.Damaged ≡ result = cc in
-    subst (λ (f : RecoveryFault). FindsFiles P (totals_of StoreOff holdings) (Err f) (totals_of state holdings)) is
-    (finds.0, ap (λ (s : State). totals_of s holdings) finds.1)
-told_finds P holdings cause.NoMemory result layout state finds tells =
-    let is : fault.NoMemory ≡ result = cc in
-    subst (λ (f : RecoveryFault). FindsFiles P (totals_of StoreOff holdings) (Err f) (totals_of state holdings)) is
-    (ap (λ (s : State). totals_of s holdings) finds)
-told_finds P holdings cause.Device result layout state finds tells =
-    let is : fault.Device ≡ result = cc in
-    subst (λ (f : RecoveryFault). FindsFiles P (totals_of StoreOff holdings) (Err f) (totals_of state holdings)) is
-    (ap (λ (s : State). totals_of s holdings) finds)
+told_finds P holdings cause.Unformatted result layout state finds tells = let is : fault.Unformatted ≡ result = cc in rw (← is, finds.1) (finds.0, refl)
+told_finds P holdings cause.Damaged result layout state finds tells = let is : fault.Damaged ≡ result = cc in rw (← is, finds.1) (finds.0, refl)
+told_finds P holdings cause.NoMemory result layout state finds tells = let is : fault.NoMemory ≡ result = cc in rw (← is, finds) refl
+told_finds P holdings cause.Device result layout state finds tells = let is : fault.Device ≡ result = cc in rw (← is, finds) refl
 
 -- the holdings with other tags, and with another layout too
 abbrev pub with_table : Holdings → HandleTable → Holdings
