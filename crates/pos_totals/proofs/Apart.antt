@@ -1,15 +1,14 @@
 -- Where a control has claimed the area, no other has claimed a file.
-use Rattle.std.proofs.Common.{◌≡◌, ℕ, zero, suc, ◌+◌, Bool, true, false, not, cond, List, [], ◌∷◌, length, map, Option, Some, None, IfSome, refl, sym, ap}
+use Rattle.std.proofs.Common.{◌≡◌, ℕ, zero, suc, ◌+◌, Bool, true, false, cond, List, [], ◌∷◌, length, map, Option, Some, None, IfSome, refl}
 use Rattle.std.proofs.Common.{arith}
 use Rattle.std.specs.Prelude.{nat_eq}
 use Rattle.std.specs.List.{list_any, AllByRecursion}
-use Rattle.std.proofs.lemmas.Bool.{eqb-true, eq-eqb, not-false}
 use Rattle.std.proofs.lemmas.Bool.Decides.{nat_tests}
 use Rattle.pos_dir.specs.declared.change.Change.{Change as FileChange}
 use Rattle.pos_dir.specs.declared.change.Change.TheVariants as file
 use Rattle.pos_dir.specs.declared.file.File.{File as PlainFile}
 use Rattle.pos_image.specs.declared.layout.Layout.{Layout}
-use Rattle.pos_service.specs.Claims.{is_foreign, is_own}
+use Rattle.pos_service.specs.Claims.{is_foreign}
 use Rattle.pos_totals.specs.TotalsClaims.{is_foreign_claim, foreign_area, is_area_taken}
 use Rattle.pos_store.specs.StoreViews.{StoreState as State}
 use Rattle.pos_store.specs.StoreViews.{Off as StoreOff, Ready as StoreReady}

@@ -1,5 +1,5 @@
 -- What an edit does to its file, to the directory, and to the handles.
-use Rattle.std.proofs.Common.{◌≡◌, ℕ, ◌+◌, ◌≤◌, ℤ, pos, negsuc, nat_abs, Bool, true, false, List, ◌++◌, length, take, drop, Some, Ok, refl, arith}
+use Rattle.std.proofs.Common.{◌≡◌, ℕ, ◌+◌, ℤ, pos, negsuc, nat_abs, true, false, List, ◌++◌, length, take, drop, Some, Ok, refl, arith}
 use Rattle.std.specs.Prelude.{is_some, slice_get, slice_set, nat_le}
 use Rattle.std.proofs.lemmas.Bool.{cond-true, leb-true}
 use Rattle.std.proofs.lemmas.List.{length-append, length-take, length-drop}

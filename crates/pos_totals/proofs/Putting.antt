@@ -1,6 +1,6 @@
 -- A group that is put on the disk: what the store did, and what it says of the totals.
-use Rattle.std.proofs.Common.{◌≡◌, ◌⊎◌, inl, inr, ⊎_elim, ℕ, ◌+◌, Bool, true, false, cond, List, [], ◌∷◌, map, Option, Some, None, Result, Ok, Err, IsErrOf}
-use Rattle.std.proofs.Common.{MatchOption, MatchResult, refl, sym, ap, subst, arith}
+use Rattle.std.proofs.Common.{◌≡◌, ◌⊎◌, inl, inr, ⊎_elim, ℕ, ◌+◌, Bool, true, false, cond, List, [], ◌∷◌, map, Some, None, Result, Ok, Err, IsErrOf}
+use Rattle.std.proofs.Common.{MatchResult, refl, sym, ap, subst, arith}
 use Rattle.std.specs.Prelude.{nat_eq, IsOk}
 use Rattle.std.proofs.lemmas.Bool.{eqb-true}
 use Rattle.pos_dir.specs.Changes.{outcome_of_all}
