@@ -4,6 +4,7 @@ use Rattle.std.proofs.Common.{Option, Some, None, Result, Ok, Err, refl, sym, ap
 use Rattle.std.specs.Prelude.{slice_get, slice_set, remove, replicate, nat_lt, nat_le}
 use Rattle.std.specs.Option.{option_map}
 use Rattle.std.proofs.lemmas.Bool.{and_parts, ltb-true, leb-true, le-leb}
+use Rattle.std.proofs.lemmas.Bool.Decides.{nat_tests}
 use Rattle.std.proofs.lemmas.List.{length-replicate, length-take, length-drop}
 use Rattle.pos_dir.specs.declared.file.File.{File}
 use Rattle.pos_dir.specs.declared.limits.Limits.{Limits}
@@ -19,20 +20,17 @@ use Rattle.pos_dir.specs.Outlines.{shape_of_file, size_in, answer_by_size}
 
 chosen : {A : Type 0} (b : Bool) (fault : DirectoryFault) (x : A) (y : A) → ◌≡◌ {A = Result A DirectoryFault} (cond b (Ok x) (Err fault)) (Ok y)
     → (b ≡ true) × (x ≡ y)
-chosen true fault x y h = (refl, cc)
-chosen false fault x y h = absurd cc
+chosen b fault x y h = grind (arith, nat_tests)
 
 refused : {A : Type 0} (b : Bool) (fault : DirectoryFault) (r : Result A DirectoryFault) (y : A) → cond b (Err fault) r ≡ Ok y → (b ≡ false) × (r ≡ Ok y)
-refused true fault r y h = absurd cc
-refused false fault r y h = (refl, h)
+refused b fault r y h = grind (arith, nat_tests)
 
 found : (o : Option File) (f : File → Result (List File) DirectoryFault) (y : List File) → with_file o f ≡ Ok y → (x : File) × (o ≡ Some x) × (f x ≡ Ok y)
 found None f y h = absurd cc
 found (Some x) f y h = (x, refl, h)
 
 good_name : (b : Bool) → ◌≡◌ {A = Option DirectoryFault} (cond b None (Some BadName)) None → b ≡ true
-good_name true h = refl
-good_name false h = absurd cc
+good_name b h = grind (arith, nat_tests)
 
 -- two files at one place are the same
 pub same_file : (x y : File) → Some x ≡ Some y → x ≡ y
@@ -95,8 +93,8 @@ KeepsShapes files (Err fault) expected = expected ≡ Err fault
 same_shapes : (files : List File) (i : ℕ) (old new : File) → slice_get files i ≡ Some old → shape_of_file new ≡ shape_of_file old
     → map shape_of_file (set files i new) ≡ map shape_of_file files
 same_shapes [] i old new at same = refl
-same_shapes (f ∷ files) zero old new at same = ap (λ s. s ∷ map shape_of_file files) (same ∙ ap shape_of_file (same_file old f (sym at)))
-same_shapes (f ∷ files) (suc i) old new at same = ap (λ ss. shape_of_file f ∷ ss) (same_shapes files i old new at same)
+same_shapes (f ∷ files) zero old new at same = cc
+same_shapes (f ∷ files) (suc i) old new at same = cc (same_shapes files i old new at same)
 
 by_bytes : (files : List File) (place : ℕ × ℕ) (bytes_of : List ℕ → List ℕ) (file : File) (enough : Bool) → slice_get files place.0 ≡ Some file
     → (place.1 ≤ length file.bytes → length (bytes_of file.bytes) ≡ length file.bytes) → nat_le place.1 (length file.bytes) ≡ enough
@@ -163,14 +161,12 @@ makes limits files next (Rename index name) h =
     let new : File = record at.0 { name = name } in
     let free = refused (has_name files name) Exists (Ok (slice_set files index new)) next at.2 in
     Renames index at.0 new at.1 (good_name (is_name name)) free.0 refl (cc (free.1))
-makes limits files next (Write index offset bytes) h = rewrites limits files next (Write index offset bytes) (index, offset + length bytes) refl h
-makes limits files next (SetAll index value) h = rewrites limits files next (SetAll index value) (index, 0) refl h
+makes limits files next other h = rewrites limits files next other _ refl h
 
 -- ---- want of memory is no fault of a change
 
 never_chosen : (b : Bool) (x y : Result (List File) DirectoryFault) → (x ≡ Err NoMemory → ⊥) → (y ≡ Err NoMemory → ⊥) → cond b x y ≡ Err NoMemory → ⊥
-never_chosen true x y never_x never_y = never_x
-never_chosen false x y never_x never_y = never_y
+never_chosen b x y never_x never_y = λ e. grind (arith, nat_tests)
 
 never_there : (o : Option File) (f : File → Result (List File) DirectoryFault) → ((file : File) → f file ≡ Err NoMemory → ⊥) → with_file o f ≡ Err NoMemory → ⊥
 never_there None f never = λ e. cc
@@ -191,5 +187,4 @@ never_one limits files (Delete index) = never_there (slice_get files index) (λ 
 never_one limits files (Rename index name) =
     never_there (slice_get files index) (λ file. cond (has_name files name) (Err Exists) (Ok (slice_set files index (record file { name = name }))))
     (λ file. never_chosen (has_name files name) _ _ (λ e. cc) (λ e. cc))
-never_one limits files (Write index offset bytes) = never_by_size limits files (Write index offset bytes) (index, offset + length bytes) refl
-never_one limits files (SetAll index value) = never_by_size limits files (SetAll index value) (index, 0) refl
+never_one limits files other = never_by_size limits files other _ refl
