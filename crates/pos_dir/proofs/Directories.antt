@@ -1,12 +1,12 @@
 -- A directory that is read is the one that was spelled.
-use Rattle.std.proofs.Common.{◌≡◌, ℕ, ◌+◌, ◌*◌, ◌^◌, ◌<◌, ◌≤◌, Bool, true, false, ◌&&◌, cond, List, [], ◌∷◌, ◌++◌, length, Option, Some, None, refl, sym, ap}
+use Rattle.std.proofs.Common.{◌≡◌, ℕ, ◌+◌, ◌*◌, ◌^◌, ◌<◌, ◌≤◌, true, false, ◌&&◌, cond, List, [], ◌∷◌, ◌++◌, length, Option, Some, None, refl, sym, ap}
 use Rattle.std.proofs.Common.{subst, ◌∙◌, arith, lit<}
 use Rattle.std.specs.Prelude.{nat_le, IfSome}
 use Rattle.std.specs.List.{flat_map, list_all, AllByRecursion}
 use Rattle.std.specs.Int.{w16, w32, to_be_bytes}
 use Rattle.std.proofs.lemmas.Bool.{and_parts}
 use Rattle.std.proofs.lemmas.Bool.Decides.{nat_tests}
-use Rattle.std.proofs.lemmas.List.{append-nil, length-append}
+use Rattle.std.proofs.lemmas.List.{length-append}
 use Rattle.std.proofs.lemmas.List.Sums.{sum_by-cons}
 use Rattle.pos_dir.specs.declared.file.File.{File}
 use Rattle.pos_dir.specs.declared.limits.Limits.{Limits}
@@ -14,9 +14,9 @@ use Rattle.pos_dir.specs.declared.limits.TheConstants.{LAYOUT_1, LAYOUT_2}
 use Rattle.pos_dir.specs.Files.{is_name, are_distinct, total_size, IsDirectory, AreWritable}
 use Rattle.pos_dir.specs.Fields.{name_spelling, text_spelling}
 use Rattle.pos_dir.specs.Spelling.{file_spelling, spelling, body_limit}
-use Rattle.pos_dir.specs.Fields.{◌>>=◌, number_at, name_at, text_at}
+use Rattle.pos_dir.specs.Fields.{◌>>=◌, number_at}
 use Rattle.pos_dir.specs.Reading.{file_at, items_at, end_within, is_sound, is_end, directory_at}
-use Rattle.pos_dir.proofs.Readers.{IsBytes, IsReader, Takes, Takes-then, bind_some, passed, u16_reads, name_reads, text_reads, both_take, both_again}
+use Rattle.pos_dir.proofs.Readers.{IsBytes, IsReader, Takes, passed, name_reads, text_reads, both_take, both_again}
 use Rattle.pos_dir.proofs.Items.{counted_take, counted_again}
 
 -- a file that has a spelling

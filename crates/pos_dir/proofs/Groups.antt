@@ -1,26 +1,24 @@
 -- A group that is read is the one that was spelled.
-use Rattle.std.proofs.Common.{◌≡◌, ◌⊎◌, ℕ, suc, ◌^◌, ◌<◌, Bool, true, false, cond, eqb, List, [], ◌∷◌, ◌++◌, length, Option, Some, None, refl, sym, ap, subst}
-use Rattle.std.proofs.Common.{◌∙◌, inl, inr, append_assoc, arith}
+use Rattle.std.proofs.Common.{◌≡◌, ℕ, suc, ◌^◌, ◌<◌, Bool, true, false, cond, eqb, List, [], ◌∷◌, ◌++◌, length, Option, Some, None, refl, sym, ap, subst}
+use Rattle.std.proofs.Common.{◌∙◌, append_assoc, arith}
 use Rattle.std.specs.Prelude.{nat_le}
-use Rattle.std.specs.List.{flat_map}
 use Rattle.std.specs.Int.{w16, w32, to_be_bytes}
 use Rattle.std.specs.Option.{option_map}
 use Rattle.std.proofs.lemmas.Bool.{eqb-true, leb-true}
 use Rattle.std.proofs.lemmas.Bool.Decides.{nat_tests}
-use Rattle.std.proofs.lemmas.List.{append-nil}
 use Rattle.pos_dir.specs.declared.change.Change.{Change}
 use Rattle.pos_dir.specs.declared.change.Change.TheVariants.{Create, Delete, Rename, Write, SetAll}
 use Rattle.pos_dir.specs.declared.fault.DirectoryFault.{DirectoryFault}
 use Rattle.pos_dir.specs.declared.fault.DirectoryFault.TheVariants.{BadName, Range}
 use Rattle.pos_dir.specs.Files.{is_name}
 use Rattle.pos_dir.specs.Changes.{write_limit, IsChange, IsGroup}
-use Rattle.pos_dir.specs.Fields.{name_spelling, text_spelling}
+use Rattle.pos_dir.specs.Fields.{text_spelling}
 use Rattle.pos_dir.specs.ChangeTexts.{change_spelling}
 use Rattle.pos_dir.specs.Spelling.{group_spelling}
-use Rattle.pos_dir.specs.Fields.{◌>>=◌, byte_at, number_at, name_at, text_at}
+use Rattle.pos_dir.specs.Fields.{◌>>=◌, number_at, text_at}
 use Rattle.pos_dir.specs.ChangeTexts.{create_at, delete_at, rename_at, write_at, set_all_at, fields_at, change_at}
 use Rattle.pos_dir.specs.Reading.{items_at, is_end, group_at}
-use Rattle.pos_dir.proofs.Readers.{IsBytes, IsReader, Takes, Takes-then, bind_some, passed, some_is, byte_spelling, byte_reads, u16_reads, u32_reads}
+use Rattle.pos_dir.proofs.Readers.{IsBytes, IsReader, Takes, Takes-then, bind_some, passed, some_is, byte_reads, u16_reads, u32_reads}
 use Rattle.pos_dir.proofs.Readers.{name_reads, text_reads, both_take, both_again}
 use Rattle.pos_dir.proofs.Items.{counted_take, counted_again}
 

@@ -1,6 +1,6 @@
 -- A change that is applicable leaves the files of a directory.
-use Rattle.std.proofs.Common.{◌≡◌, ℕ, zero, suc, ◌+◌, ◌<◌, ◌≤◌, Bool, true, false, not, ◌&&◌, ◌||◌, List, [], ◌∷◌, ◌++◌, length, drop, get_or, set}
-use Rattle.std.proofs.Common.{Some, Result, Ok, Err, refl, sym, ap, subst, ◌∙◌, arith, length-append}
+use Rattle.std.proofs.Common.{◌≡◌, ℕ, zero, suc, ◌+◌, ◌<◌, ◌≤◌, Bool, true, false, List, [], ◌∷◌, ◌++◌, length, drop, get_or, set}
+use Rattle.std.proofs.Common.{Some, Result, Ok, Err, refl, sym, ap, ◌∙◌, arith, length-append}
 use Rattle.std.specs.Prelude.{slice_get, remove}
 use Rattle.std.specs.List.{list_all, AllByRecursion}
 use Rattle.std.proofs.lemmas.List.Elements.{All-from_recursion}
@@ -19,7 +19,7 @@ use Rattle.pos_dir.specs.declared.change.Change.{Change}
 use Rattle.pos_dir.specs.declared.fault.DirectoryFault.{DirectoryFault}
 use Rattle.pos_dir.specs.Files.{is_name, has_name, are_distinct, total_size, IsDirectory}
 use Rattle.pos_dir.specs.Changes.{outcome, and_then, outcome_of_all, IsChange}
-use Rattle.pos_dir.proofs.Outcomes.{Makes, makes, same_file}
+use Rattle.pos_dir.proofs.Outcomes.{Makes, makes}
 use Rattle.pos_dir.proofs.Outcomes.Makes.{Adds, Removes, Renames, Rewrites}
 
 -- ---- names

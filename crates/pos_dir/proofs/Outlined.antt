@@ -1,7 +1,7 @@
 -- A check over names and sizes answers as the change of the files that have them.
-use Rattle.std.proofs.Common.{◌≡◌, ℕ, zero, suc, ◌+◌, ◌<◌, ◌≤◌, Bool, true, false, ◌&&◌, ◌||◌, cond, List, [], ◌∷◌, ◌++◌, length, drop, get_or, set, map}
+use Rattle.std.proofs.Common.{◌≡◌, ℕ, zero, suc, ◌+◌, ◌<◌, ◌≤◌, Bool, true, false, ◌||◌, List, [], ◌∷◌, ◌++◌, length, drop, get_or, set, map}
 use Rattle.std.proofs.Common.{Option, Some, None, Result, Ok, Err, refl, sym, ap, subst, ◌∙◌, arith}
-use Rattle.std.specs.Prelude.{slice_get, slice_set, insert, remove, replicate, sum_by, nat_lt, nat_le}
+use Rattle.std.specs.Prelude.{slice_get, slice_set, insert, remove, replicate, sum_by}
 use Rattle.std.specs.List.{list_any}
 use Rattle.std.specs.Option.{option_map}
 use Rattle.std.specs.Result.{result_err}
@@ -19,7 +19,7 @@ use Rattle.pos_dir.specs.declared.change.Change.TheVariants.{Create, Delete, Ren
 use Rattle.pos_dir.specs.declared.fault.DirectoryFault.{DirectoryFault}
 use Rattle.pos_dir.specs.declared.fault.DirectoryFault.TheVariants.{Exists, NoRoom}
 use Rattle.pos_dir.specs.Files.{has_name, total_size, IsDirectory}
-use Rattle.pos_dir.specs.Changes.{with_file, outcome, outcome_of_all, least_size_of, IsChange}
+use Rattle.pos_dir.specs.Changes.{outcome, outcome_of_all, least_size_of, IsChange}
 use Rattle.pos_dir.proofs.Outcomes.{KeepsShapes, answered}
 use Rattle.pos_dir.proofs.Kept.{changed, goes_on, stops}
 use Rattle.pos_dir.specs.Outlines.{Shape, shape_of, shape_of_file, is_named, AreOutlines, Agrees, Checks, size_in, answer_by_size}

@@ -1,9 +1,9 @@
 -- Files that are read one after another, up to one that isn't there.
-use Rattle.std.proofs.Common.{◌≡◌, Bool, ℕ, ◌+◌, ◌≤◌, true, ◌&&◌, List, [], ◌∷◌, ◌++◌, length, get_or, drop, Option, Some, None, refl, sym, ap, subst, ◌∙◌}
+use Rattle.std.proofs.Common.{◌≡◌, Bool, ℕ, ◌+◌, ◌≤◌, true, List, [], ◌∷◌, ◌++◌, length, get_or, drop, Option, Some, refl, sym, ap, subst, ◌∙◌}
 use Rattle.std.proofs.Common.{arith, inr, length-append}
 use Rattle.std.specs.Int.{w16, to_be_bytes}
 use Rattle.std.specs.List.{flat_map}
-use Rattle.std.specs.Prelude.{nat_le, IfSome}
+use Rattle.std.specs.Prelude.{IfSome}
 use Rattle.std.proofs.lemmas.Bool.Decides.{nat_tests}
 use Rattle.std.proofs.lemmas.List.Sums.{sum_by-append, sum_by-cons}
 use Rattle.pos_dir.specs.declared.file.File.{File}
@@ -14,9 +14,9 @@ use Rattle.pos_dir.specs.Flaws.{end_of_files, HasFileFlaw, HasFlaw}
 use Rattle.pos_dir.specs.declared.flaw.Flaw.{Flaw}
 use Rattle.pos_dir.specs.declared.flaw.Flaw.TheVariants as flaw
 use Rattle.pos_dir.specs.Fields.{◌>>=◌, number_at}
-use Rattle.pos_dir.specs.Reading.{file_at, items_at, is_sound, is_end}
+use Rattle.pos_dir.specs.Reading.{file_at, items_at}
 use Rattle.pos_dir.specs.Spelling.{file_spelling}
-use Rattle.pos_dir.proofs.Directories.{IsFile, file_reads, directory_is, directory_takes, body}
+use Rattle.pos_dir.proofs.Directories.{file_reads, directory_is, directory_takes, body}
 use Rattle.pos_dir.proofs.Items.{items_take}
 use Rattle.pos_dir.proofs.Readers.{IsBytes, bind_some, some_is, u16_reads}
 
