@@ -66,9 +66,7 @@ set_made : (files : List File) (index value : ℕ) (there : Option File)
     → with_file there (λ file. Ok (slice_set files index (record file { bytes = replicate (length file.bytes) value })))
     ≡ with_file there (with_bytes files (index, 0) (λ old. replicate (length old) value))
 set_made files index value None = refl
-set_made files index value (Some file) =
-    sym (ap (λ (b : Bool). cond b (Ok (slice_set files index (record file { bytes = replicate (length file.bytes) value }))) (Err Range))
-    (le-leb 0 (length file.bytes) (omega arith)))
+set_made files index value (Some file) = grind (arith, nat_tests)
 
 in_file : (change : Change) (place : ℕ × ℕ) → Some place ≡ least_size_of change → InFile change place
 in_file (Create name size) place e = absurd cc
@@ -100,13 +98,10 @@ by_bytes : (files : List File) (place : ℕ × ℕ) (bytes_of : List ℕ → Lis
     → (place.1 ≤ length file.bytes → length (bytes_of file.bytes) ≡ length file.bytes) → nat_le place.1 (length file.bytes) ≡ enough
     → KeepsShapes files (cond enough (Ok tt) (Err Range)) (with_bytes files place bytes_of file)
 by_bytes files place bytes_of file true at size e =
-    let new : File = record file { bytes = bytes_of file.bytes } in (
-      set files place.0 new,
-      ap (λ (b : Bool). cond b (Ok (set files place.0 new)) (Err Range)) e,
-      same_shapes files place.0 file new at (ap (λ (n : ℕ). record { name = file.name; size = n }) (size (leb-true place.1 (length file.bytes) e))),
-    )
-by_bytes files place bytes_of file false at size e =
-    ap (λ (b : Bool). cond b (Ok (set files place.0 (record file { bytes = bytes_of file.bytes }))) (Err Range)) e
+    let new : File = record file { bytes = bytes_of file.bytes } in
+    let kept = size (leb-true place.1 (length file.bytes) e) in
+    (set files place.0 new, rw e refl, same_shapes files place.0 file new at (rw kept refl))
+by_bytes files place bytes_of file false at size e = rw e refl
 
 by_file : (files : List File) (place : ℕ × ℕ) (bytes_of : List ℕ → List ℕ) (there : Option File) → slice_get files place.0 ≡ there
     → ((old : List ℕ) → place.1 ≤ length old → length (bytes_of old) ≡ length old)
@@ -144,14 +139,8 @@ rewrites limits files next change place e h =
 
 pub makes : (limits : Limits) (files next : List File) (change : Change) → outcome limits files change ≡ Ok next → Makes limits files change next
 makes limits files next (Create name size) h =
-    let file : File = record { name = name; bytes = replicate size 0 } in
-    let new = refused (has_name files name) Exists
-    (cond (nat_lt (length files) limits.files && nat_le (total_size files + size) limits.bytes) (Ok (files ++ file ∷ [])) (Err NoRoom)) next h in
-    let made = chosen (nat_lt (length files) limits.files && nat_le (total_size files + size) limits.bytes) NoRoom (files ++ file ∷ []) next new.1 in
-    let room = and_parts (nat_lt (length files) limits.files) (nat_le (total_size files + size) limits.bytes) made.0 in
-    let small = leb-true (total_size files + size) limits.bytes room.1 in
-    Adds file (good_name (is_name name)) new.0 (ltb-true (length files) limits.files room.0)
-    (omega (arith, length-replicate {A = ℕ} size 0, small)) made.1
+    Adds (record { name = name; bytes = replicate size 0 }) (good_name (is_name name)) (grind (arith, nat_tests)) (grind (arith, nat_tests))
+    (grind (arith, nat_tests, length-replicate {A = ℕ} size 0)) (grind (arith, nat_tests))
 makes limits files next (Delete index) h =
     let at = found (slice_get files index) (λ file. Ok (remove files index)) next h in
     Removes index at.0 at.1 (cc (at.2))
@@ -180,9 +169,7 @@ never_by_size limits files change place e h =
     (λ file. never_chosen (nat_le place.1 (length file.bytes)) _ _ (λ e. cc) (λ e. cc)) (sym (it.made limits files) ∙ h)
 
 pub never_one : (limits : Limits) (files : List File) (change : Change) → outcome limits files change ≡ Err NoMemory → ⊥
-never_one limits files (Create name size) =
-    never_chosen (has_name files name) _ _ (λ e. cc)
-    (never_chosen (nat_lt (length files) limits.files && nat_le (total_size files + size) limits.bytes) _ _ (λ e. cc) (λ e. cc))
+never_one limits files (Create name size) = λ e. grind (arith, nat_tests)
 never_one limits files (Delete index) = never_there (slice_get files index) (λ file. Ok (remove files index)) (λ file e. cc)
 never_one limits files (Rename index name) =
     never_there (slice_get files index) (λ file. cond (has_name files name) (Err Exists) (Ok (slice_set files index (record file { name = name }))))
