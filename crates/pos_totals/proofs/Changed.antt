@@ -6,6 +6,7 @@ use Rattle.std.specs.List.{find, AllByRecursion}
 use Rattle.std.specs.Option.{option_map}
 use Rattle.std.proofs.lemmas.Bool.{and_parts, not-false, ltb-true, leb-true, eqb-true, eqb-false, eq-eqb}
 use Rattle.std.proofs.lemmas.List.{length-map}
+use Rattle.std.proofs.lemmas.Bool.Decides.{nat_tests}
 use Rattle.pos_dir.specs.declared.change.Change.{Change as FileChange}
 use Rattle.pos_disk.specs.State.{MayLeave}
 use Rattle.pos_disk.specs.declared.device.Disk.{Ghosts}
@@ -160,12 +161,7 @@ let_through_inside layout files control spent (Edit handle edit) made passes =
     passes.asked
   where
     left : spent + edit_cost edit ≤ LAYOUT_2.bytes
-    left =
-        let fit = not_refused (not (fits_file (find (is_called handle) files) edit)) _ _ passes.unrefused in
-        let own = not_refused (is_foreign_file control (find (is_called handle) files)) _ _ fit.1 in
-        let room = not_refused (is_over (totals_limits layout) (Some spent) (edit_cost edit)) _ _ own.1 in
-        let within = leb-true _ _ (not-false (nat_le (spent + edit_cost edit) (limits_of layout).bytes) room.0) in
-        omega (arith, within, most_bytes layout)
+    left = let unrefused = passes.unrefused in grind (arith, nat_tests, most_bytes layout)
 
     by : (named : Option ℕ) (found : Option FileEdit) → is_some found ≡ true → IsEdit (Edit handle edit) named found
         → (number : ℕ) × (inside : FileEdit) × (named ≡ Some number) × (found ≡ Some inside) × (spent + edit_cost inside ≤ LAYOUT_2.bytes)
@@ -334,12 +330,7 @@ has_place : (layout : Layout) (files : List File) (control : ℕ) (spent : Optio
     → next < 2 ^ 64
     → HasPlace (tags_of files) next (file_change files change)
 has_place layout files control spent (Create name size) next unrefused left small =
-    let good = not_refused (is_some spent || not (is_name name && is_natural size)) _ _ unrefused in
-    let free = not_refused (has_file (is_named name) files) _ _ good.1 in
-    let room = not_refused (not (has_room (totals_limits layout) files size)) _ _ free.1 in
-    let few = ltb-true (length files) (limits_of layout).files
-    (and_parts (is_up_to (free_data (totals_limits layout) files) size) (nat_lt (length files) (limits_of layout).files)
-    (not-false (has_room (totals_limits layout) files size) room.0)).1 in
+    let few : length files < (limits_of layout).files = grind (arith, nat_tests) in
     let other = eqb-false next last_number left in
     (omega (arith, length-map files tag_of, few, most_files layout), omega (arith, other, small))
 has_place layout files control spent (Delete name) next unrefused left small =
@@ -469,13 +460,6 @@ module _ {D : Type 0} (bound : Ghosts D) (disk : D)
   failed : (new : StoreView D) (cause : StoreFault) → (is_create change && nat_eq next last_number) ≡ false → Commits bound ready_store group (Err cause) new
       → Changes bound (view_of ready_store holdings) control change (answer_of cause)
       (view_of new (refused_holdings holdings cause)) × IsSound new.layout new.state (refused_holdings holdings cause)
-  failed new fault.Off left commits = absurd (put_down bound disk files sequence tail holdings change [] sound.handles one (Err fault.Off) new commits.answer)
-  failed new fault.AlreadyLayout2 left commits =
-      absurd (put_down bound disk files sequence tail holdings change [] sound.handles one (Err fault.AlreadyLayout2) new commits.answer)
-  failed new fault.Unformatted left commits =
-      absurd (put_down bound disk files sequence tail holdings change [] sound.handles one (Err fault.Unformatted) new commits.answer)
-  failed new fault.Damaged left commits =
-      absurd (put_down bound disk files sequence tail holdings change [] sound.handles one (Err fault.Damaged) new commits.answer)
   failed new fault.NoMemory left commits =
       let same : new ≡ ready_store = ⊎_elim (λ is. absurd cc) (λ e. e) (commits.unchanged refl) in
       rw same (
@@ -500,6 +484,7 @@ module _ {D : Type 0} (bound : Ghosts D) (disk : D)
         },
         record { found = tt; handles = tt; buffers = none_hold Off next holdings.transactions; apart = tt },
       )
+  failed new other left commits = absurd (put_down bound disk files sequence tail holdings change [] sound.handles one (Err other) new commits.answer)
 
 -- ---- the same for a store in any state, by what the checks found
 

@@ -94,15 +94,6 @@ map-remove f xs i =
     map-append f (take i xs) (drop (suc i) xs) ∙ ap (λ ys. ys ++ map f (drop (suc i) xs)) (sym (take-map f i xs))
     ∙ ap (λ ys. take i (map f xs) ++ ys) (sym (drop-map f (suc i) xs))
 
-one_change : (limits : Limits) (files after : List PlainFile) (change : FileChange) → outcome limits files change ≡ Ok after
-    → outcome_of_all limits files (change ∷ []) ≡ Ok after
-one_change limits files after change made = rw made refl
-
--- the directory's change of a file at an index
-at_index : (files : List File) (i : ℕ) (f : File) (change : PlainFile → Result (List PlainFile) DirectoryFault) → slice_get files i ≡ Some f
-    → with_file (slice_get (plain files) i) change ≡ change (plain_file f)
-at_index files i f change at = rw (slice_get-map plain_file files i, at) refl
-
 pub plain_size : (files : List File) → total_size (plain files) ≡ size_in_sum files
 plain_size [] = refl
 plain_size (first ∷ files) =
@@ -139,18 +130,17 @@ made_create layout files control spent name size next small unrefused =
 pub deleted : (layout : Layout) (files : List File) (control : ℕ) (spent : Option ℕ) (name : List ℕ)
     → first_refusal (change_rows (totals_limits layout) files control spent (Delete name)) ≡ None → (file : File) × (find (is_named name) files ≡ Some file)
 deleted layout files control spent name unrefused =
-    let outside = not_refused (is_some spent) _ _ unrefused in
-    let there = not_refused (not (has_file (is_named name) files)) _ _ outside.1 in
-    some_file (find (is_named name) files) (not-false (has_file (is_named name) files) there.0)
+    let there : has_file (is_named name) files ≡ true = grind (arith, nat_tests) in
+    some_file (find (is_named name) files) there
 
 made_delete : (layout : Layout) (files : List File) (control : ℕ) (spent : Option ℕ) (name : List ℕ) (next : ℕ) → are_distinct (plain files) ≡ true
     → first_refusal (change_rows (totals_limits layout) files control spent (Delete name)) ≡ None → Makes layout files (Delete name) next
 made_delete layout files control spent name next distinct unrefused =
     let found = deleted layout files control spent name unrefused in
     let index = index_of (is_named name) files in
-    at_index files index found.0 (λ f. Ok (remove (plain files) index)) (found_at (is_named name) files found.0 found.1)
-    ∙ ap (λ (fs : List PlainFile). Ok fs) (sym (map-remove plain_file files index))
-    ∙ ap (λ (fs : List File). Ok (plain fs)) (sym (one_gone (is_named name) files found.0 (only_named files name distinct) found.1))
+    rw (slice_get-map plain_file files index, found_at (is_named name) files found.0 found.1) (ap (λ (fs : List PlainFile). Ok fs)
+    (sym (map-remove plain_file files index) ∙ ap (λ (fs : List File). plain fs)
+    (sym (one_gone (is_named name) files found.0 (only_named files name distinct) found.1))))
 
 -- the one file with a handle, changed in its place
 set_plain : (files : List File) (handle : ℤ) (f : File) (change : File → File) → AreDistinct (handles_of files) → find (is_called handle) files ≡ Some f
@@ -162,16 +152,11 @@ set_plain files handle f change distinct found =
 made_rename : (layout : Layout) (files : List File) (control : ℕ) (spent : Option ℕ) (handle : ℤ) (name : List ℕ) (next : ℕ) → AreDistinct (handles_of files)
     → first_refusal (change_rows (totals_limits layout) files control spent (Rename handle name)) ≡ None → Makes layout files (Rename handle name) next
 made_rename layout files control spent handle name next distinct unrefused =
-    let good = not_refused (is_some spent || not (has_file (is_called handle) files && is_name name)) _ _ unrefused in
-    let free = not_refused (has_file (is_named name) files) _ _ good.1 in
-    let both = neither (is_some spent) _ good.0 in
-    let parts = and_parts (has_file (is_called handle) files) (is_name name) (not-false (has_file (is_called handle) files && is_name name) both.1) in
-    let found = some_file (find (is_called handle) files) parts.0 in
-    let index = index_of (is_called handle) files in
-    at_index files index found.0 (λ f. cond (has_name (plain files) name) (Err fault.Exists)
-    (Ok (slice_set (plain files) index (record f { name = name })))) (found_at (is_called handle) files found.0 found.1)
-    ∙ cond-false (has_name (plain files) name) _ _ (plain_name files name ∙ free.0)
-    ∙ ap (λ (fs : List PlainFile). Ok fs) (set_plain files handle found.0 (λ f. record f { name = name }) distinct found.1)
+    let there : has_file (is_called handle) files ≡ true = grind (arith, nat_tests) in
+    let free : has_name (plain files) name ≡ false = grind (arith, nat_tests, plain_name files name) in
+    let found = some_file (find (is_called handle) files) there in
+    rw (slice_get-map plain_file files (index_of (is_called handle) files), found_at (is_called handle) files found.0 found.1, free)
+    (ap (λ (fs : List PlainFile). Ok fs) (set_plain files handle found.0 (λ f. record f { name = name }) distinct found.1))
 
 -- an edit that fits is of a file that is there
 pub fitting : (found : Option File) (edit : FileEdit) → fits_file found edit ≡ true → (f : File) × (found ≡ Some f) × (fits (length f.bytes) edit ≡ true)
@@ -191,8 +176,7 @@ made_edit layout files handle edit next distinct fit =
 pub edit_fits : (layout : Layout) (files : List File) (control : ℕ) (spent : Option ℕ) (handle : ℤ) (edit : FileEdit)
     → first_refusal (change_rows (totals_limits layout) files control spent (Edit handle edit)) ≡ None
     → fits_file (find (is_called handle) files) edit ≡ true
-edit_fits layout files control spent handle edit unrefused =
-    not-false _ (not_refused (not (fits_file (find (is_called handle) files) edit)) _ _ unrefused).0
+edit_fits layout files control spent handle edit unrefused = grind (arith, nat_tests)
 
 -- Where nothing refuses a change, it makes of the plain files those after it.
 pub makes : (layout : Layout) (files : List File) (control : ℕ) (spent : Option ℕ) (change : Change) (next : ℕ) → IsDirectory (limits_of layout) (plain files)
@@ -208,5 +192,4 @@ pub makes_group : (layout : Layout) (files : List File) (control : ℕ) (spent :
     → IsDirectory (limits_of layout) (plain files)
     → AreDistinct (handles_of files) → first_refusal (change_rows (totals_limits layout) files control spent change) ≡ None
     → outcome_of_all (limits_of layout) (plain files) (group_of files (change ∷ [])) ≡ Ok (plain (files_after next files change))
-makes_group layout files control spent change next sound distinct unrefused =
-    one_change (limits_of layout) (plain files) _ (file_change files change) (makes layout files control spent change next sound distinct unrefused)
+makes_group layout files control spent change next sound distinct unrefused = rw (makes layout files control spent change next sound distinct unrefused) refl
