@@ -17,9 +17,9 @@ use Rattle.pos_totals.specs.TotalsCommits.{is_of_none}
 use Rattle.pos_service.specs.Refusals.{first_refusal}
 use Rattle.pos_store.specs.Layouts.{limits_of}
 use Rattle.pos_totals.proofs.Grouped.{Makes, made_edit, edit_fits, neither, some_file, fitting, only_called}
-use Rattle.pos_totals.proofs.Handled.{all_so, same_tags}
+use Rattle.pos_totals.proofs.Handled.{all_so, all_with, same_tags}
 use Rattle.pos_totals.proofs.Outlined.{outline, outlines, same_buffered, same_group, same_gone, same_distinct, outlines_kept, all_files, one_meets}
-use Rattle.pos_totals.proofs.Outlined.{found_has, all_left, all_more}
+use Rattle.pos_totals.proofs.Outlined.{found_has, all_left}
 use Rattle.pos_totals.specs.Buffers.{IsGiven, FitsEach, IsBuffered, MayHold, HaveBuffers}
 use Rattle.pos_totals.specs.Groups.{group_of}
 use Rattle.pos_totals.specs.Views.{plain, handles_of, tags_of, AreDistinct}
@@ -58,7 +58,7 @@ pub buffered_after : (layout : Layout) (files : List File) (control : ℕ) (spen
     → IsBuffered files next buffered → IsBuffered (files_after next files change) (next_after next change) buffered
 buffered_after layout files control spent (Create name size) next (Edit handle edit) distinct unrefused is = (
   given_more next (next + 1) handle (omega arith) is.0,
-  all_more (λ file. is_called handle file ≡ true → fits (length file.bytes) edit ≡ true) files _ is.1
+  all_with (λ file. is_called handle file ≡ true → fits (length file.bytes) edit ≡ true) files _ is.1
       (λ called. absurd (new_handle next handle name (replicate (nat_abs size) 0) is.0 called)),
   is.2,
 )

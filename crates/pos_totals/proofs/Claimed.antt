@@ -150,9 +150,8 @@ file_released state holdings control handle number table through given next soun
 foreign_tags : (control : ℕ) (tags : List Tag) (files : List PlainFile) → length tags ≡ length files
     → list_any (λ tag. is_foreign control tag.claim) tags ≡ list_any (is_foreign_claim control) (with_tags tags files)
 foreign_tags control [] [] same = refl
-foreign_tags control [] (file ∷ files) same = absurd (omega (arith, same))
-foreign_tags control (tag ∷ tags) [] same = absurd (omega (arith, same))
 foreign_tags control (tag ∷ tags) (file ∷ files) same = ap (λ b. is_foreign control tag.claim || b) (foreign_tags control tags files (omega (arith, same)))
+foreign_tags control tags files same = absurd (omega (arith, same))
 
 -- another control has claimed a file of those that are seen
 pub foreign_seen : (mode : Mode) (files : Files) (control : ℕ) → IsSeen mode (Some (files_in files)) → length files.tags.now ≡ length files.directory.now.files

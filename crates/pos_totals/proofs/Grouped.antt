@@ -97,10 +97,12 @@ map-remove f xs i =
 pub plain_size : (files : List File) → total_size (plain files) ≡ size_in_sum files
 plain_size [] = refl
 plain_size (first ∷ files) =
-    let here = sum_by-cons (λ (x : PlainFile). length x.bytes) (plain_file first) (plain files) in
-    let there = sum_by-cons (λ (x : File). length x.bytes) first files in
-    let rest = plain_size files in
-    omega (arith, here, there, rest)
+    omega (
+      arith,
+      sum_by-cons (λ (x : PlainFile). length x.bytes) (plain_file first) (plain files),
+      sum_by-cons (λ (x : File). length x.bytes) first files,
+      plain_size files,
+    )
 
 -- what the directory makes is what the change makes
 abbrev pub Makes : Layout → List File → Change → ℕ → Type 0

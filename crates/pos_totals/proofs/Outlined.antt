@@ -32,32 +32,29 @@ same_others x y xs ys same = cc
 -- a handle's index
 same_index : (handle : ℤ) (xs ys : List File) → outlines xs ≡ outlines ys → index_of (is_called handle) xs ≡ index_of (is_called handle) ys
 same_index handle [] [] same = refl
-same_index handle [] (y ∷ ys) same = absurd cc
-same_index handle (x ∷ xs) [] same = absurd cc
 same_index (pos h) (x ∷ xs) (y ∷ ys) same =
     cc (ap (λ (p : ℕ × ℕ). p.0) (same_first x y xs ys same), same_index (pos h) xs ys (same_others x y xs ys same))
 same_index (negsuc n) (x ∷ xs) (y ∷ ys) same = cc (same_index (negsuc n) xs ys (same_others x y xs ys same))
+same_index handle xs ys same = absurd cc
 
 -- whether there is a file with a handle
 same_none : (handle : ℤ) (xs ys : List File) → outlines xs ≡ outlines ys → is_none (find (is_called handle) xs) ≡ is_none (find (is_called handle) ys)
 same_none handle [] [] same = refl
-same_none handle [] (y ∷ ys) same = absurd cc
-same_none handle (x ∷ xs) [] same = absurd cc
 same_none (pos h) (x ∷ xs) (y ∷ ys) same = grind (arith, nat_tests, same_none (pos h) xs ys (same_others x y xs ys same))
 same_none (negsuc n) (x ∷ xs) (y ∷ ys) same = same_none (negsuc n) xs ys (same_others x y xs ys same)
+same_none handle xs ys same = absurd cc
 
 -- what holds of the size of each file with a handle
 same_sizes : (P : ℕ → Type 0) (handle : ℤ) (xs ys : List File) → outlines xs ≡ outlines ys
     → AllByRecursion (λ file. is_called handle file ≡ true → P (length file.bytes)) xs
     → AllByRecursion (λ file. is_called handle file ≡ true → P (length file.bytes)) ys
 same_sizes P handle [] [] same all = tt
-same_sizes P handle [] (y ∷ ys) same all = absurd cc
-same_sizes P handle (x ∷ xs) [] same all = absurd cc
 same_sizes P (pos h) (x ∷ xs) (y ∷ ys) same all = (
   subst (λ (p : ℕ × ℕ). nat_eq p.0 h ≡ true → P p.1) (same_first x y xs ys same) all.0,
   same_sizes P (pos h) xs ys (same_others x y xs ys same) all.1,
 )
 same_sizes P (negsuc n) (x ∷ xs) (y ∷ ys) same all = (λ called. absurd cc, same_sizes P (negsuc n) xs ys (same_others x y xs ys same) all.1)
+same_sizes P handle xs ys same all = absurd cc
 
 -- what is buffered for files may be buffered for files that are like them
 pub same_buffered : (xs ys : List File) (next : ℕ) (change : Change) → outlines xs ≡ outlines ys → IsBuffered xs next change → IsBuffered ys next change
@@ -80,10 +77,9 @@ same_gone xs ys next (other ∷ changes) same all = absurd all.0
 -- files that are alike have the same handles
 same_numbers : (xs ys : List File) → outlines xs ≡ outlines ys → handles_of xs ≡ handles_of ys
 same_numbers [] [] same = refl
-same_numbers [] (y ∷ ys) same = absurd cc
-same_numbers (x ∷ xs) [] same = absurd cc
 same_numbers (x ∷ xs) (y ∷ ys) same =
     cc (ap (λ (p : ℕ × ℕ). p.0) (same_first x y xs ys same), same_numbers xs ys (same_others x y xs ys same))
+same_numbers xs ys same = absurd cc
 
 pub same_distinct : (xs ys : List File) → outlines xs ≡ outlines ys → AreDistinct (handles_of xs) → AreDistinct (handles_of ys)
 same_distinct xs ys same distinct = subst AreDistinct (same_numbers xs ys same) distinct
@@ -145,8 +141,3 @@ all_left P test (first ∷ files) all = by (test first) (all_left P test files a
     by : (b : Bool) → AllByRecursion P (filter test files) → AllByRecursion P (cond b (first ∷ filter test files) (filter test files))
     by true rest = (all.0, rest)
     by false rest = rest
-
--- and of those with one more
-pub all_more : (P : File → Type 0) (files : List File) (file : File) → AllByRecursion P files → P file → AllByRecursion P (files ++ file ∷ [])
-all_more P [] file all one = (one, tt)
-all_more P (first ∷ files) file all one = (all.0, all_more P files file all.1 one)
