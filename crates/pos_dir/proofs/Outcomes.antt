@@ -32,10 +32,6 @@ found (Some x) f y h = (x, refl, h)
 good_name : (b : Bool) → ◌≡◌ {A = Option DirectoryFault} (cond b None (Some BadName)) None → b ≡ true
 good_name b h = grind (arith, nat_tests)
 
--- two files at one place are the same
-pub same_file : (x y : File) → Some x ≡ Some y → x ≡ y
-same_file x y h = cc
-
 some_place : (x y : ℕ × ℕ) → Some x ≡ Some y → x ≡ y
 some_place x y h = cc
 

@@ -107,17 +107,6 @@ is_there : (found : Option File) → is_none found ≡ false → is_some found �
 is_there None none = absurd cc
 is_there (Some file) none = refl
 
--- the first change is made, and then the others
-first_made : (layout : Layout) (files : List File) (next : ℕ) (change : Change) (changes : List Change) → Makes layout files change next
-    → group_of files changes ≡ group_of (files_after next files change) changes
-    → outcome_of_all (limits_of layout) (plain (files_after next files change)) (group_of (files_after next files change) changes) ≡ Ok
-    (plain (files_after_all next (files_after next files change) changes))
-    → outcome_of_all (limits_of layout) (plain files) (group_of files (change ∷ changes)) ≡ Ok
-    (plain (files_after_all next (files_after next files change) changes))
-first_made layout files next change changes one same others =
-    ap (λ r. and_then r (λ fs. outcome_of_all (limits_of layout) fs (group_of files changes))) one
-    ∙ ap (λ (g : List FileChange). outcome_of_all (limits_of layout) (plain (files_after next files change)) g) same ∙ others
-
 -- where no file is gone, the group of all that is buffered makes of the plain files those after it
 pub makes_all : (layout : Layout) (files : List File) (next : ℕ) (changes : List Change) → AreDistinct (handles_of files)
     → AllByRecursion (IsBuffered files next) changes → list_any (is_of_none files) changes ≡ false
@@ -131,8 +120,7 @@ makes_all layout files next (Edit handle edit ∷ changes) distinct all there =
     ap (λ (o : Option File). fits_file o edit) found.1
     ∙ found_has (is_called handle) (λ file. fits (length file.bytes) edit ≡ true) files found.0 all.0.1 found.1 in
     let same = edits_keep files handle edit all.0.1 in
-    first_made layout files next (Edit handle edit) changes (made_edit layout files handle edit next distinct fit)
-    (same_group files after next changes (sym same) all.1)
+    rw (made_edit layout files handle edit next distinct fit, same_group files after next changes (sym same) all.1)
     (makes_all layout after next changes (same_distinct files after (sym same) distinct) (others_buffered files after next changes same all.1)
     (sym (same_gone files after next changes (sym same) all.1) ∙ both.1))
 makes_all layout files next (other ∷ changes) distinct all there = absurd all.0
@@ -179,7 +167,3 @@ pub off_holds : (files : List File) (sequence next following : ℕ) (transaction
 off_holds files sequence next following transactions all =
     all_so (MayHold Off next) (MayHold (Ready files sequence) following) transactions
     (λ transaction none. subst (MayHold (Ready files sequence) following) (sym none) tt) all
-
--- what is held doesn't change with the next handle while the totals are off
-pub still_off : (next following : ℕ) (transactions : List (Option (List Change))) → HaveBuffers Off next transactions → HaveBuffers Off following transactions
-still_off next following transactions all = all

@@ -162,12 +162,6 @@ foreign_seen (Ready fs sequence) files control seen same =
 
 -- ---- the end of all that a control has
 
--- one more place, where there is no transaction
-pub held_more : (mode : Mode) (next : ℕ) (transactions : List (Option (List Change))) → HaveBuffers mode next transactions
-    → HaveBuffers mode next (transactions ++ None ∷ [])
-held_more mode next [] all = (none_held mode next, tt)
-held_more mode next (first ∷ others) all = (all.0, held_more mode next others all.1)
-
 pub control_dropped : {layout : Layout} (state : State) (holdings : Holdings) (control : ℕ) (table : HandleTable)
     → table.given ≡ map (tag_released control) holdings.handles.given → table.next ≡ holdings.handles.next → IsSound layout state holdings
     → (totals_of state (record {

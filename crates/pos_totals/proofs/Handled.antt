@@ -7,6 +7,8 @@ use Rattle.std.proofs.lemmas.List.{map-append, length-map}
 use Rattle.std.proofs.Math.Seq.{take-nil, drop-nil}
 use Rattle.std.proofs.lemmas.Bool.Decides.{nat_tests}
 use Rattle.pos_dir.specs.Files.{are_distinct}
+use Rattle.pos_dir.specs.declared.change.Change.{Change as FileChange}
+use Rattle.pos_dir.specs.declared.change.Change.TheVariants as file
 use Rattle.pos_image.specs.declared.layout.Layout.{Layout}
 use Rattle.pos_totals.specs.HardTotals.{File, Change, Create, Delete, Rename, Edit, totals_limits}
 use Rattle.pos_totals.specs.TotalsFiles.{is_named, is_called, with_each}
@@ -87,30 +89,20 @@ numbers_with tags next = map-append (λ (tag : Tag). tag.handle) tags (new_tag n
 numbers_without : (tags : List Tag) (i : ℕ) → numbers_of (remove tags i) ≡ remove (numbers_of tags) i
 numbers_without tags i = map-remove (λ (tag : Tag). tag.handle) tags i
 
-distinct_after : (files : List File) (change : Change) (tags : List Tag) (next : ℕ) → AreDistinct (numbers_of tags)
-    → AllByRecursion (λ handle. handle < next) (numbers_of tags) → AreDistinct (numbers_of (given_after tags next (file_change files change)))
-distinct_after files (Create name size) tags next distinct below =
-    subst AreDistinct (sym (numbers_with tags next)) (distinct_with (numbers_of tags) next distinct below)
-distinct_after files (Delete name) tags next distinct below =
-    subst AreDistinct (sym (numbers_without tags (index_of (is_named name) files)))
-    (distinct_without (numbers_of tags) (index_of (is_named name) files) distinct)
-distinct_after files (Rename handle name) tags next distinct below = distinct
-distinct_after files (Edit handle edit) tags next distinct below =
-    subst (λ (ts : List Tag). AreDistinct (numbers_of ts)) (sym ((keeps_handles (index_of (is_called handle) files) edit).given tags next)) distinct
+distinct_after : (made : FileChange) (tags : List Tag) (next : ℕ) → AreDistinct (numbers_of tags)
+    → AllByRecursion (λ handle. handle < next) (numbers_of tags) → AreDistinct (numbers_of (given_after tags next made))
+distinct_after (file.Create name size) tags next distinct below = rw (numbers_with tags next) (distinct_with (numbers_of tags) next distinct below)
+distinct_after (file.Delete index) tags next distinct below = rw (numbers_without tags index) (distinct_without (numbers_of tags) index distinct)
+distinct_after other tags next distinct below = distinct
 
-below_after : (files : List File) (change : Change) (tags : List Tag) (next : ℕ) → AllByRecursion (λ handle. handle < next) (numbers_of tags)
-    → AllByRecursion (λ handle. handle < following next (file_change files change)) (numbers_of (given_after tags next (file_change files change)))
-below_after files (Create name size) tags next below =
-    subst (AllByRecursion (λ handle. handle < next + 1)) (sym (numbers_with tags next))
+below_after : (made : FileChange) (tags : List Tag) (next : ℕ) → AllByRecursion (λ handle. handle < next) (numbers_of tags)
+    → AllByRecursion (λ handle. handle < following next made) (numbers_of (given_after tags next made))
+below_after (file.Create name size) tags next below = rw (numbers_with tags next)
     (all_with (λ handle. handle < next + 1) (numbers_of tags) next
     (all_so (λ handle. handle < next) (λ handle. handle < next + 1) (numbers_of tags) (λ handle lt. omega (arith, lt)) below) (omega arith))
-below_after files (Delete name) tags next below =
-    subst (AllByRecursion (λ handle. handle < next)) (sym (numbers_without tags (index_of (is_named name) files)))
-    (all_without (λ handle. handle < next) (numbers_of tags) (index_of (is_named name) files) below)
-below_after files (Rename handle name) tags next below = below
-below_after files (Edit handle edit) tags next below =
-    let keeps = keeps_handles (index_of (is_called handle) files) edit in
-    rw (keeps.given tags next, keeps.next next) below
+below_after (file.Delete index) tags next below =
+    rw (numbers_without tags index) (all_without (λ handle. handle < next) (numbers_of tags) index below)
+below_after other tags next below = below
 
 -- The tags after a change are tags of the files after it.
 pub are_after : (layout : Layout) (files : List File) (control : ℕ) (spent : Option ℕ) (change : Change) (next : ℕ) → are_distinct (plain files) ≡ true
@@ -120,6 +112,6 @@ pub are_after : (layout : Layout) (files : List File) (control : ℕ) (spent : O
 are_after layout files control spent change next distinct handles unrefused = record {
   count = ap length (given_is layout files control spent change next distinct unrefused) ∙ length-map (files_after next files change) tag_of
       ∙ sym (length-map (files_after next files change) plain_file);
-  distinct = distinct_after files change (tags_of files) next handles.distinct handles.below;
-  below = below_after files change (tags_of files) next handles.below;
+  distinct = distinct_after (file_change files change) (tags_of files) next handles.distinct handles.below;
+  below = below_after (file_change files change) (tags_of files) next handles.below;
 }
