@@ -5,7 +5,7 @@ use Rattle.pos_dir.specs.declared.file.File.{File}
 use Rattle.pos_dir.specs.declared.limits.Limits.{Limits}
 use Rattle.pos_dir.specs.declared.change.Change.{Change}
 use Rattle.pos_dir.specs.declared.fault.DirectoryFault.{DirectoryFault}
-use Rattle.pos_dir.specs.declared.fault.DirectoryFault.TheVariants.{NoFile, Exists, Range, NoRoom, BadName, NoMemory, Malformed}
+use Rattle.pos_dir.specs.declared.fault.DirectoryFault.TheVariants.{NoMemory}
 use Rattle.pos_dir.specs.Calls.{Applies}
 use Rattle.pos_dir.specs.Files.{DirectoryView}
 use Rattle.pos_dir.specs.Changes.{outcome, and_then, outcome_of_all, fault_of}

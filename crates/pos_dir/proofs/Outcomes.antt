@@ -1,9 +1,9 @@
 -- What each change makes of the files. The other proofs go by what is made, and not by which change it is.
-use Rattle.std.proofs.Common.{◌≡◌, ℕ, zero, suc, ◌+◌, ◌<◌, ◌≤◌, Bool, true, false, ◌&&◌, cond, List, [], ◌∷◌, ◌++◌, length, take, drop, set, map}
-use Rattle.std.proofs.Common.{Option, Some, None, Result, Ok, Err, refl, sym, ap, subst, ◌∙◌, arith, length-append}
-use Rattle.std.specs.Prelude.{slice_get, slice_set, remove, replicate, nat_lt, nat_le}
+use Rattle.std.proofs.Common.{◌≡◌, ℕ, zero, suc, ◌+◌, ◌<◌, ◌≤◌, Bool, true, false, cond, List, [], ◌∷◌, ◌++◌, length, take, drop, set, map}
+use Rattle.std.proofs.Common.{Option, Some, None, Result, Ok, Err, refl, sym, subst, ◌∙◌, arith, length-append}
+use Rattle.std.specs.Prelude.{slice_get, slice_set, remove, replicate, nat_le}
 use Rattle.std.specs.Option.{option_map}
-use Rattle.std.proofs.lemmas.Bool.{and_parts, ltb-true, leb-true, le-leb}
+use Rattle.std.proofs.lemmas.Bool.{leb-true}
 use Rattle.std.proofs.lemmas.Bool.Decides.{nat_tests}
 use Rattle.std.proofs.lemmas.List.{length-replicate, length-take, length-drop}
 use Rattle.pos_dir.specs.declared.file.File.{File}
@@ -11,7 +11,7 @@ use Rattle.pos_dir.specs.declared.limits.Limits.{Limits}
 use Rattle.pos_dir.specs.declared.change.Change.{Change}
 use Rattle.pos_dir.specs.declared.change.Change.TheVariants.{Create, Delete, Rename, Write, SetAll}
 use Rattle.pos_dir.specs.declared.fault.DirectoryFault.{DirectoryFault}
-use Rattle.pos_dir.specs.declared.fault.DirectoryFault.TheVariants.{Exists, Range, NoRoom, BadName, NoMemory}
+use Rattle.pos_dir.specs.declared.fault.DirectoryFault.TheVariants.{Exists, Range, BadName, NoMemory}
 use Rattle.pos_dir.specs.Files.{is_name, has_name, total_size}
 use Rattle.pos_dir.specs.Changes.{splice, with_file, outcome, least_size_of, flaw_of}
 use Rattle.pos_dir.specs.Outlines.{shape_of_file, size_in, answer_by_size}
